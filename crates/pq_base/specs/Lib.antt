@@ -1,0 +1,5 @@
+pub mod Answers
+pub mod Columns
+pub mod Order
+pub mod Values
+pub mod Words

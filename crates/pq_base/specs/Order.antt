@@ -1,0 +1,35 @@
+-- The order of values and of rows. Both are total, also across kinds and lengths.
+use Rattle.std.specs.Prelude.{ℕ, List, [], ◌∷◌}
+use Rattle.std.specs.Ordering.{nat_cmp, int_cmp, bool_cmp, ordering_then, ordering_reverse}
+use Rattle.std.specs.Cmp.Lexicographic.{slice_cmp}
+use Rattle.std.specs.declared.cmp.Ordering.{Ordering}
+use Rattle.std.specs.declared.cmp.Ordering.TheVariants.{Less, Equal, Greater}
+use Rattle.pq_base.specs.declared.value.Value.{Value}
+use Rattle.pq_base.specs.declared.value.Value.TheVariants as value
+use Rattle.pq_base.specs.declared.value.Dir.{Dir}
+use Rattle.pq_base.specs.declared.value.Dir.TheVariants.{Asc, Desc}
+
+-- values of different kinds are ordered by their kinds
+abbrev pub kind_rank : Value → ℕ
+kind_rank (value.Int n) = 1
+kind_rank (value.Bool b) = 2
+kind_rank (value.Text t) = 3
+
+-- numbers by size, false before true, texts by their bytes
+abbrev pub value_cmp : Value → Value → Ordering
+value_cmp (value.Int a) (value.Int b) = int_cmp a b
+value_cmp (value.Bool a) (value.Bool b) = bool_cmp a b
+value_cmp (value.Text a) (value.Text b) = slice_cmp nat_cmp a b
+value_cmp a b = nat_cmp (kind_rank a) (kind_rank b)
+
+abbrev pub directed : Dir → Ordering → Ordering
+directed Asc order = order
+directed Desc order = ordering_reverse order
+
+-- by the first place that differs, turned round where it descends; a list before those that it begins
+abbrev pub position_cmp : List Dir → List Value → List Value → Ordering
+position_cmp ds [] [] = Equal
+position_cmp ds [] (y ∷ ys) = Less
+position_cmp ds (x ∷ xs) [] = Greater
+position_cmp [] (x ∷ xs) (y ∷ ys) = ordering_then (value_cmp x y) (position_cmp [] xs ys)
+position_cmp (d ∷ ds) (x ∷ xs) (y ∷ ys) = ordering_then (directed d (value_cmp x y)) (position_cmp ds xs ys)

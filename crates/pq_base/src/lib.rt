@@ -1,0 +1,24 @@
+//! Values, lists, refusals and word tables: what every other crate stands on.
+//!
+//! A list is seen by contracts as the list of its items, a text as its bytes, a set of columns as
+//! a number whose bits are the columns. Whatever may need memory answers `NoMem` where there is none.
+#![tactic(auto)]
+
+mod col_set;
+mod list;
+mod number;
+mod refusal;
+mod text;
+mod value;
+mod word_table;
+
+pub use col_set::ColSet;
+pub use list::{Bytes, List, NoMem};
+pub use number::{Bound, Choice, Used};
+pub use refusal::{Refusal, Stopped};
+pub use text::PText;
+pub use value::{
+    ColType, Dir, Row, Value, all_fit, cmp_positions, cmp_values, fits, known_types, known_value,
+    known_values,
+};
+pub use word_table::{WordTable, count_words, keyword_table, refusal_numbers};

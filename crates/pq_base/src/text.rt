@@ -1,0 +1,51 @@
+//! UTF-8 text, seen as its bytes.
+ghost use Rattle.std.specs.Prelude.{◌≡◌, MatchOption, IfOk, IsUtf8};
+
+use crate::list::NoMem;
+use std::alloc::Global;
+use std::marker::Model;
+
+/// A text of UTF-8 bytes.
+#[derive(Debug, Drop)]
+pub struct PText {
+    text: String,
+}
+
+impl Model for PText {
+    ghost use Rattle.std.specs.Prelude.{List, ℕ, string_bytes};
+
+    ghost Value = { List ℕ };
+
+    ghost view = { λ a. string_bytes a.text };
+}
+
+impl PText {
+    /// The text of these bytes, None exactly where they aren't UTF-8.
+    pub fn from_bytes(alloc: Global, bytes: &[u8]) -> Result<Option<PText>, NoMem>
+        ensures { IfOk result (λ found. MatchOption found (¬ IsUtf8 bytes.now) (λ text. IsUtf8 bytes.now × text ≡ bytes.now)) }
+    {
+        match str::from_utf8(bytes) {
+            Ok(text) => {
+                let text = String::from_str(alloc, text)?;
+                Ok(Some(PText { text }))
+            }
+            Err(_) => Ok(None),
+        }
+    }
+
+    /// The bytes, which are UTF-8.
+    pub fn bytes(&self) -> &[u8]
+        ensures value { result.now ≡ self.now }
+        ensures utf8 { IsUtf8 self.now }
+    {
+        self.text.as_str().as_bytes()
+    }
+
+    /// Another text of the same bytes.
+    pub fn copy(&self, alloc: Global) -> Result<PText, NoMem>
+        ensures { IfOk result (λ copy. copy ≡ self.now) }
+    {
+        let text = String::from_str(alloc, self.text.as_str())?;
+        Ok(PText { text })
+    }
+}

@@ -1,0 +1,176 @@
+//! Values, rows and their order.
+ghost use Rattle.std.specs.Prelude.{◌≡◌, ◌↔◌, IfOk, IsTrue, All};
+ghost use Rattle.pq_base.specs.Values.{IsValue, IsType, SameKind, AreAlike, FitsType, AllFit, fits_type, all_fit};
+ghost use Rattle.pq_base.specs.Order.{value_cmp, position_cmp};
+
+use crate::list::{List, NoMem};
+use crate::text::PText;
+use std::alloc::Global;
+use std::cmp::Ordering;
+
+/// A value of a column.
+#[derive(Debug, Drop)]
+pub enum Value {
+    Int(i64),
+    Bool(bool),
+    Text(PText),
+}
+
+/// The values of a row, or of the columns that something names.
+pub type Row = List<Value>;
+
+/// The type of a column or of a parameter.
+#[derive(Debug, Clone, Copy, PartialEq, Eq)]
+pub enum ColType {
+    Int,
+    Bool,
+    /// Text of at most so many bytes.
+    Text(u16),
+}
+
+/// The direction of an order by one column.
+#[derive(Debug, Clone, Copy, PartialEq, Eq)]
+pub enum Dir {
+    Asc,
+    Desc,
+}
+
+impl Value {
+    /// Another value equal to this one.
+    pub fn copy(&self, alloc: Global) -> Result<Value, NoMem>
+        ensures { IfOk result (λ copy. copy ≡ self.now) }
+    {
+        match self {
+            Value::Int(number) => Ok(Value::Int(*number)),
+            Value::Bool(truth) => Ok(Value::Bool(*truth)),
+            Value::Text(text) => Ok(Value::Text(text.copy(alloc)?)),
+        }
+    }
+}
+
+impl List<Value> {
+    /// Another row of equal values.
+    pub fn copy(&self, alloc: Global) -> Result<Row, NoMem>
+        ensures { IfOk result (λ copy. copy ≡ self.now) }
+    {
+        let mut copy = List::new(alloc);
+        for value in self.items() {
+            copy.push(alloc, value.copy(alloc)?)?;
+        }
+        Ok(copy)
+    }
+}
+
+/// Whether the value fits the type.
+pub fn fits(value: &Value, ty: ColType) -> bool
+    ensures exact { IsTrue result ↔ FitsType ty value.now }
+    ensures test { result ≡ fits_type ty value.now }
+{
+    match (value, ty) {
+        (Value::Int(number), ColType::Int) => {
+            let _number = *number;
+            true
+        }
+        (Value::Bool(_), ColType::Bool) => true,
+        (Value::Text(text), ColType::Text(most)) => text.bytes().len() <= most as usize,
+        _ => false,
+    }
+}
+
+/// Whether there are as many values as types, and each fits.
+pub fn all_fit(values: &[Value], types: &[ColType]) -> bool
+    ensures exact { IsTrue result ↔ AllFit types.now values.now }
+    ensures test { result ≡ all_fit types.now values.now }
+{
+    match (types.split_first(), values.split_first()) {
+        (None, None) => true,
+        (Some((ty, types)), Some((value, values))) => fits(value, *ty) && all_fit(values, types),
+        _ => false,
+    }
+}
+
+/// The order of two values of one kind: numbers by size, false before true, texts by their bytes.
+pub fn cmp_values(a: &Value, b: &Value) -> Ordering
+    requires { SameKind a.now b.now }
+    ensures { result ≡ value_cmp a.now b.now }
+{
+    match (a, b) {
+        (Value::Int(a), Value::Int(b)) => a.cmp(b),
+        (Value::Bool(a), Value::Bool(b)) => a.cmp(b),
+        (Value::Text(a), Value::Text(b)) => a.bytes().cmp(b.bytes()),
+        _ => Ordering::Equal,
+    }
+}
+
+/// The order of two rows: by the first place that differs, turned round where it descends.
+pub fn cmp_positions(a: &Row, b: &Row, dirs: &[Dir]) -> Ordering
+    requires { AreAlike a.now b.now dirs.now }
+    ensures { result ≡ position_cmp dirs.now a.now b.now }
+{
+    cmp_places(a.items(), b.items(), dirs)
+}
+
+fn cmp_places(a: &[Value], b: &[Value], dirs: &[Dir]) -> Ordering
+    requires { AreAlike a.now b.now dirs.now }
+    ensures { result ≡ position_cmp dirs.now a.now b.now }
+{
+    let (Some((first, left)), Some((second, right)), Some((dir, rest))) = (
+        a.split_first(),
+        b.split_first(),
+        dirs.split_first(),
+    ) else {
+        return Ordering::Equal;
+    };
+    let order = match dir {
+        Dir::Asc => cmp_values(first, second),
+        Dir::Desc => cmp_values(first, second).reverse(),
+    };
+    match order {
+        Ordering::Equal => cmp_places(left, right, rest),
+        order => order,
+    }
+}
+
+/// Tells a proof that a value is in its kind's range.
+pub fn known_value(value: &Value)
+    ensures { IsValue value.now }
+{
+    match value {
+        Value::Int(number) => {
+            let _number = *number;
+        }
+        Value::Bool(_) => {}
+        Value::Text(text) => {
+            let _bytes = text.bytes();
+        }
+    }
+}
+
+/// Tells a proof that values are in their kinds' ranges.
+pub fn known_values(values: &[Value])
+    ensures { All IsValue values.now }
+{
+    for value in values {
+        known_value(value);
+    }
+}
+
+fn known_type(ty: &ColType)
+    ensures { IsType ty.now }
+{
+    match ty {
+        ColType::Int | ColType::Bool => {}
+        ColType::Text(most) => {
+            let _most = *most;
+        }
+    }
+}
+
+/// Tells a proof that the lengths of types are of 16 bits.
+pub fn known_types(types: &[ColType])
+    ensures { All IsType types.now }
+{
+    for ty in types {
+        known_type(ty);
+    }
+}

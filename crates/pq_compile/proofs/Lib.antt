@@ -1,0 +1,4 @@
+pub mod Best
+pub mod CandidateNodes
+pub mod ChosenRows
+pub mod Plans

@@ -1,0 +1,166 @@
+-- Equality of values by test, and the types and kinds of values that fit.
+use Rattle.std.proofs.Common.{◌≡◌, ℕ, zero, suc, Bool, true, false, List, [], ◌∷◌, length, refl, sym, ap, subst}
+use Rattle.std.specs.declared.cmp.Ordering.TheVariants.{Equal}
+use Rattle.std.specs.Ordering.{is_eq, nat_cmp, int_cmp, bool_cmp}
+use Rattle.std.specs.Prelude.{slice_index_or}
+use Rattle.std.specs.Cmp.{Equal-is}
+use Rattle.std.specs.Cmp.Lexicographic.{slice_cmp, pointwise_decides}
+use Rattle.std.proofs.lemmas.Bool.{false≢true}
+use Rattle.std.proofs.lemmas.Cmp.{int_ranked, int_cmp_total, nat_list_cmp_total, tied_itself}
+use Rattle.std.proofs.lemmas.Map.Lookups.{exact_bytes}
+use Rattle.pq_base.specs.declared.value.ColType.{ColType}
+use Rattle.pq_base.specs.declared.value.ColType.TheVariants as type
+use Rattle.pq_base.specs.declared.value.Value.{Value}
+use Rattle.pq_base.specs.declared.value.Value.TheVariants as value
+use Rattle.pq_base.specs.Values.{IsValue, AreValues, SameKind, SameKinds, FitsType, AllFit}
+use Rattle.pq_schema.specs.declared.table.KeyPart.{KeyPart}
+use Rattle.pq_schema.specs.declared.table.Table.{Table}
+use Rattle.pq_schema.specs.Sequences.{columns_of}
+use Rattle.pq_content.specs.Tables.{IsOfKind, AllOfKinds, same_value, same_values, value_of, values_at, values_of, key_of, types_of, types_at, key_types}
+
+-- ---- equality by test
+
+bool_same : (a b : Bool) → is_eq (bool_cmp a b) ≡ true → a ≡ b
+bool_same true true e = refl
+bool_same true false e = absurd (false≢true e)
+bool_same false true e = absurd (false≢true e)
+bool_same false false e = refl
+
+bool_itself : (a : Bool) → is_eq (bool_cmp a a) ≡ true
+bool_itself true = refl
+bool_itself false = refl
+
+value_from_same : (x y : Value) → same_value x y ≡ true → x ≡ y
+value_from_same (value.Int a) (value.Int b) e = ap value.Int (int_ranked a b Equal (sym ((Equal-is (int_cmp a b)).0 e)))
+value_from_same (value.Int a) (value.Bool b) e = absurd (false≢true e)
+value_from_same (value.Int a) (value.Text b) e = absurd (false≢true e)
+value_from_same (value.Bool a) (value.Int b) e = absurd (false≢true e)
+value_from_same (value.Bool a) (value.Bool b) e = ap value.Bool (bool_same a b e)
+value_from_same (value.Bool a) (value.Text b) e = absurd (false≢true e)
+value_from_same (value.Text a) (value.Int b) e = absurd (false≢true e)
+value_from_same (value.Text a) (value.Bool b) e = absurd (false≢true e)
+value_from_same (value.Text a) (value.Text b) e = ap value.Text (exact_bytes a b ((Equal-is (slice_cmp nat_cmp a b)).0 e))
+
+same_value_itself : (x : Value) → same_value x x ≡ true
+same_value_itself (value.Int a) = ap is_eq (tied_itself int_cmp_total a)
+same_value_itself (value.Bool a) = bool_itself a
+same_value_itself (value.Text a) = ap is_eq (tied_itself nat_list_cmp_total a)
+
+pub same_value_decides : (x y : Value) → (same_value x y ≡ true → x ≡ y) × (x ≡ y → same_value x y ≡ true)
+same_value_decides x y = (value_from_same x y, λ e. subst (λ (z : Value). same_value x z ≡ true) e (same_value_itself x))
+
+-- the test of two lists of values decides whether they are equal
+pub same_values_decides : (xs ys : List Value) → (same_values xs ys ≡ true → xs ≡ ys) × (xs ≡ ys → same_values xs ys ≡ true)
+same_values_decides = pointwise_decides same_value_decides
+
+pub same_from_test : (xs ys : List Value) → same_values xs ys ≡ true → xs ≡ ys
+same_from_test xs ys = (same_values_decides xs ys).0
+
+pub same_values_itself : (xs : List Value) → same_values xs xs ≡ true
+same_values_itself xs = (same_values_decides xs xs).1 refl
+
+pub both_ways : (s t : Bool) → (s ≡ true → t ≡ true) → (t ≡ true → s ≡ true) → s ≡ t
+both_ways true t f g = sym (f refl)
+both_ways false true f g = g refl
+both_ways false false f g = refl
+
+pub same_values_sym : (xs ys : List Value) → same_values xs ys ≡ same_values ys xs
+same_values_sym xs ys = both_ways (same_values xs ys) (same_values ys xs) (turned xs ys) (turned ys xs)
+  where
+    turned : (xs ys : List Value) → same_values xs ys ≡ true → same_values ys xs ≡ true
+    turned xs ys e = (same_values_decides ys xs).1 (sym (same_from_test xs ys e))
+
+-- ---- values that fit, or are of the types' kinds
+
+kind_from_fit : (t : ColType) (x : Value) → FitsType t x → IsOfKind t x
+kind_from_fit type.Int (value.Int a) h = h
+kind_from_fit type.Int (value.Bool a) h = absurd h
+kind_from_fit type.Int (value.Text a) h = absurd h
+kind_from_fit type.Bool (value.Int a) h = absurd h
+kind_from_fit type.Bool (value.Bool a) h = tt
+kind_from_fit type.Bool (value.Text a) h = absurd h
+kind_from_fit (type.Text n) (value.Int a) h = absurd h
+kind_from_fit (type.Text n) (value.Bool a) h = absurd h
+kind_from_fit (type.Text n) (value.Text a) h = h.0
+
+pub kinds_from_fit : (ts : List ColType) (xs : List Value) → AllFit ts xs → AllOfKinds ts xs
+kinds_from_fit [] [] h = tt
+kinds_from_fit [] (x ∷ xs) h = absurd h
+kinds_from_fit (t ∷ ts) [] h = absurd h
+kinds_from_fit (t ∷ ts) (x ∷ xs) h = (kind_from_fit t x h.0, kinds_from_fit ts xs h.1)
+
+value_from_kind : (t : ColType) (x : Value) → IsOfKind t x → IsValue x
+value_from_kind type.Int (value.Int a) h = h
+value_from_kind type.Int (value.Bool a) h = absurd h
+value_from_kind type.Int (value.Text a) h = absurd h
+value_from_kind type.Bool (value.Int a) h = absurd h
+value_from_kind type.Bool (value.Bool a) h = tt
+value_from_kind type.Bool (value.Text a) h = absurd h
+value_from_kind (type.Text n) (value.Int a) h = absurd h
+value_from_kind (type.Text n) (value.Bool a) h = absurd h
+value_from_kind (type.Text n) (value.Text a) h = h
+
+same_kind : (t : ColType) (x y : Value) → IsOfKind t x → IsOfKind t y → SameKind x y
+same_kind type.Int (value.Int a) (value.Int b) f g = tt
+same_kind type.Bool (value.Bool a) (value.Bool b) f g = tt
+same_kind (type.Text n) (value.Text a) (value.Text b) f g = tt
+same_kind type.Int (value.Int a) (value.Bool b) f g = absurd g
+same_kind type.Int (value.Int a) (value.Text b) f g = absurd g
+same_kind type.Int (value.Bool a) y f g = absurd f
+same_kind type.Int (value.Text a) y f g = absurd f
+same_kind type.Bool (value.Bool a) (value.Int b) f g = absurd g
+same_kind type.Bool (value.Bool a) (value.Text b) f g = absurd g
+same_kind type.Bool (value.Int a) y f g = absurd f
+same_kind type.Bool (value.Text a) y f g = absurd f
+same_kind (type.Text n) (value.Text a) (value.Int b) f g = absurd g
+same_kind (type.Text n) (value.Text a) (value.Bool b) f g = absurd g
+same_kind (type.Text n) (value.Int a) y f g = absurd f
+same_kind (type.Text n) (value.Bool a) y f g = absurd f
+
+pub AreValues_from_kinds : (ts : List ColType) (xs : List Value) → AllOfKinds ts xs → AreValues xs
+AreValues_from_kinds [] [] h = tt
+AreValues_from_kinds [] (x ∷ xs) h = absurd h
+AreValues_from_kinds (t ∷ ts) [] h = absurd h
+AreValues_from_kinds (t ∷ ts) (x ∷ xs) h = (value_from_kind t x h.0, AreValues_from_kinds ts xs h.1)
+
+pub SameKinds_from_kinds : (ts : List ColType) (xs ys : List Value) → AllOfKinds ts xs → AllOfKinds ts ys → SameKinds xs ys
+SameKinds_from_kinds [] [] [] f g = tt
+SameKinds_from_kinds [] [] (y ∷ ys) f g = absurd g
+SameKinds_from_kinds [] (x ∷ xs) ys f g = absurd f
+SameKinds_from_kinds (t ∷ ts) [] ys f g = absurd f
+SameKinds_from_kinds (t ∷ ts) (x ∷ xs) [] f g = absurd g
+SameKinds_from_kinds (t ∷ ts) (x ∷ xs) (y ∷ ys) f g = (same_kind t x y f.0 g.0, SameKinds_from_kinds ts xs ys f.1 g.1)
+
+pub length_from_kinds : (ts : List ColType) (xs : List Value) → AllOfKinds ts xs → length xs ≡ length ts
+length_from_kinds [] [] h = refl
+length_from_kinds [] (x ∷ xs) h = absurd h
+length_from_kinds (t ∷ ts) [] h = absurd h
+length_from_kinds (t ∷ ts) (x ∷ xs) h = ap suc (length_from_kinds ts xs h.1)
+
+-- at each place the value fits the type, and past the end too
+fits_at : (ts : List ColType) (row : List Value) (col : ℕ) → AllFit ts row → FitsType (slice_index_or ts col type.Bool) (value_of row col)
+fits_at [] [] col h = tt
+fits_at [] (x ∷ xs) col h = absurd h
+fits_at (t ∷ ts) [] col h = absurd h
+fits_at (t ∷ ts) (x ∷ xs) zero h = h.0
+fits_at (t ∷ ts) (x ∷ xs) (suc col) h = fits_at ts xs col h.1
+
+-- a row's values at some columns fit their types
+pub fit_at : (table : Table) (cols : List ℕ) (row : List Value) → AllFit (types_of table) row → AllFit (types_at table cols) (values_at cols row)
+fit_at table [] row h = tt
+fit_at table (col ∷ cols) row h = (fits_at (types_of table) row col h, fit_at table cols row h)
+
+pub key_of_kinds : (table : Table) (row : List Value) → AllFit (types_of table) row → AllOfKinds (key_types table) (key_of table row)
+key_of_kinds table row h = kinds_from_fit (key_types table) (key_of table row) (fit_at table table.key row h)
+
+pub key_fits : (table : Table) (row : List Value) → AllFit (types_of table) row → AllFit (key_types table) (key_of table row)
+key_fits table row h = fit_at table table.key row h
+
+-- the values of a sequence are those at its columns
+pub values_of-columns_of : (parts : List KeyPart) (row : List Value) → values_of parts row ≡ values_at (columns_of parts) row
+values_of-columns_of [] row = refl
+values_of-columns_of (part ∷ parts) row = ap (λ (xs : List Value). value_of row part.col ∷ xs) (values_of-columns_of parts row)
+
+pub sequence_fits : (table : Table) (parts : List KeyPart) (row : List Value) → AllFit (types_of table) row → AllFit (types_at table (columns_of parts)) (values_of parts row)
+sequence_fits table parts row h =
+    subst (AllFit (types_at table (columns_of parts))) (sym (values_of-columns_of parts row)) (fit_at table (columns_of parts) row h)

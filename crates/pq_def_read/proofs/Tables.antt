@@ -1,0 +1,68 @@
+-- The reader of a table's definition reads what the grammar says.
+use Rattle.std.proofs.Common.{◌≡◌, ℕ, false, List, ◌++◌, refl}
+use Rattle.pq_grammar.specs.Language.{◌⋅◌, separated}
+use Rattle.pq_grammar.specs.Reader.{begins, pair_at, skip_at, close_at}
+use Rattle.pq_grammar.proofs.Steps.{Reads, never}
+use Rattle.pq_grammar.proofs.Readers.{pair_reads, close_reads, map_reads}
+use Rattle.pq_grammar.proofs.Lists.{then_shuts, pair_free, skip_free, same_set, regroup, ungroup}
+use Rattle.pq_shape.specs.Front.{is_mark, is_name, word_at, mark_at, name_at}
+use Rattle.pq_shape.specs.Parts.{word, mark, comma, name}
+use Rattle.pq_shape.proofs.Tokens.{word_reads, mark_reads, name_reads}
+use Rattle.pq_shape.specs.declared.shape.Shape.{Shape}
+use Rattle.pq_shape.specs.declared.shape.Shape.TheVariants as shape
+use Rattle.pq_shape.specs.declared.keyword.TheConstants.{CREATE, KEY, PRIMARY, TABLE}
+use Rattle.pq_shape.specs.declared.mark.TheConstants.{CLOSE, COMMA, OPEN, SEMICOLON}
+use Rattle.pq_schema.specs.declared.definition.ColumnDef.{ColumnDef}
+use Rattle.pq_def_read.specs.Definitions.{cols_at, columns_at, constraints_at, stop_at, body_at, create_at}
+use Rattle.pq_def_read.specs.Grammar.{cols, column, constraints, create}
+use Rattle.pq_def_read.specs.declared.definition.Constraints.{Constraints}
+use Rattle.pq_def_read.proofs.Parts.{cols_reads, columns_reads, constraints_reads}
+
+abbrev pub stop : List Shape → Type 0
+stop = mark CLOSE ⋅ mark SEMICOLON
+
+pub stop_reads : Reads (λ _. stop) never stop_at
+unfolding stop_at
+stop_reads = skip_free (mark CLOSE) (λ _. mark SEMICOLON) never (mark_at CLOSE) (mark_at SEMICOLON) (mark_reads CLOSE) (mark_reads SEMICOLON)
+
+pub stop_shuts : (w rest : List Shape) → stop w → begins (is_mark COMMA) (w ++ rest) ≡ false
+unfolding is_mark
+stop_shuts w rest h = then_shuts (is_mark COMMA) (shape.Mark CLOSE) (mark SEMICOLON) refl w rest h
+
+-- from the key on
+abbrev body : List (List ℕ) × Constraints → List Shape → Type 0
+body y = word PRIMARY ⋅ word KEY ⋅ cols y.0 ⋅ constraints y.1 ⋅ stop
+
+body_reads : Reads body never body_at
+unfolding body_at
+body_reads =
+    skip_free (word PRIMARY) (λ (y : List (List ℕ) × Constraints). word KEY ⋅ cols y.0 ⋅ constraints y.1 ⋅ stop) never (word_at PRIMARY) _ (word_reads PRIMARY)
+    (skip_free (word KEY) (λ (y : List (List ℕ) × Constraints). cols y.0 ⋅ constraints y.1 ⋅ stop) never (word_at KEY) _ (word_reads KEY)
+    (pair_free cols (λ cs. constraints cs ⋅ stop) never cols_at (close_at constraints_at stop_at) cols_reads
+    (close_reads constraints stop (is_mark COMMA) never constraints_at stop_at constraints_reads stop_reads (λ v rest h e. stop_shuts v rest h))))
+
+-- the columns with the comma behind them, and then the key
+abbrev from_columns : List ColumnDef × (List (List ℕ) × Constraints) → List Shape → Type 0
+from_columns y = separated comma column y.0 ⋅ comma ⋅ body y.1
+
+from_columns_reads : Reads from_columns never (pair_at columns_at body_at)
+unfolding is_name
+from_columns_reads =
+    same_set (λ (y : List ColumnDef × (List (List ℕ) × Constraints)). (separated comma column y.0 ⋅ comma) ⋅ body y.1) from_columns never (pair_at columns_at body_at)
+    (λ y w h. regroup (separated comma column y.0) comma (body y.1) w h) (λ y w h. ungroup (separated comma column y.0) comma (body y.1) w h)
+    (pair_reads (λ cs. separated comma column cs ⋅ comma) body is_name never columns_at body_at columns_reads body_reads
+    (λ y v rest h e. then_shuts is_name (shape.Keyword PRIMARY) (word KEY ⋅ cols y.0 ⋅ constraints y.1 ⋅ stop) refl v rest h))
+
+abbrev Table : Type 0
+Table = List ℕ × (List ColumnDef × (List (List ℕ) × Constraints))
+
+pub create_reads : Reads create never create_at
+unfolding create_at
+create_reads =
+    map_reads (λ (x : Table). word CREATE ⋅ word TABLE ⋅ name x.0 ⋅ mark OPEN ⋅ from_columns x.1) create never
+    (λ x. record { name = x.0; columns = x.1.0; key = x.1.1.0; limits = x.1.1.1.limits; foreign = x.1.1.1.foreign }) _
+    (skip_free (word CREATE) (λ (x : Table). word TABLE ⋅ name x.0 ⋅ mark OPEN ⋅ from_columns x.1) never (word_at CREATE) _ (word_reads CREATE)
+    (skip_free (word TABLE) (λ (x : Table). name x.0 ⋅ mark OPEN ⋅ from_columns x.1) never (word_at TABLE) _ (word_reads TABLE)
+    (pair_free name (λ y. mark OPEN ⋅ from_columns y) never name_at (skip_at (mark_at OPEN) (pair_at columns_at body_at)) name_reads
+    (skip_free (mark OPEN) from_columns never (mark_at OPEN) (pair_at columns_at body_at) (mark_reads OPEN) from_columns_reads))))
+    (λ x w h. h) (λ d w h. ((d.name, (d.columns, (d.key, record { limits = d.limits; foreign = d.foreign }))), refl, h))

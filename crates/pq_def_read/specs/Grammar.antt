@@ -1,0 +1,101 @@
+-- The grammar: how each part of a statement is spelled, and each statement.
+use Rattle.std.specs.Prelude.{◌≡◌, ℕ, ℤ, List, [], Option, ◌⊎◌}
+use Rattle.pq_base.specs.declared.value.Value.{Value}
+use Rattle.pq_grammar.specs.Language.{◌⋅◌, nothing, anything, each, optional, separated, listed, made}
+use Rattle.pq_schema.specs.declared.definition.ColumnDef.{ColumnDef}
+use Rattle.pq_schema.specs.declared.definition.LimitDef.{LimitDef}
+use Rattle.pq_schema.specs.declared.definition.ForeignDef.{ForeignDef}
+use Rattle.pq_schema.specs.declared.definition.TableDef.{TableDef}
+use Rattle.pq_shape.specs.Parts.{word, mark, comma, name, number, text, a_value}
+use Rattle.pq_shape.specs.declared.keyword.TheConstants.{AFTER, AND, AS, BOOL, CARDINALITY, CREATE, DELETE, EXPLAIN, FOREIGN, FROM, INSERT, INT, INTO, KEY, LIMIT, PREPARE, PRIMARY, REFERENCES, RUN, SET, SHOW, TABLE, TEXT, UPDATE, VALUES, WHERE}
+use Rattle.pq_shape.specs.declared.mark.TheConstants.{CLOSE, EQUAL, OPEN, SEMICOLON}
+use Rattle.pq_shape.specs.declared.shape.Shape.{Shape}
+use Rattle.pq_def_read.specs.Definitions.{int_kind, bool_kind, text_kind, parted}
+use Rattle.pq_def_read.specs.declared.definition.Constraint.{Constraint}
+use Rattle.pq_def_read.specs.declared.definition.Constraint.TheVariants as constraint
+use Rattle.pq_def_read.specs.declared.definition.Constraints.{Constraints}
+use Rattle.pq_def_read.specs.declared.definition.Kind.{Kind}
+use Rattle.pq_def_read.specs.declared.statement.Assign.{Assign}
+use Rattle.pq_def_read.specs.declared.statement.Statement.{Statement}
+use Rattle.pq_def_read.specs.declared.statement.Statement.TheVariants.{Create, Insert, Update, Delete, Prepare, Explain, Run, Show}
+
+-- "(" name { "," name } ")"
+abbrev pub cols : List (List ℕ) → List Shape → Type 0
+cols ns = mark OPEN ⋅ separated comma name ns ⋅ mark CLOSE
+
+-- TEXT "(" number ")"
+abbrev pub text_size : ℤ → List Shape → Type 0
+text_size n = word TEXT ⋅ mark OPEN ⋅ number n ⋅ mark CLOSE
+
+-- INT | BOOL | TEXT "(" number ")"
+abbrev pub kind : Kind → List Shape → Type 0
+kind k w = made text_kind text_size k w ⊎ (((k ≡ int_kind) × word INT w) ⊎ ((k ≡ bool_kind) × word BOOL w))
+
+-- name kind
+abbrev pub column : ColumnDef → List Shape → Type 0
+column c = name c.name ⋅ kind (record { name = c.kind; size = c.size })
+
+-- CARDINALITY LIMIT number cols
+abbrev pub limit : LimitDef → List Shape → Type 0
+limit l = word CARDINALITY ⋅ word LIMIT ⋅ number l.n ⋅ cols l.cols
+
+-- FOREIGN KEY cols REFERENCES name
+abbrev pub foreign : ForeignDef → List Shape → Type 0
+foreign f = word FOREIGN ⋅ word KEY ⋅ cols f.cols ⋅ word REFERENCES ⋅ name f.table
+
+abbrev pub a_constraint : Constraint → List Shape → Type 0
+a_constraint (constraint.Limit l) = limit l
+a_constraint (constraint.Foreign f) = foreign f
+
+-- { "," ( limit | foreign ) }: the limits in order, and the foreign keys in order
+abbrev pub constraints : Constraints → List Shape → Type 0
+constraints = made parted (each (λ c. comma ⋅ a_constraint c))
+
+-- CREATE TABLE name "(" column { "," column } "," PRIMARY KEY cols { "," ( limit | foreign ) } ")"
+abbrev pub create : TableDef → List Shape → Type 0
+create d =
+    word CREATE ⋅ word TABLE ⋅ name d.name ⋅ mark OPEN ⋅ separated comma column d.columns ⋅ comma ⋅ word PRIMARY ⋅ word KEY ⋅ cols d.key
+    ⋅ constraints (record { limits = d.limits; foreign = d.foreign }) ⋅ mark CLOSE ⋅ mark SEMICOLON
+
+-- INSERT INTO name [ cols ] VALUES "(" value { "," value } ")"
+abbrev pub insert : List ℕ → Option (List (List ℕ)) → List Value → List Shape → Type 0
+insert table columns values = word INSERT ⋅ word INTO ⋅ name table ⋅ optional cols columns ⋅ word VALUES ⋅ mark OPEN ⋅ separated comma a_value values ⋅ mark CLOSE ⋅ mark SEMICOLON
+
+-- name "=" value
+abbrev pub assign : Assign → List Shape → Type 0
+assign a = name a.col ⋅ mark EQUAL ⋅ a_value a.value
+
+-- assign { AND assign }
+abbrev pub key : List Assign → List Shape → Type 0
+key = separated (word AND) assign
+
+-- UPDATE name SET assign { "," assign } WHERE key
+abbrev pub update : List ℕ → List Assign → List Assign → List Shape → Type 0
+update table sets row = word UPDATE ⋅ name table ⋅ word SET ⋅ separated comma assign sets ⋅ word WHERE ⋅ key row ⋅ mark SEMICOLON
+
+-- DELETE FROM name WHERE key
+abbrev pub delete : List ℕ → List Assign → List Shape → Type 0
+delete table row = word DELETE ⋅ word FROM ⋅ name table ⋅ word WHERE ⋅ key row ⋅ mark SEMICOLON
+
+-- [ "(" [ value { "," value } ] ")" ]
+abbrev pub arguments : List Value → List Shape → Type 0
+arguments values w = ((values ≡ []) × nothing w) ⊎ (mark OPEN ⋅ listed comma a_value values ⋅ mark CLOSE) w
+
+-- AFTER text
+abbrev pub cursor : List ℕ → List Shape → Type 0
+cursor t = word AFTER ⋅ text t
+
+-- RUN name [ "(" [ value { "," value } ] ")" ] [ AFTER text ]
+abbrev pub run : List ℕ → List Value → Option (List ℕ) → List Shape → Type 0
+run query values after = word RUN ⋅ name query ⋅ arguments values ⋅ optional cursor after ⋅ mark SEMICOLON
+
+-- these tokens spell this statement; of PREPARE and EXPLAIN the head alone, with the number of its tokens
+abbrev pub Spells : Statement → List Shape → Type 0
+Spells (Create d) w = create d w
+Spells (Insert table columns values) w = insert table columns values w
+Spells (Update table sets row) w = update table sets row w
+Spells (Delete table row) w = delete table row w
+Spells (Prepare n from) w = (3 ≡ from) × (word PREPARE ⋅ name n ⋅ word AS ⋅ anything) w
+Spells (Explain from) w = (1 ≡ from) × (word EXPLAIN ⋅ anything) w
+Spells (Run query values after) w = run query values after w
+Spells Show w = (word SHOW ⋅ mark SEMICOLON) w

@@ -1,0 +1,16 @@
+-- The values of statements are in their kinds' ranges.
+use Rattle.std.specs.Prelude.{All, List}
+use Rattle.pq_base.specs.Values.{IsValue}
+use Rattle.pq_def_read.specs.declared.statement.Assign.{Assign}
+use Rattle.pq_def_read.specs.declared.statement.Statement.{Statement}
+use Rattle.pq_def_read.specs.declared.statement.Statement.TheVariants.{Insert, Update, Delete, Run}
+
+abbrev pub AreKnown : List Assign → Type 0
+AreKnown assigns = All (λ a. IsValue a.value) assigns
+
+abbrev pub HasValues : Statement → Type 0
+HasValues (Insert table columns values) = All IsValue values
+HasValues (Update table sets row) = AreKnown sets × AreKnown row
+HasValues (Delete table row) = AreKnown row
+HasValues (Run query values after) = All IsValue values
+HasValues _ = Unit {0}

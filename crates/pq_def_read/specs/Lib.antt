@@ -1,0 +1,6 @@
+pub mod Definitions
+pub mod Reading
+pub mod Shrinking
+pub mod Grammar
+pub mod Faults
+pub mod Known

@@ -1,0 +1,17 @@
+//! Reading every statement but a query: what its tokens spell, or the place of the first token that fits none.
+//!
+//! `read_statement` answers a statement exactly where the tokens spell it, and otherwise refuses with the offset
+//! of the first token such that no statement begins with the tokens up to and with it. Of PREPARE and EXPLAIN it
+//! reads the head alone.
+#![tactic(auto)]
+
+mod definition;
+mod known;
+mod reading;
+mod statement;
+
+pub use reading::read_statement;
+pub use statement::{Assign, Statement};
+
+#[cfg(test)]
+mod tests;

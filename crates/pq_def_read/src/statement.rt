@@ -1,0 +1,51 @@
+//! Statements, with names in place of numbers.
+use pq_base::{List, PText, Value};
+use pq_schema::TableDef;
+
+/// A column and the value that it is to have.
+#[derive(Debug, Drop)]
+pub struct Assign {
+    pub col: PText,
+    pub value: Value,
+}
+
+/// A statement. Names are in small letters.
+#[derive(Debug, Drop)]
+pub enum Statement {
+    /// CREATE TABLE.
+    Create(TableDef),
+    /// INSERT, with the columns where they are listed.
+    Insert {
+        table: PText,
+        cols: Option<List<PText>>,
+        values: List<Value>,
+    },
+    /// UPDATE of the row with this key.
+    Update {
+        table: PText,
+        sets: List<Assign>,
+        key: List<Assign>,
+    },
+    /// DELETE of the row with this key.
+    Delete {
+        table: PText,
+        key: List<Assign>,
+    },
+    /// PREPARE, with the place of the token after its head.
+    Prepare {
+        name: PText,
+        from: u32,
+    },
+    /// EXPLAIN, with the place of the token after its head.
+    Explain {
+        from: u32,
+    },
+    /// RUN, with the values of its parameters and the cursor after which it goes on.
+    Run {
+        name: PText,
+        values: List<Value>,
+        after: Option<PText>,
+    },
+    /// SHOW.
+    Show,
+}

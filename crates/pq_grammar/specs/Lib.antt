@@ -1,0 +1,4 @@
+pub mod Language
+pub mod Reader
+pub mod Answers
+pub mod Shrinking

@@ -1,0 +1,7 @@
+pub mod Bytes
+pub mod Escapes
+pub mod Order
+pub mod Loop
+pub mod Reading
+pub mod StoreKeys
+pub mod KeyRanges

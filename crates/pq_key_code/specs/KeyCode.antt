@@ -1,0 +1,70 @@
+-- The key code: bytes whose order is the order of the values, and the keys of the store.
+use Rattle.std.specs.Prelude.{ℕ, zero, suc, ℤ, pos, negsuc, ◌+◌, ◌-◌, ◌^◌, ◌<◌, Bool, true, false, List, [], ◌∷◌, ◌++◌, map, length, replicate}
+use Rattle.std.specs.Int.{w16, w64, to_be_bytes}
+use Rattle.pq_base.specs.declared.value.Dir.{Dir}
+use Rattle.pq_base.specs.declared.value.Dir.TheVariants.{Asc, Desc}
+use Rattle.pq_base.specs.declared.value.Value.{Value}
+use Rattle.pq_base.specs.declared.value.Value.TheVariants as values
+
+-- each is a byte
+abbrev pub IsBytes : List ℕ → Type 0
+IsBytes [] = Unit {0}
+IsBytes (b ∷ bs) = (b < 256) × IsBytes bs
+
+-- the 64 bits of a number with the sign bit flipped: how far it is above the least one
+abbrev pub above_least : ℤ → ℕ
+above_least (pos n) = 2 ^ 63 + n
+above_least (negsuc n) = 2 ^ 63 - suc n
+
+abbrev pub truth_byte : Bool → ℕ
+truth_byte false = 0
+truth_byte true = 1
+
+-- 00 is written 00 FF
+abbrev pub escaped : List ℕ → List ℕ
+escaped [] = []
+escaped (zero ∷ bs) = 0 ∷ 255 ∷ escaped bs
+escaped (suc b ∷ bs) = suc b ∷ escaped bs
+
+-- eight bytes, one byte, or the escaped bytes and 00 01
+abbrev pub payload : Value → List ℕ
+payload (values.Int z) = to_be_bytes w64 (above_least z)
+payload (values.Bool b) = truth_byte b ∷ []
+payload (values.Text t) = escaped t ++ 0 ∷ 1 ∷ []
+
+-- a descending component complements each payload byte, and not the marker
+abbrev pub turned : Dir → ℕ → ℕ
+turned Asc b = b
+turned Desc b = 255 - b
+
+-- each kind of value has the marker 10
+abbrev pub marker : Dir → Value → ℕ
+marker d x = 16
+
+abbrev pub component : Dir → Value → List ℕ
+component d x = marker d x ∷ map (turned d) (payload x)
+
+-- a component for each place that has a direction
+abbrev pub code_of : List Dir → List Value → List ℕ
+code_of (d ∷ ds) (x ∷ xs) = component d x ++ code_of ds xs
+code_of _ _ = []
+
+-- above every code that goes on from this one
+abbrev pub past_code : List ℕ → List ℕ
+past_code code = code ++ 32 ∷ []
+
+-- the key of a definition: space 01 and the number in two bytes
+abbrev pub catkey : ℕ → List ℕ
+catkey number = 1 ∷ to_be_bytes w16 number
+
+-- the key of a row: space 02, the table's number, and the code of the primary key
+abbrev pub rowkey : ℕ → List Value → List ℕ
+rowkey table key = 2 ∷ table ∷ code_of (replicate (length key) Asc) key
+
+-- the key of an index entry: space 03, the table's and the index's number, and the code of the sequence
+abbrev pub entrykey : ℕ → ℕ → List Dir → List Value → List ℕ
+entrykey table index dirs row = 3 ∷ table ∷ index ∷ code_of dirs row
+
+-- the key of the intent
+abbrev pub intentkey : List ℕ
+intentkey = 4 ∷ []

@@ -1,0 +1,3 @@
+pub mod KeyCode
+pub mod KeyOrder
+pub mod KeyReading

@@ -1,0 +1,98 @@
+//! From values to key codes.
+ghost use Rattle.std.specs.Prelude.{◌≡◌, ◌++◌, ◌∷◌, [], length, map, OnOk, IfOk};
+ghost use Rattle.pq_base.specs.declared.value.Value.TheVariants as values;
+ghost use Rattle.pq_key_code.specs.KeyCode.{above_least, payload, turned, escaped, component, code_of};
+
+use pq_base::{Bytes, Dir, NoMem, Row, Value};
+use std::alloc::Global;
+
+/// A payload byte in its direction: complemented where it descends. Turned twice it is as before.
+pub(crate) fn turn(dir: Dir, byte: u8) -> u8
+    ensures { result ≡ turned dir byte }
+{
+    match dir {
+        Dir::Asc => byte,
+        Dir::Desc => 255 - byte,
+    }
+}
+
+fn above_least_of(number: i64) -> u64
+    ensures { result ≡ above_least number }
+{
+    number.cast_unsigned().wrapping_add(1 << 63)
+}
+
+fn put_turned(alloc: Global, out: &mut Bytes, dir: Dir, bytes: &[u8]) -> Result<(), NoMem>
+    ensures { OnOk result (out.new ≡ out.old ++ map (turned dir) bytes.now) }
+{
+    for byte in bytes {
+        out.push(alloc, turn(dir, *byte))?;
+    }
+    Ok(())
+}
+
+#[tactic(auto, using(crate::proofs::Escapes::escaped_one))]
+fn put_text_byte(alloc: Global, out: &mut Bytes, dir: Dir, byte: u8) -> Result<(), NoMem>
+    ensures { OnOk result (out.new ≡ out.old ++ map (turned dir) (escaped (byte ∷ []))) }
+{
+    out.push(alloc, turn(dir, byte))?;
+    if byte == 0 {
+        out.push(alloc, turn(dir, 255))?;
+    }
+    Ok(())
+}
+
+fn put_text(alloc: Global, out: &mut Bytes, dir: Dir, bytes: &[u8]) -> Result<(), NoMem>
+    ensures { OnOk result (out.new ≡ out.old ++ map (turned dir) (payload (values.Text bytes.now))) }
+{
+    for byte in bytes {
+        put_text_byte(alloc, out, dir, *byte)?;
+    }
+    out.push(alloc, turn(dir, 0))?;
+    out.push(alloc, turn(dir, 1))
+}
+
+/// Puts a value's component behind what is there: the marker, and the payload in its direction.
+pub(crate) fn put_component(
+    alloc: Global,
+    out: &mut Bytes,
+    dir: Dir,
+    value: &Value,
+) -> Result<(), NoMem>
+    ensures { OnOk result (out.new ≡ out.old ++ component dir value.now) }
+{
+    out.push(alloc, 0x10)?;
+    match value {
+        Value::Int(number) => {
+            put_turned(alloc, out, dir, &above_least_of(*number).to_be_bytes())
+        }
+        Value::Bool(truth) => put_turned(alloc, out, dir, &[u8::from(*truth)]),
+        Value::Text(text) => put_text(alloc, out, dir, text.bytes()),
+    }
+}
+
+/// Puts a row's key code behind what is there.
+pub(crate) fn put_code(
+    alloc: Global,
+    out: &mut Bytes,
+    row: &[Value],
+    dirs: &[Dir],
+) -> Result<(), NoMem>
+    requires { length row.now ≡ length dirs.now }
+    ensures { OnOk result (out.new ≡ out.old ++ code_of dirs.now row.now) }
+{
+    for i in 0..row.len() {
+        put_component(alloc, out, dirs[i], &row[i])?;
+    }
+    Ok(())
+}
+
+/// The key code of a row, each value in its direction.
+pub fn encode_key(alloc: Global, row: &Row, dirs: &[Dir]) -> Result<Bytes, NoMem>
+    requires { length row.now ≡ length dirs.now }
+    ensures { IfOk result (λ code. code ≡ code_of dirs.now row.now) }
+{
+    let mut code = Bytes::new(alloc);
+    put_code(alloc, &mut code, row.items(), dirs)?;
+    Ok(code)
+}

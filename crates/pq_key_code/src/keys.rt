@@ -1,0 +1,68 @@
+//! The keys of the store.
+ghost use Rattle.std.specs.Prelude.{◌≡◌, ◌++◌, length, replicate, OnOk, IfOk};
+ghost use Rattle.pq_base.specs.declared.value.Dir.TheVariants.{Asc};
+ghost use Rattle.pq_key_code.specs.KeyCode.{code_of, past_code, rowkey, entrykey, catkey, intentkey};
+
+use crate::encode::{put_code, put_component};
+use pq_base::{Bytes, Dir, NoMem, Row};
+use std::alloc::Global;
+
+/// The code and 0x20, which is above every code that goes on from this one. After `NoMem` the code
+/// is dropped.
+pub fn past(alloc: Global, code: Bytes) -> Result<Bytes, NoMem>
+    ensures { IfOk result (λ key. key ≡ past_code code) }
+{
+    let mut code = code;
+    code.push(alloc, 0x20)?;
+    Ok(code)
+}
+
+fn put_ascending(alloc: Global, out: &mut Bytes, row: &Row) -> Result<(), NoMem>
+    ensures { OnOk result (out.new ≡ out.old ++ code_of (replicate (length row.now) Asc) row.now) }
+{
+    for value in row.items() {
+        put_component(alloc, out, Dir::Asc, value)?;
+    }
+    Ok(())
+}
+
+/// The key of the row with this primary key: space 02, the table's number, and the key's code.
+pub fn row_key(alloc: Global, table: u8, key: &Row) -> Result<Bytes, NoMem>
+    ensures { IfOk result (λ bytes. bytes ≡ rowkey table key.now) }
+{
+    let mut bytes = Bytes::of_bytes(alloc, &[0x02, table])?;
+    put_ascending(alloc, &mut bytes, key)?;
+    Ok(bytes)
+}
+
+/// The key of an index entry, or, with the first values of a sequence only, the beginning of such
+/// keys: space 03, the table's number, the index's number, and the code of the values.
+pub fn entry_key(
+    alloc: Global,
+    table: u8,
+    index: u8,
+    values: &Row,
+    dirs: &[Dir],
+) -> Result<Bytes, NoMem>
+    requires { length values.now ≡ length dirs.now }
+    ensures { IfOk result (λ bytes. bytes ≡ entrykey table index dirs.now values.now) }
+{
+    let mut bytes = Bytes::of_bytes(alloc, &[0x03, table, index])?;
+    put_code(alloc, &mut bytes, values.items(), dirs)?;
+    Ok(bytes)
+}
+
+/// The key of a definition: space 01 and its number in two bytes, the higher first.
+pub fn catalog_key(alloc: Global, number: u16) -> Result<Bytes, NoMem>
+    ensures { IfOk result (λ bytes. bytes ≡ catkey number) }
+{
+    let [high, low] = number.to_be_bytes();
+    Bytes::of_bytes(alloc, &[0x01, high, low])
+}
+
+/// The key of the intent: space 04 alone.
+pub fn intent_key(alloc: Global) -> Result<Bytes, NoMem>
+    ensures { IfOk result (λ bytes. bytes ≡ intentkey) }
+{
+    Bytes::of_bytes(alloc, &[0x04])
+}

@@ -1,0 +1,122 @@
+-- The canonical texts of definitions: keywords in capitals, one space between words, `, ` between
+-- items, no space inside parentheses, `;` at the end.
+use Rattle.std.specs.Prelude.{ℕ, ◌-◌, List, [], ◌∷◌, ◌++◌, codes, decimal, slice_index_or, slice_get}
+use Rattle.std.specs.Option.{option_map_or}
+use Rattle.pq_base.specs.declared.value.ColType.{ColType}
+use Rattle.pq_base.specs.declared.value.ColType.TheVariants as type
+use Rattle.pq_schema.specs.declared.table.Column.{Column}
+use Rattle.pq_schema.specs.declared.table.Limit.{Limit}
+use Rattle.pq_schema.specs.declared.table.Foreign.{Foreign}
+use Rattle.pq_schema.specs.declared.table.Table.{Table}
+use Rattle.pq_schema.specs.declared.query.ColRef.{ColRef}
+use Rattle.pq_schema.specs.declared.query.Op.{Op}
+use Rattle.pq_schema.specs.declared.query.Op.TheVariants as op
+use Rattle.pq_schema.specs.declared.query.Operand.{Operand}
+use Rattle.pq_schema.specs.declared.query.Operand.TheVariants as operand
+use Rattle.pq_schema.specs.declared.query.Pred.{Pred}
+use Rattle.pq_schema.specs.declared.query.OrderItem.{OrderItem}
+use Rattle.pq_schema.specs.declared.query.Stop.{Stop}
+use Rattle.pq_schema.specs.declared.query.Stop.TheVariants as stop
+use Rattle.pq_schema.specs.declared.query.Relation.{Relation}
+use Rattle.pq_schema.specs.declared.query.Query.{Query}
+use Rattle.pq_schema.specs.declared.made.Definition.{Definition}
+use Rattle.pq_schema.specs.declared.made.Definition.TheVariants.{OfTable, OfQuery}
+use Rattle.pq_schema.specs.Tables.{table_at}
+use Rattle.pq_schema.specs.Relations.{relation_at, table_of}
+use Rattle.pq_schema.specs.Schema.{Schema, definition_at}
+use Rattle.pq_print.specs.Lists.{each_after, separated, clause}
+use Rattle.pq_print.specs.Values.{value_text}
+use Rattle.pq_print.specs.Report.{dir_text}
+
+-- what stands at a place that no column has
+abbrev pub no_column : Column
+no_column = record { name = []; ty = type.Int }
+
+-- the name of the column of this place, from 0
+abbrev pub column_name : List Column → ℕ → List ℕ
+column_name columns col = (slice_index_or columns col no_column).name
+
+abbrev pub type_text : ColType → List ℕ
+type_text type.Int = codes "INT"
+type_text type.Bool = codes "BOOL"
+type_text (type.Text most) = codes "TEXT(" ++ decimal most ++ codes ")"
+
+unfoldable pub column_text : Column → List ℕ
+column_text column = column.name ++ codes " " ++ type_text column.ty
+
+-- columns of the table by their places
+unfoldable pub columns_text : Table → List ℕ → List ℕ
+columns_text table cols = codes "(" ++ separated (codes ", ") (column_name table.columns) cols ++ codes ")"
+
+unfoldable pub limit_text : Table → Limit → List ℕ
+limit_text table limit = codes "CARDINALITY LIMIT " ++ decimal limit.n ++ codes " " ++ columns_text table limit.cols
+
+unfoldable pub foreign_text : List Table → Table → Foreign → List ℕ
+foreign_text tables table foreign =
+    codes "FOREIGN KEY " ++ columns_text table foreign.cols ++ codes " REFERENCES " ++ (table_at tables foreign.table).name
+
+-- the columns, the key, all limits, all foreign keys
+unfoldable pub items_text : List Table → Table → List ℕ
+items_text tables table =
+    separated (codes ", ") column_text table.columns ++ codes ", PRIMARY KEY " ++ columns_text table table.key
+    ++ each_after (codes ", ") (limit_text table) table.limits
+    ++ each_after (codes ", ") (foreign_text tables table) table.foreign
+
+unfoldable pub table_text : List Table → Table → List ℕ
+table_text tables table = codes "CREATE TABLE " ++ table.name ++ codes " (" ++ items_text tables table ++ codes ");"
+
+-- a column as alias.column
+unfoldable pub ref_text : List Table → Query → ColRef → List ℕ
+ref_text tables query ref =
+    (relation_at query ref.rel).alias ++ codes "." ++ column_name (table_of tables query ref.rel).columns ref.col
+
+unfoldable pub relation_text : List Table → Relation → List ℕ
+relation_text tables relation = (table_at tables relation.table).name ++ codes " AS " ++ relation.alias
+
+abbrev pub op_text : Op → List ℕ
+op_text op.Eq = codes "="
+op_text op.Ne = codes "<>"
+op_text op.Lt = codes "<"
+op_text op.Le = codes "<="
+op_text op.Gt = codes ">"
+op_text op.Ge = codes ">="
+
+abbrev pub operand_text : List Table → Query → Operand → List ℕ
+operand_text tables query (operand.Const value) = value_text value
+operand_text tables query (operand.Param number) = codes "[" ++ decimal number ++ codes "]"
+operand_text tables query (operand.Col ref) = ref_text tables query ref
+
+unfoldable pub pred_text : List Table → Query → Pred → List ℕ
+pred_text tables query pred =
+    ref_text tables query pred.left ++ codes " " ++ op_text pred.op ++ codes " " ++ operand_text tables query pred.right
+
+abbrev pub order_text : List Table → Query → OrderItem → List ℕ
+order_text tables query item = ref_text tables query item.col ++ dir_text item.dir
+
+abbrev pub stop_text : Stop → List ℕ
+stop_text stop.All = []
+stop_text (stop.Limit k) = codes " LIMIT " ++ decimal k
+stop_text (stop.Paginate k) = codes " PAGINATE " ++ decimal k
+
+unfoldable pub select_text : List Table → Query → List ℕ
+select_text tables query =
+    codes "SELECT " ++ separated (codes ", ") (ref_text tables query) query.select
+    ++ codes " FROM " ++ separated (codes ", ") (relation_text tables) query.relations
+    ++ clause (codes " WHERE ") (codes " AND ") (pred_text tables query) query.preds
+    ++ clause (codes " ORDER BY ") (codes ", ") (order_text tables query) query.order
+    ++ stop_text query.stop
+
+unfoldable pub query_text : List Table → Query → List ℕ
+query_text tables query = codes "PREPARE " ++ query.name ++ codes " AS " ++ select_text tables query ++ codes ";"
+
+-- the text of the table of this number, from 1; none where there is no such table
+abbrev pub numbered_text : List Table → ℕ → List ℕ
+numbered_text tables number = option_map_or (table_text tables) (slice_get tables (number - 1)) []
+
+abbrev pub text_of : List Table → Definition → List ℕ
+text_of tables (OfTable table made) = numbered_text tables table
+text_of tables (OfQuery query made) = query_text tables query
+
+-- the canonical text of the definition of this number, from 1
+unfoldable pub definition_text : Schema → ℕ → List ℕ
+definition_text schema number = text_of schema.tables (definition_at schema number)

@@ -1,0 +1,5 @@
+pub mod Canonical
+pub mod Lists
+pub mod Refusals
+pub mod Report
+pub mod Values

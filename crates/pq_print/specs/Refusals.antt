@@ -1,0 +1,74 @@
+-- The text of a refusal: its number, and then its fields, each behind a space.
+use Rattle.std.specs.Prelude.{ℕ, List, [], ◌++◌, codes, decimal, slice_index_or}
+use Rattle.pq_base.specs.Words.{counts}
+use Rattle.pq_base.specs.declared.refusal.Refusal.{Refusal}
+use Rattle.pq_base.specs.declared.refusal.Refusal.TheVariants as refusal
+
+abbrev pub refusal_number : Refusal → List ℕ
+refusal_number refusal.NotUtf8 = codes "E101"
+refusal_number refusal.Unfinished = codes "E102"
+refusal_number refusal.StatementLong = codes "E103"
+refusal_number (refusal.Syntax at) = codes "E104"
+refusal_number (refusal.NameTaken name) = codes "E201"
+refusal_number (refusal.NoTable name) = codes "E202"
+refusal_number (refusal.NoColumn name) = codes "E203"
+refusal_number (refusal.Repeated name) = codes "E204"
+refusal_number (refusal.ForeignShape number) = codes "E205"
+refusal_number (refusal.Count word) = codes "E206"
+refusal_number (refusal.TooManyRows table) = codes "E207"
+refusal_number (refusal.Alias name) = codes "E301"
+refusal_number (refusal.OperandKind pred) = codes "E302"
+refusal_number refusal.Params = codes "E303"
+refusal_number (refusal.NoBound alias) = codes "E304"
+refusal_number (refusal.BoundLarge ops entries) = codes "E305"
+refusal_number (refusal.NoQuery name) = codes "E401"
+refusal_number (refusal.ParamValue number) = codes "E402"
+refusal_number refusal.Cursor = codes "E403"
+refusal_number refusal.NotPaged = codes "E404"
+refusal_number (refusal.ValueKind table column) = codes "E501"
+refusal_number (refusal.WrongColumns table) = codes "E502"
+refusal_number (refusal.DuplicateKey table) = codes "E503"
+refusal_number (refusal.NoRow table) = codes "E504"
+refusal_number (refusal.NoParent table number) = codes "E505"
+refusal_number (refusal.Referenced table number) = codes "E506"
+refusal_number (refusal.Cardinality table number n) = codes "E507"
+refusal_number (refusal.RowLong table length) = codes "E508"
+refusal_number refusal.NotBuilt = codes "E100"
+
+abbrev pub field : List ℕ → List ℕ
+field text = codes " " ++ text
+
+-- a count's word is printed by its place
+abbrev pub refusal_fields : Refusal → List ℕ
+refusal_fields refusal.NotUtf8 = []
+refusal_fields refusal.Unfinished = []
+refusal_fields refusal.StatementLong = []
+refusal_fields (refusal.Syntax at) = field (decimal at)
+refusal_fields (refusal.NameTaken name) = field name
+refusal_fields (refusal.NoTable name) = field name
+refusal_fields (refusal.NoColumn name) = field name
+refusal_fields (refusal.Repeated name) = field name
+refusal_fields (refusal.ForeignShape number) = field (decimal number)
+refusal_fields (refusal.Count word) = field (slice_index_or counts word [])
+refusal_fields (refusal.TooManyRows table) = field table
+refusal_fields (refusal.Alias name) = field name
+refusal_fields (refusal.OperandKind pred) = field (decimal pred)
+refusal_fields refusal.Params = []
+refusal_fields (refusal.NoBound alias) = field alias
+refusal_fields (refusal.BoundLarge ops entries) = field (decimal ops) ++ field (decimal entries)
+refusal_fields (refusal.NoQuery name) = field name
+refusal_fields (refusal.ParamValue number) = field (decimal number)
+refusal_fields refusal.Cursor = []
+refusal_fields refusal.NotPaged = []
+refusal_fields (refusal.ValueKind table column) = field table ++ field column
+refusal_fields (refusal.WrongColumns table) = field table
+refusal_fields (refusal.DuplicateKey table) = field table
+refusal_fields (refusal.NoRow table) = field table
+refusal_fields (refusal.NoParent table number) = field table ++ field (decimal number)
+refusal_fields (refusal.Referenced table number) = field table ++ field (decimal number)
+refusal_fields (refusal.Cardinality table number n) = field table ++ field (decimal number) ++ field (decimal n)
+refusal_fields (refusal.RowLong table length) = field table ++ field (decimal length)
+refusal_fields refusal.NotBuilt = []
+
+abbrev pub refusal_text : Refusal → List ℕ
+refusal_text why = refusal_number why ++ refusal_fields why

@@ -1,0 +1,46 @@
+//! The canonical text of a definition of a catalog.
+ghost use Rattle.std.specs.Prelude.{◌≡◌, ◌≤◌, ◌++◌, length, OnOk, IfOk, string_bytes};
+ghost use Rattle.pq_print.specs.Canonical.{text_of, definition_text};
+
+use crate::query::put_query;
+use crate::table::put_table;
+use pq_base::{NoMem, PText};
+use pq_schema::{Catalog, Definition, Table};
+use std::alloc::{AllocError, Global};
+
+fn put_definition(
+    tables: &[Table],
+    definition: &Definition,
+    out: &mut String,
+) -> Result<(), AllocError>
+    ensures { OnOk result (string_bytes out.new ≡ string_bytes out.old ++ text_of tables.now definition.now) }
+{
+    match definition {
+        Definition::OfTable { table, .. } => {
+            match tables.get((*table as usize).saturating_sub(1)) {
+                Some(table) => put_table(tables, table, out),
+                None => Ok(()),
+            }
+        }
+        Definition::OfQuery { query, .. } => put_query(tables, query, out),
+    }
+}
+
+/// The canonical text of the definition of this number, from 1.
+#[tactic(auto, unfolding(crate::specs::Canonical::definition_text))]
+pub fn print_definition(alloc: Global, catalog: &Catalog, number: u16) -> Result<PText, NoMem>
+    requires from_one { 1 ≤ number }
+    requires there { number ≤ length catalog.now.definitions }
+    ensures { IfOk result (λ text. text ≡ definition_text catalog.now number) }
+{
+    let definition = &catalog.definitions()[number as usize - 1];
+    let mut text = String::new(alloc);
+    put_definition(catalog.tables(), definition, &mut text)?;
+    match PText::from_bytes(alloc, text.as_str().as_bytes())? {
+        Some(text) => Ok(text),
+        None => unreachable!(),
+    }
+}
+
+#[cfg(test)]
+mod tests;

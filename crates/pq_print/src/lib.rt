@@ -1,0 +1,26 @@
+//! The texts of reports, and the canonical texts of definitions.
+//!
+//! Each call appends or gives exactly the text that its definition in specs/ says. After `NoMem`
+//! what a text was to be appended to is as before.
+#![tactic(auto)]
+
+mod canonical;
+mod names;
+mod number;
+mod part;
+mod print;
+mod query;
+mod refusal;
+mod report;
+mod table;
+mod value;
+
+pub use canonical::print_definition;
+pub use print::{print_damage, print_opening, print_report};
+pub use query::print_query;
+pub use report::{End, IndexCol, Line, Opened, Report};
+pub use table::print_table;
+pub use value::print_row;
+
+#[cfg(test)]
+mod tests;

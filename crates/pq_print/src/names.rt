@@ -1,0 +1,65 @@
+//! Names by number. A number that nothing has gets the empty name.
+ghost use Rattle.std.specs.Prelude.{◌≡◌, ◌-◌};
+ghost use Rattle.pq_schema.specs.Tables.{table_at};
+ghost use Rattle.pq_schema.specs.Relations.{relation_at};
+ghost use Rattle.pq_print.specs.Canonical.{column_name};
+
+use crate::part::as_str;
+use pq_schema::{Column, Query, Table};
+
+/// A number from 1 as a place from 0.
+fn place(number: u8) -> usize
+    ensures { result ≡ number - 1 }
+{
+    (number as usize).saturating_sub(1)
+}
+
+/// The name of the table of this number, from 1.
+pub fn table_name(tables: &[Table], number: u8) -> &str
+    ensures { result.now ≡ (table_at tables.now number).name }
+{
+    match tables.get(place(number)) {
+        Some(table) => as_str(&table.name),
+        None => "",
+    }
+}
+
+/// The columns of the table of this number, from 1.
+pub fn table_columns(tables: &[Table], number: u8) -> &[Column]
+    ensures { result.now ≡ (table_at tables.now number).columns }
+{
+    match tables.get(place(number)) {
+        Some(table) => table.columns.items(),
+        None => &[],
+    }
+}
+
+/// The name of the column of this place, from 0.
+pub fn column_name(columns: &[Column], col: u8) -> &str
+    ensures { result.now ≡ column_name columns.now col }
+{
+    match columns.get(col as usize) {
+        Some(column) => as_str(&column.name),
+        None => "",
+    }
+}
+
+/// The alias of the relation of this number, from 1.
+pub fn relation_alias(query: &Query, rel: u8) -> &str
+    ensures { result.now ≡ (relation_at query.now rel).alias }
+{
+    match query.relations.items().get(place(rel)) {
+        Some(relation) => as_str(&relation.alias),
+        None => "",
+    }
+}
+
+/// The number of the table of the relation of this number, from 1.
+pub fn relation_table(query: &Query, rel: u8) -> u8
+    ensures { result ≡ (relation_at query.now rel).table }
+{
+    match query.relations.items().get(place(rel)) {
+        Some(relation) => relation.table,
+        None => 0,
+    }
+}

@@ -1,0 +1,61 @@
+//! Reports: what a statement answers, before it is text.
+
+use pq_base::{Bound, Choice, Dir, List, PText, Refusal, Row, Used};
+
+/// A column of an index that was made, with its direction.
+#[derive(Debug, Drop)]
+pub struct IndexCol {
+    pub name: PText,
+    pub dir: Dir,
+}
+
+/// A line of a report before its end line.
+#[derive(Debug, Drop)]
+pub enum Line {
+    /// A row of an answer.
+    Row(Row),
+    /// A query that was compiled, how it runs, and what each run may use.
+    Query {
+        name: PText,
+        choice: Choice,
+        bound: Bound,
+    },
+    /// An index that was made, by its table and its number from 1.
+    Index {
+        table: PText,
+        number: u8,
+        cols: List<IndexCol>,
+    },
+    /// A definition with its number from 1 and its canonical text.
+    Def {
+        number: u16,
+        text: PText,
+    },
+}
+
+/// How a statement ended.
+#[derive(Debug, Drop)]
+pub enum End {
+    Done,
+    /// So many rows, and the cursor of the next page where this one is full.
+    Rows { count: u32, next: Option<PText> },
+    Refused(Refusal),
+}
+
+/// The report of a statement, numbered from 1.
+#[derive(Debug, Drop)]
+pub struct Report {
+    pub number: u32,
+    pub lines: List<Line>,
+    pub end: End,
+    pub bound: Bound,
+    pub used: Used,
+}
+
+/// The opening of a store: how many definitions were found.
+#[derive(Debug, Drop)]
+pub struct Opened {
+    pub defs: u16,
+    pub bound: Bound,
+    pub used: Used,
+}

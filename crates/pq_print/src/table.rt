@@ -1,0 +1,140 @@
+//! The canonical text of a table.
+ghost use Rattle.std.specs.Prelude.{◌≡◌, ◌++◌, OnOk, IfOk, string_bytes};
+ghost use Rattle.pq_print.specs.Canonical.{column_name, type_text, column_text, columns_text, limit_text, foreign_text, items_text, table_text};
+
+use crate::names::{column_name, table_name};
+use crate::number::put_number;
+use crate::part::{Part, as_str, put_each, put_separated};
+use pq_base::{Bytes, ColType, List, NoMem};
+use pq_schema::{Column, Foreign, Limit, Table};
+use std::alloc::{AllocError, Global};
+
+fn put_type(ty: ColType, out: &mut String) -> Result<(), AllocError>
+    ensures { OnOk result (string_bytes out.new ≡ string_bytes out.old ++ type_text ty) }
+{
+    match ty {
+        ColType::Int => out.push_str("INT"),
+        ColType::Bool => out.push_str("BOOL"),
+        ColType::Text(most) => {
+            out.push_str("TEXT(")?;
+            put_number(out, most)?;
+            out.push_str(")")
+        }
+    }
+}
+
+#[tactic(auto, unfolding(crate::specs::Canonical::column_text))]
+fn put_column(column: &Column, out: &mut String) -> Result<(), AllocError>
+    ensures { OnOk result (string_bytes out.new ≡ string_bytes out.old ++ column_text column.now) }
+{
+    out.push_str(as_str(&column.name))?;
+    out.push_str(" ")?;
+    put_type(column.ty, out)
+}
+
+impl Part<()> for Column {
+    ghost text = { λ _ column. column_text column };
+
+    fn put(&self, _scope: &(), out: &mut String) -> Result<(), AllocError> {
+        put_column(self, out)
+    }
+}
+
+/// A column of the table, by its place.
+impl Part<Table> for u8 {
+    ghost text = { λ table col. column_name table.columns col };
+
+    fn put(&self, table: &Table, out: &mut String) -> Result<(), AllocError> {
+        out.push_str(column_name(table.columns.items(), *self))
+    }
+}
+
+#[tactic(auto, unfolding(crate::specs::Canonical::columns_text))]
+fn put_columns(table: &Table, cols: &[u8], out: &mut String) -> Result<(), AllocError>
+    ensures { OnOk result (string_bytes out.new ≡ string_bytes out.old ++ columns_text table.now cols.now) }
+{
+    out.push_str("(")?;
+    put_separated(cols, table, ", ", out)?;
+    out.push_str(")")
+}
+
+#[tactic(auto, unfolding(crate::specs::Canonical::limit_text))]
+fn put_limit(table: &Table, limit: &Limit, out: &mut String) -> Result<(), AllocError>
+    ensures { OnOk result (string_bytes out.new ≡ string_bytes out.old ++ limit_text table.now limit.now) }
+{
+    out.push_str("CARDINALITY LIMIT ")?;
+    put_number(out, limit.n)?;
+    out.push_str(" ")?;
+    put_columns(table, limit.cols.items(), out)
+}
+
+impl Part<Table> for Limit {
+    ghost text = { λ table limit. limit_text table limit };
+
+    fn put(&self, table: &Table, out: &mut String) -> Result<(), AllocError> {
+        put_limit(table, self, out)
+    }
+}
+
+/// A table among those that its foreign keys may name.
+#[derive(Clone, Copy)]
+struct Home<'a> {
+    tables: &'a [Table],
+    table: &'a Table,
+}
+
+#[tactic(auto, unfolding(crate::specs::Canonical::foreign_text))]
+fn put_foreign(
+    tables: &[Table],
+    table: &Table,
+    foreign: &Foreign,
+    out: &mut String,
+) -> Result<(), AllocError>
+    ensures { OnOk result (string_bytes out.new ≡ string_bytes out.old ++ foreign_text tables.now table.now foreign.now) }
+{
+    out.push_str("FOREIGN KEY ")?;
+    put_columns(table, foreign.cols.items(), out)?;
+    out.push_str(" REFERENCES ")?;
+    out.push_str(table_name(tables, foreign.table))
+}
+
+impl<'a> Part<Home<'a>> for Foreign {
+    ghost text = { λ home foreign. foreign_text home.tables.now home.table.now foreign };
+
+    fn put(&self, home: &Home<'a>, out: &mut String) -> Result<(), AllocError> {
+        put_foreign(home.tables, home.table, self, out)
+    }
+}
+
+#[tactic(auto, unfolding(crate::specs::Canonical::items_text))]
+fn put_items(tables: &[Table], table: &Table, out: &mut String) -> Result<(), AllocError>
+    ensures { OnOk result (string_bytes out.new ≡ string_bytes out.old ++ items_text tables.now table.now) }
+{
+    put_separated(table.columns.items(), &(), ", ", out)?;
+    out.push_str(", PRIMARY KEY ")?;
+    put_columns(table, table.key.items(), out)?;
+    put_each(table.limits.items(), table, ", ", out)?;
+    let home = Home { tables, table };
+    put_each(table.foreign.items(), &home, ", ", out)
+}
+
+/// Puts the table's text behind what is there.
+#[tactic(auto, unfolding(crate::specs::Canonical::table_text))]
+pub fn put_table(tables: &[Table], table: &Table, out: &mut String) -> Result<(), AllocError>
+    ensures { OnOk result (string_bytes out.new ≡ string_bytes out.old ++ table_text tables.now table.now) }
+{
+    out.push_str("CREATE TABLE ")?;
+    out.push_str(as_str(&table.name))?;
+    out.push_str(" (")?;
+    put_items(tables, table, out)?;
+    out.push_str(");")
+}
+
+/// The canonical text of a table over those before it.
+pub fn print_table(alloc: Global, tables: &[Table], table: &Table) -> Result<Bytes, NoMem>
+    ensures { IfOk result (λ text. text ≡ table_text tables.now table.now) }
+{
+    let mut text = String::new(alloc);
+    put_table(tables, table, &mut text)?;
+    Ok(List::from_vec(text.into_bytes()))
+}

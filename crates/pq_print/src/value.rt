@@ -1,0 +1,63 @@
+//! Values and rows as text.
+ghost use Rattle.std.specs.Prelude.{◌≡◌, ◌++◌, OnOk, OnErr, flat_map, string_bytes, encode_utf8};
+ghost use Rattle.pq_print.specs.Values.{doubled, quoted, value_text, row_text};
+ghost use Rattle.pq_print.specs.Report.{line_of};
+
+use crate::number::put_number;
+use crate::part::{Part, as_str, put_separated};
+use pq_base::{Bytes, NoMem, Row, Value};
+use std::alloc::{AllocError, Global};
+
+/// Puts a character, a quote twice.
+#[tactic(auto, using(crate::proofs::Quotes::doubled_quote, crate::proofs::Quotes::doubled_other))]
+fn put_char(c: char, out: &mut String) -> Result<(), AllocError>
+    ensures { OnOk result (string_bytes out.new ≡ string_bytes out.old ++ flat_map doubled (encode_utf8 c)) }
+{
+    if c == '\'' {
+        return out.push_str("''");
+    }
+    out.push(c)
+}
+
+/// Puts the text between quotes, with each quote in it written twice.
+fn put_quoted(text: &str, out: &mut String) -> Result<(), AllocError>
+    ensures { OnOk result (string_bytes out.new ≡ string_bytes out.old ++ quoted text.now) }
+{
+    out.push_str("'")?;
+    for c in text.chars() {
+        put_char(c, out)?;
+    }
+    out.push_str("'")
+}
+
+impl Part<()> for Value {
+    ghost text = { λ _ value. value_text value };
+
+    fn put(&self, _scope: &(), out: &mut String) -> Result<(), AllocError> {
+        match self {
+            Value::Int(number) => put_number(out, *number),
+            Value::Bool(true) => out.push_str("true"),
+            Value::Bool(false) => out.push_str("false"),
+            Value::Text(text) => put_quoted(as_str(text), out),
+        }
+    }
+}
+
+/// Puts the row's text, `row V, V`, behind what is there.
+pub fn put_row(row: &Row, out: &mut String) -> Result<(), AllocError>
+    ensures { OnOk result (string_bytes out.new ≡ string_bytes out.old ++ row_text row.now) }
+{
+    out.push_str("row ")?;
+    put_separated(row.items(), &(), ", ", out)
+}
+
+/// Appends the row's line. After `NoMem` the bytes are as before.
+pub fn print_row(alloc: Global, row: &Row, out: &mut Bytes) -> Result<(), NoMem>
+    ensures ok { OnOk result (out.new ≡ out.old ++ line_of (row_text row.now)) }
+    ensures err { OnErr result (out.new ≡ out.old) }
+{
+    let mut text = String::new(alloc);
+    put_row(row, &mut text)?;
+    text.push_str("\n")?;
+    out.extend(alloc, text.as_str().as_bytes())
+}

@@ -1,0 +1,4 @@
+pub mod Elements
+pub mod Predicates
+pub mod Selects
+pub mod Answered

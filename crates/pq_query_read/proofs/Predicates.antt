@@ -1,0 +1,340 @@
+-- The readers of predicates read what the grammar says.
+use Rattle.std.proofs.Common.{◌≡◌, ℕ, ℤ, Bool, true, false, cond, List, [], ◌∷◌, ◌++◌, Option, Some, None, inl, inr, refl, ap, subst, ◌∙◌, append_assoc}
+use Rattle.pq_base.specs.declared.value.Value.{Value}
+use Rattle.pq_base.specs.declared.value.Dir.{Dir}
+use Rattle.pq_base.specs.declared.value.Dir.TheVariants as dir
+use Rattle.pq_grammar.specs.Language.{◌⋅◌, nothing, optional, made, one_or_other}
+use Rattle.pq_grammar.specs.Reader.{Reader, begins, picked, pair_at, skip_at, map_at, choice_at}
+use Rattle.pq_grammar.proofs.Steps.{Reads, never, begins-never, wider_reads}
+use Rattle.pq_grammar.proofs.Readers.{pair_reads, close_reads, map_reads}
+use Rattle.pq_grammar.proofs.Options.{option_reads}
+use Rattle.pq_grammar.proofs.Lists.{one_opens, then_opens, one_shuts, then_shuts, pair_free, skip_free, same_set}
+use Rattle.pq_grammar.proofs.Choices.{made_reads, choice_reads, any_of, not_first, not_second}
+use Rattle.pq_shape.specs.Front.{is_word, is_mark, is_name, is_value, word_at, mark_at, name_at, number_at, value_at}
+use Rattle.pq_shape.specs.Parts.{word, mark, comma, name, number, a_value}
+use Rattle.pq_shape.proofs.Tokens.{word_reads, mark_reads, name_reads, number_reads, value_reads, value_opens}
+use Rattle.pq_shape.specs.declared.shape.Shape.{Shape}
+use Rattle.pq_shape.specs.declared.shape.Shape.TheVariants as shape
+use Rattle.pq_grammar.specs.Reader.{nothing_at}
+use Rattle.pq_grammar.proofs.Readers.{same_reads}
+use Rattle.pq_grammar.proofs.Options.{nothing_reads}
+use Rattle.pq_schema.specs.declared.query.Op.{Op}
+use Rattle.pq_schema.specs.declared.query.Op.TheVariants as op
+use Rattle.pq_shape.specs.Front.{is_between, between_at}
+use Rattle.pq_shape.specs.declared.between.Between.TheVariants as between
+use Rattle.pq_shape.specs.declared.keyword.TheConstants.{AS, ASC, DESC, JOIN, LIMIT, PAGINATE}
+use Rattle.pq_shape.specs.declared.mark.TheConstants.{CLOSE_SQUARE, COLON, COMMA, EQUAL, GREATER, LESS, LESS_EQUAL, OPEN_SQUARE, POINT, UNEQUAL}
+use Rattle.pq_query_read.specs.Grammar.{ref, alias, relation, comma_or_join, operator, param, compare, pred, direction, item, stopped}
+use Rattle.pq_query_read.specs.Reading.{part_at, ref_at, is_alias, alias_at, relation_at, op_at, label_at, param_at, plain_at, operand_at, equality_at, compare_at, pred_at, dir_at, item_at, stop_at}
+use Rattle.pq_query_read.specs.declared.select.OperandDef.{OperandDef}
+use Rattle.pq_query_read.specs.declared.select.OperandDef.TheVariants as operand
+use Rattle.pq_query_read.specs.declared.select.RefDef.{RefDef}
+use Rattle.pq_query_read.specs.declared.select.StopDef.{StopDef}
+use Rattle.pq_query_read.specs.declared.select.StopDef.TheVariants as stop
+use Rattle.pq_query_read.proofs.Elements.{wide, ref_reads, ref_opens}
+
+-- ---- predicates
+
+abbrev labelled : ℤ × Option (List ℕ) → List Shape → Type 0
+labelled x = number x.0 ⋅ optional (λ n. mark COLON ⋅ name n) x.1
+
+label_reads : Reads (optional (λ n. mark COLON ⋅ name n)) (is_mark COLON) label_at
+unfolding label_at is_mark
+label_reads =
+    option_reads (λ n. mark COLON ⋅ name n) (is_mark COLON) (is_mark COLON) (skip_at (mark_at COLON) name_at)
+    (wide (λ n. mark COLON ⋅ name n) (is_mark COLON) _ (skip_free (mark COLON) name never (mark_at COLON) name_at (mark_reads COLON) name_reads))
+    (λ n w h. then_opens (is_mark COLON) (shape.Mark COLON) (name n) refl w h) (λ rest e. e)
+
+abbrev bracketed : ℤ × Option (List ℕ) → List Shape → Type 0
+bracketed x = mark OPEN_SQUARE ⋅ labelled x ⋅ mark CLOSE_SQUARE
+
+abbrev param_made : OperandDef → List Shape → Type 0
+param_made = made (λ (x : ℤ × Option (List ℕ)). operand.Param x.0) bracketed
+
+param_reads : Reads param_made never param_at
+unfolding param_at is_mark
+param_reads =
+    made_reads (λ (x : ℤ × Option (List ℕ)). operand.Param x.0) bracketed never _
+    (skip_free (mark OPEN_SQUARE) (λ x. labelled x ⋅ mark CLOSE_SQUARE) never (mark_at OPEN_SQUARE) _ (mark_reads OPEN_SQUARE)
+    (close_reads labelled (mark CLOSE_SQUARE) (is_mark COLON) never (pair_at number_at label_at) (mark_at CLOSE_SQUARE)
+    (pair_free number (optional (λ n. mark COLON ⋅ name n)) (is_mark COLON) number_at label_at number_reads label_reads) (mark_reads CLOSE_SQUARE)
+    (λ v rest h e. one_shuts (is_mark COLON) (shape.Mark CLOSE_SQUARE) refl v rest h)))
+
+abbrev const_made : OperandDef → List Shape → Type 0
+const_made = made (λ v. operand.Const v) a_value
+
+abbrev plain : OperandDef → List Shape → Type 0
+plain = one_or_other param_made const_made
+
+value_apart : (t : Shape) → is_value t ≡ true → is_mark OPEN_SQUARE t ≡ false
+unfolding is_value is_mark
+value_apart (shape.Number z) e = refl
+value_apart (shape.Text u) e = refl
+value_apart (shape.Keyword k) e = refl
+value_apart (shape.Name n) e = refl
+value_apart (shape.Mark c) e = absurd cc
+value_apart shape.Other e = refl
+
+shut_by_value : (w rest : List Shape) → begins is_value w ≡ true → begins (is_mark OPEN_SQUARE) (w ++ rest) ≡ false
+shut_by_value [] rest e = absurd cc
+shut_by_value (t ∷ w) rest e = value_apart t e
+
+value_apart_name : (t : Shape) → is_value t ≡ true → is_name t ≡ false
+unfolding is_value is_name
+value_apart_name (shape.Number z) e = refl
+value_apart_name (shape.Text u) e = refl
+value_apart_name (shape.Keyword k) e = refl
+value_apart_name (shape.Name n) e = absurd cc
+value_apart_name (shape.Mark c) e = refl
+value_apart_name shape.Other e = refl
+
+no_name_by_value : (w rest : List Shape) → begins is_value w ≡ true → begins is_name (w ++ rest) ≡ false
+no_name_by_value [] rest e = absurd cc
+no_name_by_value (t ∷ w) rest e = value_apart_name t e
+
+plain_reads : Reads plain never plain_at
+unfolding plain_at is_mark
+plain_reads =
+    choice_reads param_made const_made (is_mark OPEN_SQUARE) param_at _ never param_reads (made_reads (λ v. operand.Const v) a_value never value_at value_reads)
+    (λ x w h. then_opens (is_mark OPEN_SQUARE) (shape.Mark OPEN_SQUARE) _ refl w h.2) (λ x w rest h e. shut_by_value w rest (value_opens h.0 w h.2))
+
+plain_no_name : (x : OperandDef) (w rest : List Shape) → plain x w → begins is_name (w ++ rest) ≡ false
+unfolding is_name
+plain_no_name x w rest (inl h) = then_shuts is_name (shape.Mark OPEN_SQUARE) _ refl w rest h.2
+plain_no_name x w rest (inr h) = no_name_by_value w rest (value_opens h.0 w h.2)
+
+abbrev ref_made : OperandDef → List Shape → Type 0
+ref_made = made (λ r. operand.Ref r) ref
+
+abbrev any_operand : OperandDef → List Shape → Type 0
+any_operand = one_or_other ref_made plain
+
+operand_reads : Reads any_operand (is_mark POINT) operand_at
+unfolding operand_at
+operand_reads =
+    choice_reads ref_made plain is_name _ plain_at (is_mark POINT) (made_reads (λ r. operand.Ref r) ref (is_mark POINT) ref_at ref_reads) (wide plain (is_mark POINT) plain_at plain_reads)
+    (λ x w h. ref_opens h.0 w h.2) (λ x w rest h e. plain_no_name x w rest h)
+
+-- ---- operators
+
+abbrev op_made : Op → Op → List Shape → Type 0
+op_made o = made (λ (u : Unit {0}). o) (λ u. mark (operator o))
+
+op_made_reads : (o : Op) → Reads (op_made o) never (map_at (λ u. o) (mark_at (operator o)))
+op_made_reads o = made_reads (λ u. o) (λ u. mark (operator o)) never (mark_at (operator o)) (mark_reads (operator o))
+
+abbrev from_greater : Op → List Shape → Type 0
+from_greater = one_or_other (op_made op.Gt) (op_made op.Ge)
+
+abbrev from_less_equal : Op → List Shape → Type 0
+from_less_equal = one_or_other (op_made op.Le) from_greater
+
+abbrev from_less : Op → List Shape → Type 0
+from_less = one_or_other (op_made op.Lt) from_less_equal
+
+abbrev others : Op → List Shape → Type 0
+others = one_or_other (op_made op.Ne) from_less
+
+-- such an operator is not this mark
+other_mark : (c : ℕ) (o x : Op) (w rest : List Shape) → is_mark c (shape.Mark (operator o)) ≡ false → op_made o x w → begins (is_mark c) (w ++ rest) ≡ false
+other_mark c o x w rest e h = one_shuts (is_mark c) (shape.Mark (operator o)) e w rest h.2
+
+no_less_equal : (x : Op) (w rest : List Shape) → from_greater x w → begins (is_mark LESS_EQUAL) (w ++ rest) ≡ false
+unfolding is_mark
+no_less_equal x w rest (inl h) = other_mark LESS_EQUAL op.Gt x w rest refl h
+no_less_equal x w rest (inr h) = other_mark LESS_EQUAL op.Ge x w rest refl h
+
+no_less : (x : Op) (w rest : List Shape) → from_less_equal x w → begins (is_mark LESS) (w ++ rest) ≡ false
+unfolding is_mark
+no_less x w rest (inl h) = other_mark LESS op.Le x w rest refl h
+no_less x w rest (inr (inl h)) = other_mark LESS op.Gt x w rest refl h
+no_less x w rest (inr (inr h)) = other_mark LESS op.Ge x w rest refl h
+
+no_unequal : (x : Op) (w rest : List Shape) → from_less x w → begins (is_mark UNEQUAL) (w ++ rest) ≡ false
+unfolding is_mark
+no_unequal x w rest (inl h) = other_mark UNEQUAL op.Lt x w rest refl h
+no_unequal x w rest (inr (inl h)) = other_mark UNEQUAL op.Le x w rest refl h
+no_unequal x w rest (inr (inr (inl h))) = other_mark UNEQUAL op.Gt x w rest refl h
+no_unequal x w rest (inr (inr (inr h))) = other_mark UNEQUAL op.Ge x w rest refl h
+
+others_shut : (c : ℕ) → ((o : Op) → (o ≡ op.Eq → ⊥) → is_mark c (shape.Mark (operator o)) ≡ false) → (x : Op) (w rest : List Shape) → others x w → begins (is_mark c) (w ++ rest) ≡ false
+others_shut c e x w rest (inl h) = other_mark c op.Ne x w rest (e op.Ne (λ q. absurd cc)) h
+others_shut c e x w rest (inr (inl h)) = other_mark c op.Lt x w rest (e op.Lt (λ q. absurd cc)) h
+others_shut c e x w rest (inr (inr (inl h))) = other_mark c op.Le x w rest (e op.Le (λ q. absurd cc)) h
+others_shut c e x w rest (inr (inr (inr (inl h)))) = other_mark c op.Gt x w rest (e op.Gt (λ q. absurd cc)) h
+others_shut c e x w rest (inr (inr (inr (inr h)))) = other_mark c op.Ge x w rest (e op.Ge (λ q. absurd cc)) h
+
+opens_op : (o x : Op) (w : List Shape) → is_mark (operator o) (shape.Mark (operator o)) ≡ true → op_made o x w → begins (is_mark (operator o)) w ≡ true
+opens_op o x w e h = one_opens (is_mark (operator o)) (shape.Mark (operator o)) e w h.2
+
+op_reads : Reads others never op_at
+unfolding op_at is_mark
+op_reads =
+    choice_reads (op_made op.Ne) from_less (is_mark UNEQUAL) _ _ never (op_made_reads op.Ne)
+    (choice_reads (op_made op.Lt) from_less_equal (is_mark LESS) _ _ never (op_made_reads op.Lt)
+    (choice_reads (op_made op.Le) from_greater (is_mark LESS_EQUAL) _ _ never (op_made_reads op.Le)
+    (choice_reads (op_made op.Gt) (op_made op.Ge) (is_mark GREATER) _ _ never (op_made_reads op.Gt) (op_made_reads op.Ge)
+    (λ x w h. opens_op op.Gt x w refl h) (λ x w rest h e. other_mark GREATER op.Ge x w rest refl h))
+    (λ x w h. opens_op op.Le x w refl h) (λ x w rest h e. no_less_equal x w rest h))
+    (λ x w h. opens_op op.Lt x w refl h) (λ x w rest h e. no_less x w rest h))
+    (λ x w h. opens_op op.Ne x w refl h) (λ x w rest h e. no_unequal x w rest h)
+
+-- ---- comparisons
+
+abbrev operand_set : OperandDef → List Shape → Type 0
+operand_set (operand.Const v) = a_value v
+operand_set (operand.Param z) = param z
+operand_set (operand.Ref r) = ref r
+
+const_is : (u v : Value) → operand.Const u ≡ operand.Const v → u ≡ v
+const_is u v e = cc
+
+param_is : (y z : ℤ) → operand.Param y ≡ operand.Param z → y ≡ z
+param_is y z e = cc
+
+ref_is : (q r : RefDef) → operand.Ref q ≡ operand.Ref r → q ≡ r
+ref_is q r e = cc
+
+params : (y z : ℤ) (label : Option (List ℕ)) (w : List Shape) → y ≡ z → bracketed (y, label) w → param z w
+params y z label w e h = subst (λ (v : ℤ). param v w) e (label, h)
+
+plain_is : (o : OperandDef) (w : List Shape) → plain o w → operand_set o w
+plain_is (operand.Const v) w (inl h) = absurd cc
+plain_is (operand.Const v) w (inr h) = subst (λ (u : Value). a_value u w) (const_is h.0 v h.1) h.2
+plain_is (operand.Param z) w (inl h) = params h.0.0 z h.0.1 w (param_is h.0.0 z h.1) h.2
+plain_is (operand.Param z) w (inr h) = absurd cc
+plain_is (operand.Ref r) w (inl h) = absurd cc
+plain_is (operand.Ref r) w (inr h) = absurd cc
+
+operand_is : (o : OperandDef) (w : List Shape) → any_operand o w → operand_set o w
+operand_is o w (inr h) = plain_is o w h
+operand_is (operand.Const v) w (inl h) = absurd cc
+operand_is (operand.Param z) w (inl h) = absurd cc
+operand_is (operand.Ref r) w (inl h) = subst (λ (q : RefDef). ref q w) (ref_is h.0 r h.1) h.2
+
+operand_from : (o : OperandDef) (w : List Shape) → operand_set o w → any_operand o w
+operand_from (operand.Const v) w h = inr (inr (v, refl, h))
+operand_from (operand.Param z) w h = inr (inl ((z, h.0), refl, h.1))
+operand_from (operand.Ref r) w h = inl (r, refl, h)
+
+op_is : (p o : Op) (w : List Shape) → op_made p o w → mark (operator o) w
+op_is p o w h = subst (λ (q : Op). mark (operator q) w) h.1 h.2
+
+others_is : (o : Op) (w : List Shape) → others o w → mark (operator o) w
+others_is o w (inl h) = op_is op.Ne o w h
+others_is o w (inr (inl h)) = op_is op.Lt o w h
+others_is o w (inr (inr (inl h))) = op_is op.Le o w h
+others_is o w (inr (inr (inr (inl h)))) = op_is op.Gt o w h
+others_is o w (inr (inr (inr (inr h)))) = op_is op.Ge o w h
+
+others_from : (o : Op) (w : List Shape) → (o ≡ op.Eq → ⊥) → mark (operator o) w → others o w
+others_from op.Eq w n h = absurd (n refl)
+others_from op.Ne w n h = inl (tt, refl, h)
+others_from op.Lt w n h = inr (inl (tt, refl, h))
+others_from op.Le w n h = inr (inr (inl (tt, refl, h)))
+others_from op.Gt w n h = inr (inr (inr (inl (tt, refl, h))))
+others_from op.Ge w n h = inr (inr (inr (inr (tt, refl, h))))
+
+abbrev equality : OperandDef → List Shape → Type 0
+equality o = mark EQUAL ⋅ any_operand o
+
+abbrev eq_made : Op × OperandDef → List Shape → Type 0
+eq_made = made (λ (o : OperandDef). (op.Eq, o)) equality
+
+abbrev other_pair : Op × OperandDef → List Shape → Type 0
+other_pair y = others y.0 ⋅ plain y.1
+
+abbrev compares : Op × OperandDef → List Shape → Type 0
+compares y = compare y.0 y.1
+
+eq_to : (o : OperandDef) (w : List Shape) → equality o w → compare op.Eq o w
+eq_to (operand.Const v) w h = record { front = h.front; back = h.back; fits_front = h.fits_front; fits_back = operand_is (operand.Const v) h.back h.fits_back; parts = h.parts }
+eq_to (operand.Param z) w h = record { front = h.front; back = h.back; fits_front = h.fits_front; fits_back = operand_is (operand.Param z) h.back h.fits_back; parts = h.parts }
+eq_to (operand.Ref r) w h = record { front = h.front; back = h.back; fits_front = h.fits_front; fits_back = operand_is (operand.Ref r) h.back h.fits_back; parts = h.parts }
+
+eq_from : (o : OperandDef) (w : List Shape) → compare op.Eq o w → equality o w
+eq_from (operand.Const v) w h = record { front = h.front; back = h.back; fits_front = h.fits_front; fits_back = operand_from (operand.Const v) h.back h.fits_back; parts = h.parts }
+eq_from (operand.Param z) w h = record { front = h.front; back = h.back; fits_front = h.fits_front; fits_back = operand_from (operand.Param z) h.back h.fits_back; parts = h.parts }
+eq_from (operand.Ref r) w h = record { front = h.front; back = h.back; fits_front = h.fits_front; fits_back = operand_from (operand.Ref r) h.back h.fits_back; parts = h.parts }
+
+other_to : (o : Op) (x : OperandDef) (w : List Shape) → (others o ⋅ plain x) w → compare o x w
+other_to o (operand.Const v) w h = record { front = h.front; back = h.back; fits_front = others_is o h.front h.fits_front; fits_back = plain_is (operand.Const v) h.back h.fits_back; parts = h.parts }
+other_to o (operand.Param z) w h = record { front = h.front; back = h.back; fits_front = others_is o h.front h.fits_front; fits_back = plain_is (operand.Param z) h.back h.fits_back; parts = h.parts }
+other_to o (operand.Ref r) w h = absurd (no_ref h.back h.fits_back)
+  where
+    no_ref : (v : List Shape) → plain (operand.Ref r) v → ⊥
+    no_ref v (inl k) = absurd cc
+    no_ref v (inr k) = absurd cc
+
+no_other_ref : (o : Op) (r : RefDef) (w : List Shape) → (o ≡ op.Eq → ⊥) → compare o (operand.Ref r) w → ⊥
+no_other_ref op.Eq r w n h = absurd (n refl)
+no_other_ref op.Ne r w n h = h
+no_other_ref op.Lt r w n h = h
+no_other_ref op.Le r w n h = h
+no_other_ref op.Gt r w n h = h
+no_other_ref op.Ge r w n h = h
+
+other_from : (o : Op) (x : OperandDef) (w : List Shape) → (o ≡ op.Eq → ⊥) → compare o x w → (others o ⋅ plain x) w
+other_from o (operand.Const v) w n h = record { front = h.front; back = h.back; fits_front = others_from o h.front n h.fits_front; fits_back = inr (v, refl, h.fits_back); parts = h.parts }
+other_from o (operand.Param z) w n h = record { front = h.front; back = h.back; fits_front = others_from o h.front n h.fits_front; fits_back = inl ((z, h.fits_back.0), refl, h.fits_back.1); parts = h.parts }
+other_from o (operand.Ref r) w n h = absurd (no_other_ref o r w n h)
+
+compare_to : (y : Op × OperandDef) (w : List Shape) → one_or_other eq_made other_pair y w → compares y w
+compare_to y w (inl h) = subst (λ (z : Op × OperandDef). compares z w) h.1 (eq_to h.0 w h.2)
+compare_to y w (inr h) = other_to y.0 y.1 w h
+
+compare_from_at : (o : Op) (x : OperandDef) (w : List Shape) → compare o x w → one_or_other eq_made other_pair (o, x) w
+compare_from_at op.Eq x w h = inl (x, refl, eq_from x w h)
+compare_from_at op.Ne x w h = inr (other_from op.Ne x w (λ q. absurd cc) h)
+compare_from_at op.Lt x w h = inr (other_from op.Lt x w (λ q. absurd cc) h)
+compare_from_at op.Le x w h = inr (other_from op.Le x w (λ q. absurd cc) h)
+compare_from_at op.Gt x w h = inr (other_from op.Gt x w (λ q. absurd cc) h)
+compare_from_at op.Ge x w h = inr (other_from op.Ge x w (λ q. absurd cc) h)
+
+not_equal : (o : Op) → (o ≡ op.Eq → ⊥) → is_mark EQUAL (shape.Mark (operator o)) ≡ false
+unfolding is_mark
+not_equal op.Eq n = absurd (n refl)
+not_equal op.Ne n = refl
+not_equal op.Lt n = refl
+not_equal op.Le n = refl
+not_equal op.Gt n = refl
+not_equal op.Ge n = refl
+
+pair_shuts : (y : Op × OperandDef) (w rest : List Shape) → other_pair y w → begins (is_mark EQUAL) (w ++ rest) ≡ false
+pair_shuts y w rest h = ap (λ (v : List Shape). begins (is_mark EQUAL) (v ++ rest)) h.parts ∙ ap (begins (is_mark EQUAL)) (append_assoc h.front h.back rest) ∙ others_shut EQUAL not_equal y.0 h.front (h.back ++ rest) h.fits_front
+
+compare_reads : Reads compares (is_mark POINT) compare_at
+unfolding compare_at equality_at is_mark
+compare_reads =
+    same_set (one_or_other eq_made other_pair) compares (is_mark POINT) compare_at compare_to (λ y w h. compare_from_at y.0 y.1 w h)
+    (choice_reads eq_made other_pair (is_mark EQUAL) equality_at (pair_at op_at plain_at) (is_mark POINT)
+    (made_reads (λ (o : OperandDef). (op.Eq, o)) equality (is_mark POINT) _ (skip_free (mark EQUAL) any_operand (is_mark POINT) (mark_at EQUAL) operand_at (mark_reads EQUAL) operand_reads))
+    (wide other_pair (is_mark POINT) (pair_at op_at plain_at) (pair_free others plain never op_at plain_at op_reads plain_reads))
+    (λ y w h. then_opens (is_mark EQUAL) (shape.Mark EQUAL) _ refl w h.2) (λ y w rest h e. pair_shuts y w rest h))
+
+no_point : (o : Op) → is_mark POINT (shape.Mark (operator o)) ≡ false
+unfolding is_mark
+no_point op.Eq = refl
+no_point op.Ne = refl
+no_point op.Lt = refl
+no_point op.Le = refl
+no_point op.Gt = refl
+no_point op.Ge = refl
+
+compare_shuts : (o : Op) (x : OperandDef) (w rest : List Shape) → compare o x w → begins (is_mark POINT) (w ++ rest) ≡ false
+unfolding is_mark
+compare_shuts o (operand.Const v) w rest h = then_shuts (is_mark POINT) (shape.Mark (operator o)) (a_value v) (no_point o) w rest h
+compare_shuts o (operand.Param z) w rest h = then_shuts (is_mark POINT) (shape.Mark (operator o)) (param z) (no_point o) w rest h
+compare_shuts op.Eq (operand.Ref r) w rest h = then_shuts (is_mark POINT) (shape.Mark EQUAL) (ref r) refl w rest h
+compare_shuts op.Ne (operand.Ref r) w rest h = absurd h
+compare_shuts op.Lt (operand.Ref r) w rest h = absurd h
+compare_shuts op.Le (operand.Ref r) w rest h = absurd h
+compare_shuts op.Gt (operand.Ref r) w rest h = absurd h
+compare_shuts op.Ge (operand.Ref r) w rest h = absurd h
+
+pub pred_reads : Reads pred (is_mark POINT) pred_at
+unfolding pred_at
+pred_reads =
+    map_reads (λ (x : RefDef × (Op × OperandDef)). ref x.0 ⋅ compares x.1) pred (is_mark POINT) (λ x. record { left = x.0; op = x.1.0; right = x.1.1 }) (pair_at ref_at compare_at)
+    (pair_reads ref compares (is_mark POINT) (is_mark POINT) ref_at compare_at ref_reads compare_reads (λ y v rest h e. compare_shuts y.0 y.1 v rest h))
+    (λ x w h. h) (λ p w h. ((p.left, (p.op, p.right)), refl, h))

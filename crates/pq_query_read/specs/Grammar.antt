@@ -1,0 +1,93 @@
+-- The grammar: how each part of a query is spelled, and the query.
+use Rattle.std.specs.Prelude.{◌≡◌, ℕ, ℤ, List, [], Option, ◌⊎◌}
+use Rattle.pq_base.specs.declared.value.Dir.{Dir}
+use Rattle.pq_base.specs.declared.value.Dir.TheVariants as dir
+use Rattle.pq_grammar.specs.Language.{◌⋅◌, nothing, optional, separated}
+use Rattle.pq_schema.specs.declared.query.Op.{Op}
+use Rattle.pq_schema.specs.declared.query.Op.TheVariants as op
+use Rattle.pq_shape.specs.Parts.{word, mark, comma, name, number, a_value}
+use Rattle.pq_shape.specs.declared.keyword.TheConstants.{AND, AS, ASC, BY, DESC, FROM, JOIN, LIMIT, ORDER, PAGINATE, SELECT, WHERE}
+use Rattle.pq_shape.specs.declared.mark.TheConstants.{CLOSE_SQUARE, COLON, EQUAL, GREATER, GREATER_EQUAL, LESS, LESS_EQUAL, OPEN_SQUARE, POINT, SEMICOLON, STAR, UNEQUAL}
+use Rattle.pq_shape.specs.declared.shape.Shape.{Shape}
+use Rattle.pq_query_read.specs.declared.select.ItemDef.{ItemDef}
+use Rattle.pq_query_read.specs.declared.select.OperandDef.{OperandDef}
+use Rattle.pq_query_read.specs.declared.select.OperandDef.TheVariants as operand
+use Rattle.pq_query_read.specs.declared.select.PredDef.{PredDef}
+use Rattle.pq_query_read.specs.declared.select.RefDef.{RefDef}
+use Rattle.pq_query_read.specs.declared.select.RelationDef.{RelationDef}
+use Rattle.pq_query_read.specs.declared.select.SelectDef.{SelectDef}
+use Rattle.pq_query_read.specs.declared.select.Selected.{Selected}
+use Rattle.pq_query_read.specs.declared.select.Selected.TheVariants as selected
+use Rattle.pq_query_read.specs.declared.select.StopDef.{StopDef}
+use Rattle.pq_query_read.specs.declared.select.StopDef.TheVariants as stop
+
+-- name [ "." name ]
+abbrev pub ref : RefDef → List Shape → Type 0
+ref r = name r.first ⋅ optional (λ n. mark POINT ⋅ name n) r.second
+
+-- [ AS ] name
+abbrev pub alias : List ℕ → List Shape → Type 0
+alias n w = (word AS ⋅ name n) w ⊎ name n w
+
+-- name [ [ AS ] name ]
+abbrev pub relation : RelationDef → List Shape → Type 0
+relation r = name r.table ⋅ optional alias r.alias
+
+-- "," | JOIN
+abbrev pub comma_or_join : List Shape → Type 0
+comma_or_join w = comma w ⊎ word JOIN w
+
+abbrev pub operator : Op → ℕ
+operator op.Eq = EQUAL
+operator op.Ne = UNEQUAL
+operator op.Lt = LESS
+operator op.Le = LESS_EQUAL
+operator op.Gt = GREATER
+operator op.Ge = GREATER_EQUAL
+
+-- "[" number [ ":" name ] "]": the name is for the reader alone
+abbrev pub param : ℤ → List Shape → Type 0
+param z w = (label : Option (List ℕ)) × (mark OPEN_SQUARE ⋅ (number z ⋅ optional (λ n. mark COLON ⋅ name n) label) ⋅ mark CLOSE_SQUARE) w
+
+-- op ( value | param ) | "=" ref
+abbrev pub compare : Op → OperandDef → List Shape → Type 0
+compare o (operand.Const v) = mark (operator o) ⋅ a_value v
+compare o (operand.Param z) = mark (operator o) ⋅ param z
+compare op.Eq (operand.Ref r) = mark EQUAL ⋅ ref r
+compare _ (operand.Ref r) = λ w. ⊥
+
+-- ref op ( value | param ) | ref "=" ref
+abbrev pub pred : PredDef → List Shape → Type 0
+pred p = ref p.left ⋅ compare p.op p.right
+
+-- [ ASC | DESC ]
+abbrev pub direction : Dir → List Shape → Type 0
+direction dir.Asc w = word ASC w ⊎ nothing w
+direction dir.Desc w = word DESC w
+
+-- ref [ ASC | DESC ]
+abbrev pub item : ItemDef → List Shape → Type 0
+item i = ref i.col ⋅ direction i.dir
+
+-- [ ( LIMIT | PAGINATE ) number ]
+abbrev pub stopped : StopDef → List Shape → Type 0
+stopped stop.All = nothing
+stopped (stop.Limit z) = word LIMIT ⋅ number z
+stopped (stop.Paginate z) = word PAGINATE ⋅ number z
+
+-- "*" | ref { "," ref }
+abbrev pub chosen : Selected → List Shape → Type 0
+chosen selected.Star = mark STAR
+chosen (selected.Refs rs) = separated comma ref rs
+
+-- [ WHERE pred { AND pred } ]
+abbrev pub conditions : List PredDef → List Shape → Type 0
+conditions ps w = ((ps ≡ []) × nothing w) ⊎ (word WHERE ⋅ separated (word AND) pred ps) w
+
+-- [ ORDER BY item { "," item } ]
+abbrev pub ordered : List ItemDef → List Shape → Type 0
+ordered is w = ((is ≡ []) × nothing w) ⊎ (word ORDER ⋅ word BY ⋅ separated comma item is) w
+
+-- SELECT ( "*" | ref { "," ref } ) FROM relation { ( "," | JOIN ) relation } [ WHERE .. ] [ ORDER BY .. ] [ ( LIMIT | PAGINATE ) number ] ";"
+abbrev pub SpellsSelect : SelectDef → List Shape → Type 0
+SpellsSelect s = word SELECT ⋅ chosen s.selected ⋅ word FROM ⋅ separated comma_or_join relation s.relations ⋅ conditions s.preds ⋅ ordered s.order ⋅ stopped s.stop ⋅ mark SEMICOLON

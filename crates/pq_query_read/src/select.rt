@@ -1,0 +1,70 @@
+//! Queries as their text has them, with names in place of numbers. Names are in small letters.
+use pq_base::{Dir, List, PText, Value};
+use pq_schema::Op;
+
+/// A column by its name, with the relation's alias where it stands before a point.
+#[derive(Debug, Drop)]
+pub struct RefDef {
+    /// The name, or where a point follows it the alias.
+    pub first: PText,
+    /// The name behind the point.
+    pub second: Option<PText>,
+}
+
+/// A relation of FROM.
+#[derive(Debug, Drop)]
+pub struct RelationDef {
+    pub table: PText,
+    /// The alias, where one is given.
+    pub alias: Option<PText>,
+}
+
+/// What a column is compared with.
+#[derive(Debug, Drop)]
+pub enum OperandDef {
+    Const(Value),
+    /// The parameter of this number.
+    Param(i64),
+    Ref(RefDef),
+}
+
+/// A comparison of WHERE.
+#[derive(Debug, Drop)]
+pub struct PredDef {
+    pub left: RefDef,
+    pub op: Op,
+    pub right: OperandDef,
+}
+
+/// A column of ORDER BY.
+#[derive(Debug, Drop)]
+pub struct ItemDef {
+    pub col: RefDef,
+    pub dir: Dir,
+}
+
+/// How many rows are wanted.
+#[derive(Debug, Drop)]
+pub enum StopDef {
+    All,
+    Limit(i64),
+    Paginate(i64),
+}
+
+/// What is selected.
+#[derive(Debug, Drop)]
+pub enum Selected {
+    /// All columns of all relations.
+    Star,
+    Refs(List<RefDef>),
+}
+
+/// A query.
+#[derive(Debug, Drop)]
+pub struct SelectDef {
+    pub selected: Selected,
+    pub relations: List<RelationDef>,
+    pub preds: List<PredDef>,
+    pub order: List<ItemDef>,
+    pub stop: StopDef,
+}

@@ -1,0 +1,3 @@
+pub mod ChangeLists
+pub mod Rows
+pub mod Widths

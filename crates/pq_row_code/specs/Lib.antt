@@ -1,0 +1,4 @@
+pub mod ChangeReading
+pub mod Changes
+pub mod RowCode
+pub mod RowReading

@@ -1,0 +1,25 @@
+-- The row code: the number of columns and each column's bytes.
+use Rattle.std.specs.Prelude.{ℕ, ◌≤◌, List, [], ◌∷◌, ◌++◌, length}
+use Rattle.std.specs.List.{flat_map}
+use Rattle.std.specs.Int.{w16, w64, to_be_bytes, cast_unsigned}
+use Rattle.pq_base.specs.declared.value.Value.{Value}
+use Rattle.pq_base.specs.declared.value.Value.TheVariants as values
+use Rattle.pq_key_code.specs.KeyCode.{truth_byte}
+
+-- eight bytes in two's complement, one byte, or two bytes of length and the bytes
+abbrev pub field : Value → List ℕ
+field (values.Int z) = to_be_bytes w64 (cast_unsigned w64 z)
+field (values.Bool b) = truth_byte b ∷ []
+field (values.Text t) = to_be_bytes w16 (length t) ++ t
+
+abbrev pub fields : List Value → List ℕ
+fields xs = flat_map field xs
+
+abbrev pub row_code : List Value → List ℕ
+row_code xs = length xs ∷ fields xs
+
+-- a text has at most 1,000 bytes
+abbrev pub IsShort : Value → Type 0
+IsShort (values.Int z) = Unit {0}
+IsShort (values.Bool b) = Unit {0}
+IsShort (values.Text t) = length t ≤ 1000

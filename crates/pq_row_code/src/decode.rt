@@ -1,0 +1,136 @@
+//! From row codes to rows.
+ghost use Rattle.std.specs.Prelude.{◌≡◌, List, IfOk, IfSome, IfNone};
+ghost use Rattle.std.specs.Option.{option_map};
+ghost use Rattle.std.specs.Int.{w16, w64};
+ghost use Rattle.pq_base.specs.declared.value.Value.{Value};
+ghost use Rattle.pq_base.specs.Values.{AllFit};
+ghost use Rattle.pq_row_code.specs.RowCode.{row_code};
+ghost use Rattle.pq_row_code.specs.RowReading.{bits_at, flag_at, string_at, field_at, fields_at, row_of};
+
+use pq_base::{ColType, NoMem, PText, Row, Value, known_types};
+use pq_key_code::checked_text;
+use std::alloc::Global;
+
+fn u64_of(bytes: &[u8]) -> Option<(u64, &[u8])>
+    ensures { option_map (λ x. (x.0, x.1.now)) result ≡ bits_at w64 bytes.now }
+{
+    if bytes.len() < 8 {
+        return None;
+    }
+    let (front, rest) = bytes.split_at(8);
+    let bits = u64::from_be_bytes([
+        front[0], front[1], front[2], front[3], front[4], front[5], front[6], front[7],
+    ]);
+    Some((bits, rest))
+}
+
+pub(crate) fn u16_of(bytes: &[u8]) -> Option<(u16, &[u8])>
+    ensures { option_map (λ x. (x.0, x.1.now)) result ≡ bits_at w16 bytes.now }
+{
+    if bytes.len() < 2 {
+        return None;
+    }
+    let (front, rest) = bytes.split_at(2);
+    Some((u16::from_be_bytes([front[0], front[1]]), rest))
+}
+
+fn flag_of(bytes: &[u8]) -> Option<(bool, &[u8])>
+    ensures { option_map (λ x. (x.0, x.1.now)) result ≡ flag_at bytes.now }
+{
+    let [byte, rest @ ..] = bytes else {
+        return None;
+    };
+    match *byte {
+        0 => Some((false, rest)),
+        1 => Some((true, rest)),
+        _ => None,
+    }
+}
+
+#[tactic(auto, unfolding(crate::specs::RowReading::string_at))]
+fn string_of(alloc: Global, most: u16, bytes: &[u8]) -> Result<Option<(PText, &[u8])>, NoMem>
+    ensures { IfOk result (λ read. option_map (λ x. (x.0, x.1.now)) read ≡ string_at most bytes.now) }
+{
+    let Some((len, rest)) = u16_of(bytes) else {
+        return Ok(None);
+    };
+    let len = len as usize;
+    if rest.len() < len {
+        return Ok(None);
+    }
+    let (front, rest) = rest.split_at(len);
+    match checked_text(alloc, front, most)? {
+        Some(text) => Ok(Some((text, rest))),
+        None => Ok(None),
+    }
+}
+
+#[tactic(auto, unfolding(crate::specs::RowReading::field_at))]
+fn field_of(alloc: Global, ty: ColType, bytes: &[u8]) -> Result<Option<(Value, &[u8])>, NoMem>
+    ensures { IfOk result (λ read. option_map (λ x. (x.0, x.1.now)) read ≡ field_at ty bytes.now) }
+{
+    match ty {
+        ColType::Int => match u64_of(bytes) {
+            Some((bits, rest)) => Ok(Some((Value::Int(bits.cast_signed()), rest))),
+            None => Ok(None),
+        },
+        ColType::Bool => match flag_of(bytes) {
+            Some((truth, rest)) => Ok(Some((Value::Bool(truth), rest))),
+            None => Ok(None),
+        },
+        ColType::Text(most) => match string_of(alloc, most, bytes)? {
+            Some((text, rest)) => Ok(Some((Value::Text(text), rest))),
+            None => Ok(None),
+        },
+    }
+}
+
+fn fields_of<'a>(
+    alloc: Global,
+    types: &[ColType],
+    bytes: &'a [u8],
+) -> Result<Option<(Row, &'a [u8])>, NoMem>
+    ensures { IfOk result (λ read. option_map (λ x. (x.0, x.1.now)) read ≡ fields_at types.now bytes.now) }
+{
+    let mut row = Row::new(alloc);
+    let mut rest = bytes;
+    for ty in types {
+        let Some((value, after)) = field_of(alloc, *ty, rest)? else {
+            return Ok(None);
+        };
+        row.push(alloc, value)?;
+        rest = after;
+    }
+    Ok(Some((row, rest)))
+}
+
+#[tactic(auto, unfolding(crate::specs::RowReading::row_of))]
+fn row_read(alloc: Global, bytes: &[u8], types: &[ColType]) -> Result<Option<Row>, NoMem>
+    ensures { IfOk result (λ row. row ≡ row_of types.now bytes.now) }
+{
+    let [count, rest @ ..] = bytes else {
+        return Ok(None);
+    };
+    if *count as usize != types.len() {
+        return Ok(None);
+    }
+    let Some((row, rest)) = fields_of(alloc, types, rest)? else {
+        return Ok(None);
+    };
+    if rest.is_empty() {
+        Ok(Some(row))
+    } else {
+        Ok(None)
+    }
+}
+
+/// The row that fits the types and has this row code. None exactly where there is no such row.
+pub fn decode_row(alloc: Global, bytes: &[u8], types: &[ColType]) -> Result<Option<Row>, NoMem>
+    // What is answered fits, and has this code.
+    ensures found { IfOk result (λ answer. IfSome answer (λ row. AllFit types.now row × (row_code row ≡ bytes.now))) }
+    // None, and no row that fits has this code.
+    ensures none { IfOk result (λ answer. IfNone answer ((row : List Value) → AllFit types.now row → row_code row ≡ bytes.now → ⊥)) }
+{
+    known_types(types);
+    row_read(alloc, bytes, types)
+}

@@ -1,0 +1,92 @@
+-- A schema: its tables, and its definitions in order.
+use Rattle.std.specs.Prelude.{◌++◌, ◌∷◌, ℕ, ◌-◌, ◌+◌, Bool, false, ◌||◌, ◌≤◌, length, List, [], slice_index_or, position, is_some, Option, Some, None, option_map}
+use Rattle.std.specs.Str.{bytes_eq}
+use Rattle.pq_schema.specs.declared.table.Column.{Column}
+use Rattle.pq_schema.specs.declared.table.Table.{Table}
+use Rattle.pq_schema.specs.declared.query.Query.{Query}
+use Rattle.pq_schema.specs.declared.query.Stop.TheVariants.{All}
+use Rattle.pq_schema.specs.declared.made.Definition.{Definition}
+use Rattle.pq_schema.specs.declared.made.Definition.TheVariants.{OfTable, OfQuery}
+use Rattle.pq_schema.specs.declared.made.Def.{Def}
+use Rattle.pq_schema.specs.declared.made.Def.TheVariants as def
+
+pub record Schema : Type 0 where
+  pub tables : List Table
+  pub definitions : List Definition
+
+abbrev pub empty_schema : Schema
+empty_schema = record { tables = []; definitions = [] }
+
+-- a definition by its kind
+abbrev pub def_of : Definition → Def
+def_of (OfTable table made) = def.Table table made
+def_of (OfQuery query made) = def.Query made
+
+-- what stands at a number that no query has
+abbrev pub no_query : Query
+no_query = record { name = []; relations = []; select = []; preds = []; order = []; stop = All; params = [] }
+
+abbrev pub query_of : Definition → Query
+query_of (OfTable table made) = no_query
+query_of (OfQuery query made) = query
+
+abbrev pub IsQueryDefinition : Definition → Type 0
+IsQueryDefinition (OfTable table made) = ⊥
+IsQueryDefinition (OfQuery query made) = Unit {0}
+
+abbrev pub no_definition : Definition
+no_definition = OfTable 0 0
+
+-- the definition of this number, from 1
+abbrev pub definition_at : Schema → ℕ → Definition
+definition_at schema number = slice_index_or schema.definitions (number - 1) no_definition
+
+abbrev pub query_at : Schema → ℕ → Query
+query_at schema number = query_of (definition_at schema number)
+
+-- a query of this name
+abbrev pub is_query : List ℕ → Definition → Bool
+is_query name (OfTable table made) = false
+is_query name (OfQuery query made) = bytes_eq query.name name
+
+abbrev pub is_table : List ℕ → Table → Bool
+is_table name table = bytes_eq table.name name
+
+abbrev pub has_name : List ℕ → Column → Bool
+has_name name column = bytes_eq column.name name
+
+-- the place of the column of this name, from 0
+abbrev pub find_column : List Column → List ℕ → Option ℕ
+find_column columns name = position (has_name name) columns
+
+-- a place from 0 as a number from 1
+abbrev pub number_of : ℕ → ℕ
+number_of place = place + 1
+
+-- the number of the table of this name, from 1
+abbrev pub find_table : Schema → List ℕ → Option ℕ
+find_table schema name = option_map number_of (position (is_table name) schema.tables)
+
+-- the number of the query of this name among the definitions, from 1
+abbrev pub find_query : Schema → List ℕ → Option ℕ
+find_query schema name = option_map number_of (position (is_query name) schema.definitions)
+
+-- a table or a query has the name
+abbrev pub is_taken : Schema → List ℕ → Bool
+is_taken schema name = is_some (find_table schema name) || is_some (find_query schema name)
+
+-- at most 64 tables and 256 definitions
+pub record IsSmall (schema : Schema) : Type 0 where
+  pub tables : length schema.tables ≤ 64
+  pub definitions : length schema.definitions ≤ 256
+
+-- the table comes behind the others, and its definition last
+abbrev pub with_table : Schema → Table → Schema
+with_table schema table = record {
+  tables = schema.tables ++ table ∷ [];
+  definitions = schema.definitions ++ OfTable (length schema.tables + 1) (length table.indexes) ∷ [];
+}
+
+-- the query's definition comes last
+abbrev pub with_query : Schema → Query → Schema
+with_query schema query = record schema { definitions = schema.definitions ++ OfQuery query None ∷ [] }

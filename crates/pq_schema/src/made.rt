@@ -1,0 +1,27 @@
+//! What a definition made.
+
+use crate::query::Query;
+
+/// An index that a PREPARE made: the table's number and the index's, each from 1.
+#[derive(Clone, Copy, Debug, PartialEq, Eq)]
+pub struct Made {
+    pub table: u8,
+    pub index: u8,
+}
+
+/// A definition by its kind: a table's number with how many indexes its CREATE TABLE made, or the
+/// index that a query's PREPARE made.
+#[derive(Clone, Copy, Debug, PartialEq, Eq)]
+pub enum Def {
+    Table { table: u8, made: u8 },
+    Query { made: Option<Made> },
+}
+
+/// A definition of a schema.
+#[derive(Debug, Drop)]
+pub enum Definition {
+    /// The table of this number, whose CREATE TABLE made its first indexes, so many.
+    OfTable { table: u8, made: u8 },
+    /// A query, with the index that its PREPARE made.
+    OfQuery { query: Query, made: Option<Made> },
+}

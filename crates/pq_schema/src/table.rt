@@ -1,0 +1,95 @@
+//! Tables by number: columns from 0, tables, limits, foreign keys and indexes from 1.
+
+ghost use Rattle.std.specs.Prelude.{◌≡◌};
+ghost use Rattle.pq_schema.specs.Schema.{find_column};
+
+use pq_base::{ColType, Dir, List, PText};
+use smallvec::SmallVec;
+
+/// A column of a table.
+#[derive(Debug, Drop)]
+pub struct Column {
+    pub name: PText,
+    pub ty: ColType,
+}
+
+/// At most `n` rows agree on the columns.
+#[derive(Debug, Drop)]
+pub struct Limit {
+    pub n: u32,
+    pub cols: List<u8>,
+}
+
+/// The columns name the key of a row of the table.
+#[derive(Debug, Drop)]
+pub struct Foreign {
+    pub cols: List<u8>,
+    pub table: u8,
+}
+
+/// A column of a sequence with its direction.
+#[derive(Clone, Copy, Debug, PartialEq, Eq)]
+pub struct KeyPart {
+    pub col: u8,
+    pub dir: Dir,
+}
+
+impl Default for KeyPart {
+    fn default() -> KeyPart {
+        KeyPart {
+            col: 0,
+            dir: Dir::Asc,
+        }
+    }
+}
+
+/// At most four parts, which lie in place.
+pub type KeyParts = SmallVec<KeyPart, 4>;
+
+/// A secondary index. Its sequence goes on with the key columns that are not among its own.
+#[derive(Debug, Drop)]
+pub struct Index {
+    pub cols: List<KeyPart>,
+}
+
+/// A table, with the indexes that it has by now.
+#[derive(Debug, Drop)]
+pub struct Table {
+    pub name: PText,
+    pub columns: List<Column>,
+    pub key: List<u8>,
+    pub limits: List<Limit>,
+    pub foreign: List<Foreign>,
+    pub indexes: List<Index>,
+}
+
+/// The place of the column of this name, from 0; None exactly where there is none.
+pub fn find_column(columns: &[Column], name: &PText) -> Option<usize>
+    ensures { result ≡ find_column columns.now name.now }
+{
+    columns
+        .iter()
+        .position(|column| column.name.bytes() == name.bytes())
+}
+
+/// A sequence of a table: that of its key, or of a secondary index by its number, from 1.
+#[derive(Clone, Copy, Debug, PartialEq, Eq)]
+pub enum Access {
+    Primary,
+    Secondary(u8),
+}
+
+/// An index that a query wants, with the number that it gets.
+#[derive(Debug, Drop)]
+pub struct NewIndex {
+    pub table: u8,
+    pub number: u8,
+    pub index: Index,
+}
+
+/// A foreign key of a table, by its number from 1.
+#[derive(Clone, Copy, Debug, PartialEq, Eq)]
+pub struct Referring {
+    pub table: u8,
+    pub foreign: u8,
+}

@@ -1,0 +1,15 @@
+pub mod Catalogs
+pub mod Defining
+pub mod Definitions
+pub mod Fits
+pub mod Inserts
+pub mod KeyQueries
+pub mod KeyAnswers
+pub mod Lists
+pub mod Next
+pub mod Openings
+pub mod Plain
+pub mod Promises
+pub mod Runs
+pub mod Statements
+pub mod Texts

@@ -1,0 +1,57 @@
+-- The pair of the next definition among those of the catalog.
+use Rattle.std.proofs.Common.{◌≡◌, ℕ, ◌+◌, ◌-◌, ◌<◌, ◌≤◌, false, cond, List, [], ◌∷◌, ◌++◌, length, get_or, Some, None, refl, sym, ap, ◌∙◌, arith}
+use Rattle.std.specs.declared.cmp.Ordering.TheVariants.{Greater}
+use Rattle.std.specs.List.{AllByRecursion}
+use Rattle.std.specs.Ordering.{is_eq, eq_by_cmp}
+use Rattle.std.specs.Cmp.{nat_cmp_is}
+use Rattle.std.specs.FinMap.{find}
+use Rattle.std.proofs.Math.Seq.{get_or-append_seam}
+use Rattle.pq_schema.specs.declared.made.Definition.{Definition}
+use Rattle.pq_schema.specs.declared.table.Table.{Table}
+use Rattle.pq_schema.specs.Schema.{Schema, no_definition}
+use Rattle.pq_key_code.specs.KeyCode.{catkey}
+use Rattle.pq_key_code.proofs.StoreKeys.{catkey_cmp}
+use Rattle.pq_print.specs.Canonical.{text_of, definition_text}
+use Rattle.pq_content.specs.Pairs.{Pair, key_cmp}
+use Rattle.pq_session.specs.Built.{IsPlain, IsBuiltDefinition}
+use Rattle.pq_session.specs.Stands.{catalog_value, catalog_pair, catalog_from, catalog_pairs}
+use Rattle.pq_session.proofs.Texts.{text-more}
+
+-- a greater number has another key
+other_key : (n k : ℕ) → k < n → n < 65536 → eq_by_cmp key_cmp (catkey n) (catkey k) ≡ false
+other_key n k lt small = ap is_eq (catkey_cmp n k small (omega arith) ∙ sym (nat_cmp_is n k Greater lt))
+
+pub absent_above : (tables : List Table) (number n : ℕ) (definitions : List Definition) → number + length definitions ≤ n → n < 65536 → find key_cmp (catkey n) (catalog_from tables number definitions) ≡ None
+absent_above tables number n [] above small = refl
+absent_above tables number n (definition ∷ definitions) above small =
+    ap (λ b. cond b (Some (catalog_pair tables number definition).1) (find key_cmp (catkey n) (catalog_from tables (number + 1) definitions))) (other_key n number (omega arith) small)
+    ∙ absent_above tables (number + 1) n definitions (omega arith) small
+
+-- one more table changes no pair
+pub pairs-more-table : (tables : List Table) (table : Table) (number : ℕ) (definitions : List Definition) → AllByRecursion IsPlain tables → AllByRecursion (IsBuiltDefinition tables) definitions
+    → catalog_from (tables ++ table ∷ []) number definitions ≡ catalog_from tables number definitions
+pairs-more-table tables table number [] plain built = refl
+pairs-more-table tables table number (definition ∷ definitions) plain built =
+    λ i. (catkey number, catalog_value (text-more tables table definition plain built.0 i)) ∷ pairs-more-table tables table (number + 1) definitions plain built.1 i
+
+-- the pair of the last definition comes last
+last_pair : (tables : List Table) (number n : ℕ) (definitions : List Definition) (definition : Definition) → n ≡ number + length definitions
+    → catalog_from tables number (definitions ++ definition ∷ []) ≡ catalog_from tables number definitions ++ catalog_pair tables n definition ∷ []
+last_pair tables number n [] definition is = let same : number ≡ n = omega arith in ap (λ k. catalog_pair tables k definition ∷ []) same
+last_pair tables number n (first ∷ definitions) definition is = ap (λ (rest : List Pair). catalog_pair tables number first ∷ rest) (last_pair tables (number + 1) n definitions definition (omega arith))
+
+-- a schema with one definition more
+abbrev pub ending : List Table → List Definition → Definition → Schema
+ending tables definitions definition = record { tables = tables; definitions = definitions ++ definition ∷ [] }
+
+last_text : (tables : List Table) (definitions : List Definition) (definition : Definition) → definition_text (ending tables definitions definition) (length definitions + 1) ≡ text_of tables definition
+unfolding definition_text
+last_text tables definitions definition =
+    let place : length definitions + 1 - 1 ≡ length definitions = omega arith in
+    ap (text_of tables) (ap (λ k. get_or (definitions ++ definition ∷ []) k no_definition) place ∙ get_or-append_seam definitions definition [] no_definition)
+
+pub ending_pairs : (tables : List Table) (definitions : List Definition) (definition : Definition)
+    → catalog_pairs (ending tables definitions definition) ≡ catalog_from tables 1 definitions ++ (catkey (length definitions + 1), catalog_value (definition_text (ending tables definitions definition) (length definitions + 1))) ∷ []
+ending_pairs tables definitions definition =
+    last_pair tables 1 (length definitions + 1) definitions definition (omega arith)
+    ∙ ap (λ (text : List ℕ). catalog_from tables 1 definitions ++ (catkey (length definitions + 1), catalog_value text) ∷ []) (sym (last_text tables definitions definition))

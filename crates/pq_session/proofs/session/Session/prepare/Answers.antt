@@ -1,0 +1,27 @@
+use Rattle.std.proofs.Common.{◌≡◌, ◌∙◌, sym, Some, None}
+use Rattle.pq_session.specs.KeyQuery.{read_query}
+use Rattle.pq_session.specs.KeySelect.{select_from}
+use Rattle.pq_session.specs.Step.{prepared_as}
+use Rattle.pq_session.proofs.Defining.{prepared_same}
+use Rattle.pq_session.proofs.KeyQueries.{read_by_key}
+use Rattle.pq_session.proofs.Promises.{promises_as, not_built_done}
+use Rattle.pq_session.proofs.session.Session.prepare.Goals as goal
+
+pub define_query-requires-clause-by_key : goal.define_query-requires-clause-by_key
+define_query-requires-clause-by_key g c = (read_by_key c.args.self c.args.name.now _ c.in-Some.query (sym c.in_ok-query.ensures ∙ c.in-Some.is)).0
+
+pub define_query-requires-clause-room : goal.define_query-requires-clause-room
+define_query-requires-clause-room g c = (read_by_key c.args.self c.args.name.now _ c.in-Some.query (sym c.in_ok-query.ensures ∙ c.in-Some.is)).1
+
+pub returns-in-Some-clause-step : goal.returns-in-Some-clause-step
+returns-in-Some-clause-step g c =
+    let read = select_from c.args.text.now c.args.tokens.now c.args.from in
+    let is : read_query c.args.self c.args.name.now read ≡ Some c.in-Some.query = sym c.in_ok-query.ensures ∙ c.in-Some.is in
+    promises_as (λ m. prepared_as m c.args.number (Some c.in-Some.query)) _ _ _ c.args.self _ _ c.define_query.result
+    (λ m same. prepared_same m c.args.number c.args.self c.args.name.now read (Some c.in-Some.query) same is) c.define_query.ensures.step
+
+pub returns-in-None-clause-step : goal.returns-in-None-clause-step
+returns-in-None-clause-step g c =
+    let read = select_from c.args.text.now c.args.tokens.now c.args.from in
+    let is : read_query c.args.self c.args.name.now read ≡ None = sym c.in_ok-query.ensures ∙ c.in-None.is in
+    rw c.not_built_report.ensures (not_built_done _ c.args.number _ c.args.self _ (λ m same. sym (prepared_same m c.args.number c.args.self c.args.name.now read None same is)))

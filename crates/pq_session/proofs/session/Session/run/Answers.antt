@@ -1,0 +1,37 @@
+use Rattle.std.proofs.Common.{◌≡◌, ◌∙◌, ap, sym, true, false, Some, None}
+use Rattle.pq_base.specs.Values.{all_fit}
+use Rattle.pq_schema.specs.Schema.{find_query, query_at}
+use Rattle.pq_session.specs.Reads.{IsQueryNumber}
+use Rattle.pq_session.specs.Step.{ran, ran_query}
+use Rattle.pq_session.proofs.Runs.{found_query, no_such_query, params_refused, params_taken, run_done}
+use Rattle.pq_session.proofs.Promises.{done_as, not_built_done}
+use Rattle.pq_session.proofs.session.Session.run.Goals as goal
+
+pub returns-in_default-clause-step : goal.returns-in_default-clause-step
+returns-in_default-clause-step g c =
+    let none : find_query c.args.self c.args.name.now ≡ None = rw (← c.self.view_is) (sym c.find_query.ensures ∙ c.in_default.is) in
+    rw c.not_built_report.ensures (not_built_done _ c.args.number _ _ _ (λ m is. no_such_query c.args.self m c.args.number c.args.name.now c.args.params.now is none))
+
+pub query-requires-clause-query : goal.query-requires-clause-query
+query-requires-clause-query g c = (found_query c.self.inside.catalog c.args.name.now c.in-Some.query (sym c.find_query.ensures ∙ c.in-Some.is)).query
+
+pub returns-then-not-all_fit-clause-step : goal.returns-then-not-all_fit-clause-step
+returns-then-not-all_fit-clause-step g c =
+    let found : find_query c.args.self c.args.name.now ≡ Some c.in-Some.query = rw (← c.self.view_is) (sym c.find_query.ensures ∙ c.in-Some.is) in
+    let refused : all_fit (query_at c.args.self c.in-Some.query).params c.args.params.now ≡ false =
+    rw (← c.self.view_is, ← c.query.ensures, ← c.items-2.ensures, ← c.items.ensures) (sym c.all_fit.ensures.test ∙ c.if-not-all_fit.true) in
+    rw c.not_built_report-then-not-all_fit.ensures (not_built_done _ c.args.number _ _ _ (λ m is. params_refused c.args.self m c.args.number c.args.name.now c.args.params.now is c.in-Some.query found refused))
+
+pub look_up-requires-clause-number : goal.look_up-requires-clause-number
+look_up-requires-clause-number g c =
+    let found : find_query c.args.self c.args.name.now ≡ Some c.in-Some.query = rw (← c.self.view_is) (sym c.find_query.ensures ∙ c.in-Some.is) in
+    found_query c.args.self c.args.name.now c.in-Some.query found
+
+pub returns-clause-step : goal.returns-clause-step
+returns-clause-step g c =
+    let found : find_query c.args.self c.args.name.now ≡ Some c.in-Some.query = rw (← c.self.view_is) (sym c.find_query.ensures ∙ c.in-Some.is) in
+    let taken : all_fit (query_at c.args.self c.in-Some.query).params c.args.params.now ≡ true =
+    rw (← c.self.view_is, ← c.query.ensures, ← c.items-2.ensures, ← c.items.ensures) (sym c.all_fit.ensures.test ∙ c.if-not-all_fit.false) in
+    rw c.in_ok-report.ensures (done_as (λ m. ran_query m c.args.number (query_at c.args.self c.in-Some.query) c.args.params.now) _ _ _ c.args.self c.args.self _ _ _
+    (λ m is. params_taken c.args.self m c.args.number c.args.name.now c.args.params.now is c.in-Some.query found taken)
+    (run_done c.args.self c.args.number c.in-Some.query c.args.params.now c.in_ok-row.row _ _ _ _ c.in_ok-row.ensures.same c.in_ok-row.ensures.meter c.in_ok-row.ensures.answer))

@@ -1,0 +1,15 @@
+pub mod Built
+pub mod Model
+pub mod Stands
+pub mod Step
+pub mod Matches
+pub mod Causes
+pub mod Promise
+pub mod Reports
+pub mod Calls
+pub mod Reads
+pub mod KeyParts
+pub mod KeySelect
+pub mod KeyQuery
+pub mod Opening
+pub mod Extends

@@ -1,0 +1,4 @@
+pub mod Places
+pub mod Made
+pub mod Digits
+pub mod Tokens

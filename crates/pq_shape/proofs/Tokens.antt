@@ -1,0 +1,151 @@
+-- Each reader of one token reads what that token spells.
+use Rattle.std.proofs.Common.{◌≡◌, ℕ, ℤ, pos, Bool, true, false, cond, eqb, eq-eqb, List, [], Some, None, refl, ap, ◌∙◌}
+use Rattle.std.proofs.lemmas.Bool.{eqb-true}
+use Rattle.pq_base.specs.declared.value.Value.{Value}
+use Rattle.pq_base.specs.declared.value.Value.TheVariants as value
+use Rattle.pq_grammar.specs.Language.{one, separated}
+use Rattle.pq_grammar.specs.Reader.{Reader, begins, separated_at}
+use Rattle.pq_grammar.proofs.Steps.{Reads, never, begins-never}
+use Rattle.pq_grammar.proofs.Readers.{one_reads}
+use Rattle.pq_grammar.proofs.Lists.{one_opens, same_set, separated_reads}
+use Rattle.pq_grammar.proofs.Choices.{test_reads}
+use Rattle.pq_shape.specs.Front.{is_word, is_mark, is_value, name_of, number_in, text_in, truth_of, value_in, word_at, mark_at, name_at, number_at, text_at, value_at}
+use Rattle.pq_shape.specs.Parts.{word, mark, comma, name, number, text, a_value}
+use Rattle.pq_shape.specs.declared.keyword.TheConstants.{FALSE, TRUE}
+use Rattle.pq_shape.specs.declared.mark.TheConstants.{COMMA}
+use Rattle.pq_shape.specs.declared.shape.Shape.{Shape}
+use Rattle.pq_shape.specs.declared.shape.Shape.TheVariants as shape
+
+pub word_is : (k : ℕ) (t : Shape) → is_word k t ≡ true → t ≡ shape.Keyword k
+unfolding is_word
+word_is k (shape.Keyword j) e = ap (λ (i : ℕ). shape.Keyword i) (eqb-true j k e)
+word_is k (shape.Name n) e = absurd cc
+word_is k (shape.Number z) e = absurd cc
+word_is k (shape.Text t) e = absurd cc
+word_is k (shape.Mark c) e = absurd cc
+word_is k shape.Other e = absurd cc
+
+pub mark_is : (k : ℕ) (t : Shape) → is_mark k t ≡ true → t ≡ shape.Mark k
+unfolding is_mark
+mark_is k (shape.Mark c) e = ap (λ (i : ℕ). shape.Mark i) (eqb-true c k e)
+mark_is k (shape.Name n) e = absurd cc
+mark_is k (shape.Number z) e = absurd cc
+mark_is k (shape.Text t) e = absurd cc
+mark_is k (shape.Keyword j) e = absurd cc
+mark_is k shape.Other e = absurd cc
+
+word_passes : (k : ℕ) → is_word k (shape.Keyword k) ≡ true
+unfolding is_word
+word_passes k = eq-eqb k k refl
+
+mark_passes : (k : ℕ) → is_mark k (shape.Mark k) ≡ true
+unfolding is_mark
+mark_passes k = eq-eqb k k refl
+
+pub word_reads : (k : ℕ) → Reads (λ _. word k) never (word_at k)
+word_reads k = test_reads (is_word k) (shape.Keyword k) (word_passes k) (word_is k)
+
+pub mark_reads : (k : ℕ) → Reads (λ _. mark k) never (mark_at k)
+mark_reads k = test_reads (is_mark k) (shape.Mark k) (mark_passes k) (mark_is k)
+
+name_back : (t : Shape) (n : List ℕ) → name_of t ≡ Some n → t ≡ shape.Name n
+unfolding name_of
+name_back (shape.Name m) n e = cc
+name_back (shape.Number z) n e = absurd cc
+name_back (shape.Text t) n e = absurd cc
+name_back (shape.Keyword j) n e = absurd cc
+name_back (shape.Mark j) n e = absurd cc
+name_back shape.Other n e = absurd cc
+
+number_back : (t : Shape) (n : ℤ) → number_in t ≡ Some n → t ≡ shape.Number n
+unfolding number_in
+number_back (shape.Number m) n e = cc
+number_back (shape.Name z) n e = absurd cc
+number_back (shape.Text t) n e = absurd cc
+number_back (shape.Keyword j) n e = absurd cc
+number_back (shape.Mark j) n e = absurd cc
+number_back shape.Other n e = absurd cc
+
+text_back : (t : Shape) (n : List ℕ) → text_in t ≡ Some n → t ≡ shape.Text n
+unfolding text_in
+text_back (shape.Text m) n e = cc
+text_back (shape.Name z) n e = absurd cc
+text_back (shape.Number t) n e = absurd cc
+text_back (shape.Keyword j) n e = absurd cc
+text_back (shape.Mark j) n e = absurd cc
+text_back shape.Other n e = absurd cc
+
+pub name_reads : Reads name never name_at
+unfolding name_of
+name_reads = one_reads name_of (λ n. shape.Name n) [] name_back (λ n. refl)
+
+pub number_reads : Reads number never number_at
+unfolding number_in
+number_reads = one_reads number_in (λ n. shape.Number n) (pos 0) number_back (λ n. refl)
+
+pub text_reads : Reads text never text_at
+unfolding text_in
+text_reads = one_reads text_in (λ n. shape.Text n) [] text_back (λ n. refl)
+
+-- the one token of a value
+value_token : Value → Shape
+value_token (value.Int z) = shape.Number z
+value_token (value.Text t) = shape.Text t
+value_token (value.Bool true) = shape.Keyword TRUE
+value_token (value.Bool false) = shape.Keyword FALSE
+
+some_is : (u v : Value) → Some u ≡ Some v → u ≡ v
+some_is u v e = cc
+
+truth_is : (j : ℕ) (b c : Bool) (v : Value) → eqb j TRUE ≡ b → eqb j FALSE ≡ c → cond b (Some (value.Bool true)) (cond c (Some (value.Bool false)) None) ≡ Some v → shape.Keyword j ≡ value_token v
+unfolding value_token
+truth_is j true c v e f h = ap (λ (i : ℕ). shape.Keyword i) (eqb-true j TRUE e) ∙ ap value_token (some_is (value.Bool true) v h)
+truth_is j false true v e f h = ap (λ (i : ℕ). shape.Keyword i) (eqb-true j FALSE f) ∙ ap value_token (some_is (value.Bool false) v h)
+truth_is j false false v e f h = absurd cc
+
+value_back : (t : Shape) (v : Value) → value_in t ≡ Some v → t ≡ value_token v
+unfolding value_in truth_of value_token
+value_back (shape.Number z) v e = let h : value.Int z ≡ v = cc in ap value_token h
+value_back (shape.Text t) v e = let h : value.Text t ≡ v = cc in ap value_token h
+value_back (shape.Keyword j) v e = truth_is j (eqb j TRUE) (eqb j FALSE) v refl refl e
+value_back (shape.Name z) v e = absurd cc
+value_back (shape.Mark j) v e = absurd cc
+value_back shape.Other v e = absurd cc
+
+value_forth : (v : Value) → value_in (value_token v) ≡ Some v
+unfolding value_in truth_of value_token
+value_forth (value.Int z) = refl
+value_forth (value.Text t) = refl
+value_forth (value.Bool true) = refl
+value_forth (value.Bool false) = refl
+
+value_set : (v : Value) (w : List Shape) → one (value_token v) w → a_value v w
+unfolding value_token
+value_set (value.Int z) w h = h
+value_set (value.Text t) w h = h
+value_set (value.Bool true) w h = h
+value_set (value.Bool false) w h = h
+
+value_unset : (v : Value) (w : List Shape) → a_value v w → one (value_token v) w
+unfolding value_token
+value_unset (value.Int z) w h = h
+value_unset (value.Text t) w h = h
+value_unset (value.Bool true) w h = h
+value_unset (value.Bool false) w h = h
+
+pub value_reads : Reads a_value never value_at
+value_reads = same_set (λ v. one (value_token v)) a_value never value_at value_set value_unset (one_reads value_in value_token (value.Bool true) value_back value_forth)
+
+pub value_opens : (v : Value) (w : List Shape) → a_value v w → begins is_value w ≡ true
+unfolding is_value
+value_opens (value.Int z) w h = one_opens is_value (shape.Number z) refl w h
+value_opens (value.Text t) w h = one_opens is_value (shape.Text t) refl w h
+value_opens (value.Bool true) w h = one_opens is_value (shape.Keyword TRUE) refl w h
+value_opens (value.Bool false) w h = one_opens is_value (shape.Keyword FALSE) refl w h
+
+-- ---- lists with commas
+
+pub comma_separated : {X : Type 0} (S : X → List Shape → Type 0) (r : Reader Shape X) → Reads S never r → Reads (separated comma S) (is_mark COMMA) (separated_at (is_mark COMMA) (mark_at COMMA) r)
+comma_separated S r h =
+    separated_reads comma S (is_mark COMMA) never (is_mark COMMA) (mark_at COMMA) r (mark_reads COMMA) h
+    (λ w s. one_opens (is_mark COMMA) (shape.Mark COMMA) (mark_passes COMMA) w s) (λ u e. refl) (λ rest e. begins-never rest) (λ rest e. e)

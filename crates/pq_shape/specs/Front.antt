@@ -1,0 +1,105 @@
+-- What the first token is tested for, and how it is read.
+use Rattle.std.specs.Prelude.{ℕ, ℤ, ◌==◌, Bool, true, false, List, Option, Some, None, if◌then◌else◌}
+use Rattle.pq_base.specs.declared.value.Value.{Value}
+use Rattle.pq_base.specs.declared.value.Value.TheVariants as value
+use Rattle.pq_grammar.specs.Reader.{Reader, token_at, test_at}
+use Rattle.pq_shape.specs.declared.keyword.TheConstants.{AND, FALSE, JOIN, TRUE}
+use Rattle.pq_shape.specs.declared.mark.TheConstants.{COMMA}
+use Rattle.pq_shape.specs.declared.between.Between.{Between}
+use Rattle.pq_shape.specs.declared.between.Between.TheVariants as between
+use Rattle.pq_shape.specs.declared.shape.Shape.{Shape}
+use Rattle.pq_shape.specs.declared.shape.Shape.TheVariants as shape
+
+unfoldable pub is_word : ℕ → Shape → Bool
+is_word k (shape.Keyword j) = j == k
+is_word k (shape.Name n) = false
+is_word k (shape.Number z) = false
+is_word k (shape.Text t) = false
+is_word k (shape.Mark c) = false
+is_word k shape.Other = false
+
+unfoldable pub is_mark : ℕ → Shape → Bool
+is_mark k (shape.Mark c) = c == k
+is_mark k (shape.Keyword j) = false
+is_mark k (shape.Name n) = false
+is_mark k (shape.Number z) = false
+is_mark k (shape.Text t) = false
+is_mark k shape.Other = false
+
+unfoldable pub is_name : Shape → Bool
+is_name (shape.Name n) = true
+is_name (shape.Keyword j) = false
+is_name (shape.Number z) = false
+is_name (shape.Text t) = false
+is_name (shape.Mark c) = false
+is_name shape.Other = false
+
+unfoldable pub name_of : Shape → Option (List ℕ)
+name_of (shape.Name n) = Some n
+name_of (shape.Keyword j) = None
+name_of (shape.Number z) = None
+name_of (shape.Text t) = None
+name_of (shape.Mark c) = None
+name_of shape.Other = None
+
+unfoldable pub number_in : Shape → Option ℤ
+number_in (shape.Number z) = Some z
+number_in (shape.Keyword j) = None
+number_in (shape.Name n) = None
+number_in (shape.Text t) = None
+number_in (shape.Mark c) = None
+number_in shape.Other = None
+
+unfoldable pub text_in : Shape → Option (List ℕ)
+text_in (shape.Text t) = Some t
+text_in (shape.Keyword j) = None
+text_in (shape.Name n) = None
+text_in (shape.Number z) = None
+text_in (shape.Mark c) = None
+text_in shape.Other = None
+
+-- TRUE and FALSE
+unfoldable pub truth_of : ℕ → Option Value
+truth_of k = if k == TRUE then Some (value.Bool true) else if k == FALSE then Some (value.Bool false) else None
+
+unfoldable pub value_in : Shape → Option Value
+value_in (shape.Number z) = Some (value.Int z)
+value_in (shape.Text t) = Some (value.Text t)
+value_in (shape.Keyword k) = truth_of k
+value_in (shape.Name n) = None
+value_in (shape.Mark c) = None
+value_in shape.Other = None
+
+unfoldable pub is_value : Shape → Bool
+is_value (shape.Number z) = true
+is_value (shape.Text t) = true
+is_value (shape.Keyword k) = if k == TRUE then true else k == FALSE
+is_value (shape.Name n) = false
+is_value (shape.Mark c) = false
+is_value shape.Other = false
+
+abbrev pub is_between : Between → Shape → Bool
+is_between between.Comma t = is_mark COMMA t
+is_between between.And t = is_word AND t
+is_between between.CommaOrJoin t = if is_mark COMMA t then true else is_word JOIN t
+
+abbrev pub word_at : ℕ → Reader Shape (Unit {0})
+word_at k = test_at (is_word k)
+
+abbrev pub mark_at : ℕ → Reader Shape (Unit {0})
+mark_at k = test_at (is_mark k)
+
+abbrev pub between_at : Between → Reader Shape (Unit {0})
+between_at b = test_at (is_between b)
+
+abbrev pub name_at : Reader Shape (List ℕ)
+name_at = token_at name_of
+
+abbrev pub number_at : Reader Shape ℤ
+number_at = token_at number_in
+
+abbrev pub text_at : Reader Shape (List ℕ)
+text_at = token_at text_in
+
+abbrev pub value_at : Reader Shape Value
+value_at = token_at value_in

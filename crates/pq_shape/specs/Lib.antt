@@ -1,0 +1,6 @@
+pub mod Numbers
+pub mod Shapes
+pub mod Front
+pub mod Parts
+pub mod Faults
+pub mod Laws

@@ -1,0 +1,12 @@
+//! What stands between the parts of a list.
+
+/// What stands between the parts of a list.
+#[derive(Debug, Clone, Copy, PartialEq, Eq)]
+pub enum Between {
+    /// A comma.
+    Comma,
+    /// AND.
+    And,
+    /// A comma or JOIN.
+    CommaOrJoin,
+}

@@ -1,0 +1,176 @@
+//! What each token of a text stands for.
+ghost use Rattle.std.specs.Prelude.{◌≡◌, ◌<◌, Some, None, IfOk, OnOk, MatchOption, length, map, ◌++◌, slice_range, ◌-◌, false};
+ghost use Rattle.pq_base.specs.Words.{raised, keywords};
+ghost use Rattle.pq_shape.specs.Shapes.{bytes_of, place_of, lowered, checked, name_shape, word_shape, kept, is_kept_quote, undoubled, number_or_other, mark_code, kind_shape, shape_of, shapes_of};
+ghost use Rattle.pq_shape.specs.Numbers.{number_of};
+ghost use Rattle.pq_text.specs.declared.token.Kind.TheVariants as kind;
+
+use crate::number::number;
+use pq_base::{Bytes, List, NoMem, PText, keyword_table};
+use pq_text::{Kind, Token};
+use std::alloc::Global;
+
+/// What a token stands for.
+#[derive(Debug, Drop)]
+pub enum Shape {
+    /// A word of the keyword table, by its place there.
+    Keyword(u8),
+    /// A name in small letters.
+    Name(PText),
+    /// A number of 64 bits with its sign.
+    Number(i64),
+    /// A text without its quotes, each doubled quote once.
+    Text(PText),
+    /// A mark, by its code: its byte, or of two bytes 256 times the first and the second.
+    Mark(u16),
+    /// What no statement has.
+    Other,
+}
+
+/// The bytes of a token.
+fn bytes_at(text: &[u8], token: Token) -> &[u8]
+    ensures { result.now ≡ bytes_of text.now token }
+{
+    let to = (token.to as usize).min(text.len());
+    let from = (token.from as usize).min(to);
+    &text[from..to]
+}
+
+/// The place of a word in the keyword table, in any letter case.
+fn keyword(bytes: &[u8]) -> Option<u8>
+    ensures { result ≡ place_of keywords (map raised bytes.now) }
+{
+    match keyword_table().lookup(bytes) {
+        Some(place) => Some(place as u8),
+        None => None,
+    }
+}
+
+/// The bytes with the ASCII letters lowered.
+fn lower(alloc: Global, bytes: &[u8]) -> Result<Bytes, NoMem>
+    ensures { IfOk result (λ low. low ≡ lowered bytes.now) }
+{
+    let low = bytes.iter().map(|b| b.to_ascii_lowercase()).collect(alloc)?;
+    Ok(Bytes::from_vec(low))
+}
+
+/// The text of these bytes, where they are UTF-8.
+fn text_of(alloc: Global, bytes: &[u8]) -> Result<Option<PText>, NoMem>
+    ensures { IfOk result (λ found. found ≡ checked bytes.now) }
+{
+    let found = PText::from_bytes(alloc, bytes)?;
+    Ok(found)
+}
+
+fn name(alloc: Global, bytes: &[u8]) -> Result<Shape, NoMem>
+    ensures { IfOk result (λ shape. shape ≡ name_shape bytes.now) }
+{
+    if bytes.len() > 32 {
+        return Ok(Shape::Other);
+    }
+    let low = lower(alloc, bytes)?;
+    let made = text_of(alloc, low.items())?;
+    match made {
+        Some(name) => Ok(Shape::Name(name)),
+        None => Ok(Shape::Other),
+    }
+}
+
+fn word(alloc: Global, bytes: &[u8]) -> Result<Shape, NoMem>
+    ensures { IfOk result (λ shape. shape ≡ word_shape bytes.now) }
+{
+    match keyword(bytes) {
+        Some(place) => Ok(Shape::Keyword(place)),
+        None => name(alloc, bytes),
+    }
+}
+
+/// What stands between the quotes.
+fn inner(bytes: &[u8]) -> &[u8]
+    ensures { result.now ≡ slice_range bytes.now 1 (length bytes.now - 1) }
+{
+    match bytes {
+        [_, inner @ .., _] => inner,
+        _ => &[],
+    }
+}
+
+/// Puts a byte, but a quote behind a quote that stays, and says whether it is a quote that stays.
+fn put(alloc: Global, plain: &mut Bytes, quoted: bool, byte: u8) -> Result<bool, NoMem>
+    ensures bytes { OnOk result (plain.new ≡ plain.old ++ kept quoted byte) }
+    ensures quote { IfOk result (λ is. is ≡ is_kept_quote quoted byte) }
+{
+    let quote = byte == b'\'';
+    if quoted && quote {
+        return Ok(false);
+    }
+    plain.push(alloc, byte)?;
+    Ok(quote && !quoted)
+}
+
+/// The bytes with each doubled quote once.
+fn undouble(alloc: Global, bytes: &[u8]) -> Result<Bytes, NoMem>
+    ensures { IfOk result (λ plain. plain ≡ undoubled false bytes.now) }
+{
+    let mut plain = Bytes::new(alloc);
+    let mut quoted = false;
+    for byte in bytes {
+        quoted = put(alloc, &mut plain, quoted, *byte)?;
+    }
+    Ok(plain)
+}
+
+fn quoted(alloc: Global, bytes: &[u8]) -> Result<Shape, NoMem>
+    ensures { IfOk result (λ shape. shape ≡ kind_shape kind.Text bytes.now) }
+{
+    let plain = undouble(alloc, inner(bytes))?;
+    let made = text_of(alloc, plain.items())?;
+    match made {
+        Some(text) => Ok(Shape::Text(text)),
+        None => Ok(Shape::Other),
+    }
+}
+
+fn mark(bytes: &[u8]) -> u16
+    ensures { result ≡ mark_code bytes.now }
+{
+    match bytes {
+        [] => 0,
+        [byte] => *byte as u16,
+        [first, second, ..] => *first as u16 * 256 + *second as u16,
+    }
+}
+
+fn number_shape(bytes: &[u8]) -> Shape
+    ensures { result ≡ number_or_other (number_of bytes.now) }
+{
+    match number(bytes) {
+        Some(number) => Shape::Number(number),
+        None => Shape::Other,
+    }
+}
+
+#[tactic(auto, unfolding(crate::specs::Shapes::shape_of))]
+fn shape_at(alloc: Global, text: &[u8], token: Token) -> Result<Shape, NoMem>
+    ensures { IfOk result (λ shape. shape ≡ shape_of text.now token) }
+{
+    let bytes = bytes_at(text, token);
+    match token.kind {
+        Kind::Word => word(alloc, bytes),
+        Kind::Number => Ok(number_shape(bytes)),
+        Kind::Text => quoted(alloc, bytes),
+        Kind::Mark => Ok(Shape::Mark(mark(bytes))),
+        Kind::Other => Ok(Shape::Other),
+    }
+}
+
+/// What the tokens of a text stand for.
+pub fn shapes(alloc: Global, text: &[u8], tokens: &[Token]) -> Result<List<Shape>, NoMem>
+    ensures { IfOk result (λ found. found ≡ shapes_of text.now tokens.now) }
+{
+    let mut found = List::new(alloc);
+    for token in tokens {
+        found.push(alloc, shape_at(alloc, text, *token)?)?;
+    }
+    Ok(found)
+}

@@ -1,0 +1,6 @@
+pub mod Ending
+pub mod Folding
+pub mod Known
+pub mod Parts
+pub mod SoFar
+pub mod Taking

@@ -1,0 +1,5 @@
+use Rattle.pq_shell.proofs.Ending.{Ends-of}
+use Rattle.pq_shell.proofs.run.run.Goals as goal
+
+pub returns-clause-ends : goal.returns-clause-ends
+returns-clause-ends g c = Ends-of c.run_script-outcome.result _ _ _ _ c.run_script-outcome.ensures.ok c.run_script-outcome.ensures.err c.close.ensures.closes

@@ -1,0 +1,56 @@
+use Rattle.std.proofs.Common.{◌+◌, ◌≤◌, ◌++◌, rules, arith, length, take, drop, length-take, sym, ap, ◌∙◌}
+use Rattle.std.proofs.lemmas.List.{length-take-le}
+use Rattle.std.proofs.lemmas.Result.{err_from_is_err_and}
+use Rattle.std.specs.Io.KnownBytes.{prepend_known}
+use Rattle.pq_shell.specs.Reading.{script_limit}
+use Rattle.pq_shell.proofs.Known.{room_front, room_long}
+use Rattle.pq_shell.proofs.SoFar.{SoFar-start, SoFar-more, SoFar-taken, SoFar-faulted, SoFar-whole, SoFar-past, SoFar-stopped}
+use Rattle.pq_shell.proofs.run.run_source.Goals as goal
+
+pub loop-taken-init : goal.loop-taken-init
+loop-taken-init g c = record { within = search rules; store_later = search rules; sink_later = search rules; source_later = search rules; so_far = SoFar-start _ _ _ _ _ }
+
+pub returns-in-Err-clause-ok : goal.returns-in-Err-clause-ok
+returns-in-Err-clause-ok g c = SoFar-faulted c.loop-taken.invariant.so_far c.in-Err.ensures.kept (search rules) (λ m s. s.settled)
+
+pub returns-then-n-eq0-clause-ok : goal.returns-then-n-eq0-clause-ok
+returns-then-n-eq0-clause-ok g c = SoFar-whole c.in-Ok.n c.read.new.room c.loop-taken.invariant.so_far c.in-Ok.ensures.taken (search rules) (search rules) (search rules) (λ m s. s.settled)
+
+pub returns-in_err-session-clause-err : goal.returns-in_err-session-clause-err
+returns-in_err-session-clause-err g c =
+    let p = err_from_is_err_and c.from_residual.result c.from_residual.ensures.1 in
+    let n = c.in-Ok.n in
+    let behind = drop c.min-want.result c.loop-taken.room in
+    let within : n ≤ length c.read.new.room = omega (arith, c.read.auto.room, c.in-Ok.ensures.within) in
+    let short : c.loop-taken.taken + n ≤ script_limit = omega (arith, c.in-Ok.ensures.within, length-take c.min-want.result c.loop-taken.room, c.min-want.ensures) in
+    let next = c.in-Ok.ensures.taken ∙ ap (λ b. prepend_known b (g.I.Source.left c.read.new.self)) (sym (room_front n c.read.new.room behind within)) in
+    rw (p.1, p.2) (SoFar-stopped n (take n (c.read.new.room ++ behind)) c.loop-taken.invariant.so_far next (room_long n c.read.new.room behind within) short c.in_err-session.ensures.err)
+
+pub returns-in_err-session-clause-taken : goal.returns-in_err-session-clause-taken
+returns-in_err-session-clause-taken g c =
+    let n = c.in-Ok.n in
+    let within : n ≤ length c.read.new.room = omega (arith, c.read.auto.room, c.in-Ok.ensures.within) in
+    let short : c.loop-taken.taken + length (take n c.read.new.room) ≤ script_limit + 1 = omega (arith, c.in-Ok.ensures.within, length-take c.min-want.result c.loop-taken.room, c.min-want.ensures, length-take-le n c.read.new.room within) in
+    SoFar-taken _ (take n c.read.new.room) (script_limit + 1) c.loop-taken.invariant.so_far c.in-Ok.ensures.taken short
+
+pub loop-taken-preserved : goal.loop-taken-preserved
+loop-taken-preserved g c =
+    let n = c.in-Ok.n in
+    let behind = drop c.min-want.result c.loop-taken.room in
+    let within : n ≤ length c.read.new.room = omega (arith, c.read.auto.room, c.in-Ok.ensures.within) in
+    let next = c.in-Ok.ensures.taken ∙ ap (λ b. prepend_known b (g.I.Source.left c.read.new.self)) (sym (room_front n c.read.new.room behind within)) in
+    record {
+      within = omega (arith, c.in-Ok.ensures.within, length-take c.min-want.result c.loop-taken.room, c.min-want.ensures);
+      store_later = search rules;
+      sink_later = search rules;
+      source_later = search rules;
+      so_far = SoFar-more n (take n (c.read.new.room ++ behind)) c.loop-taken.invariant.so_far next (room_long n c.read.new.room behind within) c.in_ok-session.ensures.ok;
+    }
+
+pub returns-clause-ok : goal.returns-clause-ok
+returns-clause-ok g c = SoFar-past c.read_past_limit.result c.loop-taken.invariant.so_far (search rules) c.read_past_limit.ensures.took (λ m s. s.settled)
+
+pub returns-clause-taken : goal.returns-clause-taken
+returns-clause-taken g c =
+    let last = c.read_past_limit.ensures.taken in
+    SoFar-taken _ last.0 (script_limit + 1) c.loop-taken.invariant.so_far last.1 (omega (arith, last.2, c.loop-taken.invariant.within))

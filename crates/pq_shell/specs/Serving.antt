@@ -1,0 +1,64 @@
+-- A part of a script that was fed to the splitter, and what was made of its pieces.
+use Rattle.std.specs.Prelude.{◌≡◌, ℕ, ◌+◌, ◌≤◌, ◌||◌, Bool, true, false, Option, List, [], ◌++◌, length}
+use Rattle.std.specs.Io.KnownBytes.{append_known}
+use Rattle.pq_store.specs.Counts.{Counts}
+use Rattle.pq_text.specs.declared.piece.Piece.{Piece}
+use Rattle.pq_text.specs.Summaries.{Summary, pieces_from, unfinished_from}
+use Rattle.pq_print.specs.Report.{printed}
+use Rattle.pq_session.specs.Model.{Model}
+use Rattle.pq_shell.specs.Fold.{Served, Stopped}
+use Rattle.pq_shell.specs.Items.{cut_items, rest_report, run_way}
+use Rattle.pq_shell.specs.Reading.{Took}
+use Rattle.pq_shell.specs.Stops.{CutsOff}
+use Rattle.pq_shell.specs.declared.reading.Ending.{Ending}
+use Rattle.pq_shell.specs.declared.reading.Ending.TheVariants.{Whole, Faulted, TooLong}
+use Rattle.pq_shell.specs.declared.serving.Ended.{Ended}
+use Rattle.pq_shell.specs.declared.serving.Progress.{Progress}
+use Rattle.pq_shell.specs.declared.stop.Stop.{Stop}
+
+-- between these states a splitter tells these pieces of these bytes, whatever comes next
+pub record Fed (from : Summary) (bytes : List ℕ) (told : List Piece) (to : Summary) : Type 0 where
+  pub pieces : (more : List ℕ) → pieces_from from (bytes ++ more) ≡ told ++ pieces_from to more
+  pub rest : (more : List ℕ) → unfinished_from from (bytes ++ more) ≡ unfinished_from to more
+
+-- these bytes were fed, and their pieces were made and numbered on
+pub record Progressed (before now : Model → Type 0) (bytes : List ℕ) (from to : Progress) (held held_now : Option (List ℕ)) (counts counts_now : Counts) : Type 0 where
+  pub told : List Piece
+  pub fed : Fed from.splitter bytes told to.splitter
+  pub served : Served run_way before now (from.tally.count + 1) (cut_items told) held held_now counts counts_now from.tally.refused to.tally.refused
+  pub counted : to.tally.count ≡ from.tally.count + length told
+  pub few : to.tally.count ≤ from.tally.count + length bytes
+
+-- the source was read so far, and all of it was fed
+pub record Consumed (ending : Ending) (left left_now : Option (List ℕ)) (before now : Model → Type 0) (from to : Progress) (held held_now : Option (List ℕ)) (counts counts_now : Counts) : Type 0 where
+  pub bytes : List ℕ
+  pub took : Took ending left left_now bytes
+  pub progressed : Progressed before now bytes from to held held_now counts counts_now
+
+-- the run stopped among the pieces of what was read
+pub record StoppedAmong (stop : Stop) (left left_now : Option (List ℕ)) (before now : Model → Type 0) (from : Progress) (held held_now : Option (List ℕ)) : Type 0 where
+  pub bytes : List ℕ
+  pub took : Took Faulted left left_now bytes
+  pub stopped : Stopped run_way stop before now (from.tally.count + 1) (cut_items (pieces_from from.splitter bytes)) held held_now
+
+-- the rest is unfinished, and the script was read to its end
+abbrev pub has_rest : Ending → Summary → Bool
+has_rest Whole splitter = unfinished_from splitter []
+has_rest Faulted splitter = false
+has_rest TooLong splitter = false
+
+-- what is written of the rest
+abbrev pub rest_text : Bool → ℕ → List ℕ
+rest_text true number = printed (rest_report number)
+rest_text false number = []
+
+-- the rest is reported, where there is one
+pub record ReportsRest (ending : Ending) (progress : Progress) (ended : Ended) (held held_now : Option (List ℕ)) : Type 0 where
+  pub ending_is : ended.ending ≡ ending
+  pub refused_is : ended.refused ≡ (progress.tally.refused || has_rest ending progress.splitter)
+  pub text : held_now ≡ append_known held (rest_text (has_rest ending progress.splitter) (progress.tally.count + 1))
+
+-- the run stopped at the report of the rest
+pub record StoppedAtRest (stop : Stop) (ending : Ending) (progress : Progress) (held held_now : Option (List ℕ)) : Type 0 where
+  pub some_rest : has_rest ending progress.splitter ≡ true
+  pub cut : CutsOff stop (printed (rest_report (progress.tally.count + 1))) held held_now

@@ -1,0 +1,23 @@
+//! The top call: it runs a script from a source over a store, and writes its reports to a sink.
+#![tactic(auto)]
+
+mod command_line;
+mod memory;
+mod outside;
+mod reading;
+mod run;
+mod serving;
+mod standard;
+mod status;
+mod stop;
+#[cfg(test)]
+mod tests;
+mod writing;
+
+pub use command_line::{WordsErr, read_words};
+pub use memory::{MemSink, MemSource};
+pub use outside::{Failed, Sink, Source};
+pub use reading::LIMIT;
+pub use run::run_piql;
+pub use standard::{StdSink, StdSource};
+pub use status::Status;

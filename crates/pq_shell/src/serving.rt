@@ -1,0 +1,188 @@
+//! The pieces of a script, made and reported as they are cut.
+ghost use Rattle.std.specs.Prelude.{◌≡◌, ℕ, ◌+◌, ◌^◌, ◌<◌, ◌≤◌, ◌||◌, [], ◌∷◌, false, List as Items, length, OnOk, IfOk, IfErr};
+ghost use Rattle.std.specs.Io.KnownBytes.{append_known};
+ghost use Rattle.pq_store.specs.Content.{HasRisen};
+ghost use Rattle.pq_text.specs.Summaries.{start, pieces_from};
+ghost use Rattle.pq_print.specs.Report.{printed};
+ghost use Rattle.pq_session.specs.Stands.{Stands, Settled};
+ghost use Rattle.pq_shell.specs.Fold.{Served, Stopped};
+ghost use Rattle.pq_shell.specs.Items.{Cut, cut_items, rest_report, run_way};
+ghost use Rattle.pq_shell.specs.Serving.{Progressed, ReportsRest, StoppedAtRest, has_rest};
+ghost use Rattle.pq_shell.specs.Stops.{CutsOff, Causes};
+
+use crate::outside::Sink;
+use crate::reading::Ending;
+use crate::stop::Stop;
+use crate::writing::write_report;
+use pq_base::{Bound, List, NoMem, Refusal, Used};
+use pq_print::{End, Report};
+use pq_session::Session;
+use pq_store::{Meter, Store};
+use pq_text::{Piece, Splitter};
+use std::alloc::Global;
+use std::sync::ledger::Ledger;
+
+/// How many statements were made, and whether one of them was refused.
+#[derive(Clone, Copy, Debug)]
+pub struct Tally {
+    pub count: u32,
+    pub refused: bool,
+}
+
+impl Tally {
+    // The tally of one statement more.
+    fn with(self, refused: bool) -> Tally
+        requires { self.count + 1 < 2 ^ 32 }
+        ensures count { result.count ≡ self.count + 1 }
+        ensures refused { result.refused ≡ (self.refused || refused) }
+    {
+        Tally {
+            count: self.count + 1,
+            refused: self.refused || refused,
+        }
+    }
+}
+
+/// How far a script was run.
+#[derive(Drop)]
+pub struct Progress {
+    pub splitter: Splitter,
+    pub tally: Tally,
+}
+
+/// How the reading of a script ended, and whether a report is a refusal.
+#[derive(Clone, Copy, Debug)]
+pub struct Ended {
+    pub ending: Ending,
+    pub refused: bool,
+}
+
+impl Progress {
+    /// The start of a script. It takes no memory.
+    pub fn new(alloc: Global) -> Progress
+        ensures splitter { result.splitter ≡ start }
+        ensures count { result.tally.count ≡ 0 }
+        ensures refused { result.tally.refused ≡ false }
+    {
+        Progress {
+            splitter: Splitter::new(alloc),
+            tally: Tally {
+                count: 0,
+                refused: false,
+            },
+        }
+    }
+}
+
+/// Makes the next piece and writes its report.
+fn serve<S: Store<L>, O: Sink, L: Ledger>(
+    alloc: Global,
+    session: Session,
+    piece: &Piece,
+    tally: &mut Tally,
+    store: &mut S,
+    meter: &mut Meter<L>,
+    sink: &mut O,
+) -> Result<Session, Stop>
+    requires { tally.old.count + 1 < 2 ^ 32 }
+    ensures ok { IfOk result (λ next. Served run_way (Stands (S.content store.old) session) (Stands (S.content store.new) next) (tally.old.count + 1) (Cut piece.now ∷ [])
+        (O.held sink.old) (O.held sink.new) meter.old meter.new tally.old.refused tally.new.refused) }
+    ensures count { OnOk result (tally.new.count ≡ tally.old.count + 1) }
+    ensures err { IfErr result (λ stop. Stopped run_way stop (Stands (S.content store.old) session) (Settled (S.content store.new)) (tally.old.count + 1) (Cut piece.now ∷ [])
+        (O.held sink.old) (O.held sink.new)) }
+    ensures causes { Causes (S.faults store.old) (S.faults store.new) (O.faults sink.old) (O.faults sink.new) result }
+{
+    let number = tally.count + 1;
+    let (next, report) = match session.statement(alloc, number, piece, store, meter) {
+        Ok(made) => made,
+        Err(broke) => return Err(Stop::of(broke)),
+    };
+    write_report(alloc, &report, sink)?;
+    *tally = tally.with(report.is_refusal());
+    Ok(next)
+}
+
+/// Cuts a part of a script, and makes and reports the pieces that end in it.
+pub fn run_part<S: Store<L>, O: Sink, L: Ledger>(
+    alloc: Global,
+    session: Session,
+    bytes: &[u8],
+    progress: &mut Progress,
+    store: &mut S,
+    meter: &mut Meter<L>,
+    sink: &mut O,
+) -> Result<Session, Stop>
+    requires { progress.old.tally.count + length bytes.now < 2 ^ 32 }
+    ensures ok { IfOk result (λ next. Progressed (Stands (S.content store.old) session) (Stands (S.content store.new) next) bytes.now progress.old progress.new
+        (O.held sink.old) (O.held sink.new) meter.old meter.new) }
+    ensures err { IfErr result (λ stop. Stopped run_way stop (Stands (S.content store.old) session) (Settled (S.content store.new)) (progress.old.tally.count + 1)
+        (cut_items (pieces_from progress.old.splitter bytes.now)) (O.held sink.old) (O.held sink.new)) }
+    ensures causes { Causes (S.faults store.old) (S.faults store.new) (O.faults sink.old) (O.faults sink.new) result }
+{
+    let mut session = session;
+    let mut at = 0;
+    while at < bytes.len() {
+        let (n, piece) = match progress.splitter.feed(alloc, &bytes[at..]) {
+            Ok(fed) => fed,
+            Err(NoMem) => return Err(Stop::NoMem),
+        };
+        at += n;
+        if let Some(piece) = piece {
+            session = serve(
+                alloc,
+                session,
+                &piece,
+                &mut progress.tally,
+                store,
+                meter,
+                sink,
+            )?;
+        }
+    }
+    Ok(session)
+}
+
+/// The report of an unfinished rest.
+fn rest_report(alloc: Global, number: u32) -> Report
+    ensures { result ≡ rest_report number }
+{
+    Report {
+        number,
+        lines: List::new(alloc),
+        end: End::Refused(Refusal::NotBuilt),
+        bound: Bound { ops: 0, entries: 0 },
+        used: Used { ops: 0, entries: 0 },
+    }
+}
+
+fn has_rest(ending: Ending, splitter: Splitter) -> bool
+    ensures { result ≡ has_rest ending splitter }
+{
+    match ending {
+        Ending::Whole => splitter.end(),
+        Ending::Faulted | Ending::TooLong => false,
+    }
+}
+
+/// Reports the rest of a script that was read to its end, where it is unfinished.
+pub fn finish<O: Sink>(
+    alloc: Global,
+    ending: Ending,
+    progress: Progress,
+    sink: &mut O,
+) -> Result<Ended, Stop>
+    requires { progress.tally.count + 1 < 2 ^ 32 }
+    ensures ok { IfOk result (λ ended. ReportsRest ending progress ended (O.held sink.old) (O.held sink.new)) }
+    ensures err { IfErr result (λ stop. StoppedAtRest stop ending progress (O.held sink.old) (O.held sink.new)) }
+    ensures causes { Causes 0 0 (O.faults sink.old) (O.faults sink.new) result }
+{
+    let Progress { splitter, tally } = progress;
+    let unfinished = has_rest(ending, splitter);
+    if unfinished {
+        write_report(alloc, &rest_report(alloc, tally.count + 1), sink)?;
+    }
+    Ok(Ended {
+        ending,
+        refused: tally.refused || unfinished,
+    })
+}

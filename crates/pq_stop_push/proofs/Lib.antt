@@ -1,0 +1,4 @@
+pub mod Orders
+pub mod Ranges
+pub mod Tables
+pub mod Trees

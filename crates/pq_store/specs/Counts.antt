@@ -1,0 +1,30 @@
+-- Counts of store operations and entries.
+use Rattle.std.specs.Prelude.{ℕ, ◌+◌, ◌-◌}
+use Rattle.pq_base.specs.declared.number.Used.{Used}
+
+-- how many operations were made, and how many entries they answered
+pub record Counts : Type 0 where
+  pub ops : ℕ
+  pub entries : ℕ
+
+abbrev pub no_counts : Counts
+no_counts = record { ops = 0; entries = 0 }
+
+-- one operation more, and so many entries
+abbrev pub charged : Counts → ℕ → Counts
+charged counts n = record { ops = counts.ops + 1; entries = counts.entries + n }
+
+-- what is left, and what was granted
+pub record Allowed : Type 0 where
+  pub left : Counts
+  pub granted : Counts
+
+abbrev pub granted : ℕ → ℕ → Allowed
+granted ops entries = record { left = record { ops = ops; entries = entries }; granted = record { ops = ops; entries = entries } }
+
+-- one operation and so many entries less are left
+abbrev pub spent : Allowed → ℕ → Allowed
+spent a n = record { left = record { ops = a.left.ops - 1; entries = a.left.entries - n }; granted = a.granted }
+
+abbrev pub used_of : Allowed → Used
+used_of a = record { ops = a.granted.ops - a.left.ops; entries = a.granted.entries - a.left.entries }

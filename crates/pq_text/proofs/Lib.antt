@@ -1,0 +1,13 @@
+pub mod Apart
+pub mod CutSteps
+pub mod Cuts
+pub mod Feeding
+pub mod FormsByByte
+pub mod Fronts
+pub mod Growing
+pub mod Places
+pub mod Runs
+pub mod Spans
+pub mod Statements
+pub mod Steps
+pub mod TextEnds

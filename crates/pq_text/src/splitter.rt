@@ -1,0 +1,213 @@
+//! Cutting a script that comes in parts.
+ghost use Rattle.std.specs.Prelude.{◌≡◌, ◌+◌, ◌<◌, ◌≤◌, ◌||◌, ◌++◌, length, take, IfOk, OnOk, OnErr, List, ℕ, [], nat_lt, Some, None, true, false};
+ghost use Rattle.pq_text.specs.Cutting.{run, is_solid, first_cut};
+ghost use Rattle.pq_text.specs.Pieces.{piece_limit, statement, listed};
+ghost use Rattle.pq_text.specs.Summaries.{start, grown, told_of, taken_of, piece_in, left_in, pieces_from, unfinished_from};
+
+use crate::piece::Piece;
+use crate::state::State;
+use pq_base::{NoMem, PText};
+use std::alloc::Global;
+use std::marker::Model;
+
+/// Where a scan stopped: behind the first cut, or at the end of the bytes.
+#[derive(Clone, Copy)]
+struct Stop {
+    len: usize,
+    cut: bool,
+    state: State,
+    solid: bool,
+}
+
+fn scan(start: State, bytes: &[u8]) -> Stop
+    ensures within { result.len ≤ length bytes.now }
+    ensures some { 0 < length bytes.now → 0 < result.len }
+    ensures cut { result.cut ≡ true → first_cut start bytes.now ≡ Some result.len }
+    ensures uncut { result.cut ≡ false → (first_cut start bytes.now ≡ None) × (result.len ≡ length bytes.now) }
+    ensures state { result.state ≡ run start (take result.len bytes.now) }
+    ensures solid { result.solid ≡ is_solid start (take result.len bytes.now) }
+{
+    let mut state = start;
+    let mut solid = false;
+    let mut len = 0;
+    'bytes: while len < bytes.len() {
+        let byte = bytes[len];
+        let cut = state.cuts(byte);
+        solid = either(solid, state.shows(byte));
+        state = state.next(byte);
+        len += 1;
+        if cut {
+            return Stop {
+                len,
+                cut,
+                state,
+                solid,
+            };
+        }
+    }
+    Stop {
+        len,
+        cut: false,
+        state,
+        solid,
+    }
+}
+
+fn either(a: bool, b: bool) -> bool
+    ensures { result ≡ (a || b) }
+{
+    a || b
+}
+
+fn is_above_limit(kept: usize, more: usize) -> bool
+    ensures { result ≡ nat_lt piece_limit (kept + more) }
+{
+    kept > 65_536 || more > 65_536 - kept
+}
+
+fn front(bytes: &[u8], len: usize) -> &[u8]
+    requires { len ≤ length bytes.now }
+    ensures { result.now ≡ take len bytes.now }
+{
+    &bytes[..len]
+}
+
+#[tactic(auto, using(crate::proofs::Statements::is_statement, crate::proofs::Statements::isnt_utf8))]
+fn piece_of(alloc: Global, bytes: &[u8]) -> Result<Piece, NoMem>
+    ensures { IfOk result (λ piece. piece ≡ statement bytes.now) }
+{
+    match PText::from_bytes(alloc, bytes)? {
+        Some(text) => Ok(Piece::Statement(text)),
+        None => Ok(Piece::NotUtf8),
+    }
+}
+
+/// The piece of what is kept and a last part. After `NoMem` what is kept is as before.
+fn completed(alloc: Global, kept: &mut Vec<u8>, part: &[u8]) -> Result<Piece, NoMem>
+    ensures ok { IfOk result (λ piece. piece ≡ statement (kept.old.items ++ part.now)) }
+    ensures err { OnErr result (kept.new.items ≡ kept.old.items) }
+{
+    let before = kept.len();
+    kept.extend_from_slice(part)?;
+    let piece = piece_of(alloc, kept.as_slice());
+    if piece.is_err() {
+        kept.truncate(before);
+    }
+    piece
+}
+
+/// Cuts a script that comes in parts.
+///
+/// A piece ends with a `;` outside texts and comments. Of a piece of at most 65,536 bytes the
+/// bytes are kept, of a longer one only where the scan stands and whether it has content.
+#[derive(Debug, Drop)]
+pub struct Splitter {
+    state: State,
+    kept: Vec<u8>,
+    long: bool,
+    solid: bool,
+}
+
+impl Model for Splitter {
+    ghost use Rattle.std.specs.Prelude.{◌≤◌, length};
+    ghost use Rattle.pq_text.specs.Pieces.{piece_limit};
+    ghost use Rattle.pq_text.specs.Summaries.{Summary};
+
+    ghost Value = { Summary };
+
+    ghost view = { λ s. record { state = s.state; kept = s.kept.items; long = s.long; solid = s.solid } };
+
+    ghost invariant = { λ s. length s.kept.items ≤ piece_limit };
+}
+
+impl Splitter {
+    /// A splitter at the start of a script. It takes no memory.
+    pub fn new(alloc: Global) -> Splitter
+        ensures { result ≡ start }
+    {
+        Splitter {
+            state: State::Plain,
+            kept: Vec::new(alloc),
+            long: false,
+            solid: false,
+        }
+    }
+
+    #[tactic(auto, unfolding(crate::specs::Summaries::grown))]
+    fn grow(&mut self, part: &[u8], stop: Stop) -> Result<(), NoMem>
+        requires state { stop.state ≡ run self.old.state part.now }
+        requires solid { stop.solid ≡ is_solid self.old.state part.now }
+        ensures ok { OnOk result (self.new ≡ grown self.old part.now) }
+        ensures err { OnErr result (self.new ≡ self.old) }
+    {
+        let long = either(self.long, is_above_limit(self.kept.len(), part.len()));
+        if long {
+            self.kept.clear();
+        } else {
+            self.kept.extend_from_slice(part)?;
+        }
+        self.long = long;
+        self.state = stop.state;
+        self.solid = either(self.solid, stop.solid);
+        Ok(())
+    }
+
+    #[tactic(auto, unfolding(crate::specs::Summaries::grown))]
+    fn close(&mut self, alloc: Global, part: &[u8], solid: bool) -> Result<Option<Piece>, NoMem>
+        requires { solid ≡ is_solid self.old.state part.now }
+        ensures told { IfOk result (λ piece. piece ≡ told_of (grown self.old part.now)) }
+        ensures new { OnOk result (self.new ≡ start) }
+        ensures err { OnErr result (self.new ≡ self.old) }
+    {
+        let piece = if either(self.long, is_above_limit(self.kept.len(), part.len())) {
+            Some(Piece::TooLong)
+        } else if either(self.solid, solid) {
+            Some(completed(alloc, &mut self.kept, part)?)
+        } else {
+            None
+        };
+        self.state = State::Plain;
+        self.kept.clear();
+        self.long = false;
+        self.solid = false;
+        Ok(piece)
+    }
+
+    /// Takes bytes up to and with the first cut, else all, and says how many. Answers the piece
+    /// where they end in a cut and the piece isn't blank. After `NoMem` the splitter is as before.
+    pub fn feed(&mut self, alloc: Global, bytes: &[u8]) -> Result<(usize, Option<Piece>), NoMem>
+        requires { 0 < length bytes.now }
+        ensures some { IfOk result (λ fed. (0 < fed.0) × (fed.0 ≤ length bytes.now)) }
+        ensures taken { IfOk result (λ fed. fed.0 ≡ taken_of self.old bytes.now) }
+        ensures piece { IfOk result (λ fed. fed.1 ≡ piece_in self.old bytes.now) }
+        ensures left { OnOk result (self.new ≡ left_in self.old bytes.now) }
+        ensures pieces { IfOk result (λ fed. (more : List ℕ) → pieces_from self.old (take fed.0 bytes.now ++ more) ≡ listed fed.1 ++ pieces_from self.new more) }
+        ensures rest { IfOk result (λ fed. (more : List ℕ) → unfinished_from self.old (take fed.0 bytes.now ++ more) ≡ unfinished_from self.new more) }
+        ensures err { OnErr result (self.new ≡ self.old) }
+    {
+        let stop = scan(self.state, bytes);
+        let part = front(bytes, stop.len);
+        if stop.cut {
+            let piece = self.close(alloc, part, stop.solid)?;
+            return Ok((stop.len, piece));
+        }
+        self.grow(part, stop)?;
+        Ok((stop.len, None))
+    }
+
+    /// Whether the rest has a byte outside comments that isn't white.
+    #[tactic(auto, unfolding(crate::specs::Summaries::unfinished_from))]
+    pub fn end(self) -> bool
+        ensures { result ≡ unfinished_from self [] }
+    {
+        either(self.solid, self.state.is_dash())
+    }
+
+    /// How many bytes are kept.
+    pub fn held(&self) -> u32
+        ensures held { result ≡ length self.now.kept }
+        ensures most { result ≤ 65537 }
+    {
+        self.kept.len() as u32
+    }
+}
