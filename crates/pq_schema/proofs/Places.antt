@@ -1,15 +1,15 @@
 -- Places of a sequence, and the columns there.
-use Rattle.std.proofs.Common.{◌≡◌, add-one, drop-cons, drop, suc, length-append, ℕ, ◌+◌, ◌<◌, ◌≤◌, length, get_or, take, map, List, [], ◌∷◌, ◌++◌, Option, Some, None, sym, refl, ap, ◌∙◌, subst, arith, inl, inr, cond, Bool, true, false, not, ◌==◌}
-use Rattle.std.specs.Prelude.{slice_get, All, filter, option_map}
-use Rattle.std.proofs.lemmas.List.{take_more, take_all, drop_all, length-map, get_or-map}
-use Rattle.std.proofs.lemmas.List.Elements.{All-append, All-map, All-filter, All-get_or}
+use Rattle.std.proofs.Common.{◌≡◌, add-one, drop-cons, drop, suc, length-append, ℕ, ◌+◌, ◌<◌, ◌≤◌, length, take, map, List, [], ◌∷◌, ◌++◌, Some, None, sym, refl, ap, ◌∙◌, subst, arith, inl, inr, false, not, ◌==◌}
+use Rattle.std.specs.Prelude.{slice_get, option_map}
+use Rattle.std.proofs.lemmas.List.{take_more, take_all, drop_all, length-map}
+use Rattle.std.proofs.lemmas.List.Elements.{All-append, All-map, All-filter}
 use Rattle.std.proofs.lemmas.List.Sums.{length-filter, count_by-le-length}
 use Rattle.std.proofs.lemmas.Option.{slice_get-map, slice_get_within, get_or_from_slice_get, slice_get_cases}
 use Rattle.std.specs.Int.{bit_at}
 use Rattle.pq_base.specs.Columns.{has_col}
 use Rattle.pq_schema.specs.declared.table.KeyPart.{KeyPart}
 use Rattle.pq_schema.specs.Sound.{AreColumns, AreParts}
-use Rattle.pq_schema.specs.Sequences.{columns_of, then_key, without, ascending}
+use Rattle.pq_schema.specs.Sequences.{then_key, without, ascending}
 
 pub past : {X : Type 0} (xs : List X) (i : ℕ) → slice_get xs i ≡ None → length xs ≤ i
 past xs i none = elim ((slice_get_cases xs i).1) [

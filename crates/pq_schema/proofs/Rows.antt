@@ -1,16 +1,13 @@
 -- What the definitions give at known tables and queries, by computation.
-use Rattle.std.proofs.Common.{◌≡◌, ℕ, Bool, true, false, List, [], ◌∷◌, map, fold, Option, Some, None, refl, pos, length}
+use Rattle.std.proofs.Common.{◌≡◌, ℕ, true, List, [], ◌∷◌, map, Option, Some, None, refl, pos, length}
 use lib.Count.{ones}
 use Rattle.pq_base.specs.declared.value.Value.TheVariants as value
-use Rattle.pq_base.specs.declared.value.ColType.{ColType}
 use Rattle.pq_base.specs.declared.value.ColType.TheVariants as ty
 use Rattle.pq_base.specs.declared.value.Dir.TheVariants.{Asc, Desc}
 use Rattle.pq_base.specs.declared.number.Choice.TheVariants.{Whole, Stop}
 use Rattle.pq_schema.specs.declared.table.Column.{Column}
 use Rattle.pq_schema.specs.declared.table.Limit.{Limit}
 use Rattle.pq_schema.specs.declared.table.Foreign.{Foreign}
-use Rattle.pq_schema.specs.declared.table.KeyPart.{KeyPart}
-use Rattle.pq_schema.specs.declared.table.Index.{Index}
 use Rattle.pq_schema.specs.declared.table.Table.{Table}
 use Rattle.pq_schema.specs.declared.table.Access.TheVariants.{Primary, Secondary}
 use Rattle.pq_schema.specs.declared.query.ColRef.{ColRef}
@@ -25,8 +22,8 @@ use Rattle.pq_schema.specs.declared.query.Query.{Query}
 use Rattle.pq_schema.specs.declared.query.Stop.{Stop as StopWord}
 use Rattle.pq_schema.specs.declared.query.Stop.TheVariants as stop
 use Rattle.pq_schema.specs.Sequences.{ascending, with_groups, serving, new_index, index_sequence}
-use Rattle.pq_schema.specs.Tables.{limit_of, data_bound}
-use Rattle.pq_schema.specs.Relations.{fixed, order_rest, table_of, position_columns, is_total, range_on}
+use Rattle.pq_schema.specs.Tables.{limit_of}
+use Rattle.pq_schema.specs.Relations.{fixed, order_rest, position_columns, is_total}
 use Rattle.pq_schema.specs.Costs.{bound}
 use Rattle.pq_schema.specs.Candidates.{Candidate, candidates, least}
 

@@ -1,5 +1,5 @@
 -- Sums of operations and entries.
-use Rattle.std.specs.Prelude.{ℕ, ◌+◌, ◌*◌, Bool, true, false, nat_lt, ◌==◌, ◌&&◌, ◌||◌, if◌then◌else◌}
+use Rattle.std.specs.Prelude.{ℕ, ◌+◌, ◌*◌, Bool, nat_lt, ◌==◌, ◌&&◌, ◌||◌, if◌then◌else◌}
 use Rattle.pq_base.specs.declared.number.Bound.{Bound}
 
 abbrev pub bound : ℕ → ℕ → Bound

@@ -1,4 +1,4 @@
--- What a CREATE TABLE without limits and foreign keys defines, or the first refusal in the written order.
+-- What a CREATE TABLE defines, or the first refusal in the written order.
 use Rattle.std.specs.Prelude.{◌≡◌, ℕ, ℤ, pos, negsuc, ◌+◌, Bool, true, false, not, ◌||◌, ◌&&◌, nat_lt, nat_le, List, [], ◌∷◌, ◌++◌, length, map, position, find, codes, unwrap_or, is_some, option_map, Option, Some, None, Result, Ok, Err, if◌then◌else◌}
 use Rattle.std.specs.Str.{bytes_eq}
 use Rattle.std.specs.List.{list_any, list_all}
@@ -8,10 +8,18 @@ use Rattle.pq_base.specs.declared.refusal.Refusal.TheVariants as refusal
 use Rattle.pq_base.specs.declared.value.ColType.{ColType}
 use Rattle.pq_base.specs.declared.value.ColType.TheVariants as type
 use Rattle.pq_schema.specs.declared.definition.ColumnDef.{ColumnDef}
+use Rattle.pq_schema.specs.declared.definition.LimitDef.{LimitDef}
+use Rattle.pq_schema.specs.declared.definition.ForeignDef.{ForeignDef}
 use Rattle.pq_schema.specs.declared.definition.TableDef.{TableDef}
+use Rattle.pq_schema.specs.declared.query.Query.{Query}
 use Rattle.pq_schema.specs.declared.table.Column.{Column}
+use Rattle.pq_schema.specs.declared.table.Limit.{Limit}
+use Rattle.pq_schema.specs.declared.table.Foreign.{Foreign}
+use Rattle.pq_schema.specs.declared.table.NewIndex.{NewIndex}
 use Rattle.pq_schema.specs.declared.table.Table.{Table}
-use Rattle.pq_schema.specs.Schema.{Schema, is_taken, with_table}
+use Rattle.pq_schema.specs.Sequences.{with_groups}
+use Rattle.pq_schema.specs.Tables.{table_at, same_kinds, types_at}
+use Rattle.pq_schema.specs.Schema.{Schema, find_table, is_taken, with_table, with_query}
 
 -- the name is the first of those that stand among the ones before them
 abbrev pub repeated_after : List (List ℕ) → List (List ℕ) → Option (List ℕ)
@@ -26,6 +34,11 @@ first_repeated names = repeated_after [] names
 abbrev pub text_size : ℤ → Option ℕ
 text_size (pos n) = if nat_le 1 n && nat_le n 1000 then Some n else None
 text_size (negsuc n) = None
+
+-- n of a limit, from 1 to 10,000
+abbrev pub cardinality : ℤ → Option ℕ
+cardinality (pos n) = if nat_le 1 n && nat_le n 10000 then Some n else None
+cardinality (negsuc n) = None
 
 -- the type of a column, unless its length is outside the limit
 abbrev pub type_of : ColumnDef → Option ColType
@@ -51,6 +64,9 @@ is_unknown columns name = not (list_any (is_column name) columns)
 abbrev pub place_of : List ColumnDef → List ℕ → ℕ
 place_of columns name = unwrap_or (position (is_column name) columns) 0
 
+abbrev pub places_of : List ColumnDef → List (List ℕ) → List ℕ
+places_of columns names = map (place_of columns) names
+
 abbrev pub no_column : List ℕ → Refusal
 no_column name = refusal.NoColumn name
 
@@ -66,41 +82,106 @@ refused_if false why = None
 abbrev pub is_outside : ℕ → ℕ → Bool
 is_outside count most = nat_lt count 1 || nat_lt most count
 
+-- definitions, and the name
+abbrev pub definition_refusal : Schema → List ℕ → Option Refusal
+definition_refusal schema name =
+    or_else (refused_if (nat_le 256 (length schema.definitions)) (refusal.Count 2))
+    (refused_if (is_taken schema name) (refusal.NameTaken name))
+
 -- definitions, the name, tables
 abbrev pub name_refusal : Schema → List ℕ → Option Refusal
 name_refusal schema name =
-    or_else (refused_if (nat_le 256 (length schema.definitions)) (refusal.Count 2))
-    (or_else (refused_if (is_taken schema name) (refusal.NameTaken name))
-    (refused_if (nat_le 64 (length schema.tables)) (refusal.Count 13)))
+    or_else (definition_refusal schema name) (refused_if (nat_le 64 (length schema.tables)) (refusal.Count 13))
 
--- columns, text, column names
+-- columns, limits, foreign
+abbrev pub counts_refusal : TableDef → Option Refusal
+counts_refusal def =
+    or_else (refused_if (is_outside (length def.columns) 32) (refusal.Count 1))
+    (or_else (refused_if (nat_lt 4 (length def.limits)) (refusal.Count 7))
+    (refused_if (nat_lt 4 (length def.foreign)) (refusal.Count 3)))
+
+-- text, column names
 abbrev pub columns_refusal : List ColumnDef → Option Refusal
 columns_refusal columns =
-    or_else (refused_if (is_outside (length columns) 32) (refusal.Count 1))
-    (or_else (refused_if (not (list_all has_type columns)) (refusal.Count 14))
-    (option_map repeated (first_repeated (map (λ column. column.name) columns))))
+    or_else (refused_if (not (list_all has_type columns)) (refusal.Count 14))
+    (option_map repeated (first_repeated (map (λ column. column.name) columns)))
+
+-- an unknown name, and a repeated one
+abbrev pub names_refusal : List ColumnDef → List (List ℕ) → Option Refusal
+names_refusal columns names =
+    or_else (option_map no_column (find (is_unknown columns) names)) (option_map repeated (first_repeated names))
 
 -- the key's names, and their number
 abbrev pub key_refusal : List ColumnDef → List (List ℕ) → Option Refusal
-key_refusal columns key =
-    or_else (option_map no_column (find (is_unknown columns) key))
-    (or_else (option_map repeated (first_repeated key))
-    (refused_if (is_outside (length key) 4) (refusal.Count 5)))
+key_refusal columns key = or_else (names_refusal columns key) (refused_if (is_outside (length key) 4) (refusal.Count 5))
+
+-- the names of a limit, their number, and its n
+abbrev pub limit_refusal : List ColumnDef → LimitDef → Option Refusal
+limit_refusal columns limit =
+    or_else (names_refusal columns limit.cols)
+    (or_else (refused_if (is_outside (length limit.cols) 4) (refusal.Count 6))
+    (refused_if (not (is_some (cardinality limit.n))) (refusal.Count 0)))
+
+abbrev pub limits_refusal : List ColumnDef → List LimitDef → Option Refusal
+limits_refusal columns [] = None
+limits_refusal columns (limit ∷ limits) = or_else (limit_refusal columns limit) (limits_refusal columns limits)
+
+-- the columns are of the number and kinds of the key of the table
+abbrev pub has_shape : List ColumnDef → List (List ℕ) → Table → Bool
+has_shape columns names table = same_kinds (types_at (map column_of columns) (places_of columns names)) (types_at table.columns table.key)
+
+-- the table that a foreign key names is unknown, or its key is of another shape
+abbrev pub reference_refusal : Schema → List ColumnDef → ℕ → ForeignDef → Option ℕ → Option Refusal
+reference_refusal schema columns number foreign None = Some (refusal.NoTable foreign.table)
+reference_refusal schema columns number foreign (Some table) =
+    refused_if (not (has_shape columns foreign.cols (table_at schema.tables table))) (refusal.ForeignShape number)
+
+-- the names of a foreign key, its table, and its shape
+abbrev pub foreign_refusal : Schema → List ColumnDef → ℕ → ForeignDef → Option Refusal
+foreign_refusal schema columns number foreign =
+    or_else (names_refusal columns foreign.cols) (reference_refusal schema columns number foreign (find_table schema foreign.table))
+
+-- the foreign keys from this number on
+abbrev pub foreigns_refusal : Schema → List ColumnDef → ℕ → List ForeignDef → Option Refusal
+foreigns_refusal schema columns number [] = None
+foreigns_refusal schema columns number (foreign ∷ rest) =
+    or_else (foreign_refusal schema columns number foreign) (foreigns_refusal schema columns (number + 1) rest)
+
+-- the key, then the limits, then the foreign keys
+abbrev pub groups_refusal : Schema → TableDef → Option Refusal
+groups_refusal schema def =
+    or_else (key_refusal def.columns def.key)
+    (or_else (limits_refusal def.columns def.limits)
+    (foreigns_refusal schema def.columns 1 def.foreign))
 
 abbrev pub table_refusal : Schema → TableDef → Option Refusal
 table_refusal schema def =
-    or_else (name_refusal schema def.name) (or_else (columns_refusal def.columns) (key_refusal def.columns def.key))
+    or_else (name_refusal schema def.name)
+    (or_else (counts_refusal def)
+    (or_else (columns_refusal def.columns)
+    (groups_refusal schema def)))
 
--- the table that is defined where nothing refuses it
-abbrev pub table_of_def : TableDef → Table
-table_of_def def = record {
+abbrev pub limit_of_def : List ColumnDef → LimitDef → Limit
+limit_of_def columns limit = record { n = unwrap_or (cardinality limit.n) 0; cols = places_of columns limit.cols }
+
+abbrev pub foreign_of_def : Schema → List ColumnDef → ForeignDef → Foreign
+foreign_of_def schema columns foreign =
+    record { cols = places_of columns foreign.cols; table = unwrap_or (find_table schema foreign.table) 0 }
+
+-- the table without its indexes
+abbrev pub bare_table : Schema → TableDef → Table
+bare_table schema def = record {
   name = def.name;
   columns = map column_of def.columns;
-  key = map (place_of def.columns) def.key;
-  limits = [];
-  foreign = [];
+  key = places_of def.columns def.key;
+  limits = map (limit_of_def def.columns) def.limits;
+  foreign = map (foreign_of_def schema def.columns) def.foreign;
   indexes = [];
 }
+
+-- the table that is defined where nothing refuses it
+abbrev pub table_of_def : Schema → TableDef → Table
+table_of_def schema def = with_groups (bare_table schema def)
 
 abbrev pub or_ok : {A : Type 0} → Option Refusal → A → Result A Refusal
 or_ok None answer = Ok answer
@@ -108,7 +189,7 @@ or_ok (Some why) answer = Err why
 
 -- the table, or the first refusal
 unfoldable pub new_table : Schema → TableDef → Result Table Refusal
-new_table schema def = or_ok (table_refusal schema def) (table_of_def def)
+new_table schema def = or_ok (table_refusal schema def) (table_of_def schema def)
 
 -- the table of this number was added, as its definition has it
 pub record AddsTable (before : Schema) (def : TableDef) (now : Schema) (number : ℕ) : Type 0 where
@@ -116,3 +197,13 @@ pub record AddsTable (before : Schema) (def : TableDef) (now : Schema) (number :
   pub made : new_table before def ≡ Ok table
   pub added : now ≡ with_table before table
   pub last : number ≡ length before.tables + 1
+
+-- a query's definition refuses only its count and its name
+abbrev pub new_query : Schema → Query → Option NewIndex → Result Schema Refusal
+new_query schema query wanted = or_ok (definition_refusal schema query.name) (with_query schema query wanted)
+
+-- the query was added last, with its index
+pub record AddsQuery (before : Schema) (query : Query) (wanted : Option NewIndex) (now : Schema) (number : ℕ) : Type 0 where
+  pub made : new_query before query wanted ≡ Ok now
+  pub added : now ≡ with_query before query wanted
+  pub last : number ≡ length before.definitions + 1

@@ -1,8 +1,12 @@
 pub mod Candidates
 pub mod Costs
 pub mod Definitions
+pub mod Names
 pub mod Relations
+pub mod Resolved
 pub mod Schema
 pub mod Sequences
 pub mod Sound
 pub mod Tables
+pub mod Valid
+pub mod Wanted

@@ -1,12 +1,10 @@
 -- The relations of a query: what belongs to them, their fixed columns, and the position.
-use Rattle.std.specs.Prelude.{ℕ, ◌+◌, ◌-◌, max, Bool, true, false, not, nat_lt, nat_le, ◌==◌, ◌&&◌, ◌||◌, if◌then◌else◌, List, [], ◌∷◌, ◌++◌, map, filter, flat_map, zip, length, slice_index_or, Option, Some, None}
+use Rattle.std.specs.Prelude.{ℕ, ◌-◌, max, Bool, true, false, not, nat_lt, ◌==◌, ◌&&◌, ◌||◌, if◌then◌else◌, List, [], ◌∷◌, ◌++◌, map, filter, flat_map, zip, length, slice_index_or, Option, Some, None}
 use Rattle.std.specs.List.{list_all, list_any, range_with_len}
 use Rattle.pq_base.specs.Columns.{has_col, set_of}
 use Rattle.pq_base.specs.declared.value.Dir.TheVariants.{Asc}
 use Rattle.pq_schema.specs.declared.table.KeyPart.{KeyPart}
-use Rattle.pq_schema.specs.declared.table.Foreign.{Foreign}
 use Rattle.pq_schema.specs.declared.table.Table.{Table}
-use Rattle.pq_schema.specs.declared.query.ColRef.{ColRef}
 use Rattle.pq_schema.specs.declared.query.Op.{Op}
 use Rattle.pq_schema.specs.declared.query.Op.TheVariants as op
 use Rattle.pq_schema.specs.declared.query.Operand.{Operand}

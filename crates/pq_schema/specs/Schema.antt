@@ -1,14 +1,18 @@
 -- A schema: its tables, and its definitions in order.
-use Rattle.std.specs.Prelude.{◌++◌, ◌∷◌, ℕ, ◌-◌, ◌+◌, Bool, false, ◌||◌, ◌≤◌, length, List, [], slice_index_or, position, is_some, Option, Some, None, option_map}
+use Rattle.std.specs.Prelude.{◌++◌, ◌∷◌, ℕ, ◌-◌, ◌+◌, Bool, false, ◌||◌, ◌≤◌, length, List, [], slice_index_or, slice_set, position, is_some, Option, Some, None, option_map}
 use Rattle.std.specs.Str.{bytes_eq}
 use Rattle.pq_schema.specs.declared.table.Column.{Column}
+use Rattle.pq_schema.specs.declared.table.Index.{Index}
+use Rattle.pq_schema.specs.declared.table.NewIndex.{NewIndex}
 use Rattle.pq_schema.specs.declared.table.Table.{Table}
 use Rattle.pq_schema.specs.declared.query.Query.{Query}
 use Rattle.pq_schema.specs.declared.query.Stop.TheVariants.{All}
 use Rattle.pq_schema.specs.declared.made.Definition.{Definition}
 use Rattle.pq_schema.specs.declared.made.Definition.TheVariants.{OfTable, OfQuery}
+use Rattle.pq_schema.specs.declared.made.Made.{Made}
 use Rattle.pq_schema.specs.declared.made.Def.{Def}
 use Rattle.pq_schema.specs.declared.made.Def.TheVariants as def
+use Rattle.pq_schema.specs.Tables.{table_at}
 
 pub record Schema : Type 0 where
   pub tables : List Table
@@ -87,6 +91,22 @@ with_table schema table = record {
   definitions = schema.definitions ++ OfTable (length schema.tables + 1) (length table.indexes) ∷ [];
 }
 
--- the query's definition comes last
-abbrev pub with_query : Schema → Query → Schema
-with_query schema query = record schema { definitions = schema.definitions ++ OfQuery query None ∷ [] }
+-- one more index behind the others
+abbrev pub with_new_index : Table → Index → Table
+with_new_index table index = record table { indexes = table.indexes ++ index ∷ [] }
+
+-- the table of the wanted index has it behind its others
+abbrev pub with_wanted : List Table → Option NewIndex → List Table
+with_wanted tables None = tables
+with_wanted tables (Some new) = slice_set tables (new.table - 1) (with_new_index (table_at tables new.table) new.index)
+
+-- what the PREPARE made
+abbrev pub made_of : NewIndex → Made
+made_of new = record { table = new.table; index = new.number }
+
+-- the query's definition comes last, and its table has the index that it wants
+abbrev pub with_query : Schema → Query → Option NewIndex → Schema
+with_query schema query wanted = record {
+  tables = with_wanted schema.tables wanted;
+  definitions = schema.definitions ++ OfQuery query (option_map made_of wanted) ∷ [];
+}

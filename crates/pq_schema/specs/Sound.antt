@@ -1,5 +1,8 @@
 -- What every table and query has.
-use Rattle.std.specs.Prelude.{◌≡◌, ℕ, ◌<◌, ◌≤◌, All, IsSome, IfSome, length, List}
+use Rattle.std.specs.Prelude.{◌≡◌, ℕ, ◌<◌, ◌≤◌, All, IsSome, IfSome, count_ones, length, List, [], true}
+use Rattle.pq_base.specs.declared.value.ColType.{ColType}
+use Rattle.pq_base.specs.declared.value.ColType.TheVariants as type
+use Rattle.pq_schema.specs.declared.table.Column.{Column}
 use Rattle.pq_schema.specs.declared.table.Foreign.{Foreign}
 use Rattle.pq_schema.specs.declared.query.ColRef.{ColRef}
 use Rattle.pq_schema.specs.declared.query.Operand.{Operand}
@@ -7,7 +10,7 @@ use Rattle.pq_schema.specs.declared.query.Operand.TheVariants as operand
 use Rattle.pq_schema.specs.declared.query.Pred.{Pred}
 use Rattle.pq_base.specs.Columns.{set_of}
 use Rattle.pq_schema.specs.Sequences.{group_access}
-use Rattle.pq_schema.specs.Tables.{table_at}
+use Rattle.pq_schema.specs.Tables.{table_at, types_at, same_kinds}
 use Rattle.pq_schema.specs.Candidates.{stop_size}
 use Rattle.pq_schema.specs.declared.table.Limit.{Limit}
 use Rattle.pq_schema.specs.declared.table.Table.{Table}
@@ -31,6 +34,13 @@ pub record IsTable (table : Table) : Type 0 where
   pub few_indexes : length table.indexes ≤ 16
   pub few_columns : length table.columns ≤ 32
 
+-- a table as it is before it gets indexes for its limits and foreign keys
+pub record IsBare (table : Table) : Type 0 where
+  pub sound : IsTable table
+  pub foreign : All (λ foreign. AreColumns foreign.cols) table.foreign
+  pub few_foreign : length table.foreign ≤ 4
+  pub indexes : table.indexes ≡ []
+
 -- a query's predicates and order name columns
 pub record AreRefs (query : Query) : Type 0 where
   pub preds : All (λ pred. pred.left.col < 32) query.preds
@@ -49,6 +59,52 @@ pub record IsLinked (tables : List Table) (table : Table) : Type 0 where
   pub foreign : All (IsForeign tables table) table.foreign
   pub limit_groups : All (λ limit. IsSome (group_access table (set_of limit.cols))) table.limits
   pub foreign_groups : All (λ foreign. IsSome (group_access table (set_of foreign.cols))) table.foreign
+
+-- n of TEXT(n) is from 1 to 1,000
+abbrev pub IsSized : ColType → Type 0
+IsSized type.Int = Unit {0}
+IsSized type.Bool = Unit {0}
+IsSized (type.Text n) = (1 ≤ n) × (n ≤ 1000)
+
+-- 1 to 4 different columns of so many
+pub record AreKeyColumns (width : ℕ) (cols : List ℕ) : Type 0 where
+  pub some : 1 ≤ length cols
+  pub few : length cols ≤ 4
+  pub inside : All (λ col. col < width) cols
+  pub different : count_ones (set_of cols) ≡ length cols
+
+-- n is from 1 to 10,000
+pub record IsMadeLimit (width : ℕ) (limit : Limit) : Type 0 where
+  pub cols : AreKeyColumns width limit.cols
+  pub from_one : 1 ≤ limit.n
+  pub most : limit.n ≤ 10000
+
+-- different columns, of the number and kinds of the key of a table below this number
+pub record IsMadeForeign (tables : List Table) (number : ℕ) (columns : List Column) (foreign : Foreign) : Type 0 where
+  pub inside : All (λ col. col < length columns) foreign.cols
+  pub different : count_ones (set_of foreign.cols) ≡ length foreign.cols
+  pub from_one : 1 ≤ foreign.table
+  pub earlier : foreign.table < number
+  pub shape : same_kinds (types_at columns foreign.cols) (types_at (table_at tables foreign.table).columns (table_at tables foreign.table).key) ≡ true
+
+-- the table of this number of a schema
+pub record IsMade (tables : List Table) (number : ℕ) (table : Table) : Type 0 where
+  pub some_columns : 1 ≤ length table.columns
+  pub few_columns : length table.columns ≤ 32
+  pub sized : All (λ column. IsSized column.ty) table.columns
+  pub key : AreKeyColumns (length table.columns) table.key
+  pub few_limits : length table.limits ≤ 4
+  pub limits : All (IsMadeLimit (length table.columns)) table.limits
+  pub few_foreign : length table.foreign ≤ 4
+  pub foreign : All (IsMadeForeign tables number table.columns) table.foreign
+  pub few_indexes : length table.indexes ≤ 16
+  pub indexes : All (λ index. All (λ part. part.col < length table.columns) index.cols) table.indexes
+  pub limit_groups : All (λ limit. IsSome (group_access table (set_of limit.cols))) table.limits
+  pub foreign_groups : All (λ foreign. IsSome (group_access table (set_of foreign.cols))) table.foreign
+
+-- each table is made over the tables before it
+abbrev pub AreMade : List Table → Type 0
+AreMade tables = (number : ℕ) → 1 ≤ number → number ≤ length tables → IsMade tables number (table_at tables number)
 
 -- the column is of one of so many relations
 abbrev pub IsNamed : ℕ → ColRef → Type 0

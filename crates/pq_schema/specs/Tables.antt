@@ -1,7 +1,12 @@
 -- Tables by their numbers, and limits and the data bound of one table.
-use Rattle.std.specs.Prelude.{ℕ, ◌+◌, ◌-◌, min, Bool, ◌==◌, ◌&&◌, if◌then◌else◌, List, [], ◌∷◌, map, filter, position, slice_index_or, Option, Some, None, option_map, option_and_then}
+use Rattle.std.specs.Prelude.{ℕ, ◌+◌, ◌-◌, min, Bool, ◌==◌, ◌&&◌, if◌then◌else◌, List, [], ◌∷◌, ◌++◌, map, filter, position, slice_index_or, Option, Some, None, option_map, option_and_then, true, false}
 use Rattle.std.specs.Option.{option_map_or}
 use Rattle.pq_base.specs.Columns.{is_within, set_of}
+use Rattle.pq_base.specs.declared.value.ColType.{ColType}
+use Rattle.pq_base.specs.declared.value.ColType.TheVariants as type
+use Rattle.pq_schema.specs.declared.table.Column.{Column}
+use Rattle.pq_schema.specs.declared.table.Foreign.{Foreign}
+use Rattle.pq_schema.specs.declared.table.Referring.{Referring}
 use Rattle.pq_schema.specs.declared.table.Table.{Table}
 use Rattle.pq_schema.specs.declared.table.Limit.{Limit}
 use Rattle.pq_schema.specs.Sequences.{primary_sequence, begins_with}
@@ -56,3 +61,39 @@ limit_of table fixed = if is_lookup table fixed then None else option_and_then (
 -- and by its number from 1
 abbrev pub limit_number : Table → ℕ → Option ℕ
 limit_number table fixed = option_map (λ place. place + 1) (limit_of table fixed)
+
+-- the type of a column
+abbrev pub type_at : List Column → ℕ → ColType
+type_at columns col = slice_index_or (map (λ column. column.ty) columns) col type.Bool
+
+abbrev pub types_at : List Column → List ℕ → List ColType
+types_at columns cols = map (type_at columns) cols
+
+-- both are of numbers, both of truth values or both of texts, of any length
+abbrev pub same_kind : ColType → ColType → Bool
+same_kind type.Int type.Int = true
+same_kind type.Bool type.Bool = true
+same_kind (type.Text n) (type.Text m) = true
+same_kind _ _ = false
+
+-- as many types as types, of the same kinds place by place
+abbrev pub same_kinds : List ColType → List ColType → Bool
+same_kinds [] [] = true
+same_kinds (t ∷ ts) (u ∷ us) = same_kind t u && same_kinds ts us
+same_kinds _ _ = false
+
+-- those of a table's foreign keys, from this number on, that name the other table
+abbrev pub foreign_to : ℕ → ℕ → ℕ → List Foreign → List Referring
+foreign_to parent table number [] = []
+foreign_to parent table number (foreign ∷ rest) =
+    if foreign.table == parent then record { table = table; foreign = number } ∷ foreign_to parent table (number + 1) rest
+    else foreign_to parent table (number + 1) rest
+
+-- the same for the tables from this number on
+abbrev pub referring_from : ℕ → ℕ → List Table → List Referring
+referring_from parent number [] = []
+referring_from parent number (table ∷ tables) = foreign_to parent number 1 table.foreign ++ referring_from parent (number + 1) tables
+
+-- the foreign keys to the table, in order of tables, then of declaration
+abbrev pub referring : List Table → ℕ → List Referring
+referring tables parent = referring_from parent 1 tables

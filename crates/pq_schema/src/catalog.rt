@@ -1,11 +1,12 @@
 //! The definitions of a schema in order: tables by their numbers from 1, definitions likewise.
-ghost use Rattle.std.specs.Prelude.{◌≡◌, ◌≤◌, ◌<◌, ◌++◌, ◌∷◌, [], length, map, position, IfOk, OnOk, OnErr};
-ghost use Rattle.pq_schema.specs.Schema.{empty_schema, definition_at, def_of, find_table, find_query, is_table, is_query, is_taken, IsQueryDefinition, query_at, query_of, number_of, with_table, with_query};
-ghost use Rattle.pq_schema.specs.Tables.{table_at};
+ghost use Rattle.std.specs.Prelude.{◌≡◌, ◌≤◌, ◌<◌, ◌++◌, ◌∷◌, [], length, map, option_map, position, Some, IfOk, IfSome, OnOk, OnErr};
+ghost use Rattle.pq_schema.specs.Schema.{empty_schema, definition_at, def_of, find_table, find_query, is_table, is_query, is_taken, IsQueryDefinition, query_at, query_of, number_of, with_table, with_query, with_wanted, made_of};
+ghost use Rattle.pq_schema.specs.Tables.{table_at, referring, foreign_to};
+ghost use Rattle.pq_schema.specs.Valid.{IsValid, IsDefined};
 
-use crate::made::{Def, Definition};
+use crate::made::{Def, Definition, Made};
 use crate::query::Query;
-use crate::table::Table;
+use crate::table::{Foreign, NewIndex, Referring, Table};
 use pq_base::{List, NoMem, PText};
 use std::alloc::Global;
 use std::marker::Model;
@@ -13,18 +14,19 @@ use std::marker::Model;
 /// The tables and queries that are defined: at most 64 tables and 256 definitions.
 #[derive(Debug, Drop)]
 pub struct Catalog {
-    tables: List<Table>,
+    tables: Vec<Table>,
     definitions: List<Definition>,
 }
 
 impl Model for Catalog {
-    ghost use Rattle.pq_schema.specs.Schema.{Schema, IsSmall};
+    ghost use Rattle.pq_schema.specs.Schema.{Schema};
+    ghost use Rattle.pq_schema.specs.Valid.{IsSound};
 
     ghost Value = { Schema };
 
-    ghost view = { λ c. record { tables = c.tables; definitions = c.definitions } };
+    ghost view = { λ c. record { tables = c.tables.items; definitions = c.definitions } };
 
-    ghost invariant = { λ c. IsSmall (record { tables = c.tables; definitions = c.definitions }) };
+    ghost invariant = { λ c. IsSound (record { tables = c.tables.items; definitions = c.definitions }) };
 }
 
 impl Definition {
@@ -77,22 +79,100 @@ fn query_place(definitions: &[Definition], name: &PText) -> Option<usize>
         .position(|definition| definition.is_query(name))
 }
 
+fn made_by(wanted: &Option<NewIndex>) -> Option<Made>
+    ensures { result ≡ option_map made_of wanted.now }
+{
+    match wanted {
+        None => None,
+        Some(new) => Some(Made {
+            table: new.table,
+            index: new.number,
+        }),
+    }
+}
+
+/// Puts a table behind the others. After `NoMem` nothing is changed.
+fn put_table(tables: &mut Vec<Table>, table: Table) -> Result<(), NoMem>
+    ensures ok { OnOk result (tables.new.items ≡ tables.old.items ++ table ∷ []) }
+    ensures err { OnErr result (tables.new.items ≡ tables.old.items) }
+{
+    tables.push(table)?;
+    Ok(())
+}
+
+/// Puts the index behind those of its table. After `NoMem` nothing is changed.
+fn put_index(alloc: Global, tables: &mut Vec<Table>, new: NewIndex) -> Result<(), NoMem>
+    requires from_one { 1 ≤ new.table }
+    requires there { new.table ≤ length tables.old.items }
+    ensures ok { OnOk result (tables.new.items ≡ with_wanted tables.old.items (Some new)) }
+    ensures err { OnErr result (tables.new.items ≡ tables.old.items) }
+{
+    let table = &mut tables[new.table as usize - 1];
+    table.indexes.push(alloc, new.index)
+}
+
+/// Puts the wanted index, where there is one, behind those of its table. After `NoMem` nothing is changed.
+fn put_wanted(alloc: Global, tables: &mut Vec<Table>, wanted: Option<NewIndex>) -> Result<(), NoMem>
+    requires { IfSome wanted (λ new. (1 ≤ new.table) × (new.table ≤ length tables.old.items)) }
+    ensures ok { OnOk result (tables.new.items ≡ with_wanted tables.old.items wanted) }
+    ensures err { OnErr result (tables.new.items ≡ tables.old.items) }
+{
+    match wanted {
+        None => Ok(()),
+        Some(new) => put_index(alloc, tables, new),
+    }
+}
+
+/// Puts those of a table's foreign keys behind the others that name the parent.
+fn push_foreign(
+    alloc: Global,
+    found: &mut List<Referring>,
+    foreign: &[Foreign],
+    table: u8,
+    parent: u8,
+) -> Result<(), NoMem>
+    requires { length foreign.now ≤ 4 }
+    ensures { IfOk result (λ _. found.new ≡ found.old ++ foreign_to parent table 1 foreign.now) }
+{
+    for (place, item) in foreign.iter().enumerate() {
+        if item.table == parent {
+            let number = place as u8 + 1;
+            found.push(
+                alloc,
+                Referring {
+                    table,
+                    foreign: number,
+                },
+            )?;
+        }
+    }
+    Ok(())
+}
+
 impl Catalog {
     /// No definitions.
     pub fn new(alloc: Global) -> Catalog
         ensures { result ≡ empty_schema }
     {
         Catalog {
-            tables: List::new(alloc),
+            tables: Vec::new(alloc),
             definitions: List::new(alloc),
         }
     }
 
+    /// Tells a proof that the schema is valid.
+    pub fn known(&self)
+        ensures { IsValid self.now }
+    {
+        let _tables = &self.tables;
+    }
+
     /// The number of the table of this name, None exactly where there is none.
     pub fn find_table(&self, name: &PText) -> Option<u8>
-        ensures { result ≡ find_table self.now name.now }
+        ensures found { result ≡ find_table self.now name.now }
+        ensures there { IfSome result (λ number. (1 ≤ number) × (number ≤ length self.now.tables)) }
     {
-        match table_place(self.tables.items(), name) {
+        match table_place(self.tables.as_slice(), name) {
             Some(place) => Some(place as u8 + 1),
             None => None,
         }
@@ -121,7 +201,7 @@ impl Catalog {
         requires there { number ≤ length self.now.tables }
         ensures { result.now ≡ table_at self.now.tables number }
     {
-        &self.tables.items()[number as usize - 1]
+        &self.tables.as_slice()[number as usize - 1]
     }
 
     /// The tables in order.
@@ -130,7 +210,7 @@ impl Catalog {
         ensures few { length self.now.tables ≤ 64 }
     {
         let _definitions = &self.definitions;
-        self.tables.items()
+        self.tables.as_slice()
     }
 
     /// The definitions in order.
@@ -154,13 +234,12 @@ impl Catalog {
 
     /// Puts a table behind the others, and its definition last. After `NoMem` nothing is changed.
     pub(crate) fn push_table(&mut self, alloc: Global, table: Table) -> Result<(), NoMem>
-        requires tables { length self.old.tables < 64 }
-        requires definitions { length self.old.definitions < 256 }
+        requires next { IsValid (with_table self.old table) }
         requires indexes { length table.indexes ≤ 16 }
         ensures ok { OnOk result (self.new ≡ with_table self.old table) }
         ensures err { OnErr result (self.new ≡ self.old) }
     {
-        let number = self.tables.items().len() as u8 + 1;
+        let number = self.tables.len() as u8 + 1;
         let made = table.indexes.items().len() as u8;
         let definition = Definition::OfTable {
             table: number,
@@ -168,7 +247,7 @@ impl Catalog {
         };
         let defs = self.definitions.items().len();
         self.definitions.push(alloc, definition)?;
-        match self.tables.push(alloc, table) {
+        match put_table(&mut self.tables, table) {
             Ok(()) => Ok(()),
             Err(NoMem) => {
                 self.definitions.truncate(defs);
@@ -177,16 +256,47 @@ impl Catalog {
         }
     }
 
-    /// Puts a query's definition last. After `NoMem` nothing is changed.
-    pub fn add_query(&mut self, alloc: Global, query: Query) -> Result<u16, NoMem>
-        requires { length self.old.definitions < 256 }
-        ensures ok { OnOk result (self.new ≡ with_query self.old query) }
-        ensures number { IfOk result (λ number. number ≡ length self.new.definitions) }
+    /// Puts a query's definition last, and the index that it wants behind those of its table. After
+    /// `NoMem` nothing is changed.
+    pub(crate) fn push_query(
+        &mut self,
+        alloc: Global,
+        query: Query,
+        wanted: Option<NewIndex>,
+    ) -> Result<(), NoMem>
+        requires { IsDefined self.old query wanted }
+        ensures ok { OnOk result (self.new ≡ with_query self.old query wanted) }
         ensures err { OnErr result (self.new ≡ self.old) }
     {
-        let definition = Definition::OfQuery { query, made: None };
-        self.definitions.push(alloc, definition)?;
-        Ok(self.definitions.items().len() as u16)
+        let made = made_by(&wanted);
+        let defs = self.definitions.items().len();
+        self.definitions
+            .push(alloc, Definition::OfQuery { query, made })?;
+        match put_wanted(alloc, &mut self.tables, wanted) {
+            Ok(()) => Ok(()),
+            Err(NoMem) => {
+                self.definitions.truncate(defs);
+                Err(NoMem)
+            }
+        }
+    }
+
+    /// The foreign keys to the table of this number, in order of tables, then of declaration, each by its
+    /// number from 1 among its table's foreign keys.
+    pub fn referring(&self, alloc: Global, table: u8) -> Result<List<Referring>, NoMem>
+        ensures { IfOk result (λ found. found ≡ referring self.now.tables table) }
+    {
+        let mut found = List::new(alloc);
+        for (place, child) in self.tables.iter().enumerate() {
+            push_foreign(
+                alloc,
+                &mut found,
+                child.foreign.items(),
+                place as u8 + 1,
+                table,
+            )?;
+        }
+        Ok(found)
     }
 
     /// How many definitions there are.

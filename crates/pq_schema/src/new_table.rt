@@ -1,14 +1,23 @@
-//! What a CREATE TABLE without limits and foreign keys defines, or why it is refused.
+//! What a CREATE TABLE defines, or why it is refused.
 ghost use Rattle.std.specs.Prelude.{◌≡◌, ◌≤◌, ◌||◌, [], List, length, map, position, find, nat_lt, IfOk, IsOk, ◌<◌, IfErr, OnOk, OnErr, option_map, unwrap_or, IsErrOf, take};
 ghost use Rattle.std.specs.List.{list_any, list_all};
 ghost use Rattle.std.specs.Str.{bytes_eq};
 ghost use Rattle.pq_base.specs.Answers.{Answers, Passes, Refuses};
-ghost use Rattle.pq_schema.specs.Definitions.{first_repeated, text_size, type_of, has_type, column_of, is_column, is_unknown, place_of, is_outside, name_refusal, columns_refusal, key_refusal, table_refusal, table_of_def, new_table, AddsTable};
+ghost use Rattle.pq_schema.specs.Definitions.{first_repeated, text_size, cardinality, type_of, has_type, column_of, is_column, is_unknown, place_of, places_of, is_outside, definition_refusal, name_refusal, counts_refusal, columns_refusal, names_refusal, key_refusal, limit_refusal, limits_refusal, has_shape, reference_refusal, foreign_refusal, foreigns_refusal, groups_refusal, table_refusal, limit_of_def, foreign_of_def, bare_table, table_of_def, new_table, AddsTable, new_query, AddsQuery};
+ghost use Rattle.pq_schema.specs.Names.{IsName, IsTableDef};
+ghost use Rattle.pq_schema.specs.Resolved.{IsResolved};
+ghost use Rattle.pq_schema.specs.Schema.{find_table};
+ghost use Rattle.pq_schema.specs.Sequences.{ascending, groups, with_group, with_groups};
+ghost use Rattle.pq_schema.specs.Sound.{IsTable, IsBare, AreColumns};
+ghost use Rattle.pq_schema.specs.Tables.{type_at, types_at, same_kind, same_kinds};
+ghost use Rattle.pq_schema.specs.Wanted.{IsWanted};
 
 use crate::catalog::Catalog;
-use crate::definition::{ColumnDef, TableDef};
-use crate::table::{Column, Table};
-use pq_base::{ColType, List, NoMem, PText, Refusal, Stopped};
+use crate::definition::{ColumnDef, ForeignDef, LimitDef, TableDef};
+use crate::query::Query;
+use crate::sequences::group_access;
+use crate::table::{Column, Foreign, Index, KeyPart, Limit, NewIndex, Table};
+use pq_base::{ColSet, ColType, Dir, List, NoMem, PText, Refusal, Stopped};
 use std::alloc::Global;
 
 /// The greatest number of tables.
@@ -18,15 +27,29 @@ pub const TABLES: usize = 64;
 pub const DEFINITIONS: usize = 256;
 
 // The places of words in `count_words`.
+const CARDINALITY: u8 = 0;
+
 const COLUMNS: u8 = 1;
 
 const DEFINITIONS_WORD: u8 = 2;
 
+const FOREIGN: u8 = 3;
+
 const KEY: u8 = 5;
+
+const LIMIT_COLUMNS: u8 = 6;
+
+const LIMITS: u8 = 7;
 
 const TABLES_WORD: u8 = 13;
 
 const TEXT: u8 = 14;
+
+fn counted(word: u8) -> Stopped
+    ensures { result ≡ Stopped.Refused (Refusal.Count word) }
+{
+    Stopped::Refused(Refusal::Count { word })
+}
 
 fn is_among(name: &PText, before: &[PText]) -> bool
     ensures { result ≡ list_any (bytes_eq name.now) before.now }
@@ -52,6 +75,17 @@ fn text_size(size: i64) -> Option<u16>
 {
     if 1 <= size && size <= 1000 {
         Some(size as u16)
+    } else {
+        None
+    }
+}
+
+/// n of a limit, where it is from 1 to 10,000.
+fn cardinality(n: i64) -> Option<u32>
+    ensures { result ≡ cardinality n }
+{
+    if 1 <= n && n <= 10000 {
+        Some(n as u32)
     } else {
         None
     }
@@ -131,35 +165,99 @@ fn is_outside(count: usize, most: usize) -> bool
     count < 1 || most < count
 }
 
+fn same_kind(a: ColType, b: ColType) -> bool
+    ensures { result ≡ same_kind a b }
+{
+    match (a, b) {
+        (ColType::Int, ColType::Int) => true,
+        (ColType::Bool, ColType::Bool) => true,
+        (ColType::Text(_), ColType::Text(_)) => true,
+        _ => false,
+    }
+}
+
+/// The type of the column of this name.
+fn named_type(columns: &[ColumnDef], name: &PText) -> ColType
+    ensures { result ≡ type_at (map column_of columns.now) (place_of columns.now name.now) }
+{
+    match columns.get(place_of(columns, name)) {
+        None => ColType::Bool,
+        Some(column) => column.ty().unwrap_or(ColType::Int),
+    }
+}
+
+/// The type of the column at a place.
+fn type_at(columns: &[Column], col: u8) -> ColType
+    ensures { result ≡ type_at columns.now col }
+{
+    match columns.get(col as usize) {
+        None => ColType::Bool,
+        Some(column) => column.ty,
+    }
+}
+
+/// Whether the columns are of the number and kinds of the key.
+fn has_shape(columns: &[ColumnDef], names: &[PText], parent: &[Column], key: &[u8]) -> bool
+    ensures { result ≡ same_kinds (types_at (map column_of columns.now) (places_of columns.now names.now)) (types_at parent.now key.now) }
+{
+    match (names.split_first(), key.split_first()) {
+        (None, None) => true,
+        (Some((name, names)), Some((col, key))) => {
+            same_kind(named_type(columns, name), type_at(parent, *col))
+                && has_shape(columns, names, parent, key)
+        }
+        _ => false,
+    }
+}
+
 impl Catalog {
-    /// Refuses a name that is taken, and a definition or a table too many.
-    fn check_name(&self, alloc: Global, name: &PText) -> Result<(), Stopped>
-        ensures { Passes result (name_refusal self.now name.now) }
+    /// Refuses a definition too many, and a name that is taken.
+    fn check_definition(&self, alloc: Global, name: &PText) -> Result<(), Stopped>
+        ensures { Passes result (definition_refusal self.now name.now) }
     {
         if self.definitions().len() >= DEFINITIONS {
-            return Err(Stopped::Refused(Refusal::Count {
-                word: DEFINITIONS_WORD,
-            }));
+            return Err(counted(DEFINITIONS_WORD));
         }
         if self.is_taken(name) {
             let name = name.copy(alloc)?;
             return Err(Stopped::Refused(Refusal::NameTaken { name }));
         }
+        Ok(())
+    }
+
+    /// Refuses a definition or a table too many, and a name that is taken.
+    fn check_name(&self, alloc: Global, name: &PText) -> Result<(), Stopped>
+        ensures { Passes result (name_refusal self.now name.now) }
+    {
+        self.check_definition(alloc, name)?;
         if self.tables().len() >= TABLES {
-            return Err(Stopped::Refused(Refusal::Count { word: TABLES_WORD }));
+            return Err(counted(TABLES_WORD));
         }
         Ok(())
     }
 }
 
+/// Refuses no column, and a column, a limit or a foreign key too many.
+fn check_counts(def: &TableDef) -> Result<(), Stopped>
+    ensures { Passes result (counts_refusal def.now) }
+{
+    if is_outside(def.columns.items().len(), 32) {
+        return Err(counted(COLUMNS));
+    }
+    if 4 < def.limits.items().len() {
+        return Err(counted(LIMITS));
+    }
+    if 4 < def.foreign.items().len() {
+        return Err(counted(FOREIGN));
+    }
+    Ok(())
+}
+
 fn check_columns(alloc: Global, columns: &[ColumnDef]) -> Result<(), Stopped>
     ensures { Passes result (columns_refusal columns.now) }
 {
-    if is_outside(columns.len(), 32) {
-        return Err(Stopped::Refused(Refusal::Count { word: COLUMNS }));
-    }
     if !have_types(columns) {
-        return Err(Stopped::Refused(Refusal::Count { word: TEXT }));
+        return Err(counted(TEXT));
     }
     let names = names_of(alloc, columns)?;
     match first_repeated(names.items()) {
@@ -171,21 +269,124 @@ fn check_columns(alloc: Global, columns: &[ColumnDef]) -> Result<(), Stopped>
     }
 }
 
-fn check_key(alloc: Global, columns: &[ColumnDef], key: &[PText]) -> Result<(), Stopped>
-    ensures { Passes result (key_refusal columns.now key.now) }
+/// Refuses the first unknown name, and the first repeated one.
+fn check_names(alloc: Global, columns: &[ColumnDef], names: &[PText]) -> Result<(), Stopped>
+    ensures { Passes result (names_refusal columns.now names.now) }
 {
-    if let Some(name) = first_unknown(columns, key) {
+    if let Some(name) = first_unknown(columns, names) {
         let name = name.copy(alloc)?;
         return Err(Stopped::Refused(Refusal::NoColumn { name }));
     }
-    if let Some(name) = first_repeated(key) {
+    if let Some(name) = first_repeated(names) {
         let name = name.copy(alloc)?;
         return Err(Stopped::Refused(Refusal::Repeated { name }));
     }
+    Ok(())
+}
+
+fn check_key(alloc: Global, columns: &[ColumnDef], key: &[PText]) -> Result<(), Stopped>
+    ensures { Passes result (key_refusal columns.now key.now) }
+{
+    check_names(alloc, columns, key)?;
     if is_outside(key.len(), 4) {
-        return Err(Stopped::Refused(Refusal::Count { word: KEY }));
+        return Err(counted(KEY));
     }
     Ok(())
+}
+
+fn check_limit(alloc: Global, columns: &[ColumnDef], limit: &LimitDef) -> Result<(), Stopped>
+    ensures { Passes result (limit_refusal columns.now limit.now) }
+{
+    check_names(alloc, columns, limit.cols.items())?;
+    if is_outside(limit.cols.items().len(), 4) {
+        return Err(counted(LIMIT_COLUMNS));
+    }
+    if cardinality(limit.n).is_none() {
+        return Err(counted(CARDINALITY));
+    }
+    Ok(())
+}
+
+fn check_limits(alloc: Global, columns: &[ColumnDef], limits: &[LimitDef]) -> Result<(), Stopped>
+    ensures { Passes result (limits_refusal columns.now limits.now) }
+{
+    for limit in limits {
+        check_limit(alloc, columns, limit)?;
+    }
+    Ok(())
+}
+
+impl Catalog {
+    /// Refuses a table that is not there, and a key of another number or other kinds of columns.
+    fn check_reference(
+        &self,
+        alloc: Global,
+        columns: &[ColumnDef],
+        number: u8,
+        foreign: &ForeignDef,
+    ) -> Result<(), Stopped>
+        ensures { Passes result (reference_refusal self.now columns.now number foreign.now (find_table self.now foreign.now.table)) }
+    {
+        let Some(found) = self.find_table(&foreign.table) else {
+            let name = foreign.table.copy(alloc)?;
+            return Err(Stopped::Refused(Refusal::NoTable { name }));
+        };
+        let parent = self.table(found);
+        let cols = foreign.cols.items();
+        if has_shape(columns, cols, parent.columns.items(), parent.key.items()) {
+            Ok(())
+        } else {
+            Err(Stopped::Refused(Refusal::ForeignShape { number }))
+        }
+    }
+
+    fn check_foreign(
+        &self,
+        alloc: Global,
+        columns: &[ColumnDef],
+        number: u8,
+        foreign: &ForeignDef,
+    ) -> Result<(), Stopped>
+        ensures { Passes result (foreign_refusal self.now columns.now number foreign.now) }
+    {
+        check_names(alloc, columns, foreign.cols.items())?;
+        self.check_reference(alloc, columns, number, foreign)
+    }
+
+    fn check_foreigns(
+        &self,
+        alloc: Global,
+        columns: &[ColumnDef],
+        foreign: &[ForeignDef],
+    ) -> Result<(), Stopped>
+        requires { length foreign.now ≤ 4 }
+        ensures { Passes result (foreigns_refusal self.now columns.now 1 foreign.now) }
+    {
+        for (place, item) in foreign.iter().enumerate() {
+            self.check_foreign(alloc, columns, place as u8 + 1, item)?;
+        }
+        Ok(())
+    }
+
+    /// Refuses the key, then the limits, then the foreign keys.
+    fn check_groups(&self, alloc: Global, def: &TableDef) -> Result<(), Stopped>
+        requires { length def.now.foreign ≤ 4 }
+        ensures { Passes result (groups_refusal self.now def.now) }
+    {
+        let columns = def.columns.items();
+        check_key(alloc, columns, def.key.items())?;
+        check_limits(alloc, columns, def.limits.items())?;
+        self.check_foreigns(alloc, columns, def.foreign.items())
+    }
+
+    fn check_table(&self, alloc: Global, def: &TableDef) -> Result<(), Stopped>
+        ensures { Passes result (table_refusal self.now def.now) }
+    {
+        self.check_name(alloc, &def.name)?;
+        check_counts(def)?;
+        check_columns(alloc, def.columns.items())?;
+        self.check_groups(alloc, def)
+    }
 }
 
 fn columns_of(alloc: Global, defs: &[ColumnDef]) -> Result<List<Column>, NoMem>
@@ -202,7 +403,7 @@ fn columns_of(alloc: Global, defs: &[ColumnDef]) -> Result<List<Column>, NoMem>
 
 fn places_of(alloc: Global, columns: &[ColumnDef], names: &[PText]) -> Result<List<u8>, NoMem>
     requires { length columns.now ≤ 32 }
-    ensures { IfOk result (λ places. places ≡ map (place_of columns.now) names.now) }
+    ensures { IfOk result (λ places. places ≡ places_of columns.now names.now) }
 {
     let mut places = List::new(alloc);
     for name in names {
@@ -211,47 +412,160 @@ fn places_of(alloc: Global, columns: &[ColumnDef], names: &[PText]) -> Result<Li
     Ok(places)
 }
 
-fn table_of_def(alloc: Global, def: &TableDef) -> Result<Table, NoMem>
-    requires { length def.now.columns ≤ 32 }
-    ensures { IfOk result (λ table. table ≡ table_of_def def.now) }
+fn limits_of(alloc: Global, columns: &[ColumnDef], defs: &[LimitDef]) -> Result<List<Limit>, NoMem>
+    requires { length columns.now ≤ 32 }
+    ensures { IfOk result (λ limits. limits ≡ map (limit_of_def columns.now) defs.now) }
 {
-    Ok(Table {
-        name: def.name.copy(alloc)?,
-        columns: columns_of(alloc, def.columns.items())?,
-        key: places_of(alloc, def.columns.items(), def.key.items())?,
-        limits: List::new(alloc),
-        foreign: List::new(alloc),
-        indexes: List::new(alloc),
-    })
+    let mut limits = List::new(alloc);
+    for def in defs {
+        let n = cardinality(def.n).unwrap_or(0);
+        let cols = places_of(alloc, columns, def.cols.items())?;
+        limits.push(alloc, Limit { n, cols })?;
+    }
+    Ok(limits)
+}
+
+impl Catalog {
+    fn foreign_of(
+        &self,
+        alloc: Global,
+        columns: &[ColumnDef],
+        defs: &[ForeignDef],
+    ) -> Result<List<Foreign>, NoMem>
+        requires { length columns.now ≤ 32 }
+        ensures { IfOk result (λ foreign. foreign ≡ map (foreign_of_def self.now columns.now) defs.now) }
+    {
+        let mut foreign = List::new(alloc);
+        for def in defs {
+            let table = self.find_table(&def.table).unwrap_or(0);
+            let cols = places_of(alloc, columns, def.cols.items())?;
+            foreign.push(alloc, Foreign { cols, table })?;
+        }
+        Ok(foreign)
+    }
+
+    /// The table without its indexes.
+    fn bare_table(&self, alloc: Global, def: &TableDef) -> Result<Table, NoMem>
+        requires { length def.now.columns ≤ 32 }
+        ensures { IfOk result (λ table. table ≡ bare_table self.now def.now) }
+    {
+        let columns = def.columns.items();
+        Ok(Table {
+            name: def.name.copy(alloc)?,
+            columns: columns_of(alloc, columns)?,
+            key: places_of(alloc, columns, def.key.items())?,
+            limits: limits_of(alloc, columns, def.limits.items())?,
+            foreign: self.foreign_of(alloc, columns, def.foreign.items())?,
+            indexes: List::new(alloc),
+        })
+    }
+}
+
+/// The columns, ascending.
+fn ascending(alloc: Global, cols: &[u8]) -> Result<List<KeyPart>, NoMem>
+    ensures { IfOk result (λ parts. parts ≡ map ascending cols.now) }
+{
+    let mut parts = List::new(alloc);
+    for col in cols {
+        parts.push(
+            alloc,
+            KeyPart {
+                col: *col,
+                dir: Dir::Asc,
+            },
+        )?;
+    }
+    Ok(parts)
+}
+
+/// One more index on the columns, where no sequence of the table begins with their set.
+fn with_group(alloc: Global, table: Table, cols: &[u8]) -> Result<Table, NoMem>
+    requires table { IsTable table }
+    requires cols { AreColumns cols.now }
+    ensures { IfOk result (λ made. made ≡ with_group table cols.now) }
+{
+    let mut table = table;
+    if group_access(&table, ColSet::of(cols)).is_none() {
+        let cols = ascending(alloc, cols)?;
+        table.indexes.push(alloc, Index { cols })?;
+    }
+    Ok(table)
+}
+
+/// The columns of each limit and then of each foreign key.
+fn groups_of(alloc: Global, table: &Table) -> Result<List<List<u8>>, NoMem>
+    ensures { IfOk result (λ made. made ≡ groups table.now) }
+{
+    let mut groups = List::new(alloc);
+    for limit in table.limits.items() {
+        groups.push(alloc, List::of_bytes(alloc, limit.cols.items())?)?;
+    }
+    for foreign in table.foreign.items() {
+        groups.push(alloc, List::of_bytes(alloc, foreign.cols.items())?)?;
+    }
+    Ok(groups)
+}
+
+/// The table with an index for each limit and then each foreign key, where no sequence begins with its set.
+fn with_groups(alloc: Global, table: Table) -> Result<Table, NoMem>
+    requires { IsBare table }
+    ensures { IfOk result (λ made. made ≡ with_groups table) }
+{
+    let groups = groups_of(alloc, &table)?;
+    let mut made = table;
+    for cols in groups.items() {
+        made = with_group(alloc, made, cols.items())?;
+    }
+    Ok(made)
 }
 
 impl Catalog {
     /// The table that the definition makes over this catalog, or the first refusal: too many
-    /// definitions, the name taken, too many tables, the number of columns, the length of a text, a
-    /// repeated column, and of the key an unknown column, a repeated one, the number of columns.
-    /// The definition's limits and foreign keys play no part.
+    /// definitions, the name taken, too many tables, the number of columns, of limits and of foreign keys,
+    /// the length of a text, a repeated column; then of the key, of each limit and of each foreign key an
+    /// unknown column and a repeated one, of the key and of a limit the number of columns, of a limit its n,
+    /// and of a foreign key an unknown table and another shape than the key of the table.
     #[tactic(auto, unfolding(crate::specs::Definitions::new_table))]
     pub fn new_table(&self, alloc: Global, def: &TableDef) -> Result<Table, Stopped>
-        ensures answer { Answers result (new_table self.now def.now) }
-        ensures table_room { IsOk result → length self.now.tables < 64 }
-        ensures definition_room { IsOk result → length self.now.definitions < 256 }
-        ensures no_index { IfOk result (λ table. table.indexes ≡ []) }
+        ensures { Answers result (new_table self.now def.now) }
     {
-        self.check_name(alloc, &def.name)?;
-        check_columns(alloc, def.columns.items())?;
-        check_key(alloc, def.columns.items(), def.key.items())?;
-        Ok(table_of_def(alloc, def)?)
+        self.check_table(alloc, def)?;
+        let table = self.bare_table(alloc, def)?;
+        Ok(with_groups(alloc, table)?)
     }
 
     /// Adds the table that the definition makes, and answers its number, from 1. The refusals are
     /// those of `new_table`. After an error the catalog is as before.
-    pub fn add_table(&mut self, alloc: Global, def: &TableDef) -> Result<u8, Stopped>
-        ensures added { IfOk result (AddsTable self.old def.now self.new) }
-        ensures refused { IfErr result (λ stopped. Refuses stopped (new_table self.old def.now)) }
+    pub fn add_table(&mut self, alloc: Global, def: TableDef) -> Result<u8, Stopped>
+        requires { IsTableDef def }
+        ensures added { IfOk result (AddsTable self.old def self.new) }
+        ensures refused { IfErr result (λ stopped. Refuses stopped (new_table self.old def)) }
         ensures kept { OnErr result (self.new ≡ self.old) }
     {
-        let table = self.new_table(alloc, def)?;
+        self.known();
+        let table = self.new_table(alloc, &def)?;
         self.push_table(alloc, table)?;
         Ok(self.tables().len() as u8)
+    }
+
+    /// Adds a query with the index that it wants, and answers the number of its definition, from 1. It is
+    /// refused where there are too many definitions, and where the name is taken. After an error the
+    /// catalog is as before.
+    pub fn add_query(
+        &mut self,
+        alloc: Global,
+        query: Query,
+        wanted: Option<NewIndex>,
+    ) -> Result<u16, Stopped>
+        requires name { IsName query.name }
+        requires resolved { IsResolved self.old.tables query }
+        requires chosen { IsWanted self.old.tables query wanted }
+        ensures added { IfOk result (AddsQuery self.old query wanted self.new) }
+        ensures refused { IfErr result (λ stopped. Refuses stopped (new_query self.old query wanted)) }
+        ensures kept { OnErr result (self.new ≡ self.old) }
+    {
+        self.check_definition(alloc, &query.name)?;
+        self.push_query(alloc, query, wanted)?;
+        Ok(self.defs())
     }
 }

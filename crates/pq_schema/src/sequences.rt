@@ -1,12 +1,13 @@
 //! The sequences of a table, walked without memory.
 
-ghost use Rattle.std.specs.Prelude.{◌≡◌, ◌==◌, ◌&&◌, ◌<◌, ◌≤◌, ◌∷◌, [], All, length, map, slice_get, position};
+ghost use Rattle.std.specs.Prelude.{◌≡◌, ◌==◌, ◌&&◌, ◌<◌, ◌≤◌, ◌∷◌, [], All, IfOk, length, map, slice_get, position};
 ghost use Rattle.pq_schema.specs.Sound.{IsTable, AreColumns, AreParts};
-ghost use Rattle.pq_schema.specs.Sequences.{ascending, then_key, begins_with, columns_of, primary_sequence, index_sequence, group_access};
+ghost use Rattle.pq_schema.specs.Sequences.{ascending, then_key, begins_with, columns_of, primary_sequence, index_sequence, sequence_of, IsAccess, group_access};
 ghost use Rattle.pq_base.specs.Columns.{set_of};
 
 use crate::table::{Access, Index, KeyPart, Table};
-use pq_base::{ColSet, Dir};
+use pq_base::{ColSet, Dir, List, NoMem};
+use std::alloc::Global;
 
 /// The part at a place among the parts and then the key columns that are not in the set.
 pub fn part_at(parts: &[KeyPart], set: ColSet, key: &[u8], place: usize) -> Option<KeyPart>
@@ -105,5 +106,51 @@ pub fn group_access(table: &Table, set: ColSet) -> Option<Access>
     match first_beginning(table, set) {
         None => None,
         Some(place) => Some(Access::Secondary(place as u8 + 1)),
+    }
+}
+
+/// The parts, and then the key columns that are not in the set, ascending.
+fn parts_then_key(
+    alloc: Global,
+    parts: &[KeyPart],
+    set: ColSet,
+    key: &[u8],
+) -> Result<List<KeyPart>, NoMem>
+    requires { AreColumns key.now }
+    ensures { IfOk result (λ made. made ≡ then_key parts.now set key.now) }
+{
+    let mut made = List::new(alloc);
+    for part in parts {
+        made.push(alloc, *part)?;
+    }
+    for col in key {
+        if !set.has(*col) {
+            made.push(
+                alloc,
+                KeyPart {
+                    col: *col,
+                    dir: Dir::Asc,
+                },
+            )?;
+        }
+    }
+    Ok(made)
+}
+
+/// The primary sequence, or that of an index of the table.
+#[tactic(auto, using(crate::proofs::Places::all_left))]
+pub fn sequence(alloc: Global, table: &Table, access: Access) -> Result<List<KeyPart>, NoMem>
+    requires table { IsTable table.now }
+    requires access { IsAccess table.now access }
+    ensures { IfOk result (λ parts. parts ≡ sequence_of table.now access) }
+{
+    let key = table.key.items();
+    match access {
+        Access::Primary => parts_then_key(alloc, &[], ColSet::empty(), key),
+        Access::Secondary(number) => {
+            let index = &table.indexes.items()[number as usize - 1];
+            let parts = index.cols.items();
+            parts_then_key(alloc, parts, columns_in(parts), key)
+        }
     }
 }

@@ -1,0 +1,365 @@
+-- What every table of a valid schema has.
+use Rattle.std.proofs.Common.{◌≡◌, ◌==◌, not, ℕ, zero, ◌+◌, ◌-◌, ◌<◌, ◌≤◌, Bool, true, false, cond, inl, inr, List, [], ◌∷◌, ◌++◌, length, map, fold, filter, set, get_or, suc, Option, Some, None, Result, Ok, Err, refl, sym, ap, ◌∙◌, subst, arith, length-append}
+use Rattle.std.specs.Prelude.{All, IsSome, is_some, nat_le, flat_map, option_map, IfSome}
+use Rattle.std.specs.List.{AllByRecursion, range_with_len}
+use Rattle.std.specs.Option.{option_map_or}
+use Rattle.std.proofs.Math.ListN.{get_or-append}
+use Rattle.std.proofs.Math.Seq.{get_or-append_seam}
+use Rattle.std.proofs.lemmas.Bool.{leb-false, eqb-true, and_parts, cond_both, cases_eq, cases_lt}
+use Rattle.std.proofs.lemmas.Option.{none-some}
+use Rattle.std.proofs.lemmas.List.{length-set, get_or-set_same, get_or-set_other}
+use Rattle.std.proofs.lemmas.List.Elements.{All-append, All-map, All-filter, All-get_or, All-from_get_or, All-weaker, All-from_recursion, recursion_from_All}
+use Rattle.pq_base.specs.Columns.{has_col, set_of}
+use Rattle.pq_base.specs.declared.number.Choice.{Choice}
+use Rattle.pq_base.specs.declared.number.Choice.TheVariants.{Whole, Stop}
+use Rattle.pq_base.specs.declared.refusal.Refusal.{Refusal}
+use Rattle.pq_base.specs.declared.refusal.Refusal.TheVariants as refusal
+use Rattle.pq_schema.specs.declared.made.Definition.{Definition}
+use Rattle.pq_schema.specs.declared.made.Definition.TheVariants.{OfTable, OfQuery}
+use Rattle.pq_schema.specs.declared.query.OrderItem.{OrderItem}
+use Rattle.pq_schema.specs.declared.query.Query.{Query}
+use Rattle.pq_schema.specs.declared.table.Column.{Column}
+use Rattle.pq_schema.specs.declared.table.Foreign.{Foreign}
+use Rattle.pq_schema.specs.declared.table.Index.{Index}
+use Rattle.pq_schema.specs.declared.table.KeyPart.{KeyPart}
+use Rattle.pq_schema.specs.declared.table.Limit.{Limit}
+use Rattle.pq_schema.specs.declared.table.NewIndex.{NewIndex}
+use Rattle.pq_schema.specs.declared.table.Table.{Table}
+use Rattle.pq_schema.specs.Candidates.{Candidate, candidates, whole, stop_at, stop_size, can_stop_at, lesser, least, reached_after, are_bounded, stop_cost}
+use Rattle.pq_schema.specs.Costs.{is_less}
+use Rattle.pq_schema.specs.Definitions.{definition_refusal}
+use Rattle.pq_schema.specs.Relations.{relation_at, table_of, fixed, order_rest, is_rest, part_of, no_relation}
+use Rattle.pq_schema.specs.Resolved.{IsRelation, IsColumnOf, IsResolved}
+use Rattle.pq_schema.specs.Schema.{Schema, IsSmall, empty_schema, with_query, with_wanted, with_new_index, made_of}
+use Rattle.pq_schema.specs.Sequences.{ascending, group_access, serving, new_index}
+use Rattle.pq_schema.specs.Sound.{IsMadeForeign, IsMade, AreMade}
+use Rattle.pq_schema.specs.Tables.{no_table, table_at, types_at, same_kinds}
+use Rattle.pq_schema.specs.Valid.{IsValid, IsSound}
+use Rattle.pq_schema.specs.Valid.IsValid.{empty, then_table, then_query}
+use Rattle.pq_schema.specs.Wanted.{is_large, index_at, index_of, too_many_indexes, Chosen, with_index, chosen_of, no_bound, IsWanted}
+use Rattle.pq_schema.proofs.Accepted.{accepted, definition_room, table_room, room, is_made, made_none, made_is}
+use Rattle.pq_schema.proofs.Groups.{index_keeps, inside_more}
+
+-- ---- answers
+
+abbrev ok_or : {A : Type 0} → A → Result A Refusal → A
+ok_or other (Ok answer) = answer
+ok_or other (Err why) = other
+
+ok_same : {A : Type 0} (a b : A) (r : Result A Refusal) → r ≡ Ok a → r ≡ Ok b → a ≡ b
+ok_same a b r left right = ap (ok_or a) (sym left ∙ right)
+
+abbrev IsOkAnswer : {A : Type 0} → Result A Refusal → Type 0
+IsOkAnswer (Ok answer) = Unit {0}
+IsOkAnswer (Err why) = ⊥
+
+err_not_ok : {A : Type 0} (why : Refusal) (b : A) (r : Result A Refusal) → r ≡ Err why → r ≡ Ok b → ⊥
+err_not_ok why b r left right = subst IsOkAnswer (sym right ∙ left) tt
+
+abbrev some_or : {A : Type 0} → A → Option A → A
+some_or other None = other
+some_or other (Some a) = a
+
+some_same : {A : Type 0} (a b : A) → Some a ≡ Some b → a ≡ b
+some_same a b is = ap (some_or a) is
+
+-- ---- a table over other tables
+
+-- the tables below the number have the same columns and keys
+record HaveSameKeys (before now : List Table) (number : ℕ) : Type 0 where
+  columns : (k : ℕ) → 1 ≤ k → k < number → (table_at now k).columns ≡ (table_at before k).columns
+  key : (k : ℕ) → 1 ≤ k → k < number → (table_at now k).key ≡ (table_at before k).key
+
+foreign_over : (before now : List Table) (number : ℕ) (columns : List Column) → HaveSameKeys before now number → (f : Foreign) → IsMadeForeign before number columns f → IsMadeForeign now number columns f
+foreign_over before now number columns same f made = record {
+  inside = made.inside;
+  different = made.different;
+  from_one = made.from_one;
+  earlier = made.earlier;
+  shape =
+      (λ i. same_kinds (types_at columns f.cols) (types_at (same.columns f.table made.from_one made.earlier i) (same.key f.table made.from_one made.earlier i)))
+      ∙ made.shape;
+}
+
+made_over : (before now : List Table) (number : ℕ) (table : Table) → HaveSameKeys before now number → IsMade before number table → IsMade now number table
+made_over before now number table same made = record {
+  some_columns = made.some_columns;
+  few_columns = made.few_columns;
+  sized = made.sized;
+  key = made.key;
+  few_limits = made.few_limits;
+  limits = made.limits;
+  few_foreign = made.few_foreign;
+  foreign = All-weaker (IsMadeForeign before number table.columns) (IsMadeForeign now number table.columns) (foreign_over before now number table.columns same) table.foreign made.foreign;
+  few_indexes = made.few_indexes;
+  indexes = made.indexes;
+  limit_groups = made.limit_groups;
+  foreign_groups = made.foreign_groups;
+}
+
+-- ---- one more table
+
+table_before : (tables : List Table) (table : Table) (number : ℕ) → 1 ≤ number → number < length tables + 1 → table_at (tables ++ table ∷ []) number ≡ table_at tables number
+table_before tables table number one there = get_or-append tables (table ∷ []) no_table (number - 1) (omega arith)
+
+table_last : (tables : List Table) (table : Table) (number : ℕ) → number ≡ length tables + 1 → table_at (tables ++ table ∷ []) number ≡ table
+table_last tables table number is =
+    let place : number - 1 ≡ length tables = omega arith in
+    ap (λ n. get_or (tables ++ table ∷ []) n no_table) place ∙ get_or-append_seam tables table [] no_table
+
+same_before : (tables : List Table) (table : Table) (number : ℕ) → number < length tables + 2 → HaveSameKeys tables (tables ++ table ∷ []) number
+same_before tables table number there = record {
+  columns = λ k one below. ap (λ (t : Table). t.columns) (table_before tables table k one (omega arith));
+  key = λ k one below. ap (λ (t : Table). t.key) (table_before tables table k one (omega arith));
+}
+
+tables_with : (tables : List Table) (table : Table) → AreMade tables → IsMade tables (length tables + 1) table → AreMade (tables ++ table ∷ [])
+tables_with tables table all made number one there =
+    let long = length-append tables (table ∷ []) in
+    elim (cases_lt number (length tables + 1)) [
+      | inl old ↦
+          subst (IsMade (tables ++ table ∷ []) number) (sym (table_before tables table number one old))
+          (made_over tables (tables ++ table ∷ []) number (table_at tables number) (same_before tables table number (omega arith)) (all number one (omega arith)))
+      | inr new ↦
+          let last : number ≡ length tables + 1 = omega (arith, long, there, new) in
+          subst (IsMade (tables ++ table ∷ []) number) (sym (table_last tables table number last))
+          (made_over tables (tables ++ table ∷ []) number table (same_before tables table number (omega arith)) (subst (λ n. IsMade tables n table) (sym last) made))
+    ]
+
+-- ---- one more index
+
+index_made : (tables : List Table) (number : ℕ) (table : Table) (index : Index) → IsMade tables number table → length table.indexes < 16 → All (λ part. part.col < length table.columns) index.cols → IsMade tables number (with_new_index table index)
+index_made tables number table index made room inside = record {
+  some_columns = made.some_columns;
+  few_columns = made.few_columns;
+  sized = made.sized;
+  key = made.key;
+  few_limits = made.few_limits;
+  limits = made.limits;
+  few_foreign = made.few_foreign;
+  foreign = made.foreign;
+  few_indexes = let long = length-append table.indexes (index ∷ []) in omega (arith, long, room);
+  indexes = inside_more (length table.columns) table.indexes index made.indexes inside;
+  limit_groups = All-weaker (λ (l : Limit). IsSome (group_access table (set_of l.cols))) (λ (l : Limit). IsSome (group_access (with_new_index table index) (set_of l.cols))) (λ l some. index_keeps table index (set_of l.cols) some) table.limits made.limit_groups;
+  foreign_groups = All-weaker (λ (f : Foreign). IsSome (group_access table (set_of f.cols))) (λ (f : Foreign). IsSome (group_access (with_new_index table index) (set_of f.cols))) (λ f some. index_keeps table index (set_of f.cols) some) table.foreign made.foreign_groups;
+}
+
+-- a wanted index that its table has room for
+pub record Fits (tables : List Table) (new : NewIndex) : Type 0 where
+  pub from_one : 1 ≤ new.table
+  pub there : new.table ≤ length tables
+  pub room : length (table_at tables new.table).indexes < 16
+  pub inside : All (λ part. part.col < length (table_at tables new.table).columns) new.index.cols
+
+module _ (tables : List Table) (new : NewIndex) (fits : Fits tables new) where
+  changed : Table
+  changed = with_new_index (table_at tables new.table) new.index
+
+  at_changed : table_at (set tables (new.table - 1) changed) new.table ≡ changed
+  at_changed = let one = fits.from_one in let there = fits.there in get_or-set_same tables (new.table - 1) changed no_table (omega arith)
+
+  at_other : (k : ℕ) → 1 ≤ k → (k ≡ new.table → ⊥) → table_at (set tables (new.table - 1) changed) k ≡ table_at tables k
+  at_other k one other =
+      let from_one = fits.from_one in
+      get_or-set_other tables (new.table - 1) (k - 1) changed no_table (λ e. other (omega (arith, e, one, from_one)))
+
+  same_keys : (number : ℕ) → HaveSameKeys tables (set tables (new.table - 1) changed) number
+  unfolding changed
+  same_keys number = record {
+    columns = λ k one _. elim (cases_eq k new.table) [
+      | inl same ↦ ap (λ n. (table_at (set tables (new.table - 1) changed) n).columns) same ∙ ap (λ (t : Table). t.columns) at_changed ∙ ap (λ n. (table_at tables n).columns) (sym same)
+      | inr other ↦ ap (λ (t : Table). t.columns) (at_other k one other)
+    ];
+    key = λ k one _. elim (cases_eq k new.table) [
+      | inl same ↦ ap (λ n. (table_at (set tables (new.table - 1) changed) n).key) same ∙ ap (λ (t : Table). t.key) at_changed ∙ ap (λ n. (table_at tables n).key) (sym same)
+      | inr other ↦ ap (λ (t : Table). t.key) (at_other k one other)
+    ];
+  }
+
+  tables_indexed : AreMade tables → AreMade (set tables (new.table - 1) changed)
+  unfolding changed
+  tables_indexed all number one there =
+      let long : length (set tables (new.table - 1) changed) ≡ length tables = length-set tables (new.table - 1) changed in
+      let old : IsMade tables number (table_at tables number) = all number one (omega (arith, long, there)) in
+      elim (cases_eq number new.table) [
+        | inl same ↦
+            subst (IsMade (set tables (new.table - 1) changed) number) (sym (ap (table_at (set tables (new.table - 1) changed)) same ∙ at_changed))
+            (made_over tables (set tables (new.table - 1) changed) number changed (same_keys number)
+            (index_made tables number (table_at tables new.table) new.index (subst (λ n. IsMade tables number (table_at tables n)) same old) fits.room fits.inside))
+        | inr other ↦
+            subst (IsMade (set tables (new.table - 1) changed) number) (sym (at_other number one other))
+            (made_over tables (set tables (new.table - 1) changed) number (table_at tables number) (same_keys number) old)
+      ]
+
+-- ---- the wanted index of a query
+
+abbrev IsChoice : ℕ → Choice → Type 0
+IsChoice m Whole = Unit {0}
+IsChoice m (Stop p) = (1 ≤ p) × (p ≤ m)
+
+abbrev HasPlace : ℕ → Candidate → Type 0
+HasPlace m c = IsChoice m c.choice
+
+module _ (tables : List Table) (query : Query) where
+  rec_append : (P : Candidate → Type 0) (xs ys : List Candidate) → AllByRecursion P xs → AllByRecursion P ys → AllByRecursion P (xs ++ ys)
+  rec_append P [] ys a b = b
+  rec_append P (x ∷ xs) ys a b = (a.0, rec_append P xs ys a.1 b)
+
+  stop_places : (m k from count : ℕ) → 1 ≤ from → from + count ≤ m + 1 → AllByRecursion (HasPlace m) (flat_map (stop_at tables query k) (range_with_len from count))
+  stop_places m k from zero one within = tt
+  stop_places m k from (suc count) one within =
+      rec_append (HasPlace m) (stop_at tables query k from) (flat_map (stop_at tables query k) (range_with_len (from + 1) count))
+      (cond_both (can_stop_at tables query from) (record { choice = Stop from; bound = stop_cost tables query k from } ∷ []) [] (AllByRecursion (HasPlace m)) (λ _. ((one, omega arith), tt)) (λ _. tt))
+      (stop_places m k (from + 1) count (omega arith) (omega arith))
+
+  all_places : AllByRecursion (HasPlace (length query.relations)) (candidates tables query)
+  all_places =
+      let m = length query.relations in
+      rec_append (HasPlace m) (whole tables query) (option_map_or (λ k. flat_map (stop_at tables query k) (range_with_len 1 m)) (stop_size query.stop) [])
+      (cond_both (are_bounded tables query m) (record { choice = Whole; bound = (reached_after tables query m).cost } ∷ []) [] (AllByRecursion (HasPlace m)) (λ _. (tt, tt)) (λ _. tt))
+      (by_size m (stop_size query.stop))
+    where
+      by_size : (m : ℕ) (o : Option ℕ) → AllByRecursion (HasPlace m) (option_map_or (λ k. flat_map (stop_at tables query k) (range_with_len 1 m)) o [])
+      by_size m None = tt
+      by_size m (Some k) = stop_places m k 1 m (omega arith) (omega arith)
+
+  least_from : (m : ℕ) (c : Candidate) (cs : List Candidate) → HasPlace m c → AllByRecursion (HasPlace m) cs → HasPlace m (fold lesser c cs)
+  least_from m c [] here all = here
+  least_from m c (x ∷ cs) here all = least_from m (lesser c x) cs (cond_both (is_less x.bound c.bound) x c (HasPlace m) (λ _. all.0) (λ _. here)) all.1
+
+  least_place : (m : ℕ) (cs : List Candidate) (best : Candidate) → AllByRecursion (HasPlace m) cs → least cs ≡ Some best → HasPlace m best
+  least_place m [] best all is = absurd (none-some best is)
+  least_place m (c ∷ cs) best all is =
+      let same : fold lesser c cs ≡ best = cc in
+      subst (HasPlace m) same (least_from m c cs all.0 all.1)
+
+  -- ---- what is chosen
+
+  with_index_is : (c : Candidate) (r : Result (Option NewIndex) Refusal) (best : Candidate) (wanted : Option NewIndex) → with_index c r ≡ Ok (record { best = best; wanted = wanted }) → (c ≡ best) × (r ≡ Ok wanted)
+  with_index_is c (Ok w) best wanted is =
+      let first : Chosen = record { best = c; wanted = w } in
+      let second : Chosen = record { best = best; wanted = wanted } in
+      let e : first ≡ second = ok_same first second (Ok first) refl is in
+      (ap (λ (h : Chosen). h.best) e, ap (λ (h : Chosen). Ok h.wanted) e)
+  with_index_is c (Err why) best wanted is = absurd (err_not_ok why (record { best = best; wanted = wanted }) (Err why) refl is)
+
+  large_is : (large : Bool) (why : Refusal) (c : Candidate) (r : Result (Option NewIndex) Refusal) (best : Candidate) (wanted : Option NewIndex) → cond large (Err why) (with_index c r) ≡ Ok (record { best = best; wanted = wanted }) → (c ≡ best) × (r ≡ Ok wanted)
+  large_is true why c r best wanted is = absurd (err_not_ok why (record { best = best; wanted = wanted }) (Err why) refl is)
+  large_is false why c r best wanted is = with_index_is c r best wanted is
+
+  chosen_parts : (o : Option Candidate) (best : Candidate) (wanted : Option NewIndex) → chosen_of tables query o ≡ Ok (record { best = best; wanted = wanted }) → (o ≡ Some best) × (index_of tables query best.choice ≡ Ok wanted)
+  chosen_parts None best wanted is = absurd (err_not_ok (no_bound tables query) (record { best = best; wanted = wanted }) (Err (no_bound tables query)) refl is)
+  chosen_parts (Some c) best wanted is =
+      let parts = large_is (is_large c.bound) (refusal.BoundLarge c.bound.ops c.bound.entries) c (index_of tables query c.choice) best wanted is in
+      (ap (λ (x : Candidate). Some x) parts.0, ap (λ (x : Candidate). index_of tables query x.choice) (sym parts.0) ∙ parts.1)
+
+  some_is : (served full : Bool) (n new : NewIndex) → cond served (Ok None) (cond full (Err too_many_indexes) (Ok (Some n))) ≡ Ok (Some new) → (full ≡ false) × (n ≡ new)
+  some_is true full n new is = absurd (none-some new (ok_same None (Some new) (Ok None) refl is))
+  some_is false true n new is = absurd (err_not_ok too_many_indexes (Some new) (Err too_many_indexes) refl is)
+  some_is false false n new is = (refl, some_same n new (ok_same (Some n) (Some new) (Ok (Some n)) refl is))
+
+  -- ---- its columns
+
+  range_below : (a n m : ℕ) → a + n ≤ m → AllByRecursion (λ c. c < m) (range_with_len a n)
+  range_below a zero m within = tt
+  range_below a (suc n) m within = (omega arith, range_below (a + 1) n m (omega arith))
+
+  order_inside : (p s : ℕ) (items : List OrderItem) → AllByRecursion (λ (item : OrderItem). IsColumnOf tables query item.col) items → AllByRecursion (λ (part : KeyPart). part.col < length (table_of tables query p).columns) (map part_of (filter (is_rest p s) items))
+  order_inside p s [] all = tt
+  order_inside p s (item ∷ items) all =
+      let rest = order_inside p s items all.1 in
+      cond_both (is_rest p s item) (item ∷ filter (is_rest p s) items) (filter (is_rest p s) items) (λ (l : List OrderItem). AllByRecursion (λ (part : KeyPart). part.col < length (table_of tables query p).columns) (map part_of l))
+      (λ is. (subst (λ r. item.col.col < length (table_of tables query r).columns) (eqb-true item.col.rel p (and_parts (item.col.rel == p) (not (has_col s item.col.col)) is).0) all.0.inside, rest))
+      (λ _. rest)
+
+  new_inside : (p : ℕ) → IsResolved tables query → All (λ (part : KeyPart). part.col < length (table_of tables query p).columns) (new_index (table_of tables query p) (fixed query p) (order_rest query p)).cols
+  new_inside p resolved =
+      let w = length (table_of tables query p).columns in
+      let Inside : KeyPart → Type 0 = λ part. part.col < w in
+      All-append Inside (map ascending (filter (has_col (fixed query p)) (range_with_len 0 w))) (order_rest query p)
+      (All-map Inside ascending (filter (has_col (fixed query p)) (range_with_len 0 w)) (All-filter (has_col (fixed query p)) (λ c. c < w) (range_with_len 0 w) (All-from_recursion (λ c. c < w) (range_with_len 0 w) (range_below 0 w w (omega arith)))))
+      (All-from_recursion Inside (order_rest query p) (order_inside p (fixed query p) query.order (recursion_from_All (λ (item : OrderItem). IsColumnOf tables query item.col) query.order resolved.order)))
+
+  relation_there : (p : ℕ) → 1 ≤ p → p ≤ length query.relations → IsResolved tables query → IsRelation tables (relation_at query p)
+  relation_there p one there resolved = resolved.relations (p - 1) no_relation (omega arith)
+
+  fits_at : (p : ℕ) (new : NewIndex) → 1 ≤ p → p ≤ length query.relations → IsResolved tables query → index_at tables query p ≡ Ok (Some new) → Fits tables new
+  fits_at p new one there resolved is =
+      let table = table_of tables query p in
+      let n : NewIndex = record { table = (relation_at query p).table; number = length table.indexes + 1; index = new_index table (fixed query p) (order_rest query p) } in
+      let parts = some_is (is_some (serving table (fixed query p) (order_rest query p))) (nat_le 16 (length table.indexes)) n new is in
+      let relation = relation_there p one there resolved in
+      let fits : Fits tables n = record { from_one = relation.from_one; there = relation.there; room = leb-false 16 (length table.indexes) parts.0; inside = new_inside p resolved } in
+      subst (Fits tables) parts.1 fits
+
+  fits_of : (choice : Choice) (new : NewIndex) → IsChoice (length query.relations) choice → IsResolved tables query → index_of tables query choice ≡ Ok (Some new) → Fits tables new
+  fits_of Whole new place resolved is = absurd (none-some new (ok_same None (Some new) (Ok None) refl is))
+  fits_of (Stop p) new place resolved is = fits_at p new place.0 place.1 resolved is
+
+  pub wanted_fits : (new : NewIndex) → IsResolved tables query → IsWanted tables query (Some new) → Fits tables new
+  wanted_fits new resolved wanted =
+      let parts = chosen_parts (least (candidates tables query)) wanted.best (Some new) wanted.chosen in
+      fits_of wanted.best.choice new (least_place (length query.relations) (candidates tables query) wanted.best all_places parts.0) resolved parts.1
+
+-- the wanted index is of a table that is there
+pub wanted_there : (tables : List Table) (query : Query) (wanted : Option NewIndex) → IsResolved tables query → IsWanted tables query wanted → IfSome wanted (λ new. (1 ≤ new.table) × (new.table ≤ length tables))
+wanted_there tables query None resolved wanted = tt
+wanted_there tables query (Some new) resolved wanted =
+    let fits = wanted_fits tables query new resolved wanted in
+    (fits.from_one, fits.there)
+
+-- ---- valid schemas
+
+made_with_wanted : (tables : List Table) (query : Query) (wanted : Option NewIndex) → AreMade tables → IsResolved tables query → IsWanted tables query wanted → AreMade (with_wanted tables wanted)
+unfolding changed
+made_with_wanted tables query None all resolved wanted = all
+made_with_wanted tables query (Some new) all resolved wanted = tables_indexed tables new (wanted_fits tables query new resolved wanted) all
+
+length_with_wanted : (tables : List Table) (wanted : Option NewIndex) → length (with_wanted tables wanted) ≡ length tables
+length_with_wanted tables None = refl
+length_with_wanted tables (Some new) = length-set tables (new.table - 1) (with_new_index (table_at tables new.table) new.index)
+
+pub valid_made : {s : Schema} → IsValid s → AreMade s.tables
+valid_made empty = λ number one there. absurd (omega arith)
+valid_made (then_table s def table v d made) =
+    tables_with s.tables table (valid_made v) (subst (IsMade s.tables (length s.tables + 1)) (made_is s def table made) (is_made s def (made_none s def table made)))
+valid_made (then_query s query wanted v d) = made_with_wanted s.tables query wanted (valid_made v) d.resolved d.chosen
+
+pub valid_small : {s : Schema} → IsValid s → IsSmall s
+valid_small empty = record { tables = omega arith; definitions = omega arith }
+valid_small (then_table s def table v d made) =
+    let none = made_none s def table made in
+    let tables = table_room s def none in
+    let definitions = room s def none in
+    let one = length-append s.tables (table ∷ []) in
+    let two = length-append s.definitions (OfTable (length s.tables + 1) (length table.indexes) ∷ []) in
+    record { tables = omega (arith, one, tables); definitions = omega (arith, two, definitions) }
+valid_small (then_query s query wanted v d) =
+    let before = valid_small v in
+    let definitions = definition_room s query.name (accepted (definition_refusal s query.name) (with_query s query wanted) (with_query s query wanted) d.accepted).0 in
+    let one = length_with_wanted s.tables wanted in
+    let two = length-append s.definitions (OfQuery query (option_map made_of wanted) ∷ []) in
+    let few = before.tables in
+    record { tables = omega (arith, one, few); definitions = omega (arith, two, definitions) }
+
+pub valid_sound : {s : Schema} → IsValid s → IsSound s
+valid_sound v = record { small = valid_small v; valid = v }
+
+pub empty_sound : IsSound empty_schema
+empty_sound = valid_sound empty
+
+-- the fields are those of a sound schema
+pub sound_as : (s : Schema) (tables : List Table) (definitions : List Definition) → tables ≡ s.tables → definitions ≡ s.definitions → IsSound s → IsSound (record { tables = tables; definitions = definitions })
+sound_as s tables definitions e f sound =
+    let next : Schema = record { tables = tables; definitions = definitions } in
+    let same : s ≡ next = λ i. record { tables = sym e i; definitions = sym f i } in
+    subst IsSound same sound
+
+-- the foreign keys of a table in order
+pub few_foreign_at : (tables : List Table) (i : ℕ) (d : Table) → AreMade tables → i < length tables → length (get_or tables i d).foreign ≤ 4
+few_foreign_at tables i d all there = All-get_or (λ (t : Table). length t.foreign ≤ 4) tables i d there (All-from_get_or (λ (t : Table). length t.foreign ≤ 4) tables no_table each)
+  where
+    each : (k : ℕ) → k < length tables → length (get_or tables k no_table).foreign ≤ 4
+    each k here =
+        let place : k + 1 - 1 ≡ k = omega arith in
+        subst (λ n. length (get_or tables n no_table).foreign ≤ 4) place (all (k + 1) (omega arith) (omega arith)).few_foreign

@@ -1,0 +1,58 @@
+-- Names in small letters, and the definitions of tables whose words are names and kinds.
+use Rattle.std.specs.Prelude.{◌≡◌, ◌⊎◌, ℕ, ℤ, pos, Bool, true, false, not, ◌==◌, ◌&&◌, ◌||◌, nat_le, All, List, [], ◌∷◌, map, length, codes}
+use Rattle.std.specs.Str.{bytes_eq}
+use Rattle.std.specs.List.{list_any, list_all}
+use Rattle.pq_base.specs.Words.{raised, keywords}
+use Rattle.pq_schema.specs.declared.definition.ColumnDef.{ColumnDef}
+use Rattle.pq_schema.specs.declared.definition.LimitDef.{LimitDef}
+use Rattle.pq_schema.specs.declared.definition.ForeignDef.{ForeignDef}
+use Rattle.pq_schema.specs.declared.definition.TableDef.{TableDef}
+
+-- a small letter or `_`
+abbrev pub is_letter : ℕ → Bool
+is_letter b = b == 95 || nat_le 97 b && nat_le b 122
+
+abbrev pub is_digit : ℕ → Bool
+is_digit b = nat_le 48 b && nat_le b 57
+
+abbrev pub is_name_byte : ℕ → Bool
+is_name_byte b = is_letter b || is_digit b
+
+-- letters and digits, the first a letter
+abbrev pub is_word : List ℕ → Bool
+is_word [] = false
+is_word (b ∷ bs) = is_letter b && list_all is_name_byte bs
+
+-- a keyword in any letter case
+abbrev pub is_keyword : List ℕ → Bool
+is_keyword name = list_any (bytes_eq (map raised name)) keywords
+
+-- a word of at most 32 bytes that is no keyword
+unfoldable pub is_name : List ℕ → Bool
+is_name name = is_word name && nat_le (length name) 32 && not (is_keyword name)
+
+abbrev pub IsName : List ℕ → Type 0
+IsName name = is_name name ≡ true
+
+-- INT and BOOL have size 0, TEXT any
+abbrev pub IsKind : List ℕ → ℤ → Type 0
+IsKind kind size = ((kind ≡ codes "INT") × (size ≡ pos 0)) ⊎ (((kind ≡ codes "BOOL") × (size ≡ pos 0)) ⊎ (kind ≡ codes "TEXT"))
+
+pub record IsColumnDef (column : ColumnDef) : Type 0 where
+  pub name : IsName column.name
+  pub kind : IsKind column.kind column.size
+
+abbrev pub IsLimitDef : LimitDef → Type 0
+IsLimitDef limit = All IsName limit.cols
+
+pub record IsForeignDef (foreign : ForeignDef) : Type 0 where
+  pub cols : All IsName foreign.cols
+  pub table : IsName foreign.table
+
+-- a definition as statements spell it
+pub record IsTableDef (def : TableDef) : Type 0 where
+  pub name : IsName def.name
+  pub columns : All IsColumnDef def.columns
+  pub key : All IsName def.key
+  pub limits : All IsLimitDef def.limits
+  pub foreign : All IsForeignDef def.foreign

@@ -1,0 +1,142 @@
+//! Names in small letters, and whether the words of a definition are names and kinds.
+
+ghost use Rattle.std.specs.Prelude.{◌≡◌, All, IsTrue};
+ghost use Rattle.std.specs.List.{list_all};
+ghost use Rattle.pq_schema.specs.Names.{is_letter, is_digit, is_name_byte, is_word, is_keyword, is_name, IsName, IsKind, IsColumnDef, IsLimitDef, IsForeignDef, IsTableDef};
+
+use crate::definition::{ColumnDef, ForeignDef, LimitDef, TableDef};
+use pq_base::{PText, keyword_table};
+
+/// The greatest number of bytes of a name.
+pub const NAME_BYTES: usize = 32;
+
+fn is_letter(b: u8) -> bool
+    ensures { result ≡ is_letter b }
+{
+    b == b'_' || b'a' <= b && b <= b'z'
+}
+
+fn is_digit(b: u8) -> bool
+    ensures { result ≡ is_digit b }
+{
+    b'0' <= b && b <= b'9'
+}
+
+fn is_name_byte(b: u8) -> bool
+    ensures { result ≡ is_name_byte b }
+{
+    is_letter(b) || is_digit(b)
+}
+
+fn are_name_bytes(bytes: &[u8]) -> bool
+    ensures { result ≡ list_all is_name_byte bytes.now }
+{
+    bytes.iter().all(|b| is_name_byte(*b))
+}
+
+fn is_word(bytes: &[u8]) -> bool
+    ensures { result ≡ is_word bytes.now }
+{
+    match bytes.split_first() {
+        None => false,
+        Some((first, rest)) => is_letter(*first) && are_name_bytes(rest),
+    }
+}
+
+fn is_keyword(bytes: &[u8]) -> bool
+    ensures { result ≡ is_keyword bytes.now }
+{
+    keyword_table().lookup(bytes).is_some()
+}
+
+/// Whether it is a name: small letters, digits and `_`, at most 32 bytes, no digit first, and no keyword.
+#[tactic(auto, unfolding(crate::specs::Names::is_name))]
+pub fn is_name(name: &PText) -> bool
+    ensures { result ≡ is_name name.now }
+{
+    let bytes = name.bytes();
+    is_word(bytes) && bytes.len() <= NAME_BYTES && !is_keyword(bytes)
+}
+
+fn are_names(names: &[PText]) -> bool
+    ensures { IsTrue result → All IsName names.now }
+{
+    for name in names {
+        if !is_name(name) {
+            return false;
+        }
+    }
+    true
+}
+
+impl ColumnDef {
+    fn has_kind(&self) -> bool
+        ensures { IsTrue result → IsKind self.now.kind self.now.size }
+    {
+        let kind = self.kind.bytes();
+        if kind == b"TEXT".as_slice() {
+            return true;
+        }
+        self.size == 0 && (kind == b"INT".as_slice() || kind == b"BOOL".as_slice())
+    }
+
+    fn is_spelt(&self) -> bool
+        ensures { IsTrue result → IsColumnDef self.now }
+    {
+        is_name(&self.name) && self.has_kind()
+    }
+}
+
+fn columns_spelt(columns: &[ColumnDef]) -> bool
+    ensures { IsTrue result → All IsColumnDef columns.now }
+{
+    for column in columns {
+        if !column.is_spelt() {
+            return false;
+        }
+    }
+    true
+}
+
+fn limits_spelt(limits: &[LimitDef]) -> bool
+    ensures { IsTrue result → All IsLimitDef limits.now }
+{
+    for limit in limits {
+        if !are_names(limit.cols.items()) {
+            return false;
+        }
+    }
+    true
+}
+
+impl ForeignDef {
+    fn is_spelt(&self) -> bool
+        ensures { IsTrue result → IsForeignDef self.now }
+    {
+        is_name(&self.table) && are_names(self.cols.items())
+    }
+}
+
+fn foreign_spelt(foreign: &[ForeignDef]) -> bool
+    ensures { IsTrue result → All IsForeignDef foreign.now }
+{
+    for item in foreign {
+        if !item.is_spelt() {
+            return false;
+        }
+    }
+    true
+}
+
+impl TableDef {
+    /// Whether a statement may spell the definition: its names are names, and its kinds are kinds.
+    pub fn is_spelt(&self) -> bool
+        ensures { IsTrue result → IsTableDef self.now }
+    {
+        is_name(&self.name)
+            && columns_spelt(self.columns.items())
+            && are_names(self.key.items())
+            && limits_spelt(self.limits.items())
+            && foreign_spelt(self.foreign.items())
+    }
+}
