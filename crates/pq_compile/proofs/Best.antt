@@ -12,7 +12,8 @@ use Rattle.pq_plan.proofs.Members.{map_in, member_at}
 use Rattle.pq_plan.proofs.Choices.{Has, cost_of, candidate_has}
 use Rattle.pq_stop_push.specs.Pushes.{Planned, planned, planned_candidates}
 use Rattle.pq_compile.specs.Lowered.{lesser_planned, least_planned}
-use Rattle.pq_compile.specs.Chosen.{first_unbounded, IsBest}
+use Rattle.pq_schema.specs.Wanted.{first_unbounded}
+use Rattle.pq_compile.specs.Chosen.{IsBest}
 
 pub find_after : (p : ℕ → Bool) (a b : ℕ) → a < b → find p (range_with_len a (b - a)) ≡ cond (p a) (Some a) (find p (range_with_len (a + 1) (b - (a + 1))))
 find_after p a b lt = let e : b - a ≡ suc (b - (a + 1)) = omega arith in rw e

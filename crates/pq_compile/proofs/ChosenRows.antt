@@ -12,7 +12,7 @@ use Rattle.pq_schema.specs.declared.query.Stop.TheVariants as stop
 use Rattle.pq_schema.specs.Costs.{bound}
 use Rattle.pq_schema.specs.Sequences.{ascending}
 use Rattle.pq_schema.proofs.Rows.{users, tables, home, in_city, friends, pred, col, k, kx, g, chain, chain_two}
-use Rattle.pq_compile.specs.Chosen.{chosen}
+use Rattle.pq_schema.specs.Wanted.{chosen}
 
 -- the least candidate at a stop, with a new index
 home_chosen : chosen tables home ≡ Ok (record {

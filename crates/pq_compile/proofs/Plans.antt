@@ -19,7 +19,8 @@ use Rattle.pq_plan.proofs.PlanTree.{plan_tree}
 use Rattle.pq_plan.proofs.Means.{plan_means}
 use Rattle.pq_stop_push.specs.Pushes.{IsOver, Planned, candidate_tree}
 use Rattle.pq_compile.specs.Lowered.{lowered}
-use Rattle.pq_compile.specs.Chosen.{is_large, index_of, with_index, chosen_of, chosen, IsBest}
+use Rattle.pq_schema.specs.Wanted.{is_large, index_of, with_index, chosen_of, chosen}
+use Rattle.pq_compile.specs.Chosen.{IsBest}
 use Rattle.pq_compile.proofs.Best.{best_has, best_choice}
 use Rattle.pq_compile.proofs.CandidateNodes.{over_candidate, lowered_candidate}
 

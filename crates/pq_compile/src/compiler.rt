@@ -5,7 +5,8 @@ ghost use Rattle.pq_base.specs.Answers.{Refuses};
 ghost use Rattle.pq_schema.specs.Sound.{IsQuery};
 ghost use Rattle.pq_schema.specs.Candidates.{candidates as candidates_of};
 ghost use Rattle.pq_stop_push.specs.Pushes.{held};
-ghost use Rattle.pq_compile.specs.Chosen.{is_large, first_unbounded, no_bound, Chosen, chosen, IsBest, IsCompiled};
+ghost use Rattle.pq_schema.specs.Wanted.{is_large, first_unbounded, no_bound, Chosen, chosen};
+ghost use Rattle.pq_compile.specs.Chosen.{IsBest, IsCompiled};
 
 use crate::choosing::least;
 use crate::lowering::lower;

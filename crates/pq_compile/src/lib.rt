@@ -7,6 +7,8 @@
 mod choosing;
 mod compiler;
 mod lowering;
+#[cfg(test)]
+mod tests;
 mod wanting;
 
 pub use compiler::{Compiled, compile};

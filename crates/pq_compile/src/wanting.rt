@@ -6,7 +6,7 @@ ghost use Rattle.pq_schema.specs.Sound.{IsQuery, AreRefs};
 ghost use Rattle.pq_schema.specs.Relations.{fixed, order_rest};
 ghost use Rattle.pq_plan.specs.Plans.{HasChoice};
 ghost use Rattle.pq_index_pick.specs.Needs.{IsNeed};
-ghost use Rattle.pq_compile.specs.Chosen.{index_at, index_of};
+ghost use Rattle.pq_schema.specs.Wanted.{index_at, index_of};
 
 use pq_base::{Choice, Refusal, Stopped};
 use pq_index_pick::{Need, new_index, serving};

@@ -3,7 +3,7 @@ use Rattle.pq_plan.specs.Cost.{cost}
 use Rattle.pq_plan.specs.Plans.{IsPlanFor}
 use Rattle.pq_plan.specs.Running.{PlanMeansAnswer}
 use Rattle.pq_stop_push.specs.Pushes.{held}
-use Rattle.pq_compile.specs.Chosen.{is_large}
+use Rattle.pq_schema.specs.Wanted.{is_large}
 use Rattle.pq_compile.proofs.Plans.{same_choice, has_choice, over, plan_is, plan_for, numbers, meaning, chosen_made}
 use Rattle.pq_compile.proofs.compiler.compile_best.Goals as goal
 

@@ -1,0 +1,8 @@
+//! Worked queries, and seeded ones against the rules written a second time.
+mod made;
+mod plain;
+mod seeded;
+mod sound;
+mod spelt;
+mod trees;
+mod worked;
