@@ -1,0 +1,11 @@
+pub mod Alls
+pub mod Cut
+pub mod Prints
+pub mod Pieces
+pub mod Names
+pub mod Named
+pub mod Tables
+pub mod Defined
+pub mod Queries
+pub mod Orders
+pub mod Lengths

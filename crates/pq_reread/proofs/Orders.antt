@@ -1,0 +1,198 @@
+-- Tables that are defined one after the other are orderly.
+use Rattle.std.proofs.Common.{◌≡◌, ℕ, ◌+◌, ◌<◌, ◌≤◌, Bool, true, false, cond, not, ◌||◌, eqb, List, [], ◌∷◌, ◌++◌, length, map, Some, None, Ok, refl, sym, ap, subst, ◌∙◌, arith, append_assoc, length-append, eq-eqb, ◌⊎◌, inl, inr}
+use Rattle.std.specs.Prelude.{nat_lt, find, position, is_some, fold, All, slice_index_or}
+use Rattle.std.specs.Option.{option_map}
+use Rattle.std.specs.List.{list_any, position_or_len, AllByRecursion}
+use Rattle.std.specs.Str.{bytes_eq}
+use Rattle.std.proofs.Math.ListN.{get_or-append}
+use Rattle.std.proofs.Math.Seq.{get_or-append_seam}
+use Rattle.std.proofs.lemmas.Bool.{lt-ltb}
+use Rattle.std.proofs.lemmas.Bool.Decides.{nat_tests}
+use Rattle.std.proofs.lemmas.List.{length-map, map-append}
+use Rattle.std.proofs.lemmas.List.Elements.{All-append, All-nil, All-cons}
+use Rattle.std.proofs.lemmas.List.Folds.{position_or_len_push}
+use Rattle.std.proofs.lemmas.List.Sums.{prefix_len-le-length}
+use Rattle.std.proofs.lemmas.Slice.Eq.{bytes_eq-Decides}
+use Rattle.pq_base.specs.Columns.{set_of}
+use Rattle.pq_schema.specs.declared.definition.ColumnDef.{ColumnDef}
+use Rattle.pq_schema.specs.declared.definition.TableDef.{TableDef}
+use Rattle.pq_schema.specs.declared.table.Column.{Column}
+use Rattle.pq_schema.specs.declared.table.Table.{Table}
+use Rattle.pq_schema.specs.Definitions.{column_of, is_column, is_unknown, place_of, no_column, repeated, repeated_after, refused_if, is_outside, first_repeated, definition_refusal, name_refusal, counts_refusal, columns_refusal, names_refusal, key_refusal, groups_refusal, table_refusal, bare_table, table_of_def, new_table}
+use Rattle.pq_schema.specs.Names.{IsName, IsColumnDef, IsTableDef}
+use Rattle.pq_schema.specs.Schema.{Schema, is_table, is_taken, number_of, find_query}
+use Rattle.pq_schema.specs.Sequences.{ascending, group_access, with_group}
+use Rattle.pq_reread.specs.Orderly.{AreApart, IsOrderly, AreOrderly}
+use Rattle.pq_reread.proofs.Alls.{one_by_one}
+use Rattle.pq_reread.proofs.Names.{turned}
+use Rattle.pq_reread.proofs.Defined.{ok_is, neither_refuses, not_refused, none_mapped, not_false, inside_some, none_passes, within, place_is}
+
+-- ---- elements with different names
+
+absent : {X : Type 0} (name : X → List ℕ) (n : List ℕ) (xs : List X) → list_any (bytes_eq n) (map name xs) ≡ false → position_or_len (λ x. bytes_eq (name x) n) xs ≡ length xs
+absent name n [] e = refl
+absent name n (x ∷ xs) e =
+    let parts = neither (bytes_eq n (name x)) (list_any (bytes_eq n) (map name xs)) e in
+    let other : bytes_eq (name x) n ≡ false = turned (name x) n (bytes_eq (name x) n) parts.0 refl in
+    rw other (omega (arith, absent name n xs parts.1))
+  where
+    neither : (a b : Bool) → (a || b) ≡ false → (a ≡ false) × (b ≡ false)
+    neither true b e = absurd cc
+    neither false b e = (refl, e)
+
+same_bytes : (w : List ℕ) → bytes_eq w w ≡ true
+same_bytes w = (bytes_eq-Decides w w).1 refl
+
+eqb_self : (n : ℕ) → eqb n n ≡ true
+eqb_self n = eq-eqb n n refl
+
+eqb_below : (i n : ℕ) → i < n → eqb i n ≡ false
+eqb_below i n lt = grind arith
+
+push_at : {X : Type 0} (name : X → List ℕ) (xs : List X) (y : X) → AreApart name xs → position_or_len (λ x. bytes_eq (name x) (name y)) xs ≡ length xs
+    → (i : ℕ) (d : X) → ((i < length xs) ⊎ (i ≡ length xs)) → position_or_len (λ x. bytes_eq (name x) (name (slice_index_or (xs ++ y ∷ []) i d))) (xs ++ y ∷ []) ≡ i
+push_at {X} name xs y apart new i d (inl lt) =
+    let n = name (slice_index_or xs i d) in
+    ap (λ (z : X). position_or_len (λ x. bytes_eq (name x) (name z)) (xs ++ y ∷ [])) (get_or-append xs (y ∷ []) d i lt)
+    ∙ position_or_len_push (λ x. bytes_eq (name x) n) xs y
+    ∙ ap (λ (k : ℕ). cond (eqb k (length xs)) (length xs + cond (bytes_eq (name y) n) 0 1) k) (apart i d lt)
+    ∙ ap (λ (b : Bool). cond b (length xs + cond (bytes_eq (name y) n) 0 1) i) (eqb_below i (length xs) lt)
+push_at {X} name xs y apart new i d (inr end) =
+    ap (λ (k : ℕ). position_or_len (λ x. bytes_eq (name x) (name (slice_index_or (xs ++ y ∷ []) k d))) (xs ++ y ∷ [])) end
+    ∙ ap (λ (z : X). position_or_len (λ x. bytes_eq (name x) (name z)) (xs ++ y ∷ [])) (get_or-append_seam xs y [] d)
+    ∙ position_or_len_push (λ x. bytes_eq (name x) (name y)) xs y
+    ∙ ap (λ (k : ℕ). cond (eqb k (length xs)) (length xs + cond (bytes_eq (name y) (name y)) 0 1) k) new
+    ∙ ap (λ (b : Bool). cond b (length xs + cond (bytes_eq (name y) (name y)) 0 1) (length xs)) (eqb_self (length xs))
+    ∙ ap (λ (b : Bool). length xs + cond b 0 1) (same_bytes (name y))
+    ∙ omega (arith, end)
+
+push : {X : Type 0} (name : X → List ℕ) (xs : List X) (y : X) → AreApart name xs → position_or_len (λ x. bytes_eq (name x) (name y)) xs ≡ length xs → AreApart name (xs ++ y ∷ [])
+push name xs y apart new i d lt = push_at name xs y apart new i d (below_or_end i (length xs) (omega (arith, length-append xs (y ∷ []))))
+  where
+    below_or_end : (i n : ℕ) → i < n + 1 → (i < n) ⊎ (i ≡ n)
+    below_or_end i n lt = grind arith
+
+nil_apart : {X : Type 0} (name : X → List ℕ) → AreApart name []
+nil_apart name i d lt = absurd (omega arith)
+
+-- ---- columns
+
+abbrev column_names : Column → List ℕ
+column_names column = column.name
+
+unrepeated : (before names : List (List ℕ)) (n : List ℕ) (b : Bool) → cond b (Some n) (repeated_after (before ++ n ∷ []) names) ≡ None → (b ≡ false) × (repeated_after (before ++ n ∷ []) names ≡ None)
+unrepeated before names n true e = absurd cc
+unrepeated before names n false e = (refl, e)
+
+columns_apart : (before : List Column) (cs : List ColumnDef) → AreApart column_names before → repeated_after (map column_names before) (map (λ (c : ColumnDef). c.name) cs) ≡ None → AreApart column_names (before ++ map column_of cs)
+columns_apart before [] apart e = subst (AreApart column_names) (sym (nothing_behind before)) apart
+  where
+    nothing_behind : {X : Type 0} (xs : List X) → xs ++ [] ≡ xs
+    nothing_behind [] = refl
+    nothing_behind (x ∷ xs) = ap (λ v. x ∷ v) (nothing_behind xs)
+columns_apart before (c ∷ cs) apart e =
+    let parts = unrepeated (map column_names before) (map (λ (d : ColumnDef). d.name) cs) c.name (list_any (bytes_eq c.name) (map column_names before)) e in
+    let more = push column_names before (column_of c) apart (absent column_names c.name before parts.0) in
+    subst (AreApart column_names) (append_assoc before (column_of c ∷ []) (map column_of cs))
+    (columns_apart (before ++ column_of c ∷ []) cs more (ap (λ (v : List (List ℕ)). repeated_after v (map (λ (d : ColumnDef). d.name) cs)) (map-append column_names before (column_of c ∷ [])) ∙ parts.1))
+
+named_columns : (cs : List ColumnDef) → AllByRecursion IsColumnDef cs → AllByRecursion (λ (column : Column). IsName column.name) (map column_of cs)
+named_columns [] all = tt
+named_columns (c ∷ cs) all = (all.0.name, named_columns cs all.1)
+
+places_within : (cs : List ColumnDef) (names : List (List ℕ)) → find (is_unknown cs) names ≡ None → AllByRecursion (λ col. col < length (map column_of cs)) (map (place_of cs) names)
+places_within cs [] e = tt
+places_within cs (n ∷ ns) e =
+    let parts = none_passes (is_unknown cs) n ns (is_unknown cs n) e in
+    let known = not_false (list_any (is_column n) cs) parts.0 in
+    (omega (arith, place_is cs n known, within (is_column n) cs known, length-map cs column_of), places_within cs ns parts.1)
+
+-- ---- tables
+
+bare_orderly : (schema : Schema) (def : TableDef) → IsTableDef def → table_refusal schema def ≡ None → IsOrderly (bare_table schema def)
+bare_orderly schema def is e =
+    let later = (neither_refuses (name_refusal schema def.name) _ e).1 in
+    let counts = neither_refuses (counts_refusal def) _ later in
+    let columns = neither_refuses (columns_refusal def.columns) (groups_refusal schema def) counts.1 in
+    let apart = (neither_refuses (refused_if _ _) (option_map repeated (first_repeated (map (λ (c : ColumnDef). c.name) def.columns))) columns.0).1 in
+    let groups = neither_refuses (key_refusal def.columns def.key) _ columns.1 in
+    let key = neither_refuses (names_refusal def.columns def.key) _ groups.0 in
+    let known = (neither_refuses (option_map no_column (find (is_unknown def.columns) def.key)) _ key.0).0 in
+    let count = not_refused (is_outside (length def.key) 4) _ key.1 in
+    record {
+      name = is.name;
+      columns = named_columns def.columns (one_by_one IsColumnDef def.columns is.columns);
+      apart = columns_apart [] def.columns (nil_apart column_names) (none_mapped repeated _ apart);
+      some_key = omega (arith, inside_some (length def.key) 4 count, length-map def.key (place_of def.columns));
+      short_key = omega (arith, inside_most (length def.key) 4 count, length-map def.key (place_of def.columns));
+      key = places_within def.columns def.key (none_mapped no_column _ known);
+    }
+  where
+    inside_most : (n most : ℕ) → is_outside n most ≡ false → n ≤ most
+    inside_most n most e = grind (arith, nat_tests)
+
+group_orderly : (t : Table) (cols : List ℕ) (b : Bool) → IsOrderly t → IsOrderly (cond b t (record t { indexes = t.indexes ++ record { cols = map ascending cols } ∷ [] }))
+group_orderly t cols true p = p
+group_orderly t cols false p = record { name = p.name; columns = p.columns; apart = p.apart; some_key = p.some_key; short_key = p.short_key; key = p.key }
+
+groups_orderly : (groups : List (List ℕ)) (t : Table) → IsOrderly t → IsOrderly (fold with_group t groups)
+groups_orderly [] t p = p
+groups_orderly (cols ∷ groups) t p = groups_orderly groups (with_group t cols) (group_orderly t cols (is_some (group_access t (set_of cols))) p)
+
+-- indexes leave the name
+group_name : (t : Table) (cols : List ℕ) (b : Bool) → (cond b t (record t { indexes = t.indexes ++ record { cols = map ascending cols } ∷ [] })).name ≡ t.name
+group_name t cols true = refl
+group_name t cols false = refl
+
+groups_name : (groups : List (List ℕ)) (t : Table) → (fold with_group t groups).name ≡ t.name
+groups_name [] t = refl
+groups_name (cols ∷ groups) t = groups_name groups (with_group t cols) ∙ group_name t cols (is_some (group_access t (set_of cols)))
+
+-- a name that is free is no table's
+free_name : (schema : Schema) (name : List ℕ) → is_taken schema name ≡ false → position_or_len (is_table name) schema.tables ≡ length schema.tables
+free_name schema name e = by_test (nat_lt (position_or_len (is_table name) schema.tables) (length schema.tables)) refl (is_some (find_query schema name)) e
+  where
+    by_test : (b : Bool) → nat_lt (position_or_len (is_table name) schema.tables) (length schema.tables) ≡ b → (other : Bool)
+        → (is_some (option_map number_of (cond b (Some (position_or_len (is_table name) schema.tables)) None)) || other) ≡ false → position_or_len (is_table name) schema.tables ≡ length schema.tables
+    by_test true is other e = absurd cc
+    by_test false is other e = grind (arith, nat_tests, prefix_len-le-length (λ table. not (is_table name table)) schema.tables)
+
+abbrev table_names : Table → List ℕ
+table_names table = table.name
+
+one_more : (tables : List Table) (table : Table) → AreOrderly tables → IsOrderly table → position_or_len (is_table table.name) tables ≡ length tables → AreOrderly (tables ++ table ∷ [])
+one_more tables table are is new = record {
+  each = All-append IsOrderly tables (table ∷ []) are.each (All-cons IsOrderly table [] is (All-nil IsOrderly));
+  apart = push table_names tables table are.apart new;
+}
+
+pub none_orderly : AreOrderly []
+none_orderly = record { each = All-nil IsOrderly; apart = nil_apart table_names }
+
+pub table_orderly : (schema : Schema) (def : TableDef) (table : Table) → AreOrderly schema.tables → IsTableDef def → new_table schema def ≡ Ok table → AreOrderly (schema.tables ++ table ∷ [])
+unfolding new_table
+table_orderly schema def table are is e =
+    let made = ok_is (table_refusal schema def) (table_of_def schema def) table e in
+    let groups = map (λ limit. limit.cols) (bare_table schema def).limits ++ map (λ foreign. foreign.cols) (bare_table schema def).foreign in
+    let names = (neither_refuses (definition_refusal schema def.name) _ (neither_refuses (name_refusal schema def.name) _ made.0).0).0 in
+    let free = not_refused (is_taken schema def.name) _ (neither_refuses (refused_if _ _) _ names).1 in
+    let name : table.name ≡ def.name = sym (ap (λ (t : Table). t.name) made.1) ∙ groups_name groups (bare_table schema def) in
+    one_more schema.tables table are (subst IsOrderly made.1 (groups_orderly groups (bare_table schema def) (bare_orderly schema def is made.0)))
+    (ap (λ (n : List ℕ). position_or_len (is_table n) schema.tables) name ∙ free_name schema def.name free)
+
+pub keys_of : (tables : List Table) → AreOrderly tables → All (λ (table : Table). 0 < length table.key) tables
+keys_of tables are k d lt = (are.each k d lt).some_key
+
+-- ---- what is found by its name
+
+found_at : {X : Type 0} (p : X → Bool) (xs : List X) (i : ℕ) → position_or_len p xs ≡ i → i < length xs → position p xs ≡ Some i
+found_at p xs i e lt =
+    let within : nat_lt (position_or_len p xs) (length xs) ≡ true = lt-ltb _ _ (omega (arith, e)) in
+    rw within (ap (λ (k : ℕ). Some k) e)
+
+-- the column of a name is found at its place
+pub column_found : (table : Table) (col : ℕ) (d : Column) → IsOrderly table → col < length table.columns → position (λ (column : Column). bytes_eq column.name (slice_index_or table.columns col d).name) table.columns ≡ Some col
+column_found table col d is lt = found_at _ table.columns col (is.apart col d lt) lt
+
+pub table_found : (tables : List Table) (place : ℕ) (d : Table) → AreOrderly tables → place < length tables → position (is_table (slice_index_or tables place d).name) tables ≡ Some place
+table_found tables place d are lt = found_at _ tables place (are.apart place d lt) lt

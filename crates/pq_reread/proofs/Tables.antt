@@ -1,0 +1,265 @@
+-- The canonical text of a table is cut into what spells its definition.
+use Rattle.std.proofs.Common.{◌≡◌, ℕ, ℤ, pos, negsuc, ◌^◌, ◌<◌, Bool, true, false, cond, ◌&&◌, List, [], ◌∷◌, ◌++◌, Option, Some, None, Ok, refl, sym, ap, subst, ◌∙◌, arith, append_assoc, inl, inr, map}
+use Rattle.std.specs.Prelude.{codes, nat_le}
+use Rattle.std.specs.Fmt.{decimal}
+use Rattle.std.specs.Str.{is_utf8}
+use Rattle.std.specs.Option.{is_some, option_map, unwrap_or}
+use Rattle.std.specs.List.{All, AllByRecursion}
+use Rattle.std.proofs.lemmas.Bool.Decides.{nat_tests}
+use Rattle.pq_base.specs.declared.value.ColType.TheVariants as type
+use Rattle.pq_schema.specs.Definitions.{text_size, type_of, has_type, column_of}
+use Rattle.pq_schema.specs.Names.{IsName, IsKind, IsColumnDef, IsLimitDef, IsForeignDef, IsTableDef}
+use Rattle.pq_schema.specs.Tables.{table_at}
+use Rattle.pq_schema.specs.declared.definition.ColumnDef.{ColumnDef}
+use Rattle.pq_schema.specs.declared.definition.LimitDef.{LimitDef}
+use Rattle.pq_schema.specs.declared.definition.ForeignDef.{ForeignDef}
+use Rattle.pq_schema.specs.declared.definition.TableDef.{TableDef}
+use Rattle.pq_schema.specs.declared.table.Column.{Column}
+use Rattle.pq_schema.specs.declared.table.Limit.{Limit}
+use Rattle.pq_schema.specs.declared.table.Foreign.{Foreign}
+use Rattle.pq_schema.specs.declared.table.Table.{Table}
+use Rattle.pq_grammar.specs.Language.{◌⋅◌, each}
+use Rattle.pq_grammar.proofs.Lists.{regroup}
+use Rattle.pq_text.specs.Tokens.{tokens_of}
+use Rattle.pq_shape.specs.Shapes.{place_of, word_shape}
+use Rattle.pq_shape.specs.Parts.{comma, name as a_name, number}
+use Rattle.pq_shape.specs.declared.keyword.TheConstants.{BOOL, CARDINALITY, CREATE, FOREIGN, INT, KEY, LIMIT, PRIMARY, REFERENCES, TABLE, TEXT}
+use Rattle.pq_shape.specs.declared.shape.Shape.{Shape}
+use Rattle.pq_shape.specs.declared.shape.Shape.TheVariants as shape
+use Rattle.pq_def_read.specs.Definitions.{int_kind, bool_kind, text_kind, limits_of, foreign_of}
+use Rattle.pq_def_read.specs.Grammar.{cols, kind as a_kind, text_size as sized_text, column, limit, foreign, a_constraint, constraints, create}
+use Rattle.pq_def_read.specs.Reading.{statement_of}
+use Rattle.pq_def_read.specs.declared.definition.Constraint.{Constraint}
+use Rattle.pq_def_read.specs.declared.definition.Constraint.TheVariants as constraint
+use Rattle.pq_def_read.specs.declared.definition.Constraints.{Constraints}
+use Rattle.pq_def_read.specs.declared.statement.Statement.TheVariants.{Create}
+use Rattle.pq_print.specs.Lists.{each_after, separated as separated_texts}
+use Rattle.pq_print.specs.Canonical.{column_name, type_text, column_text, columns_text, limit_text, foreign_text, items_text, table_text}
+use Rattle.pq_reread.specs.Said.{Pairwise, SaysColumn, SaysColumns, SaysLimit, SaysForeign, Says}
+use Rattle.pq_reread.proofs.Alls.{one_by_one}
+use Rattle.pq_reread.proofs.Prints.{Prints, join, respelled, space, spaced, looser, mark_prints, word_prints, number_prints, each_prints, separated_prints, whole, whole_utf8}
+use Rattle.pq_reread.proofs.Names.{name_is_word, word_is_name}
+use Rattle.pq_reread.proofs.Named.{statement_spelled}
+
+pub name_prints : (n : List ℕ) → IsName n → Prints (a_name n) false n true
+name_prints n is = word_prints n (shape.Name n) (name_is_word n is) (word_is_name n is)
+
+bool_word : word_shape (codes "BOOL") ≡ shape.Keyword BOOL
+unfolding place_of
+bool_word = refl
+
+cardinality_word : word_shape (codes "CARDINALITY") ≡ shape.Keyword CARDINALITY
+unfolding place_of
+cardinality_word = refl
+
+create_word : word_shape (codes "CREATE") ≡ shape.Keyword CREATE
+unfolding place_of
+create_word = refl
+
+foreign_word : word_shape (codes "FOREIGN") ≡ shape.Keyword FOREIGN
+unfolding place_of
+foreign_word = refl
+
+int_word : word_shape (codes "INT") ≡ shape.Keyword INT
+unfolding place_of
+int_word = refl
+
+key_word : word_shape (codes "KEY") ≡ shape.Keyword KEY
+unfolding place_of
+key_word = refl
+
+limit_word : word_shape (codes "LIMIT") ≡ shape.Keyword LIMIT
+unfolding place_of
+limit_word = refl
+
+primary_word : word_shape (codes "PRIMARY") ≡ shape.Keyword PRIMARY
+unfolding place_of
+primary_word = refl
+
+references_word : word_shape (codes "REFERENCES") ≡ shape.Keyword REFERENCES
+unfolding place_of
+references_word = refl
+
+table_word : word_shape (codes "TABLE") ≡ shape.Keyword TABLE
+unfolding place_of
+table_word = refl
+
+text_word : word_shape (codes "TEXT") ≡ shape.Keyword TEXT
+unfolding place_of
+text_word = refl
+
+-- ---- columns
+
+int_prints : Prints (a_kind int_kind) false (codes "INT") true
+int_prints = respelled (λ w h. inr (inl (refl, h))) (word_prints (codes "INT") (shape.Keyword INT) refl int_word)
+
+bool_prints : Prints (a_kind bool_kind) false (codes "BOOL") true
+bool_prints = respelled (λ w h. inr (inr (refl, h))) (word_prints (codes "BOOL") (shape.Keyword BOOL) refl bool_word)
+
+text_prints : (n : ℕ) → n < 2 ^ 63 → Prints (a_kind (text_kind (pos n))) false (codes "TEXT(" ++ decimal n ++ codes ")") true
+text_prints n small =
+    let sized : Prints (sized_text (pos n)) false (codes "TEXT" ++ ((40 ∷ []) ++ (decimal n ++ (41 ∷ [])))) false =
+    join (word_prints (codes "TEXT") (shape.Keyword TEXT) refl text_word) (join (mark_prints 40 true refl refl refl) (join (number_prints n small) (mark_prints 41 true refl refl refl))) in
+    looser true (respelled (λ w h. inl (pos n, refl, h)) sized)
+
+pub size_is : (z : ℤ) → is_some (option_map type.Text (text_size z)) ≡ true → (n : ℕ) × (z ≡ pos n) × (n < 2 ^ 63) × (text_size z ≡ Some n)
+size_is (negsuc n) e = absurd cc
+size_is (pos n) e = by_test (nat_le 1 n) (nat_le n 1000) refl e
+  where
+    by_test : (low high : Bool) → nat_le n 1000 ≡ high → is_some (option_map type.Text (cond (low && high) (Some n) None)) ≡ true → (m : ℕ) × (pos n ≡ pos m) × (m < 2 ^ 63) × (cond (low && high) (Some n) None ≡ Some m)
+    by_test true true is e = (n, refl, grind (arith, nat_tests), refl)
+    by_test true false is e = absurd cc
+    by_test false high is e = absurd cc
+
+abbrev pub kind_column : List ℕ → ℤ → ColumnDef
+kind_column kind size = record { name = []; kind = kind; size = size }
+
+-- how a kind prints, where it has a type
+abbrev KindPrints : List ℕ → ℤ → Type 0
+KindPrints kind size = has_type (kind_column kind size) ≡ true → Prints (a_kind (record { name = kind; size = size })) false (type_text (unwrap_or (type_of (kind_column kind size)) type.Int)) true
+
+text_kind_prints : (size : ℤ) → KindPrints (codes "TEXT") size
+text_kind_prints size typed =
+    let n = size_is size typed in
+    subst (λ (z : ℤ). Prints (a_kind (record { name = codes "TEXT"; size = z })) false (type_text (unwrap_or (option_map type.Text (text_size size)) type.Int)) true) (sym n.1)
+    (subst (λ (o : Option ℕ). Prints (a_kind (text_kind (pos n.0))) false (type_text (unwrap_or (option_map type.Text o) type.Int)) true) (sym n.3) (text_prints n.0 n.2))
+
+kind_prints : (kind : List ℕ) (size : ℤ) → IsKind kind size → KindPrints kind size
+kind_prints kind size (inl h) = subst (λ (k : List ℕ). KindPrints k size) (sym h.0) (subst (λ (z : ℤ). KindPrints (codes "INT") z) (sym h.1) (λ typed. int_prints))
+kind_prints kind size (inr (inl h)) = subst (λ (k : List ℕ). KindPrints k size) (sym h.0) (subst (λ (z : ℤ). KindPrints (codes "BOOL") z) (sym h.1) (λ typed. bool_prints))
+kind_prints kind size (inr (inr h)) = subst (λ (k : List ℕ). KindPrints k size) (sym h) (text_kind_prints size)
+
+column_prints : (c : ColumnDef) (printed : Column) → IsColumnDef c → SaysColumn c printed → Prints (column c) false (column_text printed) true
+unfolding column_text
+column_prints c printed is says =
+    subst (λ (x : Column). Prints (column c) false (column_text x) true) (sym says.column)
+    (subst (λ (v : List ℕ). Prints (column c) false v true) (sym (append_assoc c.name (codes " ") (type_text (column_of c).ty)))
+    (join (name_prints c.name is.name) (space true (kind_prints c.kind c.size is.kind says.typed))))
+
+columns_print : (cs : List ColumnDef) (printed : List Column) → AllByRecursion IsColumnDef cs → Pairwise SaysColumn cs printed → Pairwise (λ c p. Prints (column c) false (column_text p) true) cs printed
+columns_print [] [] are says = tt
+columns_print [] (p ∷ ps) are says = absurd says
+columns_print (c ∷ cs) [] are says = absurd says
+columns_print (c ∷ cs) (p ∷ ps) are says = (column_prints c p are.0 says.0, columns_print cs ps are.1 says.1)
+
+-- ---- columns by their names
+
+pub comma_prints : Prints comma true (codes ", ") false
+comma_prints = spaced (mark_prints 44 true refl refl refl)
+
+names_print : (columns : List Column) (names : List (List ℕ)) (places : List ℕ) → AllByRecursion IsName names → Pairwise (λ name col. column_name columns col ≡ name) names places
+    → Pairwise (λ name col. Prints (a_name name) false (column_name columns col) true) names places
+names_print columns [] [] are says = tt
+names_print columns [] (p ∷ ps) are says = absurd says
+names_print columns (n ∷ ns) [] are says = absurd says
+names_print columns (n ∷ ns) (p ∷ ps) are says =
+    (subst (λ (v : List ℕ). Prints (a_name n) false v true) (sym says.0) (name_prints n are.0), names_print columns ns ps are.1 says.1)
+
+cols_prints : (table : Table) (names : List (List ℕ)) (places : List ℕ) (t : Bool) → All IsName names → SaysColumns table.columns names places → Prints (cols names) t (columns_text table places) false
+unfolding columns_text
+cols_prints table names places t are says =
+    join (mark_prints 40 t refl refl refl)
+    (join (separated_prints comma (codes ", ") a_name (column_name table.columns) true comma_prints names places says.some (names_print table.columns names places (one_by_one IsName names are) says.names))
+    (mark_prints 41 true refl refl refl))
+
+-- ---- limits and foreign keys
+
+limit_prints : (table : Table) (l : LimitDef) (printed : Limit) → IsLimitDef l → SaysLimit table.columns l printed → Prints (limit l) false (limit_text table printed) true
+unfolding limit_text
+limit_prints table l printed are says =
+    let number : Prints (number l.n) false (decimal printed.n) true = subst (λ (z : ℤ). Prints (number z) false (decimal printed.n) true) (sym says.n) (number_prints printed.n says.small) in
+    subst (λ (v : List ℕ). Prints (limit l) false v true) (ap (λ (v : List ℕ). codes "CARDINALITY LIMIT " ++ v) (sym (append_assoc (decimal printed.n) (codes " ") (columns_text table printed.cols))))
+    (join (word_prints (codes "CARDINALITY") (shape.Keyword CARDINALITY) refl cardinality_word)
+    (space true (join (word_prints (codes "LIMIT") (shape.Keyword LIMIT) refl limit_word)
+    (space true (join number (space true (looser true (cols_prints table l.cols printed.cols false are says.cols))))))))
+
+foreign_prints : (tables : List Table) (table : Table) (f : ForeignDef) (printed : Foreign) → IsForeignDef f → SaysForeign tables table.columns f printed → Prints (foreign f) false (foreign_text tables table printed) true
+unfolding foreign_text
+foreign_prints tables table f printed are says =
+    subst (λ (v : List ℕ). Prints (foreign f) false v true) (ap (λ (v : List ℕ). codes "FOREIGN KEY " ++ v) (sym (append_assoc (columns_text table printed.cols) (codes " REFERENCES ") (table_at tables printed.table).name)))
+    (join (word_prints (codes "FOREIGN") (shape.Keyword FOREIGN) refl foreign_word)
+    (space true (join (word_prints (codes "KEY") (shape.Keyword KEY) refl key_word)
+    (space true (join (cols_prints table f.cols printed.cols false are.cols says.cols)
+    (space false (join (word_prints (codes "REFERENCES") (shape.Keyword REFERENCES) refl references_word)
+    (space true (subst (λ (v : List ℕ). Prints (a_name f.table) false v true) (sym says.table) (name_prints f.table are.table))))))))))
+
+limits_print : (table : Table) (ls : List LimitDef) (printed : List Limit) → AllByRecursion IsLimitDef ls → Pairwise (SaysLimit table.columns) ls printed
+    → Pairwise (λ c p. Prints (a_constraint c) false (limit_text table p) true) (map (λ l. constraint.Limit l) ls) printed
+limits_print table [] [] are says = tt
+limits_print table [] (p ∷ ps) are says = absurd says
+limits_print table (l ∷ ls) [] are says = absurd says
+limits_print table (l ∷ ls) (p ∷ ps) are says = (limit_prints table l p are.0 says.0, limits_print table ls ps are.1 says.1)
+
+foreign_print : (tables : List Table) (table : Table) (fs : List ForeignDef) (printed : List Foreign) → AllByRecursion IsForeignDef fs → Pairwise (SaysForeign tables table.columns) fs printed
+    → Pairwise (λ c p. Prints (a_constraint c) false (foreign_text tables table p) true) (map (λ f. constraint.Foreign f) fs) printed
+foreign_print tables table [] [] are says = tt
+foreign_print tables table [] (p ∷ ps) are says = absurd says
+foreign_print tables table (f ∷ fs) [] are says = absurd says
+foreign_print tables table (f ∷ fs) (p ∷ ps) are says = (foreign_prints tables table f p are.0 says.0, foreign_print tables table fs ps are.1 says.1)
+
+each_append : {X : Type 0} (S : X → List Shape → Type 0) (xs ys : List X) (w : List Shape) → (each S xs ⋅ each S ys) w → each S (xs ++ ys) w
+each_append S [] ys w h =
+    let same : w ≡ h.back = h.parts ∙ ap (λ (v : List Shape). v ++ h.back) h.fits_front in
+    subst (each S ys) (sym same) h.fits_back
+each_append S (x ∷ xs) ys w h =
+    let g = regroup (S x) (each S xs) (each S ys) w h in
+    record { front = g.front; back = g.back; fits_front = g.fits_front; fits_back = each_append S xs ys g.back g.fits_back; parts = g.parts }
+
+abbrev items_of : List LimitDef → List ForeignDef → List Constraint
+items_of ls fs = map (λ l. constraint.Limit l) ls ++ map (λ f. constraint.Foreign f) fs
+
+limits_back : (ls : List LimitDef) (fs : List ForeignDef) → limits_of (items_of ls fs) ≡ ls
+limits_back [] [] = refl
+limits_back [] (f ∷ fs) = limits_back [] fs
+limits_back (l ∷ ls) fs = ap (λ (v : List LimitDef). l ∷ v) (limits_back ls fs)
+
+foreign_back : (ls : List LimitDef) (fs : List ForeignDef) → foreign_of (items_of ls fs) ≡ fs
+foreign_back [] [] = refl
+foreign_back [] (f ∷ fs) = ap (λ (v : List ForeignDef). f ∷ v) (foreign_back [] fs)
+foreign_back (l ∷ ls) fs = foreign_back ls fs
+
+same_parts : (ls ms : List LimitDef) (fs gs : List ForeignDef) → ls ≡ ms → fs ≡ gs → (let a : Constraints = record { limits = ls; foreign = fs } in let b : Constraints = record { limits = ms; foreign = gs } in a ≡ b)
+same_parts ls ms fs gs e f = cc
+
+constraints_print : (tables : List Table) (def : TableDef) (table : Table) → IsTableDef def → Says tables def table
+    → Prints (constraints (record { limits = def.limits; foreign = def.foreign })) true (each_after (codes ", ") (limit_text table) table.limits ++ each_after (codes ", ") (foreign_text tables table) table.foreign) true
+constraints_print tables def table is says =
+    let ls = map (λ (l : LimitDef). constraint.Limit l) def.limits in
+    let fs = map (λ (f : ForeignDef). constraint.Foreign f) def.foreign in
+    respelled
+    (λ w h. (items_of def.limits def.foreign, same_parts _ _ _ _ (limits_back def.limits def.foreign) (foreign_back def.limits def.foreign), each_append (λ c. comma ⋅ a_constraint c) ls fs w h))
+    (join (each_prints comma (codes ", ") a_constraint (limit_text table) true comma_prints ls table.limits (limits_print table def.limits table.limits (one_by_one IsLimitDef def.limits is.limits) says.limits))
+    (each_prints comma (codes ", ") a_constraint (foreign_text tables table) true comma_prints fs table.foreign (foreign_print tables table def.foreign table.foreign (one_by_one IsForeignDef def.foreign is.foreign) says.foreign)))
+
+-- ---- the whole text
+
+regrouped : (a b c d e f g h i : List ℕ) → ((((a ++ b) ++ c) ++ ((((d ++ e) ++ f) ++ g) ++ h)) ++ i) ≡ a ++ (b ++ (c ++ (d ++ (e ++ (f ++ ((g ++ h) ++ i))))))
+regrouped a b c d e f g h i = simp append_assoc
+
+create_prints : (tables : List Table) (def : TableDef) (table : Table) → IsTableDef def → Says tables def table → Prints (create def) false (table_text tables table) false
+unfolding table_text items_text
+create_prints tables def table is says =
+    let columns = separated_texts (codes ", ") column_text table.columns in
+    let key = columns_text table table.key in
+    let limits = each_after (codes ", ") (limit_text table) table.limits in
+    let foreign = each_after (codes ", ") (foreign_text tables table) table.foreign in
+    subst (λ (v : List ℕ). Prints (create def) false v false) (sym (regrouped (codes "CREATE TABLE ") table.name (codes " (") columns (codes ", PRIMARY KEY ") key limits foreign (codes ");")))
+    (join (word_prints (codes "CREATE") (shape.Keyword CREATE) refl create_word)
+    (space true (join (word_prints (codes "TABLE") (shape.Keyword TABLE) refl table_word)
+    (space true (join (subst (λ (v : List ℕ). Prints (a_name def.name) false v true) (sym says.name) (name_prints def.name is.name))
+    (space true (join (mark_prints 40 false refl refl refl)
+    (join (separated_prints comma (codes ", ") column column_text true comma_prints def.columns table.columns says.some (columns_print def.columns table.columns (one_by_one IsColumnDef def.columns is.columns) says.columns))
+    (join (mark_prints 44 true refl refl refl)
+    (space false (join (word_prints (codes "PRIMARY") (shape.Keyword PRIMARY) refl primary_word)
+    (space true (join (word_prints (codes "KEY") (shape.Keyword KEY) refl key_word)
+    (space true (join (looser true (cols_prints table def.key table.key false is.key says.key))
+    (join (constraints_print tables def table is says)
+    (join (mark_prints 41 true refl refl refl) (mark_prints 59 false refl refl refl))))))))))))))))))
+
+pub table_reads : (tables : List Table) (def : TableDef) (table : Table) → IsTableDef def → Says tables def table → statement_of (table_text tables table) (tokens_of (table_text tables table)) ≡ Ok (Create def)
+table_reads tables def table is says =
+    let text = table_text tables table in
+    statement_spelled text (tokens_of text) (Create def) (whole (create def) text false (create_prints tables def table is says))
+
+pub table_utf8 : (tables : List Table) (def : TableDef) (table : Table) → IsTableDef def → Says tables def table → is_utf8 (table_text tables table) ≡ true
+table_utf8 tables def table is says = whole_utf8 (create def) (table_text tables table) false (create_prints tables def table is says)

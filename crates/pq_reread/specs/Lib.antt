@@ -1,0 +1,4 @@
+pub mod Printed
+pub mod Said
+pub mod KeyText
+pub mod Orderly

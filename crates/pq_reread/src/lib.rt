@@ -1,0 +1,8 @@
+//! Canonical texts, read back: cutting and reading a text that was printed gives what was printed.
+//!
+//! The definitions stand in `specs/`. Each call here does nothing, and its contract is a law of theirs.
+#![tactic(auto)]
+
+mod laws;
+
+pub use laws::{key_queries_law, names_law, orderly_law, printed_law, tables_law, texts_law};
