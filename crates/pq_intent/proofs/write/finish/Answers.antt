@@ -1,0 +1,18 @@
+use Rattle.std.proofs.Common.{◌∷◌, [], None, map}
+use Rattle.std.proofs.lemmas.Result.{err_from_is_err_and, on_ok_weaker, on_err_weaker}
+use Rattle.pq_content.specs.Standing.{change_of}
+use Rattle.pq_intent.proofs.Steps.{partway_front, partway_last, after_last}
+use Rattle.pq_intent.proofs.write.finish.Goals as goal
+
+pub returns-in_err-write_changes-clause-stopped : goal.returns-in_err-write_changes-clause-stopped
+returns-in_err-write_changes-clause-stopped g c =
+    let p = err_from_is_err_and c.from_residual.result c.from_residual.ensures.1 in
+    rw p.1 (partway_front (map change_of c.args.changes.now) ((c.args.key.now, None) ∷ []) _ _ c.in_err-write_changes.ensures.stopped)
+
+pub returns-clause-made : goal.returns-clause-made
+returns-clause-made g c =
+    on_ok_weaker c.put.result (after_last (map change_of c.args.changes.now) (c.args.key.now, None) _ _ _ c.in_ok-write_changes.ensures.made) c.put.ensures.made
+
+pub returns-clause-stopped : goal.returns-clause-stopped
+returns-clause-stopped g c =
+    on_err_weaker c.put.result (partway_last (map change_of c.args.changes.now) (c.args.key.now, None) _ _ _ c.in_ok-write_changes.ensures.made) c.put.ensures.stopped

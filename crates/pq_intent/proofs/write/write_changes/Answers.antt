@@ -1,0 +1,28 @@
+use Rattle.std.proofs.Common.{◌<◌, length, ◌∙◌, arith}
+use Rattle.std.proofs.lemmas.Result.{err_from_is_err_and}
+use Rattle.pq_intent.proofs.Steps.{partway_more, made_more}
+use Rattle.pq_intent.proofs.write.write_changes.Goals as goal
+
+pub returns-in_err-write_change-clause-stopped : goal.returns-in_err-write_change-clause-stopped
+returns-in_err-write_change-clause-stopped g c =
+    let p = err_from_is_err_and c.from_residual.result c.from_residual.ensures.1 in
+    let within : c.loop-change.change-index < length c.args.changes.now = omega arith in
+    rw p.1 (partway_more c.args.changes.now c.loop-change.change-index c.change-item.result _ _ _ within c.change-item.is c.loop-change.invariant.made c.in_err-write_change.ensures.stopped)
+
+pub loop-change-preserved : goal.loop-change-preserved
+loop-change-preserved g c =
+    let within : c.loop-change.change-index < length c.args.changes.now = omega arith in
+    let spends = c.write_change.ensures.spends in
+    record {
+      made = made_more c.args.changes.now c.loop-change.change-index c.change-item.result _ _ _ within c.change-item.is c.loop-change.invariant.made c.in_ok-write_change.ensures.made;
+      spends = record {
+        granted = spends.granted ∙ c.loop-change.invariant.spends.granted;
+        ops = omega arith;
+        rise = omega arith;
+        few = omega arith;
+        entries_left = omega arith;
+        entries = omega arith;
+      };
+      each = omega arith;
+      later = omega (arith, c.write_change.ensures.cause.later);
+    }

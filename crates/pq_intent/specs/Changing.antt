@@ -1,0 +1,17 @@
+-- What calls that make changes leave of a content, at whichever of them they stop.
+use Rattle.std.specs.Prelude.{◌≡◌, ◌⊎◌, ℕ, List, take, Option}
+use Rattle.std.specs.Option.{option_map}
+use Rattle.pq_content.specs.Pairs.{Content, Change, written, changed}
+
+-- the content after the changes, where it is told
+abbrev pub after : List Change → Option Content → Option Content
+after changes old = option_map (changed changes) old
+
+-- the content after some of the changes, from the first on
+pub record IsPartway (changes : List Change) (old new : Option Content) : Type 0 where
+  pub made : ℕ
+  pub is : new ≡ after (take made changes) old
+
+-- the content as it was, or after this change
+abbrev pub MayChange : Change → Option Content → Option Content → Type 0
+MayChange change old new = (new ≡ old) ⊎ (new ≡ option_map (written change.0 change.1) old)

@@ -1,0 +1,45 @@
+-- Contents with an intent, and without one.
+use Rattle.std.specs.Prelude.{◌≡◌, ℕ, Bool, ◌||◌, List, map, Option, Some, None}
+use Rattle.std.specs.FinMap.{get}
+use Rattle.pq_row_code.specs.declared.changes.Change.{Change as Coded}
+use Rattle.pq_row_code.specs.Changes.{changes_code, AreChanges}
+use Rattle.pq_content.specs.Pairs.{Content, is_in_space}
+use Rattle.pq_content.specs.Standing.{intent_key, change_of, AreOfRows, SettlesTo}
+
+-- whether a key is of a row or of an entry
+abbrev pub is_of_rows : List ℕ → Bool
+is_of_rows key = is_in_space 2 key || is_in_space 3 key
+
+-- changes of rows and entries alone, whose code is this value
+pub record IsIntentOf (changes : List Coded) (value : List ℕ) : Type 0 where
+  pub code : changes_code changes ≡ value
+  pub coded : AreChanges changes
+  pub of_rows : AreOfRows (map change_of changes)
+
+-- no such changes have this code
+abbrev pub IsNoIntent : List ℕ → Type 0
+IsNoIntent value = (changes : List Coded) → IsIntentOf changes value → ⊥
+
+-- a told content that has no intent
+pub record IsSettled (content : Option Content) (settled : Content) : Type 0 where
+  pub told : content ≡ Some settled
+  pub no_intent : get settled intent_key ≡ None
+
+-- a told content that settles to this one
+pub record Settles (content : Option Content) (settled : Content) : Type 0 where
+  pub pairs : Content
+  pub told : content ≡ Some pairs
+  pub settles : SettlesTo pairs settled
+
+-- a told content that has an intent, whatever its value
+pub record HasIntent (content : Option Content) : Type 0 where
+  pub pairs : Content
+  pub told : content ≡ Some pairs
+  pub value : List ℕ
+  pub found : get pairs intent_key ≡ Some value
+
+-- what a content settles to is there after a settling
+pub record IsMade (pairs : Content) (new : Option Content) : Type 0 where
+  pub settled : Content
+  pub settles : SettlesTo pairs settled
+  pub stands : IsSettled new settled

@@ -1,0 +1,15 @@
+//! Changes that are made whole over a store, whichever call is the last one.
+//!
+//! Several changes are first written as one value, the intent. From that write on the content
+//! settles to the changed one. `settle` makes the changes of an intent that was left.
+#![tactic(auto)]
+
+mod commits;
+mod intent;
+mod settles;
+#[cfg(test)]
+mod tests;
+mod write;
+
+pub use commits::commit;
+pub use settles::{Settled, settle};

@@ -1,0 +1,104 @@
+//! Settling: the changes of an intent that was left are made, and it is removed.
+ghost use Rattle.std.specs.Prelude.{◌≡◌, ◌⊎◌, ◌+◌, ◌<◌, ◌^◌, ◌++◌, ◌∷◌, [], None, Some, length, map, IfOk, IfErr, IfSome, OnOk, OnErr};
+ghost use Rattle.pq_row_code.specs.declared.changes.Change.{Change as Coded};
+ghost use Rattle.pq_content.specs.Pairs.{Content};
+ghost use Rattle.pq_content.specs.Standing.{intent_key, change_of};
+ghost use Rattle.pq_store.specs.Content.{HasBrokeCause};
+ghost use Rattle.pq_intent.specs.Changing.{after, IsPartway};
+ghost use Rattle.pq_intent.specs.Counting.{nothing_settled, settled_changes, Counts, CountsIntent, HasNumbers};
+ghost use Rattle.pq_intent.specs.Errors.{IsSound, ShowsNoIntent};
+ghost use Rattle.pq_intent.specs.Settling.{IsIntentOf, IsNoIntent, IsSettled, Settles, IsMade};
+
+use crate::intent::intent_of;
+use crate::write::finish;
+use pq_base::{Bound, List, Used};
+use pq_key_code::intent_key;
+use pq_row_code::Change;
+use pq_store::{Allowance, Broke, Damage, Meter, Store};
+use std::alloc::Global;
+use std::sync::ledger::Ledger;
+
+/// How many changes the intent had that was found, 0 where there was none, and what was used.
+#[derive(Debug, Drop)]
+pub struct Settled {
+    pub changes: u32,
+    pub used: Used,
+}
+
+fn nothing_settled() -> Settled
+    ensures { result ≡ nothing_settled }
+{
+    Settled {
+        changes: 0,
+        used: Used { ops: 1, entries: 0 },
+    }
+}
+
+/// Makes the changes of the intent that was read, and removes it.
+fn settle_changes<S: Store<L>, L: Ledger>(
+    alloc: Global,
+    key: &[u8],
+    changes: &List<Change>,
+    store: &mut S,
+    meter: &mut Meter<L>,
+) -> Result<Settled, Broke>
+    requires { length changes.now < 2 ^ 16 }
+    ensures made { OnOk result (S.content store.new ≡ after (map change_of changes.now ++ (key.now, None) ∷ []) (S.content store.old)) }
+    ensures stopped { OnErr result (IsPartway (map change_of changes.now ++ (key.now, None) ∷ []) (S.content store.old) (S.content store.new)) }
+    ensures sound { IfErr result IsSound }
+    ensures counts { IfOk result (λ settled. settled ≡ settled_changes (length changes.now)) }
+    ensures ops { IfOk result (λ settled. meter.new.ops + 1 ≡ meter.old.ops + settled.used.ops) }
+    ensures entries { OnOk result (meter.new.entries ≡ meter.old.entries) }
+    ensures cause { HasBrokeCause (S.faults store.old) (S.faults store.new) result }
+{
+    let number = changes.items().len() as u32;
+    let ops = number as u128 + 1;
+    let mut allowance = Allowance::grant(Bound { ops, entries: 0 });
+    finish(alloc, key, changes.items(), store, &mut allowance, meter)?;
+    Ok(Settled {
+        changes: number,
+        used: Used {
+            ops: number as u64 + 2,
+            entries: 1,
+        },
+    })
+}
+
+/// Makes the changes of an intent that was left, and removes it. Where there is none, nothing is
+/// changed. At each call the content settles to the same one as before.
+pub fn settle<S: Store<L>, L: Ledger>(
+    alloc: Global,
+    store: &mut S,
+    meter: &mut Meter<L>,
+) -> Result<Settled, Broke>
+    // What the content settled to is there, with no intent.
+    ensures made { OnOk result ((settled : Content) → Settles (S.content store.old) settled → IsSettled (S.content store.new) settled) }
+    // Over a told content there is such a one.
+    ensures settles { OnOk result (IfSome (S.content store.old) (λ pairs. IsMade pairs (S.content store.new))) }
+    ensures stopped { OnErr result ((settled : Content) → Settles (S.content store.old) settled → Settles (S.content store.new) settled) }
+    ensures sound { IfErr result (λ broke. (settled : Content) → Settles (S.content store.old) settled → IsSound broke) }
+    // Damage is a value at the intent's key that is no code of changes of rows and entries alone.
+    // Nothing is changed then.
+    ensures damage { IfErr result (λ broke. IfSome (S.content store.old) (λ pairs. ShowsNoIntent pairs broke)) }
+    ensures kept { IfErr result (λ broke. IsSound broke ⊎ (S.content store.new ≡ S.content store.old)) }
+    ensures counts { IfOk result (λ settled. IfSome (S.content store.old) (λ pairs. Counts pairs settled)) }
+    // Over every store, told or not.
+    ensures numbers { IfOk result HasNumbers }
+    ensures ops { IfOk result (λ settled. meter.new.ops ≡ meter.old.ops + settled.used.ops) }
+    ensures entries { IfOk result (λ settled. meter.new.entries ≡ meter.old.entries + settled.used.entries) }
+    ensures cause { HasBrokeCause (S.faults store.old) (S.faults store.new) result }
+{
+    let key = intent_key(alloc)?;
+    let value = match store.get(alloc, key.items(), meter) {
+        Err(error) => return Err(Broke::from(error)),
+        Ok(None) => return Ok(nothing_settled()),
+        Ok(Some(value)) => value,
+    };
+    match intent_of(alloc, value.items())? {
+        None => Err(Broke::Damaged(Damage {
+            key,
+            value: Some(value),
+        })),
+        Some(changes) => settle_changes(alloc, key.items(), &changes, store, meter),
+    }
+}
