@@ -1,0 +1,203 @@
+-- How many pairs stand in the range of a group: as many as the group has rows.
+use Rattle.std.proofs.Common.{◌≡◌, ℕ, zero, suc, ◌+◌, ◌-◌, ◌≤◌, ◌<◌, ◌⊎◌, inl, inr, Bool, true, false, cond, ◌||◌, List, [], ◌∷◌, ◌++◌, length, take, map, Option, Some, None, refl, sym, ap, subst, ◌∙◌, arith}
+use Rattle.std.specs.Prelude.{IsSome, slice_get, slice_index_or, unwrap_or, option_map, count_ones, ◌==◌}
+use Rattle.std.specs.List.{position}
+use Rattle.std.proofs.lemmas.Bool.{eqb-true, eq-eqb, false≢true}
+use Rattle.std.proofs.lemmas.List.{length-map}
+use Rattle.std.proofs.lemmas.List.Quantifiers.{position-Some}
+use Rattle.pq_base.specs.Columns.{has_col, set_of}
+use Rattle.pq_base.specs.declared.value.ColType.{ColType}
+use Rattle.pq_base.specs.declared.value.Dir.{Dir}
+use Rattle.pq_base.specs.declared.value.Value.{Value}
+use Rattle.pq_key_code.specs.KeyCode.{component, code_of, entrykey, past_code}
+use Rattle.pq_row_code.specs.RowCode.{row_code}
+use Rattle.pq_schema.specs.declared.table.Access.{Access}
+use Rattle.pq_schema.specs.declared.table.Access.TheVariants.{Primary, Secondary}
+use Rattle.pq_schema.specs.declared.table.Index.{Index}
+use Rattle.pq_schema.specs.declared.table.KeyPart.{KeyPart}
+use Rattle.pq_schema.specs.declared.table.Table.{Table}
+use Rattle.pq_schema.specs.Sequences.{columns_of, primary_sequence, index_sequence, begins_with, group_access, secondary}
+use Rattle.pq_schema.specs.Tables.{table_at}
+use Rattle.pq_content.specs.Pairs.{Pair, pairs, pairs_within}
+use Rattle.pq_content.specs.Tables.{Rows, AllOfKinds, IsOfKind, type_of, types_at, value_of, values_at, group_of}
+use Rattle.pq_content.proofs.Members.{In}
+use Rattle.pq_content.proofs.Scans.{columns_of-primary, rows_counted, entries_counted, group_by_first}
+use Rattle.pq_store.specs.Content.{Content}
+use Rattle.pq_index_keep.specs.Groups.{no_index, index_at, prefix_key, access_of, first_values, group_key}
+use Rattle.pq_index_keep.specs.Promises.{Settled}
+use Rattle.pq_index_keep.specs.Sound.{is_among, AreDifferent}
+use Rattle.pq_index_keep.specs.Tested.{given}
+use Rattle.pq_index_keep.proofs.Sets.{set_members, members_set}
+
+-- a code takes no more directions than there are values
+code_of-take : (dirs : List Dir) (values : List Value) → code_of (take (length values) dirs) values ≡ code_of dirs values
+code_of-take [] [] = refl
+code_of-take [] (x ∷ xs) = refl
+code_of-take (d ∷ ds) [] = refl
+code_of-take (d ∷ ds) (x ∷ xs) = ap (λ (bytes : List ℕ). component d x ++ bytes) (code_of-take ds xs)
+
+pub entry_prefix : (t i : ℕ) (dirs : List Dir) (values : List Value) → entrykey t i (take (length values) dirs) values ≡ entrykey t i dirs values
+entry_prefix t i dirs values = ap (λ (bytes : List ℕ). 3 ∷ t ∷ i ∷ bytes) (code_of-take dirs values)
+
+-- ---- values that columns are given
+
+agree_in : {Y : Type 0} (f g : ℕ → Y) (cols : List ℕ) → ((c : ℕ) → In c cols → f c ≡ g c) → map f cols ≡ map g cols
+agree_in f g [] h = refl
+agree_in {Y} f g (c ∷ cols) h =
+    let first : f c ≡ g c = h c (inl refl) in
+    let rest = agree_in f g cols (λ d i. h d (inr i)) in
+    ap (λ (y : Y). y ∷ map f cols) first ∙ ap (λ (ys : List Y). g c ∷ ys) rest
+
+given_of : (f : ℕ → Value) (cols : List ℕ) (d : ℕ) → In d cols → given cols (map f cols) d ≡ f d
+given_of f [] d i = absurd i
+given_of f (c ∷ cols) d i =
+    elim (c == d) as (λ b. (c == d) ≡ b → cond b (f c) (given cols (map f cols) d) ≡ f d) [
+      | true ↦ λ is. ap f (eqb-true c d is)
+      | false ↦ λ is. elim i [
+        | inl same ↦ absurd (false≢true (sym is ∙ eq-eqb c d same))
+        | inr there ↦ given_of f cols d there
+      ]
+    ] refl
+
+-- columns are given the values that a row has there
+pub given_at : (cols : List ℕ) (row : List Value) → map (given cols (values_at cols row)) cols ≡ values_at cols row
+given_at cols row = agree_in (given cols (values_at cols row)) (value_of row) cols (given_of (value_of row) cols)
+
+not_among : (c d : ℕ) (cols : List ℕ) → is_among cols c ≡ false → In d cols → (c == d) ≡ false
+not_among c d [] none i = absurd i
+not_among c d (e ∷ cols) none (inl same) =
+    elim (c == d) as (λ b. (c == d) ≡ b → b ≡ false) [
+      | true ↦ λ is. absurd (false≢true (sym (first (e == c) (is_among cols c) none) ∙ eq-eqb e c (same ∙ sym (eqb-true c d is))))
+      | false ↦ λ is. refl
+    ] refl
+  where
+    first : (a b : Bool) → (a || b) ≡ false → a ≡ false
+    first true b h = absurd (cc)
+    first false b h = refl
+not_among c d (e ∷ cols) none (inr there) = not_among c d cols (rest (e == c) (is_among cols c) none) there
+  where
+    rest : (a b : Bool) → (a || b) ≡ false → b ≡ false
+    rest true b h = absurd (cc)
+    rest false b h = h
+
+-- different columns are given just these values
+pub given_all : (types : List ColType) (cols : List ℕ) (values : List Value) → AreDifferent cols → AllOfKinds types values → length types ≡ length cols → map (given cols values) cols ≡ values
+given_all types [] [] apart kinds long = refl
+given_all [] [] (x ∷ values) apart kinds long = absurd kinds
+given_all (t ∷ ts) [] (x ∷ values) apart kinds long = absurd (omega arith)
+given_all [] (c ∷ cols) values apart kinds long = absurd (omega arith)
+given_all (t ∷ ts) (c ∷ cols) [] apart kinds long = absurd kinds
+given_all (t ∷ ts) (c ∷ cols) (x ∷ values) apart kinds long =
+    let here : cond (c == c) x (given cols values c) ≡ x = ap (λ b. cond b x (given cols values c)) (eq-eqb c c refl) in
+    let others : map (given (c ∷ cols) (x ∷ values)) cols ≡ map (given cols values) cols = agree_in (given (c ∷ cols) (x ∷ values)) (given cols values) cols (λ d i. ap (λ b. cond b x (given cols values d)) (not_among c d cols apart.0 i)) in
+    let rest : map (given cols values) cols ≡ values = given_all ts cols values apart.1 kinds.1 (omega arith) in
+    ap (λ (y : Value). y ∷ map (given (c ∷ cols) (x ∷ values)) cols) here ∙ ap (λ (ys : List Value). x ∷ ys) (others ∙ rest)
+
+kind_given : (table : Table) (cols : List ℕ) (values : List Value) (d : ℕ) → AllOfKinds (types_at table cols) values → In d cols → IsOfKind (type_of table d) (given cols values d)
+kind_given table [] values d kinds i = absurd i
+kind_given table (c ∷ cols) [] d kinds i = absurd kinds
+kind_given table (c ∷ cols) (x ∷ values) d kinds i =
+    elim (c == d) as (λ b. (c == d) ≡ b → IsOfKind (type_of table d) (cond b x (given cols values d))) [
+      | true ↦ λ is. subst (λ (n : ℕ). IsOfKind (type_of table n) x) (eqb-true c d is) kinds.0
+      | false ↦ λ is. elim i [
+        | inl same ↦ absurd (false≢true (sym is ∙ eq-eqb c d same))
+        | inr there ↦ kind_given table cols values d kinds.1 there
+      ]
+    ] refl
+
+kinds_taken : (ty : ℕ → ColType) (f : ℕ → Value) (cols : List ℕ) (n : ℕ) → ((c : ℕ) → In c (take n cols) → IsOfKind (ty c) (f c)) → AllOfKinds (take (length (map f (take n cols))) (map ty cols)) (map f (take n cols))
+kinds_taken ty f [] zero h = tt
+kinds_taken ty f [] (suc n) h = tt
+kinds_taken ty f (c ∷ cols) zero h = tt
+kinds_taken ty f (c ∷ cols) (suc n) h = (h c (inl refl), kinds_taken ty f cols n (λ d i. h d (inr i)))
+
+-- the first columns of a sequence that begins with these columns are given values of their kinds
+first_kinds : (table : Table) (cols all : List ℕ) (values : List Value) (n : ℕ) → set_of (take n all) ≡ set_of cols → AllOfKinds (types_at table cols) values
+    → AllOfKinds (take (length (map (given cols values) (take n all))) (types_at table all)) (map (given cols values) (take n all))
+first_kinds table cols all values n same kinds =
+    kinds_taken (type_of table) (given cols values) all n
+    (λ c i. kind_given table cols values c kinds (set_members cols c (subst (λ (set : ℕ). has_col set c ≡ true) same (members_set (take n all) c i))))
+
+first_short : (f : ℕ → Value) (cols : List ℕ) (n : ℕ) → length (map f (take n cols)) ≤ length cols
+first_short f [] zero = omega arith
+first_short f [] (suc n) = omega arith
+first_short f (c ∷ cols) zero = omega arith
+first_short f (c ∷ cols) (suc n) = let rest = first_short f cols n in omega arith
+
+-- ---- the sequence of a group
+
+-- the primary sequence begins with the columns, or that of an index does
+abbrev IsAccess : Table → List ℕ → Access → Type 0
+IsAccess table cols access =
+    ((access ≡ Primary) × (begins_with (primary_sequence table) (set_of cols) ≡ true))
+    ⊎ ((place : ℕ) × (access ≡ Secondary (place + 1)) × (slice_get table.indexes place ≡ Some (index_at table (place + 1))) × (begins_with (index_sequence table (index_at table (place + 1))) (set_of cols) ≡ true))
+
+got : (indexes : List Index) (place : ℕ) → place < length indexes → slice_get indexes place ≡ Some (slice_index_or indexes place no_index)
+got [] place less = absurd (omega arith)
+got (x ∷ xs) zero less = refl
+got (x ∷ xs) (suc place) less = got xs place (omega arith)
+
+pub access_found : (table : Table) (cols : List ℕ) → IsSome (group_access table (set_of cols)) → IsAccess table cols (access_of table cols)
+access_found table cols there =
+    let set = set_of cols in
+    let p = λ (index : Index). begins_with (index_sequence table index) set in
+    elim (begins_with (primary_sequence table) set) as (λ b. begins_with (primary_sequence table) set ≡ b → IsSome (cond b (Some Primary) (option_map secondary (position p table.indexes))) → IsAccess table cols (unwrap_or (cond b (Some Primary) (option_map secondary (position p table.indexes))) Primary)) [
+      | true ↦ λ is some. inl (refl, is)
+      | false ↦ λ is some.
+          elim (position p table.indexes) as (λ o. position p table.indexes ≡ o → IsSome (option_map secondary o) → IsAccess table cols (unwrap_or (option_map secondary o) Primary)) [
+            | None ↦ λ none some. absurd (cc)
+            | Some place ↦ λ found some.
+                let at = position-Some p table.indexes place no_index found in
+                let same : place + 1 - 1 ≡ place = omega arith in
+                let index : slice_index_or table.indexes place no_index ≡ index_at table (place + 1) = ap (λ (n : ℕ). slice_index_or table.indexes n no_index) (sym same) in
+                inr (place, refl, got table.indexes place at.0 ∙ ap Some index, ap p (sym index) ∙ at.1)
+          ] refl some
+    ] refl there
+
+-- ---- the range of a group
+
+module _ (tables : List Table) (rows : Rows) (others : List Pair) (told : Option Content) (s : Settled told tables rows others) (t : ℕ) where
+  abbrev table : Table
+  table = table_at tables t
+
+  abbrev within : List ℕ → ℕ
+  within key = length (pairs_within (pairs code_of row_code tables rows others) key (past_code key))
+
+  module _ (cols : List ℕ) (values : List Value) (kinds : AllOfKinds (types_at table cols) values) (own : map (given cols values) cols ≡ values) where
+    abbrev n : ℕ
+    n = count_ones (set_of cols)
+
+    under_primary : begins_with (primary_sequence table) (set_of cols) ≡ true → within (prefix_key t table Primary (first_values table Primary cols values)) ≡ length (group_of t cols values rows)
+    under_primary begins =
+        let all = columns_of (primary_sequence table) in
+        let ps = map (given cols values) (take n all) in
+        let key : all ≡ table.key = columns_of-primary table.key in
+        let same : set_of (take n all) ≡ set_of cols = eqb-true _ _ begins in
+        let of_kinds : AllOfKinds (take (length ps) (types_at table table.key)) ps = subst (λ (cs : List ℕ). AllOfKinds (take (length ps) (types_at table cs)) ps) key (first_kinds table cols all values n same kinds) in
+        let short : length ps ≤ length table.key = subst (λ (cs : List ℕ). length ps ≤ length cs) key (first_short (given cols values) all n) in
+        rows_counted tables rows others s.keeps.fit s.keeps.apart s.catalog t ps of_kinds short
+        ∙ ap (λ (cs : List ℕ). length (group_of t (take (length ps) cs) ps rows)) (sym key)
+        ∙ ap (λ (rs : List (List Value)). length rs) (group_by_first (primary_sequence table) cols (given cols values) t rows begins)
+        ∙ ap (λ (vs : List Value). length (group_of t cols vs rows)) own
+
+    under_index : (place : ℕ) → slice_get table.indexes place ≡ Some (index_at table (place + 1)) → begins_with (index_sequence table (index_at table (place + 1))) (set_of cols) ≡ true
+        → within (prefix_key t table (Secondary (place + 1)) (first_values table (Secondary (place + 1)) cols values)) ≡ length (group_of t cols values rows)
+    under_index place has begins =
+        let sequence = index_sequence table (index_at table (place + 1)) in
+        let all = columns_of sequence in
+        let ps = map (given cols values) (take n all) in
+        let same : set_of (take n all) ≡ set_of cols = eqb-true _ _ begins in
+        let columns : length all ≡ length sequence = length-map sequence (λ (part : KeyPart). part.col) in
+        let fits : length ps ≤ length all = first_short (given cols values) all n in
+        entries_counted tables rows others s.keeps.fit s.keeps.apart s.catalog t place (index_at table (place + 1)) has (place + 1) (omega arith) ps (first_kinds table cols all values n same kinds) (omega (arith, columns, fits))
+        ∙ ap (λ (rs : List (List Value)). length rs) (group_by_first sequence cols (given cols values) t rows begins)
+        ∙ ap (λ (vs : List Value). length (group_of t cols vs rows)) own
+
+    by_access : (access : Access) → IsAccess table cols access → within (prefix_key t table access (first_values table access cols values)) ≡ length (group_of t cols values rows)
+    by_access access (inl primary) = subst (λ (a : Access). within (prefix_key t table a (first_values table a cols values)) ≡ length (group_of t cols values rows)) (sym primary.0) (under_primary primary.1)
+    by_access access (inr index) = subst (λ (a : Access). within (prefix_key t table a (first_values table a cols values)) ≡ length (group_of t cols values rows)) (sym index.1) (under_index index.0 index.2 index.3)
+
+    -- as many pairs stand under the group's key as it has rows
+    pub counted : IsSome (group_access table (set_of cols)) → within (group_key t table cols values) ≡ length (group_of t cols values rows)
+    unfolding group_key
+    counted there = by_access (access_of table cols) (access_found table cols there)

@@ -1,0 +1,214 @@
+-- What a DELETE makes of settled pairs, and what its tests need.
+use Rattle.std.proofs.Common.{◌≡◌, ℕ, zero, suc, ◌+◌, ◌-◌, ◌<◌, true, false, ◌&&◌, List, [], ◌∷◌, length, map, drop, get_or, Option, Some, None, Result, Ok, refl, sym, ap, subst, ◌∙◌, arith, add-one}
+use Rattle.std.specs.Prelude.{All, IfSome, MatchResult, option_map, nat_lt}
+use Rattle.std.specs.List.{AllByRecursion, position}
+use Rattle.std.specs.FinMap.{get}
+use Rattle.std.proofs.lemmas.Bool.{eq-eqb}
+use Rattle.pq_base.specs.Answers.{or_else}
+use Rattle.pq_base.specs.declared.refusal.Refusal.{Refusal}
+use Rattle.pq_base.specs.declared.value.ColType.{ColType}
+use Rattle.pq_base.specs.declared.value.ColType.TheVariants as type
+use Rattle.pq_base.specs.declared.value.Value.{Value}
+use Rattle.pq_base.specs.Values.{IsType, AllFit}
+use Rattle.pq_key_code.specs.KeyCode.{code_of, rowkey}
+use Rattle.pq_row_code.specs.declared.changes.Change.{Change as Coded}
+use Rattle.pq_row_code.specs.RowCode.{row_code}
+use Rattle.pq_row_code.proofs.Rows.{row_code_injective}
+use Rattle.pq_schema.specs.Definitions.{or_ok}
+use Rattle.pq_schema.specs.Sound.{AreColumns}
+use Rattle.pq_schema.specs.Tables.{no_table, table_at}
+use Rattle.pq_schema.specs.declared.table.Column.{Column}
+use Rattle.pq_schema.specs.declared.table.Foreign.{Foreign}
+use Rattle.pq_schema.specs.declared.table.Table.{Table}
+use Rattle.pq_content.specs.Pairs.{Pair, Change, pairs, pairs_of_row, removals, changed}
+use Rattle.pq_content.specs.Standing.{change_of}
+use Rattle.pq_content.specs.Tables.{Rows, AllOfKinds, IsTableNumber, IsUnreferenced, types_of, key_types, row_at, rows_without, group_of}
+use Rattle.pq_content.proofs.Codes.{key_laws}
+use Rattle.pq_content.proofs.Deletes.{delete_row}
+use Rattle.pq_content.proofs.Keeping.{row_found}
+use Rattle.pq_content.proofs.KeepingWrites.{keeps_delete}
+use Rattle.pq_store.specs.Content.{Content}
+use Rattle.pq_store.specs.declared.damage.Broke.{Broke}
+use Rattle.pq_store.specs.declared.damage.Broke.TheVariants.{Failed, NoMem, Damaged}
+use Rattle.pq_index_keep.specs.Effects.{effect, changes_of, deleted, removal_of, child_refusal, names_key, referenced, no_row}
+use Rattle.pq_index_keep.specs.Promises.{World, Shows, Settled, IsRead, Spoils, Explains, Fails, IsUndamaged, MakesRows, Plans}
+use Rattle.pq_index_keep.specs.Sound.{IsSized, IsSound, IsWritable, IsLike, AreLike, MayName}
+use Rattle.pq_index_keep.specs.declared.plan.Planned.TheVariants as planned
+use Rattle.pq_index_keep.specs.declared.write.Write.TheVariants as write
+use Rattle.pq_index_keep.proofs.Inserting.{mapped_none, none_passes, each_weaker, each_is, each_by, writable_at, like_kinds}
+use Rattle.pq_index_keep.proofs.Tests.{settled_get}
+
+-- ---- the row that is read
+
+is_type : (ty : ColType) → IsSized ty → IsType ty
+is_type type.Int h = tt
+is_type type.Bool h = tt
+is_type (type.Text n) h = omega arith
+
+are_types : (columns : List Column) → AllByRecursion (λ (column : Column). IsSized column.ty) columns → AllByRecursion IsType (map (λ (column : Column). column.ty) columns)
+are_types [] h = tt
+are_types (c ∷ cs) h = (is_type c.ty h.0, are_types cs h.1)
+
+module _ (tables : List Table) (rows : Rows) (others : List Pair) (told : Option Content) (t : ℕ) (key : List Value) (s : Settled told tables rows others) (sound : IsSound tables) (number : IsTableNumber tables t) (kinds : AllOfKinds (key_types (table_at tables t)) key) where
+  abbrev table : Table
+  table = table_at tables t
+
+  types : All IsType (types_of table)
+  types = each_is IsType (types_of table) (are_types table.columns (each_by (λ (column : Column). IsSized column.ty) table.columns (writable_at tables t sound number).sized))
+
+  read_is : (o : Option (List Value)) → row_at tables rows t key ≡ o → (row : Option (List Value)) → IsRead (types_of table) (option_map row_code o) row → row ≡ o
+  read_is None is None read = refl
+  read_is None is (Some row) read = absurd read
+  read_is (Some r) is None read = absurd read
+  read_is (Some r) is (Some row) read = ap Some (row_code_injective (types_of table) row r types read.0 (row_found row_code tables rows t key r s.keeps is).fits read.1)
+
+  pub told_row : (row : Option (List Value)) → IfSome told (λ c. IsRead (types_of table) (get c (rowkey t key)) row) → row ≡ row_at tables rows t key
+  told_row row read =
+      read_is (row_at tables rows t key) refl row
+      (subst (λ (o : Option (List ℕ)). IsRead (types_of table) o row) (settled_get tables rows others told t key s kinds)
+      (subst (λ (o : Option Content). IfSome o (λ c. IsRead (types_of table) (get c (rowkey t key)) row)) s.is read))
+
+  unspoiled : (o : Option (List Value)) → row_at tables rows t key ≡ o → (code : List ℕ) → ((row : List Value) → AllFit (types_of table) row → row_code row ≡ code → ⊥) → option_map row_code o ≡ Some code → ⊥
+  unspoiled None is code none e = absurd (cc)
+  unspoiled (Some r) is code none e = none r (row_found row_code tables rows t key r s.keeps is).fits (same (row_code r) code e)
+    where
+      same : (a b : List ℕ) → Some a ≡ Some b → a ≡ b
+      same a b e = cc
+
+  pub undamaged : (before after : World) (error : Broke) → before.told ≡ told → Spoils (types_of table) (rowkey t key) before after error → IsUndamaged error
+  undamaged before after Failed is h = tt
+  undamaged before after NoMem is h = tt
+  undamaged before after (Damaged d) is h =
+      unspoiled (row_at tables rows t key) refl h.code h.no_row
+      (sym (settled_get tables rows others told t key s kinds) ∙ subst (λ (o : Option Content). IfSome o (λ c. get c (rowkey t key) ≡ Some h.code)) (is ∙ s.is) h.there)
+
+pub spoils_explains : (tables : List Table) (t : ℕ) (key : List Value) (before after : World) (error : Broke) → AllOfKinds (key_types (table_at tables t)) key → Spoils (types_of (table_at tables t)) (rowkey t key) before after error → Explains tables before after error
+spoils_explains tables t key before after Failed kinds h = h
+spoils_explains tables t key before after NoMem kinds h = tt
+spoils_explains tables t key before after (Damaged d) kinds h = shown before.told h.there
+  where
+    shown : (told : Option Content) → IfSome told (λ c. get c (rowkey t key) ≡ Some h.code) → IfSome told (Shows tables d)
+    shown None there = tt
+    shown (Some c) there = record {
+      has = ap (get c) h.at ∙ there ∙ sym h.has;
+      spoiled = record { table = t; key = key; code = h.code; kinds = kinds; at = h.at; has = h.has; no_row = h.no_row };
+    }
+
+pub fails_explains : (tables : List Table) (before after : World) (error : Broke) → Fails before after error → Explains tables before after error
+fails_explains tables before after Failed h = h
+fails_explains tables before after NoMem h = tt
+fails_explains tables before after (Damaged d) h = absurd h
+
+pub fails_undamaged : (before after : World) (error : Broke) → Fails before after error → IsUndamaged error
+fails_undamaged before after Failed h = tt
+fails_undamaged before after NoMem h = tt
+fails_undamaged before after (Damaged d) h = h
+
+-- ---- foreign keys to the row
+
+like_turned : (ts us : List ColType) → AreLike ts us → AreLike us ts
+like_turned [] [] h = tt
+like_turned [] (u ∷ us) h = absurd h
+like_turned (t ∷ ts) [] h = absurd h
+like_turned (t ∷ ts) (u ∷ us) h = (turned t u h.0, like_turned ts us h.1)
+  where
+    turned : (t u : ColType) → IsLike t u → IsLike u t
+    turned type.Int type.Int h = tt
+    turned type.Int type.Bool h = absurd h
+    turned type.Int (type.Text n) h = absurd h
+    turned type.Bool type.Int h = absurd h
+    turned type.Bool type.Bool h = tt
+    turned type.Bool (type.Text n) h = absurd h
+    turned (type.Text m) type.Int h = absurd h
+    turned (type.Text m) type.Bool h = absurd h
+    turned (type.Text m) (type.Text n) h = tt
+
+pub may_name : (tables : List Table) (t : ℕ) (key : List Value) → IsSound tables → AllOfKinds (key_types (table_at tables t)) key → All (λ (table : Table). All (MayName table t key) table.foreign) tables
+may_name tables t key sound kinds k table lt j f less refers =
+    let r = (sound k table lt).references j f less in
+    record {
+      apart = r.apart;
+      kinds = like_kinds _ _ key (like_turned _ _ r.alike) (subst (λ (n : ℕ). AllOfKinds (key_types (table_at tables n)) key) (sym refers) kinds);
+    }
+
+pub foreign_columns : (tables : List Table) (table : Table) → IsWritable tables table → All (λ (f : Foreign). AreColumns f.cols) table.foreign
+foreign_columns tables table w k f lt j col less =
+    let inside = (w.linked.foreign k f lt).inside j col less in
+    let few = w.is_table.few_columns in
+    omega arith
+
+same_at : (tables : List Table) (i : ℕ) (d e : Table) → i < length tables → get_or tables i d ≡ get_or tables i e
+same_at [] i d e less = absurd (omega arith)
+same_at (x ∷ xs) zero d e less = refl
+same_at (x ∷ xs) (suc i) d e less = same_at xs i d e (omega arith)
+
+pub at_number : (tables : List Table) (i : ℕ) (table : Table) → i < length tables → table ≡ get_or tables i table → table ≡ table_at tables (i + 1)
+at_number tables i table less at =
+    let number : i + 1 - 1 ≡ i = omega arith in
+    at ∙ same_at tables i table no_table less ∙ ap (λ (k : ℕ). get_or tables k no_table) (sym number)
+
+pub drop_here : (tables : List Table) (i : ℕ) (table : Table) → i < length tables → table ≡ get_or tables i table → drop i tables ≡ table ∷ drop (i + 1) tables
+drop_here [] i table less at = absurd (omega arith)
+drop_here (x ∷ xs) zero table less at = ap (λ (y : Table). y ∷ xs) (sym at)
+drop_here (x ∷ xs) (suc i) table less at = drop_here xs i table (omega arith) at ∙ ap (λ (k : ℕ). table ∷ drop k xs) (add-one i) ∙ ap (λ (k : ℕ). table ∷ drop k (x ∷ xs)) (sym (add-one (suc i)))
+
+module _ (rows : Rows) (t : ℕ) (key : List Value) where
+  -- the first foreign key of the table at hand, else those of the tables after it
+  pub child_here : (tables : List Table) (i : ℕ) (table : Table) → i < length tables → table ≡ get_or tables i table
+      → child_refusal rows t key (i + 1) (drop i tables) ≡ or_else (option_map (referenced table) (position (names_key rows t key (i + 1)) table.foreign)) (child_refusal rows t key (i + 1 + 1) (drop (i + 1) tables))
+  child_here tables i table less at = ap (child_refusal rows t key (i + 1)) (drop_here tables i table less at)
+
+  no_child : (tables : List Table) (u : ℕ) → child_refusal rows t key u tables ≡ None → (k : ℕ) → k < length tables → AllByRecursion (λ (f : Foreign). names_key rows t key (u + k) f ≡ false) (get_or tables k no_table).foreign
+  no_child [] u none k less = absurd (omega arith)
+  no_child (x ∷ xs) u none zero less =
+      let number : u ≡ u + 0 = omega arith in
+      let here : position (names_key rows t key u) x.foreign ≡ None = mapped_none (referenced x) _ (or_first _ _ none) in
+      subst (λ (n : ℕ). AllByRecursion (λ (f : Foreign). names_key rows t key n f ≡ false) x.foreign) number (none_passes (names_key rows t key u) x.foreign here)
+    where
+      or_first : (a b : Option Refusal) → or_else a b ≡ None → a ≡ None
+      or_first None b h = refl
+      or_first (Some r) b h = absurd (cc)
+  no_child (x ∷ xs) u none (suc k) less =
+      let number : u + 1 + k ≡ u + suc k = omega arith in
+      subst (λ (n : ℕ). AllByRecursion (λ (f : Foreign). names_key rows t key n f ≡ false) (get_or xs k no_table).foreign) number (no_child xs (u + 1) (or_second _ _ none) k (omega arith))
+    where
+      or_second : (a b : Option Refusal) → or_else a b ≡ None → b ≡ None
+      or_second None b h = h
+      or_second (Some r) b h = absurd (cc)
+
+  empty_group : (f : Foreign) (u : ℕ) → names_key rows t key u f ≡ false → f.table ≡ t → group_of u f.cols key rows ≡ []
+  empty_group f u none refers =
+      nothing (group_of u f.cols key rows) (sym (ap (λ b. b && nat_lt 0 (length (group_of u f.cols key rows))) (eq-eqb f.table t refers)) ∙ none)
+    where
+      nothing : (xs : List (List Value)) → (true && nat_lt 0 (length xs)) ≡ false → xs ≡ []
+      nothing [] h = refl
+      nothing (x ∷ xs) h = absurd (grind (arith, h))
+
+  pub unreferenced : (tables : List Table) → child_refusal rows t key 1 tables ≡ None → IsUnreferenced tables rows t key
+  unreferenced tables none u number =
+      let place : 1 + (u - 1) ≡ u = omega (arith, number.0) in
+      each_weaker (λ (f : Foreign). names_key rows t key u f ≡ false) (λ (f : Foreign). f.table ≡ t → group_of u f.cols key rows ≡ []) (λ f h refers. empty_group f u h refers) (table_at tables u).foreign
+      (subst (λ (n : ℕ). AllByRecursion (λ (f : Foreign). names_key rows t key n f ≡ false) (table_at tables u).foreign) place (no_child tables 1 none (u - 1) (omega (arith, number.0, number.1))))
+
+-- ---- the effect
+
+module _ (tables : List Table) (rows : Rows) (others : List Pair) (t : ℕ) (key : List Value) where
+  pub delete_absent : None ≡ row_at tables rows t key → Plans tables rows others (write.Delete t key) (planned.Refused (no_row tables t))
+  unfolding effect
+  delete_absent is = ap (deleted tables rows t key) (sym is)
+
+  pub delete_refused : (old : List Value) (refusal : Refusal) → Some old ≡ row_at tables rows t key → Some refusal ≡ child_refusal rows t key 1 tables → Plans tables rows others (write.Delete t key) (planned.Refused refusal)
+  unfolding effect
+  delete_refused old refusal found is = ap (deleted tables rows t key) (sym found) ∙ ap (λ (o : Option Refusal). or_ok o (rows_without tables t key rows)) (sym is)
+
+  pub delete_made : (told : Option Content) (old : List Value) (changes : List Coded) → Settled told tables rows others → Some old ≡ row_at tables rows t key → None ≡ child_refusal rows t key 1 tables → map change_of changes ≡ removals (pairs_of_row code_of row_code t (table_at tables t) old)
+      → Plans tables rows others (write.Delete t key) (planned.Changes changes)
+  unfolding effect changes_of
+  delete_made told old changes s found none made =
+      let makes : MakesRows tables rows others (write.Delete t key) changes (rows_without tables t key rows) = record {
+        changes_are = made ∙ ap (removal_of (table_at tables t) t) found;
+        content = ap (λ (cs : List Change). changed cs (pairs code_of row_code tables rows others)) made ∙ delete_row code_of row_code key_laws tables rows others t key old s.keeps s.catalog (sym found);
+        keeps = keeps_delete row_code tables rows t key s.keeps (unreferenced rows t key tables (sym none));
+      } in
+      let effect_is : deleted tables rows t key (row_at tables rows t key) ≡ Ok (rows_without tables t key rows) = ap (deleted tables rows t key) (sym found) ∙ ap (λ (o : Option Refusal). or_ok o (rows_without tables t key rows)) (sym none) in
+      subst (λ (r : Result Rows Refusal). MatchResult r (MakesRows tables rows others (write.Delete t key) changes) (λ (refusal : Refusal). ⊥)) (sym effect_is) makes

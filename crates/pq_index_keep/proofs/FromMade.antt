@@ -1,0 +1,307 @@
+-- The tables of a built schema are ones whose rows can be written.
+use Rattle.std.proofs.Common.{◌≡◌, ℕ, suc, ◌+◌, ◌-◌, ◌^◌, ◌<◌, ◌≤◌, true, false, ◌||◌, ◌⊎◌, inl, inr, List, [], ◌∷◌, ◌++◌, length, map, fold, get_or, count_ones, filter, Option, Some, None, Result, Ok, Err, cond, refl, sym, ap, ◌∙◌, subst, arith, length-append}
+use lib.Count.{ones}
+use Rattle.std.specs.Prelude.{All, IfSome, is_some, nat_le}
+use Rattle.std.specs.Int.{bit_at}
+use Rattle.std.specs.List.{AllByRecursion, range_with_len}
+use Rattle.std.proofs.Math.Seq.{get_or-append_seam}
+use Rattle.std.proofs.lemmas.Bool.{cases_eq, cases_lt, ne_eqb, and_parts, cond_both, false≢true}
+use Rattle.std.proofs.lemmas.Nat.Bits.{bit_at_or, bit_at-pow_same, bit_at-pow_other, bit_at-lt, same_from_bits}
+use Rattle.std.proofs.lemmas.List.{length-map, get_or_past}
+use Rattle.std.proofs.lemmas.List.Elements.{All-nil, All-push, All-set, All-get_or, All-from_get_or, All-weaker}
+use Rattle.std.proofs.lemmas.List.FromFn.{length-range_with_len}
+use Rattle.std.proofs.lemmas.List.Sums.{length-filter, count_by-le-length}
+use Rattle.pq_base.specs.Columns.{with_col, has_col, set_of}
+use Rattle.pq_base.specs.declared.number.Choice.{Choice}
+use Rattle.pq_base.specs.declared.number.Choice.TheVariants.{Whole, Stop}
+use Rattle.pq_base.specs.declared.refusal.Refusal.{Refusal}
+use Rattle.pq_base.specs.declared.refusal.Refusal.TheVariants as refusal
+use Rattle.pq_base.specs.declared.value.ColType.{ColType}
+use Rattle.pq_base.specs.declared.value.ColType.TheVariants as type
+use Rattle.pq_schema.specs.declared.definition.TableDef.{TableDef}
+use Rattle.pq_schema.specs.declared.query.Query.{Query}
+use Rattle.pq_schema.specs.declared.table.Column.{Column}
+use Rattle.pq_schema.specs.declared.table.Foreign.{Foreign}
+use Rattle.pq_schema.specs.declared.table.Index.{Index}
+use Rattle.pq_schema.specs.declared.table.Limit.{Limit}
+use Rattle.pq_schema.specs.declared.table.NewIndex.{NewIndex}
+use Rattle.pq_schema.specs.declared.table.Table.{Table}
+use Rattle.pq_schema.specs.Candidates.{Candidate, candidates, least}
+use Rattle.pq_schema.specs.Definitions.{bare_table, new_table}
+use Rattle.pq_schema.specs.Relations.{relation_at, table_of, fixed, order_rest, is_rest, part_of}
+use Rattle.pq_schema.specs.Schema.{Schema, with_new_index, with_wanted}
+use Rattle.pq_schema.specs.Sequences.{ascending, group_access, groups, with_group, serving, new_index}
+use Rattle.pq_schema.specs.Sound.{IsMade, IsMadeLimit, IsMadeForeign, AreMade}
+use Rattle.pq_schema.specs.Sound as sound
+use Rattle.pq_schema.specs.Tables.{table_at, no_table, same_kind, same_kinds}
+use Rattle.pq_schema.specs.Valid.{IsValid}
+use Rattle.pq_schema.specs.Valid.IsValid.{empty, then_table, then_query}
+use Rattle.pq_schema.specs.Wanted.{is_large, index_at, index_of, too_many_indexes, Chosen, with_index, chosen_of, IsWanted}
+use Rattle.pq_schema.proofs.Accepted.{all_groups, made_is}
+use Rattle.pq_schema.proofs.Counts.{count_with}
+use Rattle.pq_schema.proofs.Groups.{IsAsBefore, group_index, groups_as_before}
+use Rattle.pq_schema.proofs.Soundness.{table_made, table_linked, all_made}
+use Rattle.pq_schema.proofs.Valid.{valid_made}
+use Rattle.pq_content.specs.Tables.{type_of, types_at, key_types}
+use Rattle.pq_index_keep.specs.Sound.{IsSized, is_among, AreDifferent, IsLike, AreLike, IsReference, IsWritable, IsSound}
+
+-- ---- different columns
+
+with_same : (s c : ℕ) → bit_at s c ≡ 1 → with_col s c ≡ s
+with_same s c has = same_from_bits (with_col s c) s (λ k. elim (cases_eq k c) [
+  | inl same ↦
+      let here : bit_at s k ≡ 1 = ap (bit_at s) same ∙ has in
+      let one : bit_at (2 ^ c) k ≡ 1 = ap (bit_at (2 ^ c)) same ∙ bit_at-pow_same c in
+      omega (arith, here, one, bit_at_or s (2 ^ c) k)
+  | inr other ↦ omega (arith, bit_at-pow_other c k other, bit_at_or s (2 ^ c) k)
+])
+
+bit_is : (s c : ℕ) → (bit_at s c ≡ 0) ⊎ (bit_at s c ≡ 1)
+bit_is s c = elim (cases_eq (bit_at s c) 1) [
+  | inl one ↦ inr one
+  | inr other ↦ inl (omega (arith, bit_at-lt s c, other))
+]
+
+-- a set gets at most as many more columns as are named
+most_ones : (cols : List ℕ) (s : ℕ) → count_ones (fold with_col s cols) ≤ count_ones s + length cols
+most_ones [] s = omega arith
+most_ones (c ∷ cs) s = elim (bit_is s c) [
+  | inl none ↦ omega (arith, count_with s c none, most_ones cs (with_col s c))
+  | inr has ↦
+      let same : count_ones (with_col s c) ≡ count_ones s = ap count_ones (with_same s c has) in
+      omega (arith, same, most_ones cs (with_col s c))
+]
+
+-- different columns, of which none is in the set
+record AreNew (s : ℕ) (cols : List ℕ) : Type 0 where
+  absent : AllByRecursion (λ col. bit_at s col ≡ 0) cols
+  different : AreDifferent cols
+
+not_among : (s c : ℕ) (cols : List ℕ) → AllByRecursion (λ col. bit_at (with_col s c) col ≡ 0) cols → is_among cols c ≡ false
+not_among s c [] none = refl
+not_among s c (d ∷ ds) none = elim (cases_eq d c) [
+  | inl same ↦
+      let zero : bit_at (with_col s c) d ≡ 0 = none.0 in
+      let one : bit_at (2 ^ c) d ≡ 1 = ap (bit_at (2 ^ c)) same ∙ bit_at-pow_same c in
+      absurd (omega (arith, zero, one, bit_at_or s (2 ^ c) d))
+  | inr other ↦ ap (λ b. b || is_among ds c) (ne_eqb d c other) ∙ not_among s c ds none.1
+]
+
+absent_before : (s c : ℕ) (cols : List ℕ) → AllByRecursion (λ col. bit_at (with_col s c) col ≡ 0) cols → AllByRecursion (λ col. bit_at s col ≡ 0) cols
+absent_before s c [] none = tt
+absent_before s c (d ∷ ds) none =
+    let zero : bit_at (with_col s c) d ≡ 0 = none.0 in
+    (omega (arith, zero, bit_at_or s (2 ^ c) d), absent_before s c ds none.1)
+
+are_new : (cols : List ℕ) (s : ℕ) → count_ones (fold with_col s cols) ≡ count_ones s + length cols → AreNew s cols
+are_new [] s is = record { absent = tt; different = tt }
+are_new (c ∷ cs) s is = elim (bit_is s c) [
+  | inl none ↦
+      let one = count_with s c none in
+      let rest = are_new cs (with_col s c) (omega (arith, one, is)) in
+      record { absent = (none, absent_before s c cs rest.absent); different = (not_among s c cs rest.absent, rest.different) }
+  | inr has ↦
+      let same : count_ones (with_col s c) ≡ count_ones s = ap count_ones (with_same s c has) in
+      absurd (omega (arith, same, is, most_ones cs (with_col s c)))
+]
+
+zero_ones : count_ones 0 ≡ 0
+unfolding ones
+zero_ones = refl
+
+-- columns are different whose set has as many as they are
+are_different : (cols : List ℕ) → count_ones (set_of cols) ≡ length cols → AreDifferent cols
+are_different cols is = (are_new cols 0 (omega (arith, is, zero_ones))).different
+
+-- ---- references
+
+is_like : (t u : ColType) → same_kind t u ≡ true → IsLike t u
+is_like type.Int type.Int same = tt
+is_like type.Int type.Bool same = absurd (false≢true same)
+is_like type.Int (type.Text n) same = absurd (false≢true same)
+is_like type.Bool type.Int same = absurd (false≢true same)
+is_like type.Bool type.Bool same = tt
+is_like type.Bool (type.Text n) same = absurd (false≢true same)
+is_like (type.Text m) type.Int same = absurd (false≢true same)
+is_like (type.Text m) type.Bool same = absurd (false≢true same)
+is_like (type.Text m) (type.Text n) same = tt
+
+are_like : (ts us : List ColType) → same_kinds ts us ≡ true → AreLike ts us
+are_like [] [] same = tt
+are_like [] (u ∷ us) same = absurd (false≢true same)
+are_like (t ∷ ts) [] same = absurd (false≢true same)
+are_like (t ∷ ts) (u ∷ us) same =
+    let parts = and_parts (same_kind t u) (same_kinds ts us) same in
+    (is_like t u parts.0, are_like ts us parts.1)
+
+is_reference : (tables : List Table) (number : ℕ) (table : Table) (foreign : Foreign) → IsMadeForeign tables number table.columns foreign → IsReference tables table foreign
+is_reference tables number table foreign made = record {
+  apart = are_different foreign.cols made.different;
+  alike = are_like (types_at table foreign.cols) (key_types (table_at tables foreign.table)) made.shape;
+}
+
+-- ---- tables
+
+is_sized : (ty : ColType) → sound.IsSized ty → IsSized ty
+is_sized type.Int is = tt
+is_sized type.Bool is = tt
+is_sized (type.Text n) is = is.1
+
+-- an index's own columns are at most those of a table and of an order
+abbrev IsNarrow : Index → Type 0
+IsNarrow index = length index.cols ≤ 36
+
+is_writable : (tables : List Table) (number : ℕ) (table : Table) → IsMade tables number table → All IsNarrow table.indexes → IsWritable tables table
+is_writable tables number table made narrow = record {
+  is_table = table_made tables number table made;
+  linked = table_linked tables number table made;
+  sized = All-weaker (λ (column : Column). sound.IsSized column.ty) (λ (column : Column). IsSized column.ty) (λ column is. is_sized column.ty is) table.columns made.sized;
+  few_foreign = made.few_foreign;
+  references = All-weaker (IsMadeForeign tables number table.columns) (IsReference tables table) (is_reference tables number table) table.foreign made.foreign;
+  narrow = narrow;
+}
+
+-- made tables with indexes of few columns are ones whose rows can be written
+pub writable : (tables : List Table) → AreMade tables → (narrow : All (λ (t : Table). All (λ (index : Index). length index.cols ≤ 36) t.indexes) tables) → IsSound tables
+writable tables made narrow = All-from_get_or (IsWritable tables) tables no_table (λ i there.
+    let place : i + 1 - 1 ≡ i = omega arith in
+    let is : IsMade tables (i + 1) (get_or tables i no_table) = subst (λ n. IsMade tables (i + 1) (get_or tables n no_table)) place (made (i + 1) (omega arith) (omega arith)) in
+    is_writable tables (i + 1) (get_or tables i no_table) is (All-get_or (λ (t : Table). All IsNarrow t.indexes) tables i no_table there narrow))
+
+-- ---- the indexes of a new table
+
+abbrev IsShort : List ℕ → Type 0
+IsShort cols = length cols ≤ 4
+
+group_narrow : (table : Table) (cols : List ℕ) → All IsNarrow table.indexes → IsShort cols → All IsNarrow (with_group table cols).indexes
+group_narrow table cols all short =
+    cond_both (is_some (group_access table (set_of cols))) table (with_new_index table (group_index cols)) (λ (t : Table). All IsNarrow t.indexes) (λ _. all)
+    (λ _. All-push IsNarrow table.indexes (group_index cols) all (let long = length-map cols ascending in omega (arith, long, short)))
+
+groups_narrow : (gs : List (List ℕ)) (table : Table) → All IsNarrow table.indexes → AllByRecursion IsShort gs → All IsNarrow (fold with_group table gs).indexes
+groups_narrow [] table all short = all
+groups_narrow (g ∷ gs) table all short = groups_narrow gs (with_group table g) (group_narrow table g all short.0) short.1
+
+like_long : (ts us : List ColType) → AreLike ts us → length ts ≡ length us
+like_long [] [] like = refl
+like_long [] (u ∷ us) like = absurd like
+like_long (t ∷ ts) [] like = absurd like
+like_long (t ∷ ts) (u ∷ us) like = ap suc (like_long ts us like.1)
+
+module _ (tables : List Table) (number : ℕ) (table : Table) (keys : (k : ℕ) → 1 ≤ k → k < number → length (table_at tables k).key ≤ 4) where
+  foreign_short : (foreign : Foreign) → IsMadeForeign tables number table.columns foreign → IsShort foreign.cols
+  foreign_short foreign made =
+      let parent = table_at tables foreign.table in
+      let few = keys foreign.table made.from_one made.earlier in
+      let same = like_long (types_at table foreign.cols) (key_types parent) (is_reference tables number table foreign made).alike in
+      let own : length (types_at table foreign.cols) ≡ length foreign.cols = length-map foreign.cols (type_of table) in
+      let theirs : length (key_types parent) ≡ length parent.key = length-map parent.key (type_of parent) in
+      omega (arith, few, same, own, theirs)
+
+  -- the columns of each limit and of each foreign key are at most 4
+  groups_short : IsMade tables number table → AllByRecursion IsShort (groups table)
+  groups_short made =
+      all_groups IsShort table
+      (All-weaker (IsMadeLimit (length table.columns)) (λ (l : Limit). IsShort l.cols) (λ l is. is.cols.few) table.limits made.limits)
+      (All-weaker (IsMadeForeign tables number table.columns) (λ (f : Foreign). IsShort f.cols) foreign_short table.foreign made.foreign)
+
+same_groups : (before now : Table) → IsAsBefore before now → groups now ≡ groups before
+same_groups before now same = λ i. map (λ (l : Limit). l.cols) (same.limits i) ++ map (λ (f : Foreign). f.cols) (same.foreign i)
+
+-- the indexes that a new table gets have few columns
+pub narrow_made : (schema : Schema) (def : TableDef) (table : Table) → new_table schema def ≡ Ok table → AreMade (schema.tables ++ table ∷ []) → All (λ (index : Index). length index.cols ≤ 36) table.indexes
+narrow_made schema def table made all =
+    let bare = bare_table schema def in
+    let tables = schema.tables ++ table ∷ [] in
+    let number = length schema.tables + 1 in
+    let long : length tables ≡ number = length-append schema.tables (table ∷ []) in
+    let place : number - 1 ≡ length schema.tables = omega arith in
+    let last : table_at tables number ≡ table = ap (λ n. get_or tables n no_table) place ∙ get_or-append_seam schema.tables table [] no_table in
+    let is : IsMade tables number table = subst (IsMade tables number) last (all number (omega arith) (omega (arith, long))) in
+    let made_by = made_is schema def table made in
+    let same : IsAsBefore bare table = subst (IsAsBefore bare) made_by (groups_as_before (groups bare) bare) in
+    let keys : (k : ℕ) → 1 ≤ k → k < number → length (table_at tables k).key ≤ 4 = λ k one below. (all k one (omega (arith, long, below))).key.few in
+    let short = subst (AllByRecursion IsShort) (same_groups bare table same) (groups_short tables number table keys is) in
+    subst (λ (t : Table). All IsNarrow t.indexes) made_by (groups_narrow (groups bare) bare (All-nil IsNarrow) short)
+
+-- ---- the indexes of a valid schema
+
+abbrev AreNarrow : Table → Type 0
+AreNarrow table = All IsNarrow table.indexes
+
+at_any : (P : Table → Type 0) (tables : List Table) (number : ℕ) → P no_table → All P tables → P (table_at tables number)
+at_any P tables number none all = elim (cases_lt (number - 1) (length tables)) [
+  | inl there ↦ All-get_or P tables (number - 1) no_table there all
+  | inr past ↦ subst P (sym (get_or_past tables (number - 1) no_table past)) none
+]
+
+abbrev IsNarrowAnswer : Result (Option NewIndex) Refusal → Type 0
+IsNarrowAnswer (Ok wanted) = IfSome wanted (λ new. IsNarrow new.index)
+IsNarrowAnswer (Err why) = Unit {0}
+
+abbrev IsNarrowChoice : Result Chosen Refusal → Type 0
+IsNarrowChoice (Ok chosen) = IfSome chosen.wanted (λ new. IsNarrow new.index)
+IsNarrowChoice (Err why) = Unit {0}
+
+module _ (tables : List Table) (query : Query) (few_columns : All (λ (t : Table). length t.columns ≤ 32) tables) (few_order : length query.order ≤ 4) where
+  -- an index that a query wants has the columns of a table and of an order at most
+  narrow_new : (p : ℕ) → IsNarrow (new_index (table_of tables query p) (fixed query p) (order_rest query p))
+  narrow_new p =
+      let table = table_of tables query p in
+      let columns = range_with_len 0 (length table.columns) in
+      let front = filter (has_col (fixed query p)) columns in
+      let rest = filter (is_rest p (fixed query p)) query.order in
+      let few : length table.columns ≤ 32 = at_any (λ (t : Table). length t.columns ≤ 32) tables (relation_at query p).table (omega arith) few_columns in
+      let front_few : length front ≤ length columns = subst (λ n. n ≤ length columns) (sym (length-filter (has_col (fixed query p)) columns)) (count_by-le-length (has_col (fixed query p)) columns) in
+      let rest_few : length rest ≤ length query.order = subst (λ n. n ≤ length query.order) (sym (length-filter (is_rest p (fixed query p)) query.order)) (count_by-le-length (is_rest p (fixed query p)) query.order) in
+      let wide : length columns ≡ length table.columns = length-range_with_len 0 (length table.columns) in
+      let both = length-append (map ascending front) (order_rest query p) in
+      let one : length (map ascending front) ≡ length front = length-map front ascending in
+      let two : length (order_rest query p) ≡ length rest = length-map rest part_of in
+      omega (arith, both, one, two, wide, front_few, rest_few, few, few_order)
+
+  narrow_answer : (p : ℕ) → IsNarrowAnswer (index_at tables query p)
+  narrow_answer p =
+      let table = table_of tables query p in
+      let new : NewIndex = record { table = (relation_at query p).table; number = length table.indexes + 1; index = new_index table (fixed query p) (order_rest query p) } in
+      let full = nat_le 16 (length table.indexes) in
+      cond_both (is_some (serving table (fixed query p) (order_rest query p))) (Ok None) (cond full (Err too_many_indexes) (Ok (Some new))) IsNarrowAnswer (λ _. tt)
+      (λ _. cond_both full (Err too_many_indexes) (Ok (Some new)) IsNarrowAnswer (λ _. tt) (λ _. narrow_new p))
+
+  narrow_index : (choice : Choice) → IsNarrowAnswer (index_of tables query choice)
+  narrow_index Whole = tt
+  narrow_index (Stop p) = narrow_answer p
+
+  narrow_with : (best : Candidate) (answer : Result (Option NewIndex) Refusal) → IsNarrowAnswer answer → IsNarrowChoice (with_index best answer)
+  narrow_with best (Ok wanted) narrow = narrow
+  narrow_with best (Err why) narrow = tt
+
+  narrow_chosen : (best : Option Candidate) → IsNarrowChoice (chosen_of tables query best)
+  narrow_chosen None = tt
+  narrow_chosen (Some best) =
+      let why = refusal.BoundLarge best.bound.ops best.bound.entries in
+      cond_both (is_large best.bound) (Err why) (with_index best (index_of tables query best.choice)) IsNarrowChoice (λ _. tt)
+      (λ _. narrow_with best (index_of tables query best.choice) (narrow_index best.choice))
+
+  narrow_wanted : (wanted : Option NewIndex) → IsWanted tables query wanted → IfSome wanted (λ new. IsNarrow new.index)
+  narrow_wanted wanted is = subst IsNarrowChoice is.chosen (narrow_chosen (least (candidates tables query)))
+
+narrow_with_wanted : (tables : List Table) (wanted : Option NewIndex) → All AreNarrow tables → IfSome wanted (λ new. IsNarrow new.index) → All AreNarrow (with_wanted tables wanted)
+narrow_with_wanted tables None all narrow = all
+narrow_with_wanted tables (Some new) all narrow =
+    let table = table_at tables new.table in
+    let own : AreNarrow table = at_any AreNarrow tables new.table (All-nil IsNarrow) all in
+    All-set AreNarrow tables (new.table - 1) (with_new_index table new.index) (All-push IsNarrow table.indexes new.index own narrow) all
+
+-- each index of a valid schema has few columns
+pub valid_narrow : {s : Schema} → IsValid s → All (λ (t : Table). All (λ (index : Index). length index.cols ≤ 36) t.indexes) s.tables
+valid_narrow empty = All-nil AreNarrow
+valid_narrow (then_table s def table v d made) =
+    All-push AreNarrow s.tables table (valid_narrow v) (narrow_made s def table made (valid_made (then_table s def table v d made)))
+valid_narrow (then_query s query wanted v d) =
+    let few = all_made (λ (t : Table). length t.columns ≤ 32) s.tables (λ number table is. is.few_columns) (valid_made v) in
+    narrow_with_wanted s.tables wanted (valid_narrow v) (narrow_wanted s.tables query few d.resolved.few_order wanted d.chosen)
+
+-- the rows of a valid schema's tables can be written
+pub valid_writable : {s : Schema} → IsValid s → IsSound s.tables
+valid_writable {s} v = writable s.tables (valid_made v) (valid_narrow v)

@@ -1,0 +1,150 @@
+-- What an INSERT makes of settled pairs, and what its tests need.
+use Rattle.std.proofs.Common.{◌≡◌, ℕ, zero, suc, ◌+◌, ◌-◌, ◌≤◌, Bool, true, false, cond, not, ltb, List, [], ◌∷◌, length, map, Option, Some, None, refl, sym, ap, subst, ◌∙◌, arith}
+use Rattle.std.specs.Prelude.{All, IsSome, MatchResult, is_some, is_none, option_map}
+use Rattle.std.specs.List.{AllByRecursion, position, prefix_len}
+use Rattle.std.proofs.lemmas.Bool.{leb-false, ltb-false}
+use Rattle.pq_base.specs.Answers.{or_else}
+use Rattle.pq_base.specs.declared.refusal.Refusal.{Refusal}
+use Rattle.pq_base.specs.declared.value.ColType.{ColType}
+use Rattle.pq_base.specs.declared.value.ColType.TheVariants as type
+use Rattle.pq_base.specs.declared.value.Value.{Value}
+use Rattle.pq_base.specs.declared.value.Value.TheVariants as value
+use Rattle.pq_base.specs.Values.{AllFit}
+use Rattle.pq_key_code.specs.KeyCode.{code_of}
+use Rattle.pq_row_code.specs.declared.changes.Change.{Change as Coded}
+use Rattle.pq_row_code.specs.RowCode.{row_code}
+use Rattle.pq_schema.specs.Definitions.{refused_if, or_ok}
+use Rattle.pq_schema.specs.Tables.{no_table, table_at}
+use Rattle.pq_schema.specs.declared.table.Foreign.{Foreign}
+use Rattle.pq_schema.specs.declared.table.Limit.{Limit}
+use Rattle.pq_schema.specs.declared.table.Table.{Table}
+use Rattle.pq_content.specs.Pairs.{Pair, Change, pairs, pairs_of_row, puts, changed}
+use Rattle.pq_content.specs.Standing.{change_of}
+use Rattle.pq_content.specs.Tables.{Rows, AllOfKinds, IsOfKind, IsTableNumber, HasRoom, HasParent, types_of, key_of, values_at, row_at, group_of}
+use Rattle.pq_content.proofs.Keeping.{keeps_insert}
+use Rattle.pq_content.proofs.Values.{kinds_from_fit, fit_at}
+use Rattle.pq_content.proofs.Writes.{insert_row}
+use Rattle.pq_store.specs.Content.{Content}
+use Rattle.pq_index_keep.specs.Effects.{effect, changes_of, insert_refusal, lacks_parent, lacks_room, no_parent, no_room, is_full}
+use Rattle.pq_index_keep.specs.Promises.{Settled, IsTested, MakesRows, Plans}
+use Rattle.pq_index_keep.specs.Sound.{IsSound, IsWritable, IsInsert, IsLike, AreLike}
+use Rattle.pq_index_keep.specs.declared.plan.Planned.TheVariants as planned
+use Rattle.pq_index_keep.specs.declared.write.Scope.TheVariants as scope
+use Rattle.pq_index_keep.specs.declared.write.Write.TheVariants as write
+
+-- ---- no refusal
+
+pub or_none : (a b : Option Refusal) → or_else a b ≡ None → (a ≡ None) × (b ≡ None)
+or_none None b h = (refl, h)
+or_none (Some r) b h = absurd (cc)
+
+pub mapped_none : {X Y : Type 0} (f : X → Y) (o : Option X) → option_map f o ≡ None → o ≡ None
+mapped_none f None h = refl
+mapped_none f (Some x) h = absurd (cc)
+
+pub not_refused : (b : Bool) (why : Refusal) → refused_if b why ≡ None → b ≡ false
+not_refused true why h = absurd (cc)
+not_refused false why h = refl
+
+all_fail : {X : Type 0} (p : X → Bool) (xs : List X) → length xs ≤ prefix_len (λ x. not (p x)) xs → AllByRecursion (λ x. p x ≡ false) xs
+all_fail p [] h = tt
+all_fail {X} p (x ∷ xs) h =
+    elim (p x) as (λ b. p x ≡ b → suc (length xs) ≤ cond (not b) (1 + prefix_len (λ (y : X). not (p y)) xs) 0 → AllByRecursion (λ (y : X). p y ≡ false) (x ∷ xs)) [
+      | true ↦ λ is long. absurd (omega arith)
+      | false ↦ λ is long. (is, all_fail p xs (omega arith))
+    ] refl h
+
+not_less : (a b : ℕ) → cond (ltb a b) (Some a) None ≡ None → ltb a b ≡ false
+not_less a b h = elim (ltb a b) as (λ c. cond c (Some a) None ≡ None → c ≡ false) [ true ↦ λ e. absurd (cc) | false ↦ λ e. refl ] h
+
+pub none_passes : {X : Type 0} (p : X → Bool) (xs : List X) → position p xs ≡ None → AllByRecursion (λ x. p x ≡ false) xs
+none_passes {X} p xs h = all_fail p xs (ltb-false (prefix_len (λ (x : X). not (p x)) xs) (length xs) (not_less (prefix_len (λ (x : X). not (p x)) xs) (length xs) h))
+
+pub each_weaker : {X : Type 0} (P Q : X → Type 0) → ((x : X) → P x → Q x) → (xs : List X) → AllByRecursion P xs → AllByRecursion Q xs
+each_weaker P Q f [] h = tt
+each_weaker P Q f (x ∷ xs) h = (f x h.0, each_weaker P Q f xs h.1)
+
+pub each_is : {X : Type 0} (P : X → Type 0) (xs : List X) → AllByRecursion P xs → All P xs
+each_is P [] h zero d lt = absurd (omega arith)
+each_is P [] h (suc k) d lt = absurd (omega arith)
+each_is P (x ∷ xs) h zero d lt = h.0
+each_is P (x ∷ xs) h (suc k) d lt = each_is P xs h.1 k d (omega arith)
+
+pub each_by : {X : Type 0} (P : X → Type 0) (xs : List X) → All P xs → AllByRecursion P xs
+each_by P [] h = tt
+each_by P (x ∷ xs) h = (h zero x (omega arith), each_by P xs (λ k d lt. h (suc k) d (omega arith)))
+
+pub there_is : (o : Option (List Value)) → is_none o ≡ false → IsSome o
+there_is None h = absurd (cc)
+there_is (Some row) h = refl
+
+pub nothing : (o : Option (List Value)) → is_some o ≡ false → o ≡ None
+nothing None h = refl
+nothing (Some row) h = absurd (cc)
+
+pub has_room : (rows : Rows) (t : ℕ) (row : List Value) (limit : Limit) → is_full rows t row limit ≡ false → HasRoom t rows row limit
+has_room rows t row limit h = let most = leb-false limit.n (length (group_of t limit.cols (values_at limit.cols row) rows)) h in omega arith
+
+-- ---- tables over which writes are planned
+
+pub writable_at : (tables : List Table) (t : ℕ) → IsSound tables → IsTableNumber tables t → IsWritable tables (table_at tables t)
+writable_at tables t sound number = sound (t - 1) no_table (omega (arith, number.0, number.1))
+
+like_kind : (t u : ColType) (x : Value) → IsLike t u → IsOfKind t x → IsOfKind u x
+like_kind type.Int type.Int x like kind = kind
+like_kind type.Int type.Bool x like kind = absurd like
+like_kind type.Int (type.Text n) x like kind = absurd like
+like_kind type.Bool type.Int x like kind = absurd like
+like_kind type.Bool type.Bool x like kind = kind
+like_kind type.Bool (type.Text n) x like kind = absurd like
+like_kind (type.Text m) type.Int x like kind = absurd like
+like_kind (type.Text m) type.Bool x like kind = absurd like
+like_kind (type.Text m) (type.Text n) (value.Int a) like kind = absurd kind
+like_kind (type.Text m) (type.Text n) (value.Bool a) like kind = absurd kind
+like_kind (type.Text m) (type.Text n) (value.Text a) like kind = kind
+
+pub like_kinds : (ts us : List ColType) (xs : List Value) → AreLike ts us → AllOfKinds ts xs → AllOfKinds us xs
+like_kinds [] [] xs like kinds = kinds
+like_kinds [] (u ∷ us) xs like kinds = absurd like
+like_kinds (t ∷ ts) [] xs like kinds = absurd like
+like_kinds (t ∷ ts) (u ∷ us) [] like kinds = absurd kinds
+like_kinds (t ∷ ts) (u ∷ us) (x ∷ xs) like kinds = (like_kind t u x like.0 kinds.0, like_kinds ts us xs like.1 kinds.1)
+
+pub is_tested : (tables : List Table) (t : ℕ) (row : List Value) → IsSound tables → IsTableNumber tables t → AllFit (types_of (table_at tables t)) row → IsTested tables (table_at tables t) row
+is_tested tables t row sound number fits =
+    let table = table_at tables t in
+    let w = writable_at tables t sound number in
+    record {
+      fits = fits;
+      parents = λ k d lt.
+          let f = w.references k d lt in
+          like_kinds _ _ _ f.alike (kinds_from_fit _ _ (fit_at table _ row fits));
+    }
+
+-- ---- the effect
+
+module _ (tables : List Table) (rows : Rows) (others : List Pair) (t : ℕ) (row : List Value) where
+  pub insert_refused : (refusal : Refusal) → Some refusal ≡ insert_refusal tables rows t row → Plans tables rows others (write.Insert t row) (planned.Refused refusal)
+  unfolding effect
+  insert_refused refusal is = ap (λ (o : Option Refusal). or_ok o ((t, row) ∷ rows)) (sym is)
+
+  pub insert_made : (told : Option Content) (changes : List Coded) → Settled told tables rows others → IsInsert tables t row → None ≡ insert_refusal tables rows t row → map change_of changes ≡ puts (pairs_of_row code_of row_code t (table_at tables t) row)
+      → Plans tables rows others (write.Insert t row) (planned.Changes changes)
+  unfolding effect changes_of
+  insert_made told changes s w none made =
+      let table = table_at tables t in
+      let parts = or_none _ _ (sym none) in
+      let tests = or_none _ _ parts.1 in
+      let absent : row_at tables rows t (key_of table row) ≡ None = nothing _ (not_refused _ _ parts.0) in
+      let parents : AllByRecursion (HasParent tables rows row) table.foreign =
+      each_weaker (λ (f : Foreign). lacks_parent tables rows scope.All row f ≡ false) (HasParent tables rows row) (λ f h. there_is (row_at tables rows f.table (values_at f.cols row)) h) table.foreign
+      (none_passes (lacks_parent tables rows scope.All row) table.foreign (mapped_none (no_parent table) _ tests.0)) in
+      let rooms : AllByRecursion (HasRoom t rows row) table.limits =
+      each_weaker (λ (l : Limit). lacks_room rows scope.All None t row l ≡ false) (HasRoom t rows row) (λ l h. has_room rows t row l h) table.limits
+      (none_passes (lacks_room rows scope.All None t row) table.limits (mapped_none (no_room table) _ tests.1)) in
+      let makes : MakesRows tables rows others (write.Insert t row) changes ((t, row) ∷ rows) = record {
+        changes_are = made;
+        content = ap (λ (cs : List Change). changed cs (pairs code_of row_code tables rows others)) made ∙ insert_row code_of row_code tables rows others t row;
+        keeps = keeps_insert row_code tables rows t row s.keeps w.number w.fits w.short absent rooms parents;
+      } in
+      subst (λ (o : Option Refusal). MatchResult (or_ok o ((t, row) ∷ rows)) (MakesRows tables rows others (write.Insert t row) changes) (λ (refusal : Refusal). ⊥)) none makes

@@ -1,0 +1,14 @@
+pub mod Changing
+pub mod Coding
+pub mod Counted
+pub mod Deleting
+pub mod Few
+pub mod Fitting
+pub mod FromMade
+pub mod Inserting
+pub mod Leaving
+pub mod Sets
+pub mod Steps
+pub mod Tests
+pub mod Touching
+pub mod Updating

@@ -1,0 +1,36 @@
+use Rattle.std.proofs.Common.{◌∙◌, sym}
+use Rattle.pq_schema.specs.Tables.{table_at}
+use Rattle.pq_index_keep.specs.Promises.{IsTested}
+use Rattle.pq_index_keep.proofs.Coding.{fit_texts, fit_columns, insert_planned}
+use Rattle.pq_index_keep.proofs.Inserting.{writable_at, is_tested, insert_refused, insert_made}
+use Rattle.pq_index_keep.proofs.plan.plan_insert.Goals as goal
+
+pub puts-requires-clause-columns : goal.puts-requires-clause-columns
+puts-requires-clause-columns g c =
+    let tables = c.args.catalog.now.tables in
+    fit_columns tables (table_at tables c.args.number) (writable_at tables c.args.number c.requires.sound c.requires.insert.number) c.args.row.now c.requires.insert.fits
+
+pub puts-requires-clause-texts : goal.puts-requires-clause-texts
+puts-requires-clause-texts g c =
+    let tables = c.args.catalog.now.tables in
+    fit_texts tables (table_at tables c.args.number) (writable_at tables c.args.number c.requires.sound c.requires.insert.number) c.args.row.now c.requires.insert.fits
+
+pub returns-in-Some-clause-answer : goal.returns-in-Some-clause-answer
+returns-in-Some-clause-answer g c = λ rows others s.
+    let tables = c.args.catalog.now.tables in
+    let tested : IsTested tables c.table_of-table.result.now c.args.row.now = rw c.table_of-table.ensures.table (is_tested tables c.args.number c.args.row.now c.requires.sound c.requires.insert.number c.requires.insert.fits) in
+    insert_refused tables rows others c.args.number c.args.row.now c.in-Some.refusal (sym c.in-Some.is ∙ c.in_ok-refusal.ensures.answer tables rows others s c.table_of-table.ensures.table tested)
+
+pub returns-in_ok-changes-in-None-clause-plan : goal.returns-in_ok-changes-in-None-clause-plan
+returns-in_ok-changes-in-None-clause-plan g c =
+    let tables = c.args.catalog.now.tables in
+    insert_planned tables (table_at tables c.args.number) (writable_at tables c.args.number c.requires.sound c.requires.insert.number) c.args.number c.args.row.now c.requires.insert.fits c.in_ok-changes-in-None.changes
+    (rw (← c.table_of-table.ensures.table) c.in_ok-changes-in-None.ensures)
+
+pub returns-in_ok-changes-in-None-clause-answer : goal.returns-in_ok-changes-in-None-clause-answer
+returns-in_ok-changes-in-None-clause-answer g c = λ rows others s.
+    let tables = c.args.catalog.now.tables in
+    let tested : IsTested tables c.table_of-table.result.now c.args.row.now = rw c.table_of-table.ensures.table (is_tested tables c.args.number c.args.row.now c.requires.sound c.requires.insert.number c.requires.insert.fits) in
+    insert_made tables rows others c.args.number c.args.row.now _ c.in_ok-changes-in-None.changes s c.requires.insert
+    (sym c.in-None.is ∙ c.in_ok-refusal.ensures.answer tables rows others s c.table_of-table.ensures.table tested)
+    (rw (← c.table_of-table.ensures.table) c.in_ok-changes-in-None.ensures)

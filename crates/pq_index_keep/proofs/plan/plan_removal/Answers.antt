@@ -1,0 +1,28 @@
+use Rattle.std.proofs.Common.{◌∙◌, sym}
+use Rattle.pq_schema.specs.Tables.{table_at}
+use Rattle.pq_content.proofs.Values.{kinds_from_fit}
+use Rattle.pq_index_keep.proofs.Coding.{delete_planned}
+use Rattle.pq_index_keep.proofs.Deleting.{may_name, delete_refused, delete_made}
+use Rattle.pq_index_keep.proofs.Inserting.{writable_at}
+use Rattle.pq_index_keep.proofs.plan.plan_removal.Goals as goal
+
+pub child_refusal-requires-clause-may : goal.child_refusal-requires-clause-may
+child_refusal-requires-clause-may g c =
+    rw c.tables-tables.ensures.tables (may_name c.args.catalog.now.tables c.args.number c.args.key.now c.requires.sound (kinds_from_fit _ _ c.requires.delete.fits))
+
+pub returns-in-Some-clause-answer : goal.returns-in-Some-clause-answer
+returns-in-Some-clause-answer g c = λ rows others s found.
+    let answer = rw c.tables-tables.ensures.tables at c.in_ok-refusal.ensures.answer in
+    delete_refused c.args.catalog.now.tables rows others c.args.number c.args.key.now c.args.old.now c.in-Some.refusal found (sym c.in-Some.is ∙ answer rows others s)
+
+pub returns-in_ok-changes-in-None-clause-plan : goal.returns-in_ok-changes-in-None-clause-plan
+returns-in_ok-changes-in-None-clause-plan g c =
+    let tables = c.args.catalog.now.tables in
+    delete_planned tables (table_at tables c.args.number) (writable_at tables c.args.number c.requires.sound c.requires.delete.number) c.args.number c.args.old.now c.requires.fits c.in_ok-changes-in-None.changes
+    (rw (← c.table_of-table.ensures.table) c.in_ok-changes-in-None.ensures)
+
+pub returns-in_ok-changes-in-None-clause-answer : goal.returns-in_ok-changes-in-None-clause-answer
+returns-in_ok-changes-in-None-clause-answer g c = λ rows others s found.
+    let answer = rw c.tables-tables.ensures.tables at c.in_ok-refusal.ensures.answer in
+    delete_made c.args.catalog.now.tables rows others c.args.number c.args.key.now _ c.args.old.now c.in_ok-changes-in-None.changes s found (sym c.in-None.is ∙ answer rows others s)
+    (rw (← c.table_of-table.ensures.table) c.in_ok-changes-in-None.ensures)

@@ -1,0 +1,64 @@
+-- The bounds of writes.
+use Rattle.std.specs.Prelude.{ℕ, Bool, ◌+◌, ◌*◌, ◌==◌, if◌then◌else◌, List, length}
+use Rattle.std.specs.List.{sum_by, count_by}
+use Rattle.pq_base.specs.declared.number.Bound.{Bound}
+use Rattle.pq_schema.specs.declared.table.Foreign.{Foreign}
+use Rattle.pq_schema.specs.declared.table.Limit.{Limit}
+use Rattle.pq_schema.specs.declared.table.Table.{Table}
+use Rattle.pq_schema.specs.Tables.{table_at}
+use Rattle.pq_index_keep.specs.declared.write.Scope.{Scope}
+use Rattle.pq_index_keep.specs.declared.write.Scope.TheVariants as scope
+use Rattle.pq_index_keep.specs.declared.write.Write.{Write}
+use Rattle.pq_index_keep.specs.declared.write.Write.TheVariants as write
+use Rattle.pq_index_keep.specs.Tested.{touches, touches_index, scope_of}
+
+-- one change takes one operation; more take one for the intent, one each, and one for its clearing
+abbrev pub commit_ops : ℕ → ℕ
+commit_ops changes = if changes == 1 then 1 else changes + 2
+
+-- ---- foreign keys and limits of a table that are tested
+
+abbrev pub tested_foreign : Scope → List Foreign → ℕ
+tested_foreign of foreign = count_by (λ f. touches of f.cols) foreign
+
+abbrev pub tested_limits : Scope → List Limit → ℕ
+tested_limits of limits = count_by (λ limit. touches of limit.cols) limits
+
+-- one for what is tested, and the n of a limit that is tested
+abbrev pub one_if : Bool → ℕ
+one_if tested = if tested then 1 else 0
+
+abbrev pub tested_n : Scope → Limit → ℕ
+tested_n of limit = if touches of limit.cols then limit.n else 0
+
+-- foreign keys that refer to a table
+abbrev pub refers : ℕ → Table → ℕ
+refers t table = count_by (λ f. f.table == t) table.foreign
+
+abbrev pub referring : List Table → ℕ → ℕ
+referring tables t = sum_by (refers t) tables
+
+-- ---- operations and entries of the tests
+
+abbrev pub tests : Scope → Table → Bound
+tests of table = record {
+  ops = 1 + tested_foreign of table.foreign + tested_limits of table.limits;
+  entries = 1 + tested_foreign of table.foreign + sum_by (tested_n of) table.limits;
+}
+
+abbrev pub write_tests : List Table → Write → Bound
+write_tests tables (write.Insert t row) = tests scope.All (table_at tables t)
+write_tests tables (write.Update t key sets) = tests (scope_of sets) (table_at tables t)
+write_tests tables (write.Delete t key) = record { ops = 1 + referring tables t; entries = 1 + referring tables t }
+
+-- the greatest number of pairs that change
+abbrev pub most_changes : List Table → Write → ℕ
+most_changes tables (write.Insert t row) = 1 + length (table_at tables t).indexes
+most_changes tables (write.Update t key sets) = 1 + 2 * count_by (touches_index (scope_of sets) (table_at tables t)) (table_at tables t).indexes
+most_changes tables (write.Delete t key) = 1 + length (table_at tables t).indexes
+
+abbrev pub write_bound : List Table → Write → Bound
+write_bound tables write = record {
+  ops = (write_tests tables write).ops + commit_ops (most_changes tables write);
+  entries = (write_tests tables write).entries;
+}

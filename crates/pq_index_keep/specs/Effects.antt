@@ -1,0 +1,127 @@
+-- What a write makes of the rows, or the first refusal, each tested on the rows as a list.
+use Rattle.std.specs.Prelude.{ℕ, ◌+◌, Bool, false, not, ◌&&◌, ◌==◌, nat_le, nat_lt, List, [], ◌∷◌, length, slice_index_or, position, option_map, Option, Some, None, is_some, is_none, Result, Err}
+use Rattle.pq_base.specs.Answers.{or_else}
+use Rattle.pq_base.specs.declared.refusal.Refusal.{Refusal}
+use Rattle.pq_base.specs.declared.refusal.Refusal.TheVariants as refusal
+use Rattle.pq_base.specs.declared.value.Value.{Value}
+use Rattle.pq_key_code.specs.KeyCode.{code_of}
+use Rattle.pq_row_code.specs.RowCode.{row_code}
+use Rattle.pq_schema.specs.Definitions.{refused_if, or_ok}
+use Rattle.pq_schema.specs.declared.table.Foreign.{Foreign}
+use Rattle.pq_schema.specs.declared.table.Limit.{Limit}
+use Rattle.pq_schema.specs.declared.table.Table.{Table}
+use Rattle.pq_schema.specs.Tables.{table_at}
+use Rattle.pq_content.specs.Pairs.{Change, puts, removals, pairs_of_row, update_changes}
+use Rattle.pq_content.specs.Tables.{Rows, values_at, key_of, same_values, row_at, rows_without, group_of}
+use Rattle.pq_index_keep.specs.declared.write.Scope.{Scope}
+use Rattle.pq_index_keep.specs.declared.write.Scope.TheVariants as scope
+use Rattle.pq_index_keep.specs.declared.write.SetCol.{SetCol}
+use Rattle.pq_index_keep.specs.declared.write.Write.{Write}
+use Rattle.pq_index_keep.specs.declared.write.Write.TheVariants as write
+use Rattle.pq_index_keep.specs.Tested.{touches, scope_of, with_sets}
+
+-- ---- foreign keys of the table
+
+-- the row that the foreign key names is not there
+abbrev pub is_missing : List Table → Rows → List Value → Foreign → Bool
+is_missing tables rows row foreign = is_none (row_at tables rows foreign.table (values_at foreign.cols row))
+
+abbrev pub lacks_parent : List Table → Rows → Scope → List Value → Foreign → Bool
+lacks_parent tables rows of row foreign = touches of foreign.cols && is_missing tables rows row foreign
+
+abbrev pub no_parent : Table → ℕ → Refusal
+no_parent table place = refusal.NoParent table.name (place + 1)
+
+-- the first foreign key that is touched and whose row is not there
+abbrev pub parent_refusal : List Table → Rows → Scope → Table → List Value → Option Refusal
+parent_refusal tables rows of table row = option_map (no_parent table) (position (lacks_parent tables rows of row) table.foreign)
+
+-- ---- limits
+
+-- the row had these values at the columns before
+abbrev pub stays : Option (List Value) → List Value → List ℕ → Bool
+stays None row cols = false
+stays (Some old) row cols = same_values (values_at cols old) (values_at cols row)
+
+-- n rows agree with the row at the limit's columns
+abbrev pub is_full : Rows → ℕ → List Value → Limit → Bool
+is_full rows t row limit = nat_le limit.n (length (group_of t limit.cols (values_at limit.cols row) rows))
+
+abbrev pub lacks_room : Rows → Scope → Option (List Value) → ℕ → List Value → Limit → Bool
+lacks_room rows of old t row limit = touches of limit.cols && not (stays old row limit.cols) && is_full rows t row limit
+
+abbrev pub no_limit : Limit
+no_limit = record { n = 0; cols = [] }
+
+abbrev pub limit_at : Table → ℕ → Limit
+limit_at table place = slice_index_or table.limits place no_limit
+
+abbrev pub no_room : Table → ℕ → Refusal
+no_room table place = refusal.Cardinality table.name (place + 1) (limit_at table place).n
+
+-- the first limit that is touched, at whose columns the values change, and whose group has n rows already
+abbrev pub room_refusal : Rows → Scope → Option (List Value) → ℕ → Table → List Value → Option Refusal
+room_refusal rows of old t table row = option_map (no_room table) (position (lacks_room rows of old t row) table.limits)
+
+-- ---- foreign keys to the table
+
+-- it refers to the table, and some row of its own table u names the key by it
+abbrev pub names_key : Rows → ℕ → List Value → ℕ → Foreign → Bool
+names_key rows t key u foreign = foreign.table == t && nat_lt 0 (length (group_of u foreign.cols key rows))
+
+abbrev pub referenced : Table → ℕ → Refusal
+referenced table place = refusal.Referenced table.name (place + 1)
+
+-- the first of the tables, which are numbered from u, and the first of its foreign keys by which some row names the key
+abbrev pub child_refusal : Rows → ℕ → List Value → ℕ → List Table → Option Refusal
+child_refusal rows t key u [] = None
+child_refusal rows t key u (table ∷ tables) =
+    or_else (option_map (referenced table) (position (names_key rows t key u) table.foreign)) (child_refusal rows t key (u + 1) tables)
+
+-- ---- the writes
+
+abbrev pub insert_refusal : List Table → Rows → ℕ → List Value → Option Refusal
+insert_refusal tables rows t row =
+    or_else (refused_if (is_some (row_at tables rows t (key_of (table_at tables t) row))) (refusal.DuplicateKey (table_at tables t).name))
+    (or_else (parent_refusal tables rows scope.All (table_at tables t) row)
+    (room_refusal rows scope.All None t (table_at tables t) row))
+
+abbrev pub update_refusal : List Table → Rows → Scope → ℕ → List Value → List Value → Option Refusal
+update_refusal tables rows of t old new =
+    or_else (refused_if (nat_lt 4096 (length (row_code new))) (refusal.RowLong (table_at tables t).name (length (row_code new))))
+    (or_else (parent_refusal tables rows of (table_at tables t) new)
+    (room_refusal rows of (Some old) t (table_at tables t) new))
+
+abbrev pub no_row : List Table → ℕ → Refusal
+no_row tables t = refusal.NoRow (table_at tables t).name
+
+abbrev pub updated : List Table → Rows → ℕ → List Value → List SetCol → Option (List Value) → Result Rows Refusal
+updated tables rows t key sets None = Err (no_row tables t)
+updated tables rows t key sets (Some old) =
+    or_ok (update_refusal tables rows (scope_of sets) t old (with_sets sets old)) ((t, with_sets sets old) ∷ rows_without tables t key rows)
+
+abbrev pub deleted : List Table → Rows → ℕ → List Value → Option (List Value) → Result Rows Refusal
+deleted tables rows t key None = Err (no_row tables t)
+deleted tables rows t key (Some old) = or_ok (child_refusal rows t key 1 tables) (rows_without tables t key rows)
+
+-- the rows after the write, or its first refusal
+unfoldable pub effect : List Table → Rows → Write → Result Rows Refusal
+effect tables rows (write.Insert t row) = or_ok (insert_refusal tables rows t row) ((t, row) ∷ rows)
+effect tables rows (write.Update t key sets) = updated tables rows t key sets (row_at tables rows t key)
+effect tables rows (write.Delete t key) = deleted tables rows t key (row_at tables rows t key)
+
+-- ---- the changes of the pairs
+
+abbrev pub update_of : Table → ℕ → List SetCol → Option (List Value) → List Change
+update_of table t sets None = []
+update_of table t sets (Some old) = update_changes code_of row_code t table old (with_sets sets old)
+
+abbrev pub removal_of : Table → ℕ → Option (List Value) → List Change
+removal_of table t None = []
+removal_of table t (Some old) = removals (pairs_of_row code_of row_code t table old)
+
+-- the changes that a write makes where nothing refuses it
+unfoldable pub changes_of : List Table → Rows → Write → List Change
+changes_of tables rows (write.Insert t row) = puts (pairs_of_row code_of row_code t (table_at tables t) row)
+changes_of tables rows (write.Update t key sets) = update_of (table_at tables t) t sets (row_at tables rows t key)
+changes_of tables rows (write.Delete t key) = removal_of (table_at tables t) t (row_at tables rows t key)

@@ -1,0 +1,229 @@
+//! The changes that a write makes of the pairs of a row.
+ghost use Rattle.std.specs.Prelude.{◌≡◌, ◌≤◌, ◌<◌, ◌+◌, ◌∷◌, ◌++◌, [], All, length, map, IfOk, OnOk, Some, None};
+ghost use Rattle.pq_key_code.specs.KeyCode.{code_of, rowkey};
+ghost use Rattle.pq_row_code.specs.RowCode.{row_code, IsShort};
+ghost use Rattle.pq_schema.specs.Sound.{AreColumns, AreParts};
+ghost use Rattle.pq_schema.specs.Sequences.{index_sequence};
+ghost use Rattle.pq_content.specs.Pairs.{entry_pair, entries_from, pairs_of_row, entry_changes, puts, removals, update_changes};
+ghost use Rattle.pq_content.specs.Standing.{change_of};
+ghost use Rattle.pq_content.specs.Tables.{key_of};
+ghost use Rattle.pq_index_keep.specs.Moved.{entry_change};
+
+use crate::groups::{index_prefix, index_sequence};
+use crate::rows::{key_of, same_values, values_of};
+use pq_base::{Bytes, List, NoMem, Row};
+use pq_key_code::row_key;
+use pq_row_code::{Change, encode_row};
+use pq_schema::{Index, Table};
+use std::alloc::Global;
+
+/// The key of the row's entry in an index of this number, from 1.
+fn entry_of(
+    alloc: Global,
+    number: u8,
+    place: u8,
+    table: &Table,
+    index: &Index,
+    row: &Row,
+) -> Result<Bytes, NoMem>
+    requires key { AreColumns table.now.key }
+    requires parts { AreParts index.now.cols }
+    ensures { IfOk result (λ key. key ≡ (entry_pair code_of row_code number place (index_sequence table.now index.now) row.now).0) }
+{
+    let parts = index_sequence(alloc, table, index)?;
+    let values = values_of(alloc, parts.items(), row)?;
+    index_prefix(alloc, number, place, &parts, &values)
+}
+
+/// The row's own key.
+fn own_key(alloc: Global, number: u8, table: &Table, row: &Row) -> Result<Bytes, NoMem>
+    ensures { IfOk result (λ key. key ≡ rowkey number (key_of table.now row.now)) }
+{
+    let key = key_of(alloc, table, row)?;
+    row_key(alloc, number, &key)
+}
+
+/// The change that writes the row at its key.
+fn put_row(alloc: Global, number: u8, table: &Table, row: &Row) -> Result<Change, NoMem>
+    requires columns { length row.now ≤ 32 }
+    requires texts { All IsShort row.now }
+    ensures { IfOk result (λ change. change_of change ≡ (rowkey number (key_of table.now row.now), Some (row_code row.now))) }
+{
+    let key = own_key(alloc, number, table, row)?;
+    let new = Some(encode_row(alloc, row)?);
+    Ok(Change { key, new })
+}
+
+/// The changes of an INSERT: the row's own pair, and its entry in each index.
+pub(crate) fn puts(
+    alloc: Global,
+    number: u8,
+    table: &Table,
+    row: &Row,
+) -> Result<List<Change>, NoMem>
+    requires key { AreColumns table.now.key }
+    requires parts { All (λ index. AreParts index.cols) table.now.indexes }
+    requires few { length table.now.indexes ≤ 16 }
+    requires columns { length row.now ≤ 32 }
+    requires texts { All IsShort row.now }
+    ensures { IfOk result (λ changes. map change_of changes ≡ puts (pairs_of_row code_of row_code number table.now row.now)) }
+{
+    let mut changes = List::new(alloc);
+    changes.push(alloc, put_row(alloc, number, table, row)?)?;
+    put_entries(
+        alloc,
+        number,
+        table,
+        table.indexes.items(),
+        row,
+        &mut changes,
+    )?;
+    Ok(changes)
+}
+
+/// Puts the writes of the row's entries in these indexes behind the changes.
+fn put_entries(
+    alloc: Global,
+    number: u8,
+    table: &Table,
+    indexes: &[Index],
+    row: &Row,
+    changes: &mut List<Change>,
+) -> Result<(), NoMem>
+    requires key { AreColumns table.now.key }
+    requires parts { All (λ index. AreParts index.cols) indexes.now }
+    requires few { length indexes.now ≤ 16 }
+    ensures { OnOk result (map change_of changes.new ≡ map change_of changes.old ++ puts (entries_from code_of row_code number 1 table.now indexes.now row.now)) }
+{
+    for (i, index) in indexes.iter().enumerate() {
+        let key = entry_of(alloc, number, i as u8 + 1, table, index, row)?;
+        let new = Some(Bytes::new(alloc));
+        changes.push(alloc, Change { key, new })?;
+    }
+    Ok(())
+}
+
+/// The changes of a DELETE: the removals of the row's own pair and of its entries.
+pub(crate) fn removals(
+    alloc: Global,
+    number: u8,
+    table: &Table,
+    row: &Row,
+) -> Result<List<Change>, NoMem>
+    requires key { AreColumns table.now.key }
+    requires parts { All (λ index. AreParts index.cols) table.now.indexes }
+    requires few { length table.now.indexes ≤ 16 }
+    ensures { IfOk result (λ changes. map change_of changes ≡ removals (pairs_of_row code_of row_code number table.now row.now)) }
+{
+    let mut changes = List::new(alloc);
+    let key = own_key(alloc, number, table, row)?;
+    changes.push(alloc, Change { key, new: None })?;
+    remove_entries(
+        alloc,
+        number,
+        table,
+        table.indexes.items(),
+        row,
+        &mut changes,
+    )?;
+    Ok(changes)
+}
+
+/// Puts the removals of the row's entries in these indexes behind the changes.
+fn remove_entries(
+    alloc: Global,
+    number: u8,
+    table: &Table,
+    indexes: &[Index],
+    row: &Row,
+    changes: &mut List<Change>,
+) -> Result<(), NoMem>
+    requires key { AreColumns table.now.key }
+    requires parts { All (λ index. AreParts index.cols) indexes.now }
+    requires few { length indexes.now ≤ 16 }
+    ensures { OnOk result (map change_of changes.new ≡ map change_of changes.old ++ removals (entries_from code_of row_code number 1 table.now indexes.now row.now)) }
+{
+    for (i, index) in indexes.iter().enumerate() {
+        let key = entry_of(alloc, number, i as u8 + 1, table, index, row)?;
+        changes.push(alloc, Change { key, new: None })?;
+    }
+    Ok(())
+}
+
+/// Puts the removal of the old entry in an index and the write of the new one behind the changes,
+/// where the two differ.
+fn move_entry(
+    alloc: Global,
+    number: u8,
+    place: u8,
+    table: &Table,
+    index: &Index,
+    old: &Row,
+    new: &Row,
+    changes: &mut List<Change>,
+) -> Result<(), NoMem>
+    requires key { AreColumns table.now.key }
+    requires parts { AreParts index.now.cols }
+    ensures { OnOk result (map change_of changes.new ≡ map change_of changes.old ++ entry_change number place table.now index.now old.now new.now) }
+{
+    let parts = index_sequence(alloc, table, index)?;
+    let before = values_of(alloc, parts.items(), old)?;
+    let after = values_of(alloc, parts.items(), new)?;
+    if same_values(before.items(), after.items()) {
+        return Ok(());
+    }
+    let key = index_prefix(alloc, number, place, &parts, &before)?;
+    changes.push(alloc, Change { key, new: None })?;
+    let key = index_prefix(alloc, number, place, &parts, &after)?;
+    let new = Some(Bytes::new(alloc));
+    changes.push(alloc, Change { key, new })
+}
+
+/// The changes of an UPDATE: the row's pair, and the old and the new entry where they differ.
+pub(crate) fn updates(
+    alloc: Global,
+    number: u8,
+    table: &Table,
+    old: &Row,
+    new: &Row,
+) -> Result<List<Change>, NoMem>
+    requires key { AreColumns table.now.key }
+    requires parts { All (λ index. AreParts index.cols) table.now.indexes }
+    requires few { length table.now.indexes ≤ 16 }
+    requires columns { length new.now ≤ 32 }
+    requires texts { All IsShort new.now }
+    ensures { IfOk result (λ changes. map change_of changes ≡ update_changes code_of row_code number table.now old.now new.now) }
+{
+    let mut changes = List::new(alloc);
+    changes.push(alloc, put_row(alloc, number, table, new)?)?;
+    move_entries(
+        alloc,
+        number,
+        table,
+        table.indexes.items(),
+        old,
+        new,
+        &mut changes,
+    )?;
+    Ok(changes)
+}
+
+fn move_entries(
+    alloc: Global,
+    number: u8,
+    table: &Table,
+    indexes: &[Index],
+    old: &Row,
+    new: &Row,
+    changes: &mut List<Change>,
+) -> Result<(), NoMem>
+    requires key { AreColumns table.now.key }
+    requires parts { All (λ index. AreParts index.cols) indexes.now }
+    requires few { length indexes.now ≤ 16 }
+    ensures { OnOk result (map change_of changes.new ≡ map change_of changes.old ++ entry_changes code_of row_code number 1 table.now indexes.now old.now new.now) }
+{
+    for (i, index) in indexes.iter().enumerate() {
+        move_entry(alloc, number, i as u8 + 1, table, index, old, new, changes)?;
+    }
+    Ok(())
+}

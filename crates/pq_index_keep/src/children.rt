@@ -1,0 +1,91 @@
+//! The rows that name a row by foreign keys of theirs.
+ghost use Rattle.std.specs.Prelude.{◌≡◌, ◌==◌, List, All, position, IfOk, IfErr, IsSome, ◌<◌, length, IfSome};
+ghost use Rattle.std.specs.List.{count_by};
+ghost use Rattle.pq_base.specs.Columns.{set_of};
+ghost use Rattle.pq_schema.specs.Sequences.{group_access};
+ghost use Rattle.pq_schema.specs.Sound.{IsTable, AreColumns};
+ghost use Rattle.pq_schema.specs.Tables.{table_at};
+ghost use Rattle.pq_schema.specs.declared.table.Table.{Table as Definition};
+ghost use Rattle.pq_content.specs.Pairs.{Pair};
+ghost use Rattle.pq_content.specs.Tables.{Rows};
+ghost use Rattle.pq_index_keep.specs.Bounds.{one_if};
+ghost use Rattle.pq_index_keep.specs.Effects.{names_key};
+ghost use Rattle.pq_index_keep.specs.Promises.{world, Affords, Reads, Fails, Settled};
+ghost use Rattle.pq_index_keep.specs.Sound.{MayName};
+
+use crate::groups::count_group;
+use pq_base::Row;
+use pq_schema::{Foreign, Table};
+use pq_store::{Allowance, Broke, Meter, Store};
+use std::alloc::Global;
+use std::sync::ledger::Ledger;
+
+/// Whether the foreign key refers to the table, and some row of its own table names the key by it.
+fn names_key<S: Store<L>, L: Ledger>(
+    alloc: Global,
+    number: u8,
+    key: &Row,
+    child: u8,
+    table: &Table,
+    foreign: &Foreign,
+    store: &mut S,
+    allowance: &mut Allowance,
+    meter: &mut Meter<L>,
+) -> Result<bool, Broke>
+    requires columns { AreColumns foreign.now.cols }
+    requires table { IsTable table.now }
+    requires access { IsSome (group_access table.now (set_of foreign.now.cols)) }
+    requires share { Affords allowance.old (one_if (foreign.now.table == number)) (one_if (foreign.now.table == number)) }
+    ensures reads { Reads (world (S.content store.old) (S.faults store.old) allowance.old meter.old) (world (S.content store.new) (S.faults store.new) allowance.new meter.new) (one_if (foreign.now.table == number)) (one_if (foreign.now.table == number)) }
+    ensures cause { IfErr result (Fails (world (S.content store.old) (S.faults store.old) allowance.old meter.old) (world (S.content store.new) (S.faults store.new) allowance.new meter.new)) }
+    ensures answer { IfOk result (λ named. (tables : List Definition) (rows : Rows) (others : List Pair) → Settled (S.content store.old) tables rows others → table.now ≡ table_at tables child →
+        MayName table.now number key.now foreign.now → named ≡ names_key rows number key.now child foreign.now) }
+{
+    if foreign.table != number {
+        return Ok(false);
+    }
+    let count = count_group(
+        alloc,
+        child,
+        table,
+        foreign.cols.items(),
+        key.items(),
+        1,
+        store,
+        allowance,
+        meter,
+    )?;
+    Ok(count != 0)
+}
+
+/// The place of the first foreign key of a table by which some row of it names the key.
+pub(crate) fn first_naming<S: Store<L>, L: Ledger>(
+    alloc: Global,
+    number: u8,
+    key: &Row,
+    child: u8,
+    table: &Table,
+    foreign: &[Foreign],
+    store: &mut S,
+    allowance: &mut Allowance,
+    meter: &mut Meter<L>,
+) -> Result<Option<usize>, Broke>
+    requires columns { All (λ f. AreColumns f.cols) foreign.now }
+    requires table { IsTable table.now }
+    requires access { All (λ f. IsSome (group_access table.now (set_of f.cols))) foreign.now }
+    requires share { Affords allowance.old (count_by (λ f. f.table == number) foreign.now) (count_by (λ f. f.table == number) foreign.now) }
+    ensures reads { Reads (world (S.content store.old) (S.faults store.old) allowance.old meter.old) (world (S.content store.new) (S.faults store.new) allowance.new meter.new) (count_by (λ f. f.table == number) foreign.now) (count_by (λ f. f.table == number) foreign.now) }
+    ensures cause { IfErr result (Fails (world (S.content store.old) (S.faults store.old) allowance.old meter.old) (world (S.content store.new) (S.faults store.new) allowance.new meter.new)) }
+    ensures answer { IfOk result (λ at. (tables : List Definition) (rows : Rows) (others : List Pair) → Settled (S.content store.old) tables rows others → table.now ≡ table_at tables child →
+        All (MayName table.now number key.now) foreign.now → at ≡ position (names_key rows number key.now child) foreign.now) }
+    ensures within { IfOk result (λ at. IfSome at (λ i. i < length foreign.now)) }
+{
+    for (i, own) in foreign.iter().enumerate() {
+        if names_key(
+            alloc, number, key, child, table, own, store, allowance, meter,
+        )? {
+            return Ok(Some(i));
+        }
+    }
+    Ok(None)
+}

@@ -1,0 +1,25 @@
+//! Writes: what an INSERT, UPDATE or DELETE makes of the rows and their entries, within which bound,
+//! or why it is refused.
+#![tactic(auto)]
+
+mod bound;
+mod calls;
+mod changes;
+mod check;
+mod children;
+mod groups;
+mod limits;
+mod parents;
+mod plan;
+mod references;
+mod refusals;
+mod rows;
+mod update;
+mod write;
+mod writes;
+
+pub use bound::write_bound;
+pub use check::check_write;
+pub use plan::Planned;
+pub use write::{SetCol, Write};
+pub use writes::plan_write;

@@ -1,0 +1,56 @@
+//! Why a DELETE is refused by the rows that name its row.
+ghost use Rattle.std.specs.Prelude.{◌≡◌, ◌≤◌, ◌<◌, List, All, length, IfOk, IfErr};
+ghost use Rattle.pq_content.specs.Pairs.{Pair};
+ghost use Rattle.pq_content.specs.Tables.{Rows};
+ghost use Rattle.pq_index_keep.specs.Bounds.{referring};
+ghost use Rattle.pq_index_keep.specs.Effects.{referenced, child_refusal};
+ghost use Rattle.pq_index_keep.specs.Promises.{world, Affords, Reads, Fails, Settled};
+ghost use Rattle.pq_index_keep.specs.Sound.{IsSound, MayName};
+
+use crate::children::first_naming;
+use pq_base::{NoMem, Refusal, Row};
+use pq_schema::Table;
+use pq_store::{Allowance, Broke, Meter, Store};
+use std::alloc::Global;
+use std::sync::ledger::Ledger;
+
+fn referenced(alloc: Global, table: &Table, place: usize) -> Result<Refusal, NoMem>
+    requires { place < 4 }
+    ensures { IfOk result (λ refusal. refusal ≡ referenced table.now place) }
+{
+    Ok(Refusal::Referenced {
+        table: table.name.copy(alloc)?,
+        number: place as u8 + 1,
+    })
+}
+
+/// The refusal of the first foreign key, in order of tables, by which some row names the key.
+pub(crate) fn child_refusal<S: Store<L>, L: Ledger>(
+    alloc: Global,
+    tables: &[Table],
+    number: u8,
+    key: &Row,
+    store: &mut S,
+    allowance: &mut Allowance,
+    meter: &mut Meter<L>,
+) -> Result<Option<Refusal>, Broke>
+    requires few { length tables.now ≤ 64 }
+    requires sound { IsSound tables.now }
+    requires may { All (λ table. All (MayName table number key.now) table.foreign) tables.now }
+    requires share { Affords allowance.old (referring tables.now number) (referring tables.now number) }
+    ensures reads { Reads (world (S.content store.old) (S.faults store.old) allowance.old meter.old) (world (S.content store.new) (S.faults store.new) allowance.new meter.new) (referring tables.now number) (referring tables.now number) }
+    ensures cause { IfErr result (Fails (world (S.content store.old) (S.faults store.old) allowance.old meter.old) (world (S.content store.new) (S.faults store.new) allowance.new meter.new)) }
+    ensures answer { IfOk result (λ refusal. (rows : Rows) (others : List Pair) → Settled (S.content store.old) tables.now rows others → refusal ≡ child_refusal rows number key.now 1 tables.now) }
+{
+    for (i, table) in tables.iter().enumerate() {
+        let foreign = table.foreign.items();
+        let child = i as u8 + 1;
+        let naming = first_naming(
+            alloc, number, key, child, table, foreign, store, allowance, meter,
+        )?;
+        if let Some(place) = naming {
+            return Ok(Some(referenced(alloc, table, place)?));
+        }
+    }
+    Ok(None)
+}

@@ -1,0 +1,199 @@
+//! Why a write is refused by the rows that are there.
+ghost use Rattle.std.specs.Prelude.{◌≡◌, ◌≤◌, ◌<◌, ◌+◌, List, All, length, is_some, IfOk, IfErr, IsSome};
+ghost use Rattle.std.specs.List.{sum_by};
+ghost use Rattle.pq_base.specs.Answers.{or_else};
+ghost use Rattle.pq_base.specs.Columns.{set_of};
+ghost use Rattle.pq_schema.specs.Sequences.{group_access};
+ghost use Rattle.pq_schema.specs.Sound.{IsTable, AreColumns};
+ghost use Rattle.pq_schema.specs.Tables.{table_at};
+ghost use Rattle.pq_schema.specs.declared.table.Table.{Table as Definition};
+ghost use Rattle.pq_content.specs.Pairs.{Pair};
+ghost use Rattle.pq_content.specs.Tables.{Rows, AllOfKinds, key_types, values_at, types_of, key_of, row_at};
+ghost use Rattle.pq_base.specs.Values.{AllFit};
+ghost use Rattle.pq_index_keep.specs.Bounds.{tested_foreign, tested_limits, tested_n, tests};
+ghost use Rattle.pq_index_keep.specs.Effects.{no_parent, no_room, parent_refusal, room_refusal, insert_refusal};
+ghost use Rattle.pq_index_keep.specs.Promises.{world, Affords, Reads, Fails, Settled, IsTested};
+
+use crate::calls::has_row;
+use crate::limits::first_full;
+use crate::parents::first_lacking;
+use crate::rows::key_of;
+use crate::write::Scope;
+use pq_base::{NoMem, Refusal, Row};
+use pq_schema::Table;
+use pq_store::{Allowance, Broke, Meter, Store};
+use std::alloc::Global;
+use std::sync::ledger::Ledger;
+
+fn no_parent(alloc: Global, table: &Table, place: usize) -> Result<Refusal, NoMem>
+    requires { place < 4 }
+    ensures { IfOk result (λ refusal. refusal ≡ no_parent table.now place) }
+{
+    Ok(Refusal::NoParent {
+        table: table.name.copy(alloc)?,
+        number: place as u8 + 1,
+    })
+}
+
+fn no_room(alloc: Global, table: &Table, place: usize) -> Result<Refusal, NoMem>
+    requires limit { place < length table.now.limits }
+    requires few { place < 4 }
+    ensures { IfOk result (λ refusal. refusal ≡ no_room table.now place) }
+{
+    Ok(Refusal::Cardinality {
+        table: table.name.copy(alloc)?,
+        number: place as u8 + 1,
+        n: table.limits.items()[place].n,
+    })
+}
+
+/// The refusal of the first foreign key that is tested and whose row is not there.
+fn parent_refusal<S: Store<L>, L: Ledger>(
+    alloc: Global,
+    scope: &Scope,
+    table: &Table,
+    row: &Row,
+    store: &mut S,
+    allowance: &mut Allowance,
+    meter: &mut Meter<L>,
+) -> Result<Option<Refusal>, Broke>
+    requires columns { All (λ f. AreColumns f.cols) table.now.foreign }
+    requires few { length table.now.foreign ≤ 4 }
+    requires share { Affords allowance.old (tested_foreign scope.now table.now.foreign) (tested_foreign scope.now table.now.foreign) }
+    ensures reads { Reads (world (S.content store.old) (S.faults store.old) allowance.old meter.old) (world (S.content store.new) (S.faults store.new) allowance.new meter.new) (tested_foreign scope.now table.now.foreign) (tested_foreign scope.now table.now.foreign) }
+    ensures cause { IfErr result (Fails (world (S.content store.old) (S.faults store.old) allowance.old meter.old) (world (S.content store.new) (S.faults store.new) allowance.new meter.new)) }
+    ensures answer { IfOk result (λ refusal. (tables : List Definition) (rows : Rows) (others : List Pair) → Settled (S.content store.old) tables rows others →
+        All (λ f. AllOfKinds (key_types (table_at tables f.table)) (values_at f.cols row.now)) table.now.foreign → refusal ≡ parent_refusal tables rows scope.now table.now row.now) }
+{
+    match first_lacking(
+        alloc,
+        scope,
+        table.foreign.items(),
+        row,
+        store,
+        allowance,
+        meter,
+    )? {
+        None => Ok(None),
+        Some(place) => Ok(Some(no_parent(alloc, table, place)?)),
+    }
+}
+
+/// The refusal of the first limit that is tested, at whose columns the values change, and whose
+/// group has n rows already.
+fn room_refusal<S: Store<L>, L: Ledger>(
+    alloc: Global,
+    scope: &Scope,
+    old: &Option<Row>,
+    number: u8,
+    table: &Table,
+    row: &Row,
+    store: &mut S,
+    allowance: &mut Allowance,
+    meter: &mut Meter<L>,
+) -> Result<Option<Refusal>, Broke>
+    requires table { IsTable table.now }
+    requires access { All (λ limit. IsSome (group_access table.now (set_of limit.cols))) table.now.limits }
+    requires share { Affords allowance.old (tested_limits scope.now table.now.limits) (sum_by (tested_n scope.now) table.now.limits) }
+    ensures reads { Reads (world (S.content store.old) (S.faults store.old) allowance.old meter.old) (world (S.content store.new) (S.faults store.new) allowance.new meter.new) (tested_limits scope.now table.now.limits) (sum_by (tested_n scope.now) table.now.limits) }
+    ensures cause { IfErr result (Fails (world (S.content store.old) (S.faults store.old) allowance.old meter.old) (world (S.content store.new) (S.faults store.new) allowance.new meter.new)) }
+    ensures answer { IfOk result (λ refusal. (tables : List Definition) (rows : Rows) (others : List Pair) → Settled (S.content store.old) tables rows others → table.now ≡ table_at tables number →
+        AllFit (types_of table.now) row.now → refusal ≡ room_refusal rows scope.now old.now number table.now row.now) }
+{
+    let limits = table.limits.items();
+    match first_full(
+        alloc, scope, old, number, table, limits, row, store, allowance, meter,
+    )? {
+        None => Ok(None),
+        Some(place) => Ok(Some(no_room(alloc, table, place)?)),
+    }
+}
+
+/// The refusal of the foreign keys, or else of the limits.
+pub(crate) fn tested_refusal<S: Store<L>, L: Ledger>(
+    alloc: Global,
+    scope: &Scope,
+    old: &Option<Row>,
+    number: u8,
+    table: &Table,
+    row: &Row,
+    store: &mut S,
+    allowance: &mut Allowance,
+    meter: &mut Meter<L>,
+) -> Result<Option<Refusal>, Broke>
+    requires table { IsTable table.now }
+    requires columns { All (λ f. AreColumns f.cols) table.now.foreign }
+    requires few { length table.now.foreign ≤ 4 }
+    requires access { All (λ limit. IsSome (group_access table.now (set_of limit.cols))) table.now.limits }
+    requires share { Affords allowance.old (tested_foreign scope.now table.now.foreign + tested_limits scope.now table.now.limits) (tested_foreign scope.now table.now.foreign + sum_by (tested_n scope.now) table.now.limits) }
+    ensures reads { Reads (world (S.content store.old) (S.faults store.old) allowance.old meter.old) (world (S.content store.new) (S.faults store.new) allowance.new meter.new) (tested_foreign scope.now table.now.foreign + tested_limits scope.now table.now.limits) (tested_foreign scope.now table.now.foreign + sum_by (tested_n scope.now) table.now.limits) }
+    ensures cause { IfErr result (Fails (world (S.content store.old) (S.faults store.old) allowance.old meter.old) (world (S.content store.new) (S.faults store.new) allowance.new meter.new)) }
+    ensures answer { IfOk result (λ refusal. (tables : List Definition) (rows : Rows) (others : List Pair) → Settled (S.content store.old) tables rows others → table.now ≡ table_at tables number →
+        IsTested tables table.now row.now → refusal ≡ or_else (parent_refusal tables rows scope.now table.now row.now) (room_refusal rows scope.now old.now number table.now row.now)) }
+{
+    if let Some(refusal) = parent_refusal(alloc, scope, table, row, store, allowance, meter)? {
+        return Ok(Some(refusal));
+    }
+    room_refusal(
+        alloc, scope, old, number, table, row, store, allowance, meter,
+    )
+}
+
+/// Whether a row with the row's key is there.
+fn has_key<S: Store<L>, L: Ledger>(
+    alloc: Global,
+    number: u8,
+    table: &Table,
+    row: &Row,
+    store: &mut S,
+    allowance: &mut Allowance,
+    meter: &mut Meter<L>,
+) -> Result<bool, Broke>
+    requires share { Affords allowance.old 1 1 }
+    ensures reads { Reads (world (S.content store.old) (S.faults store.old) allowance.old meter.old) (world (S.content store.new) (S.faults store.new) allowance.new meter.new) 1 1 }
+    ensures cause { IfErr result (Fails (world (S.content store.old) (S.faults store.old) allowance.old meter.old) (world (S.content store.new) (S.faults store.new) allowance.new meter.new)) }
+    ensures answer { IfOk result (λ there. (tables : List Definition) (rows : Rows) (others : List Pair) → Settled (S.content store.old) tables rows others → table.now ≡ table_at tables number →
+        AllFit (types_of table.now) row.now → there ≡ is_some (row_at tables rows number (key_of table.now row.now))) }
+{
+    let key = key_of(alloc, table, row)?;
+    let there = has_row(alloc, number, &key, store, allowance, meter)?;
+    Ok(there)
+}
+
+/// Why an INSERT of the row is refused.
+pub(crate) fn insert_refusal<S: Store<L>, L: Ledger>(
+    alloc: Global,
+    number: u8,
+    table: &Table,
+    row: &Row,
+    store: &mut S,
+    allowance: &mut Allowance,
+    meter: &mut Meter<L>,
+) -> Result<Option<Refusal>, Broke>
+    requires table { IsTable table.now }
+    requires columns { All (λ f. AreColumns f.cols) table.now.foreign }
+    requires few { length table.now.foreign ≤ 4 }
+    requires access { All (λ limit. IsSome (group_access table.now (set_of limit.cols))) table.now.limits }
+    requires share { Affords allowance.old (tests Scope.All table.now).ops (tests Scope.All table.now).entries }
+    ensures reads { Reads (world (S.content store.old) (S.faults store.old) allowance.old meter.old) (world (S.content store.new) (S.faults store.new) allowance.new meter.new) (tests Scope.All table.now).ops (tests Scope.All table.now).entries }
+    ensures cause { IfErr result (Fails (world (S.content store.old) (S.faults store.old) allowance.old meter.old) (world (S.content store.new) (S.faults store.new) allowance.new meter.new)) }
+    ensures answer { IfOk result (λ refusal. (tables : List Definition) (rows : Rows) (others : List Pair) → Settled (S.content store.old) tables rows others → table.now ≡ table_at tables number →
+        IsTested tables table.now row.now → refusal ≡ insert_refusal tables rows number row.now) }
+{
+    if has_key(alloc, number, table, row, store, allowance, meter)? {
+        let name = table.name.copy(alloc)?;
+        return Ok(Some(Refusal::DuplicateKey { table: name }));
+    }
+    let rest = tested_refusal(
+        alloc,
+        &Scope::All,
+        &None,
+        number,
+        table,
+        row,
+        store,
+        allowance,
+        meter,
+    )?;
+    Ok(rest)
+}

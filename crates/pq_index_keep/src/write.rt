@@ -1,0 +1,72 @@
+//! Writes by numbers: tables from 1, columns from 0.
+ghost use Rattle.std.specs.Prelude.{◌≡◌, ◌<◌, All};
+ghost use Rattle.pq_index_keep.specs.Tested.{touches, scope_of};
+
+use pq_base::{ColSet, List, Row, Value};
+
+/// A column and the value that it is to have.
+#[derive(Debug, Drop)]
+pub struct SetCol {
+    pub col: u8,
+    pub value: Value,
+}
+
+/// An INSERT, UPDATE or DELETE of one row.
+#[derive(Debug, Drop)]
+pub enum Write {
+    /// The row, with a value for each column.
+    Insert {
+        table: u8,
+        row: Row,
+    },
+    /// The row with this key gets these values.
+    Update {
+        table: u8,
+        key: Row,
+        sets: List<SetCol>,
+    },
+    /// The row with this key.
+    Delete {
+        table: u8,
+        key: Row,
+    },
+}
+
+/// The columns that a write gives values: all of them, or those of a set.
+#[derive(Clone, Copy)]
+pub(crate) enum Scope {
+    All,
+    Columns(ColSet),
+}
+
+fn has_any(set: ColSet, cols: &[u8]) -> bool
+    requires { All (λ col. col < 32) cols.now }
+    ensures { result ≡ touches (Scope.Columns set) cols.now }
+{
+    cols.iter().any(|col| set.has(*col))
+}
+
+impl Scope {
+    /// Whether some of these columns get a value.
+    pub(crate) fn touches(&self, cols: &[u8]) -> bool
+        requires { All (λ col. col < 32) cols.now }
+        ensures { result ≡ touches self.now cols.now }
+    {
+        match self {
+            Scope::All => true,
+            Scope::Columns(set) => has_any(*set, cols),
+        }
+    }
+
+    /// The columns that an UPDATE sets.
+    pub(crate) fn of(sets: &[SetCol]) -> Scope
+        requires { All (λ set. set.col < 32) sets.now }
+        ensures { result ≡ scope_of sets.now }
+    {
+        let mut columns = ColSet::empty();
+        for set in sets {
+            columns = columns.with(set.col);
+        }
+        Scope::Columns(columns)
+    }
+}
