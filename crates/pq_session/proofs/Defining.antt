@@ -1,6 +1,7 @@
 -- What a definition makes of what a content stands for.
-use Rattle.std.proofs.Common.{cond, lit≤, ◌≡◌, ℕ, ◌+◌, ◌<◌, ◌≤◌, Bool, true, false, List, [], ◌∷◌, ◌++◌, length, Option, Some, None, Result, Ok, Err, refl, sym, ap, ◌∙◌, subst, arith, inl, inr, ◌⊎◌}
-use Rattle.std.specs.Prelude.{IfSome}
+use Rattle.std.proofs.Common.{lit≤, ◌≡◌, ℕ, ◌+◌, ◌-◌, get_or, ◌<◌, true, List, [], ◌∷◌, ◌++◌, length, Option, Some, None, Result, Ok, Err, refl, sym, ap, ◌∙◌, subst, arith, inl, inr}
+use Rattle.std.specs.Prelude.{IfSome, IfOk, IfErr, OnOk, OnErr}
+use Rattle.std.proofs.Math.Seq.{get_or-append_seam}
 use Rattle.std.specs.FinMap.{get, insert}
 use Rattle.std.proofs.lemmas.List.{length-append}
 use Rattle.pq_base.specs.declared.number.Choice.TheVariants.{Whole}
@@ -23,26 +24,25 @@ use Rattle.pq_print.specs.declared.report.End.TheVariants.{Done}
 use Rattle.pq_store.specs.Content.{Content}
 use Rattle.pq_store.specs.Counts.{Counts, charged}
 use Rattle.pq_store.specs.declared.damage.Broke.{Broke}
-use Rattle.pq_session.specs.Built.{IsBuilt, IsByKey}
+use Rattle.pq_schema.specs.Names.{IsTableDef}
+use Rattle.pq_session.specs.Built.{IsBuilt, IsKeyDefinition}
+use Rattle.pq_session.specs.Built.IsBuilt.{then_table, then_query}
 use Rattle.pq_session.specs.Calls.{PutsNew, MayPut}
-use Rattle.pq_session.specs.Causes.{IsSound}
-use Rattle.pq_session.specs.Extends.{Extends}
+use Rattle.pq_intent.specs.Errors.{IsSound}
 use Rattle.pq_session.specs.KeyQuery.{read_query}
 use Rattle.pq_session.specs.Model.{Model}
-use Rattle.pq_session.specs.Promise.{Done as Promised, Broken}
+use Rattle.pq_print.specs.declared.report.Report.{Report}
+use Rattle.pq_schema.specs.Tables.{table_at, no_table}
+use Rattle.pq_session.specs.Extends.{Extends}
+use Rattle.pq_session.specs.Promise.{Done as Promised, Broken, Promises}
 use Rattle.pq_session.specs.Reports.{define_report}
-use Rattle.pq_session.specs.Stands.{Settled, Stands, content_of, catalog_value}
+use Rattle.pq_session.specs.Stands.{Settled, Stands, content_of, catalog_value, last_key, last_value}
 use Rattle.pq_session.specs.declared.key_select.KeySelect.{KeySelect}
-use Rattle.pq_session.specs.Step.{Step, is_plain, bound, by_key, report_of, created, created_as, not_built, prepared, prepared_as}
-use Rattle.pq_session.proofs.Definitions.{plain_table, built_with_table, built_with_query, next_absent, put_table, put_query}
-use Rattle.pq_session.proofs.Plain.{made_room}
-
--- the key and the value of a schema's last definition
-abbrev pub last_key : Schema → List ℕ
-last_key schema = catkey (length schema.definitions)
-
-abbrev pub last_value : Schema → List ℕ
-last_value schema = catalog_value (definition_text schema (length schema.definitions))
+use Rattle.pq_session.specs.Step.{Step, bound, by_key, report_of, created, created_as, prepared, prepared_as}
+use Rattle.pq_session.specs.Lines.{table_lines}
+use Rattle.pq_session.proofs.Definitions.{next_absent, put_table, put_query}
+use Rattle.pq_session.proofs.Standing.{settled_opens}
+use Rattle.pq_session.proofs.Made.{made_of, made_room}
 
 -- the model with one more definition
 abbrev pub defined : Model → ℕ → Schema → List Line → Step
@@ -58,27 +58,26 @@ pub record Leads (m : Model) (next : Schema) : Type 0 where
 one_more : (definitions : List Definition) (last : Definition) → length definitions + 1 ≡ length (definitions ++ last ∷ [])
 one_more definitions last = omega (arith, length-append definitions (last ∷ []))
 
-pub leads_table : {old : Option Content} (m : Model) (def : TableDef) (table : Table) → Settled old m → new_table m.schema def ≡ Ok table → Leads m (with_table m.schema table)
-leads_table m def table s made =
-    let plain = plain_table m.schema def table made in
+pub leads_table : {old : Option Content} (m : Model) (def : TableDef) (table : Table) → Settled old m → IsTableDef def → new_table m.schema def ≡ Ok table → Leads m (with_table m.schema table)
+leads_table m def table s is_def made =
     let few : length m.schema.definitions < 65535 = omega (arith, made_room m.schema def table made) in
     let more : length m.schema.definitions + 1 ≡ length (with_table m.schema table).definitions = one_more m.schema.definitions (OfTable (length m.schema.tables + 1) (length table.indexes)) in
     record {
-      valid = built_with_table m.schema table s.valid plain;
+      valid = then_table m.schema def table s.valid is_def made;
       keeps = keeps-more row_code m.schema.tables table m.rows s.keeps;
       absent = subst (λ n. get (content_of m) (catkey n) ≡ None) more (next_absent m few);
-      put = subst (λ n. insert (content_of m) (catkey n) (catalog_value (definition_text (with_table m.schema table) n)) ≡ content_of (record m { schema = with_table m.schema table })) more (put_table m table s.valid s.keeps few plain);
+      put = subst (λ n. insert (content_of m) (catkey n) (catalog_value (definition_text (with_table m.schema table) n)) ≡ content_of (record m { schema = with_table m.schema table })) more (put_table m table s.valid (made_of m.schema s.valid) s.keeps few);
     }
 
-pub leads_query : {old : Option Content} (m : Model) (query : Query) → Settled old m → IsByKey m.schema.tables query → length m.schema.definitions < 256 → Leads m (with_query m.schema query)
-leads_query m query s by_key room =
-    let few : length m.schema.definitions < 65535 = omega (arith, room) in
-    let more : length m.schema.definitions + 1 ≡ length (with_query m.schema query).definitions = one_more m.schema.definitions (OfQuery query None) in
+pub leads_query : {old : Option Content} (m : Model) (query : Query) → Settled old m → IsKeyDefinition m.schema query → Leads m (with_query m.schema query None)
+leads_query m query s key =
+    let few : length m.schema.definitions < 65535 = omega (arith, key.room) in
+    let more : length m.schema.definitions + 1 ≡ length (with_query m.schema query None).definitions = one_more m.schema.definitions (OfQuery query None) in
     record {
-      valid = built_with_query m.schema query s.valid by_key;
+      valid = then_query m.schema query s.valid key;
       keeps = s.keeps;
       absent = subst (λ n. get (content_of m) (catkey n) ≡ None) more (next_absent m few);
-      put = subst (λ n. insert (content_of m) (catkey n) (catalog_value (definition_text (with_query m.schema query) n)) ≡ content_of (record m { schema = with_query m.schema query })) more (put_query m query s.valid s.keeps few by_key);
+      put = subst (λ n. insert (content_of m) (catkey n) (catalog_value (definition_text (with_query m.schema query None) n)) ≡ content_of (record m { schema = with_query m.schema query None })) more (put_query m query few);
     }
 
 module _ (number : ℕ) (lines : List Line) (f : Model → Step) (old now : Option Content) (schema next : Schema)
@@ -106,8 +105,8 @@ module _ (number : ℕ) (lines : List Line) (f : Model → Step) (old now : Opti
       → IfSome old (λ pairs. get pairs (last_key next) ≡ None → IsSound broke) → Broken f old now schema broke
   define_broken broke may sound = record {
     stopped = λ m s. elim (subst (λ o. MayPut (last_key next) (last_value next) o now) s.settled.told may) [
-      | inl same ↦ inl (record { valid = s.settled.valid; keeps = s.settled.keeps; told = same })
-      | inr put ↦ inr (subst (λ (x : Step). Settled now x.model) (sym (leads m s).1) (added m s put.1))
+      | inl same ↦ inl (settled_opens (record { valid = s.settled.valid; keeps = s.settled.keeps; told = same }))
+      | inr put ↦ inr (settled_opens (subst (λ (x : Step). Settled now x.model) (sym (leads m s).1) (added m s put.1)))
     ];
     sound = λ m s. subst (λ o. IfSome o (λ pairs. get pairs (last_key next) ≡ None → IsSound broke)) s.settled.told sound (leads m s).0.absent;
   }
@@ -115,36 +114,64 @@ module _ (number : ℕ) (lines : List Line) (f : Model → Step) (old now : Opti
 -- ---- tables
 
 module _ (m : Model) (number : ℕ) (schema : Schema) (def : TableDef) (is : m.schema ≡ schema) where
-  by_plain : (b : Bool) → is_plain def ≡ b → created m number def ≡ cond b (created_as m number (new_table m.schema def)) (not_built m number)
+  pub created_by : (answer : Result Table Refusal) → new_table schema def ≡ answer → created m number def ≡ created_as m number answer
   unfolding created
-  by_plain b plain = ap (λ c. cond c (created_as m number (new_table m.schema def)) (not_built m number)) plain
+  created_by answer made = ap (created_as m number) (ap (λ (s : Schema). new_table s def) is ∙ made)
 
-  pub not_plain : is_plain def ≡ false → created m number def ≡ not_built m number
-  not_plain plain = by_plain false plain
-
-  pub not_defined : (why : Refusal) → is_plain def ≡ true → new_table schema def ≡ Err why → created m number def ≡ not_built m number
-  not_defined why plain made = by_plain true plain ∙ ap (created_as m number) (ap (λ (s : Schema). new_table s def) is ∙ made)
-
-  pub table_defined : (table : Table) → is_plain def ≡ true → new_table schema def ≡ Ok table → created m number def ≡ defined m number (with_table m.schema table) []
-  table_defined table plain made = by_plain true plain ∙ ap (created_as m number) (ap (λ (s : Schema). new_table s def) is ∙ made)
-
-pub leads_created : (old : Option Content) (schema : Schema) (number : ℕ) (def : TableDef) (table : Table) → is_plain def ≡ true → new_table schema def ≡ Ok table
-    → (m : Model) → Stands old schema m → Leads m (with_table schema table) × (created m number def ≡ defined m number (with_table schema table) [])
-leads_created old schema number def table plain made m s =
+pub leads_created : (old : Option Content) (schema : Schema) (number : ℕ) (def : TableDef) (table : Table) → IsTableDef def → new_table schema def ≡ Ok table
+    → (m : Model) → Stands old schema m → Leads m (with_table schema table) × (created m number def ≡ defined m number (with_table schema table) (table_lines table))
+leads_created old schema number def table is_def made m s =
     let here : new_table m.schema def ≡ Ok table = ap (λ (x : Schema). new_table x def) (sym s.known) ∙ made in
-    subst (λ (x : Schema). Leads m (with_table x table) × (created m number def ≡ defined m number (with_table x table) [])) (sym s.known)
-    (leads_table m def table s.settled here, table_defined m number schema def (sym s.known) table plain made)
+    subst (λ (x : Schema). Leads m (with_table x table) × (created m number def ≡ defined m number (with_table x table) (table_lines table))) (sym s.known)
+    (leads_table m def table s.settled is_def here, created_by m number schema def (sym s.known) (Ok table) made)
+
+-- the last table has the number behind the others
+last_table : (tables : List Table) (table : Table) (t : ℕ) → t ≡ length tables + 1 → table_at (tables ++ table ∷ []) t ≡ table
+last_table tables table t is =
+    let place : t - 1 ≡ length tables = omega arith in
+    ap (λ k. get_or (tables ++ table ∷ []) k no_table) place ∙ get_or-append_seam tables table [] no_table
+
+-- what the write of a table's definition promises
+abbrev IsWritten : Option Content → Option Content → Schema → ℕ → List Line → Counts → Counts → Result (Schema × Report) Broke → Type 0
+IsWritten old now next number lines before after result =
+    IfOk result (λ made. (made.0 ≡ next) × (made.1 ≡ define_report number lines))
+    × OnOk result (PutsNew true (last_key next) (last_value next) old now)
+    × OnErr result (MayPut (last_key next) (last_value next) old now)
+    × IfErr result (λ broke. IfSome old (λ pairs. get pairs (last_key next) ≡ None → IsSound broke))
+    × OnOk result (after ≡ charged before 0)
+
+written_as : (f : Model → Step) (old now : Option Content) (schema next : Schema) (number : ℕ) (lines : List Line) (before after : Counts) (result : Result (Schema × Report) Broke)
+    → ((m : Model) → Stands old schema m → Leads m next × (f m ≡ defined m number next lines)) → IsWritten old now next number lines before after result → Promises f old now schema before after result
+written_as f old now schema next number lines before after (Ok made) leads h =
+    rw (h.0.0, h.0.1, h.4) (define_done number lines f old now schema next leads before h.1)
+written_as f old now schema next number lines before after (Err broke) leads h = define_broken number lines f old now schema next leads broke h.2 h.3
+
+pub table_written : (old now : Option Content) (schema session : Schema) (number : ℕ) (def : TableDef) → IsTableDef def → (t : ℕ) (before after : Counts) (result : Result (Schema × Report) Broke)
+    → Extends schema def session (Ok t)
+    → IfOk result (λ made. (made.0 ≡ session) × (made.1 ≡ define_report number (table_lines (table_at session.tables t))))
+    → OnOk result (PutsNew true (last_key session) (last_value session) old now)
+    → OnErr result (MayPut (last_key session) (last_value session) old now)
+    → IfErr result (λ broke. IfSome old (λ pairs. get pairs (last_key session) ≡ None → IsSound broke))
+    → OnOk result (after ≡ charged before 0)
+    → Promises (λ m. created m number def) old now schema before after result
+table_written old now schema session number def is_def t before after result e done put stopped damage meter =
+    let table = e.0 in
+    let next = with_table schema table in
+    let all : IsWritten old now session number (table_lines (table_at session.tables t)) before after result = (done, put, stopped, damage, meter) in
+    let there = subst (λ (s : Schema). IsWritten old now s number (table_lines (table_at s.tables t)) before after result) e.2 all in
+    let lined = subst (λ (x : Table). IsWritten old now next number (table_lines x) before after result) (last_table schema.tables table t e.3) there in
+    written_as (λ m. created m number def) old now schema next number (table_lines table) before after result (leads_created old schema number def table is_def e.1) lined
 
 -- ---- queries
 
 abbrev pub query_lines : Query → List Line
 query_lines query = line.Query query.name Whole by_key ∷ []
 
-pub leads_prepared : (old : Option Content) (schema : Schema) (number : ℕ) (query : Query) → IsByKey schema.tables query → length schema.definitions < 256
-    → (m : Model) → Stands old schema m → Leads m (with_query schema query) × (prepared_as m number (Some query) ≡ defined m number (with_query schema query) (query_lines query))
-leads_prepared old schema number query by_key room m s =
-    subst (λ (x : Schema). Leads m (with_query x query) × (prepared_as m number (Some query) ≡ defined m number (with_query x query) (query_lines query))) (sym s.known)
-    (leads_query m query s.settled (subst (λ (x : Schema). IsByKey x.tables query) s.known by_key) (subst (λ (x : Schema). length x.definitions < 256) s.known room), refl)
+pub leads_prepared : (old : Option Content) (schema : Schema) (number : ℕ) (query : Query) → IsKeyDefinition schema query
+    → (m : Model) → Stands old schema m → Leads m (with_query schema query None) × (prepared_as m number (Some query) ≡ defined m number (with_query schema query None) (query_lines query))
+leads_prepared old schema number query key m s =
+    subst (λ (x : Schema). Leads m (with_query x query None) × (prepared_as m number (Some query) ≡ defined m number (with_query x query None) (query_lines query))) (sym s.known)
+    (leads_query m query s.settled (subst (λ (x : Schema). IsKeyDefinition x query) s.known key), refl)
 
 pub prepared_same : (m : Model) (number : ℕ) (schema : Schema) (name : List ℕ) (select : Result KeySelect ℕ) (query : Option Query) → m.schema ≡ schema → read_query schema name select ≡ query
     → prepared_as m number query ≡ prepared m number name select

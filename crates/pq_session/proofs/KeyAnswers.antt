@@ -1,14 +1,11 @@
 -- The answer of a query by its key.
-use Rattle.std.proofs.Common.{◌≡◌, ℕ, zero, suc, ◌+◌, ◌-◌, ◌<◌, ◌≤◌, Bool, true, false, cond, ◌&&◌, ◌==◌, List, [], ◌∷◌, ◌++◌, map, filter, flat_map, length, get_or, drop, Option, Some, None, refl, sym, ap, ◌∙◌, subst, arith, append-nil, add-one, drop-cons}
-use Rattle.std.specs.Prelude.{slice_get, slice_index_or, option_to_list, if◌then◌else◌}
+use Rattle.std.proofs.Common.{◌≡◌, ℕ, ◌+◌, ◌-◌, ◌<◌, Bool, true, false, cond, ◌==◌, List, [], ◌∷◌, ◌++◌, map, filter, length, get_or, drop, Option, Some, None, refl, ap, ◌∙◌, arith, add-one, drop-cons}
+use Rattle.std.specs.Prelude.{slice_get, slice_index_or, option_to_list}
 use Rattle.std.specs.List.{AllByRecursion, list_all}
-use Rattle.std.specs.Ordering.{is_eq}
 use Rattle.std.proofs.lemmas.Option.{slice_get-get_or}
 use Rattle.std.proofs.lemmas.List.{drop_all}
 use Rattle.pq_base.specs.declared.value.Value.{Value}
-use Rattle.pq_base.specs.Order.{value_cmp}
 use Rattle.pq_schema.specs.declared.table.Table.{Table}
-use Rattle.pq_schema.specs.declared.query.ColRef.{ColRef}
 use Rattle.pq_schema.specs.declared.query.Pred.{Pred}
 use Rattle.pq_schema.specs.declared.query.Op.TheVariants.{Eq}
 use Rattle.pq_schema.specs.declared.query.Operand.TheVariants.{Param}
@@ -19,9 +16,8 @@ use Rattle.pq_schema.specs.declared.query.Stop.{Stop}
 use Rattle.pq_schema.specs.Tables.{table_at}
 use Rattle.pq_schema.specs.Relations.{relation_at, no_relation}
 use Rattle.pq_schema.specs.Candidates.{stop_size}
-use Rattle.pq_plan.specs.Answer.{Asked, rows_of as rows_among, holds, compares, meets, values_at as cells_at, selected, answer, answered, combos, product, rows_at, in_order, stopped}
-use Rattle.pq_plan.specs.Order.{placed, sort_by}
-use Rattle.pq_content.specs.Tables.{Rows, rows_of, value_of, values_at, same_value, same_values, agrees, group_of, key_of, IsTableNumber}
+use Rattle.pq_plan.specs.Answer.{Asked, rows_of as rows_among, holds, selected, answer, combos, product, rows_at, in_order, stopped}
+use Rattle.pq_content.specs.Tables.{Rows, rows_of, value_of, values_at, same_value, same_values, agrees, group_of}
 use Rattle.pq_session.specs.Built.{key_preds, first_column, IsByKey}
 
 -- the rows of a table, as two definitions have them

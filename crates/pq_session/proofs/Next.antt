@@ -13,7 +13,8 @@ use Rattle.pq_key_code.specs.KeyCode.{catkey}
 use Rattle.pq_key_code.proofs.StoreKeys.{catkey_cmp}
 use Rattle.pq_print.specs.Canonical.{text_of, definition_text}
 use Rattle.pq_content.specs.Pairs.{Pair, key_cmp}
-use Rattle.pq_session.specs.Built.{IsPlain, IsBuiltDefinition}
+use Rattle.pq_schema.specs.Sound.{AreMade}
+use Rattle.pq_session.proofs.Known.{IsBuiltDefinition}
 use Rattle.pq_session.specs.Stands.{catalog_value, catalog_pair, catalog_from, catalog_pairs}
 use Rattle.pq_session.proofs.Texts.{text-more}
 
@@ -28,7 +29,7 @@ absent_above tables number n (definition ∷ definitions) above small =
     ∙ absent_above tables (number + 1) n definitions (omega arith) small
 
 -- one more table changes no pair
-pub pairs-more-table : (tables : List Table) (table : Table) (number : ℕ) (definitions : List Definition) → AllByRecursion IsPlain tables → AllByRecursion (IsBuiltDefinition tables) definitions
+pub pairs-more-table : (tables : List Table) (table : Table) (number : ℕ) (definitions : List Definition) → AreMade tables → AllByRecursion (IsBuiltDefinition tables) definitions
     → catalog_from (tables ++ table ∷ []) number definitions ≡ catalog_from tables number definitions
 pairs-more-table tables table number [] plain built = refl
 pairs-more-table tables table number (definition ∷ definitions) plain built =

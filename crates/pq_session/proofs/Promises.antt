@@ -1,17 +1,24 @@
 -- Promises of one step as those of another, and of steps that change nothing.
-use Rattle.std.proofs.Common.{◌≡◌, ℕ, ◌+◌, ◌⊎◌, Option, Result, Ok, Err, [], refl, sym, ap, ◌∙◌, subst, arith, inl, inr, lit≤, zero-le}
+use Rattle.std.proofs.Common.{◌≡◌, ℕ, ◌⊎◌, List, Option, Result, Ok, Err, refl, sym, ap, subst, arith, inl, lit≤}
+use Rattle.pq_base.specs.declared.refusal.Refusal.{Refusal}
 use Rattle.pq_base.specs.declared.refusal.Refusal.TheVariants.{NotBuilt}
 use Rattle.pq_schema.specs.Schema.{Schema}
+use Rattle.pq_print.specs.declared.report.End.TheVariants as End
 use Rattle.pq_print.specs.declared.report.Report.{Report}
 use Rattle.pq_store.specs.Counts.{Counts}
 use Rattle.pq_store.specs.Content.{Content}
 use Rattle.pq_store.specs.declared.damage.Broke.{Broke}
 use Rattle.pq_session.specs.Model.{Model}
-use Rattle.pq_session.specs.Stands.{Settled, Stands}
-use Rattle.pq_session.specs.Step.{Step, not_built, refusal_report, bound}
-use Rattle.pq_session.specs.Causes.{IsSound}
+use Rattle.pq_session.specs.Stands.{Settled, Stands, Opens}
+use Rattle.pq_session.specs.Step.{Step, refused_unread, not_built, refusal_report, report_of, showed, performed, bound}
+use Rattle.pq_text.specs.declared.token.Token.{Token}
+use Rattle.pq_def_read.specs.declared.statement.Statement.{Statement}
+use Rattle.pq_def_read.specs.declared.statement.Statement.TheVariants.{Show}
+use Rattle.pq_session.specs.Lines.{show_lines}
+use Rattle.pq_intent.specs.Errors.{IsSound}
 use Rattle.pq_session.specs.Matches.{Matches}
 use Rattle.pq_session.specs.Promise.{Done, Broken, Promises}
+use Rattle.pq_session.proofs.Standing.{settled_opens}
 
 -- two steps that are one over these definitions
 pub promises_as : (f g : Model → Step) (old now : Option Content) (schema : Schema) (before after : Counts) (result : Result (Schema × Report) Broke)
@@ -25,14 +32,14 @@ promises_as f g old now schema before after (Ok made) same p = record {
   few_entries = p.few_entries;
 }
 promises_as f g old now schema before after (Err broke) same p = record {
-  stopped = λ m s. subst (λ (x : Step). Settled now m ⊎ Settled now x.model) (same m (sym s.known)) (p.stopped m s);
+  stopped = λ m s. subst (λ (x : Step). Opens now m ⊎ Opens now x.model) (same m (sym s.known)) (p.stopped m s);
   sound = p.sound;
 }
 
--- a statement that isn't built changes nothing and uses nothing
-pub not_built_done : (f : Model → Step) (number : ℕ) (old : Option Content) (schema : Schema) (counts : Counts)
-    → ((m : Model) → m.schema ≡ schema → f m ≡ not_built m number) → Done f old old schema schema counts counts (refusal_report number NotBuilt (bound 0 0))
-not_built_done f number old schema counts same = record {
+-- a statement that is refused before any call of the store changes nothing and uses nothing
+pub unread_done : (f : Model → Step) (number : ℕ) (why : Refusal) (old : Option Content) (schema : Schema) (counts : Counts)
+    → ((m : Model) → m.schema ≡ schema → f m ≡ refused_unread m number why) → Done f old old schema schema counts counts (refusal_report number why (bound 0 0))
+unread_done f number why old schema counts same = record {
   matches = λ m s. rw (same m (sym s.known)) (record { same = refl; ops = lit≤ tt; entries = lit≤ tt });
   made = λ m s. subst (λ (x : Step). Stands old schema x.model) (sym (same m (sym s.known))) s;
   ops = omega arith;
@@ -41,10 +48,39 @@ not_built_done f number old schema counts same = record {
   few_entries = lit≤ tt;
 }
 
+-- a statement that isn't built is refused so
+pub not_built_done : (f : Model → Step) (number : ℕ) (old : Option Content) (schema : Schema) (counts : Counts)
+    → ((m : Model) → m.schema ≡ schema → f m ≡ not_built m number) → Done f old old schema schema counts counts (refusal_report number NotBuilt (bound 0 0))
+not_built_done f number old schema counts same = unread_done f number NotBuilt old schema counts same
+
 -- nothing changed, and no damage was found
 pub broken_same : (f : Model → Step) (old : Option Content) (schema : Schema) (broke : Broke) → IsSound broke → Broken f old old schema broke
-broken_same f old schema broke sound = record { stopped = λ m s. inl s.settled; sound = λ m s. sound }
+broken_same f old schema broke sound = record { stopped = λ m s. inl (settled_opens s.settled); sound = λ m s. sound }
 
 pub done_as : (f g : Model → Step) (old now : Option Content) (schema next : Schema) (before after : Counts) (report : Report)
     → ((m : Model) → m.schema ≡ schema → f m ≡ g m) → Done f old now schema next before after report → Done g old now schema next before after report
 done_as f g old now schema next before after report same p = promises_as f g old now schema before after (Ok (next, report)) same p
+
+-- the same where the content is told to be as it was
+pub broken_kept : (f : Model → Step) (old now : Option Content) (schema : Schema) (broke : Broke) → now ≡ old → ((m : Model) → Stands old schema m → IsSound broke) → Broken f old now schema broke
+broken_kept f old now schema broke same sound = record {
+  stopped = λ m s. inl (settled_opens (subst (λ o. Settled o m) (sym same) s.settled));
+  sound = sound;
+}
+
+-- SHOW tells the definitions and uses nothing
+pub shown_done : (number : ℕ) (old : Option Content) (schema : Schema) (counts : Counts) → Done (λ m. showed m number) old old schema schema counts counts (report_of number (show_lines schema) End.Done (bound 0 0))
+unfolding showed
+shown_done number old schema counts = record {
+  matches = λ m s. record { same = ap (λ (x : Schema). report_of number (show_lines x) End.Done (bound 0 0)) (sym s.known); ops = lit≤ tt; entries = lit≤ tt };
+  made = λ m s. s;
+  ops = omega arith;
+  entries = omega arith;
+  few_ops = lit≤ tt;
+  few_entries = lit≤ tt;
+}
+
+pub shown_as : (number : ℕ) (text : List ℕ) (tokens : List Token) (read : Statement) → read ≡ Show → (old : Option Content) (schema : Schema) (counts : Counts)
+    → Done (λ m. performed m number text tokens read) old old schema schema counts counts (report_of number (show_lines schema) End.Done (bound 0 0))
+shown_as number text tokens read is old schema counts =
+    done_as (λ m. showed m number) (λ m. performed m number text tokens read) old old schema schema counts counts _ (λ m same. ap (performed m number text tokens) (sym is)) (shown_done number old schema counts)

@@ -1,5 +1,5 @@
 -- What reading the row at a key tells of the answer of a query by its key.
-use Rattle.std.proofs.Common.{lit≤, zero-le, cond, ◌==◌, ◌≡◌, ℕ, zero, suc, ◌+◌, ◌-◌, ◌<◌, ◌≤◌, ◌^◌, Bool, true, false, ◌&&◌, List, [], ◌∷◌, length, map, get_or, Option, Some, None, refl, sym, ap, ◌∙◌, subst, arith}
+use Rattle.std.proofs.Common.{lit≤, zero-le, cond, ◌==◌, ◌≡◌, ℕ, suc, ◌+◌, ◌-◌, ◌<◌, ◌≤◌, Bool, true, false, List, [], ◌∷◌, length, map, get_or, Option, Some, None, refl, sym, ap, ◌∙◌, subst, arith}
 use Rattle.std.specs.Prelude.{option_map, option_to_list, position, All, IfSome, slice_index_or}
 use Rattle.std.specs.List.{AllByRecursion}
 use Rattle.std.specs.FinMap.{get}
@@ -25,7 +25,7 @@ use Rattle.pq_schema.specs.Tables.{table_at}
 use Rattle.pq_key_code.specs.KeyCode.{code_of, rowkey}
 use Rattle.pq_row_code.specs.RowCode.{row_code}
 use Rattle.pq_row_code.proofs.Rows.{row_code_injective}
-use Rattle.pq_content.specs.Tables.{Rows, Keeps, IsTableNumber, IsOfKind, AllOfKinds, IsFound, key_of, key_types, types_of, type_of, row_at, rows_of, group_of}
+use Rattle.pq_content.specs.Tables.{Rows, Keeps, IsTableNumber, IsOfKind, AllOfKinds, key_types, types_of, type_of, row_at, rows_of}
 use Rattle.pq_content.proofs.Codes.{key_laws}
 use Rattle.pq_content.proofs.Gets.{get_row}
 use Rattle.pq_content.proofs.Keeping.{row_found, rows_with_key}
@@ -33,18 +33,22 @@ use Rattle.pq_plan.specs.Answer.{answer}
 use Rattle.pq_store.specs.Content.{Content}
 use Rattle.pq_store.specs.declared.damage.Broke.{Broke}
 use Rattle.pq_store.specs.declared.damage.Broke.TheVariants.{Failed, NoMem, Damaged}
-use Rattle.pq_session.specs.Built.{IsPlain, IsBuilt, IsBuiltDefinition, IsByKey, IsSized, param_type}
+use Rattle.pq_schema.specs.Resolved.{param_type}
+use Rattle.pq_schema.specs.Sound.{IsMade, IsSized}
+use Rattle.pq_session.specs.Built.{IsBuilt, IsByKey}
+use Rattle.pq_session.proofs.Known.{IsBuiltDefinition, definitions_of}
+use Rattle.pq_session.proofs.Made.{made_of}
 use Rattle.pq_session.specs.Model.{Model}
 use Rattle.pq_store.specs.Counts.{Counts}
-use Rattle.pq_session.specs.Causes.{IsSound}
+use Rattle.pq_intent.specs.Errors.{IsSound}
 use Rattle.pq_session.specs.Promise.{Done}
 use Rattle.pq_session.specs.Reports.{row_report}
 use Rattle.pq_session.specs.Step.{ran, ran_by, ran_query, not_built}
 use Rattle.pq_session.specs.Reads.{IsRead, IsNoRow, IsQueryNumber, read_counts}
 use Rattle.pq_session.specs.Stands.{Settled, Stands, content_of, catalog_pairs}
-use Rattle.pq_session.proofs.Catalogs.{are_catalog, plain_at}
+use Rattle.pq_session.proofs.Catalogs.{are_catalog}
 use Rattle.pq_session.proofs.KeyAnswers.{answer_by_key, picked}
-use Rattle.pq_session.proofs.Lists.{each_at, each_is, each_weaker}
+use Rattle.pq_session.proofs.Lists.{each_is, each_by, each_at, each_weaker}
 
 -- ---- the query of a number
 
@@ -54,7 +58,7 @@ query_by_key tables (OfQuery q made) built query = built.0
 
 pub by_key_at : (schema : Schema) (n : ℕ) → IsBuilt schema → 1 ≤ n → n ≤ length schema.definitions → IsQueryDefinition (definition_at schema n) → IsByKey schema.tables (query_at schema n)
 by_key_at schema n built from_one there query =
-    query_by_key schema.tables (definition_at schema n) (each_at (IsBuiltDefinition schema.tables) schema.definitions (n - 1) no_definition built.definitions (omega (arith, from_one, there))) query
+    query_by_key schema.tables (definition_at schema n) (each_at (IsBuiltDefinition schema.tables) schema.definitions (n - 1) no_definition (definitions_of schema built) (omega (arith, from_one, there))) query
 
 named_query : (name : List ℕ) (definition : Definition) → is_query name definition ≡ true → IsQueryDefinition definition
 named_query name (OfTable t made) h = absurd (cc)
@@ -109,14 +113,14 @@ is_type type.Int h = tt
 is_type type.Bool h = tt
 is_type (type.Text n) h = omega (arith, h.1)
 
-are_types : (columns : List Column) → AllByRecursion (λ (column : Column). IsSized column.ty) columns → AllByRecursion IsType (map (λ (column : Column). column.ty) columns)
+pub are_types : (columns : List Column) → AllByRecursion (λ (column : Column). IsSized column.ty) columns → AllByRecursion IsType (map (λ (column : Column). column.ty) columns)
 are_types [] h = tt
 are_types (c ∷ cs) h = (is_type c.ty h.0, are_types cs h.1)
 
 -- a row that was read where a row is found is that row
-same_row : (table : Table) → IsPlain table → (found row : List Value) → AllFit (types_of table) found → AllFit (types_of table) row → row_code row ≡ row_code found → row ≡ found
-same_row table plain found row fits fits' same =
-    row_code_injective (types_of table) row found (each_is IsType (types_of table) (are_types table.columns plain.sized)) fits' fits same
+same_row : (table : Table) → All (λ (column : Column). IsSized column.ty) table.columns → (found row : List Value) → AllFit (types_of table) found → AllFit (types_of table) row → row_code row ≡ row_code found → row ≡ found
+same_row table sized found row fits fits' same =
+    row_code_injective (types_of table) row found (each_is IsType (types_of table) (are_types table.columns (each_by (λ (column : Column). IsSized column.ty) table.columns sized))) fits' fits same
 
 wide_rows : (tables : List Table) (rows : Rows) (t : ℕ) → AllByRecursion (λ (e : ℕ × List Value). AllFit (types_of (table_at tables e.0)) e.1) rows → (key : List ℕ)
     → AllByRecursion (λ col. col < length (table_at tables t).columns) key → AllByRecursion (λ (row : List Value). AllByRecursion (λ col. col < length row) key) (rows_of t rows)
@@ -139,8 +143,8 @@ module _ (m : Model) (query : Query) (k : IsByKey m.schema.tables query) (params
   abbrev found : Option (List Value)
   found = row_at m.schema.tables m.rows k.table params
 
-  pub plain : IsPlain table
-  plain = plain_at m.schema k.table valid k.number
+  pub made : IsMade m.schema.tables k.table table
+  made = made_of m.schema valid k.table k.number.0 k.number.1
 
   fits_key : AllFit (map param_type (key_types table)) params
   fits_key = subst (λ (types : List ColType). AllFit types params) k.params fits
@@ -152,7 +156,7 @@ module _ (m : Model) (query : Query) (k : IsByKey m.schema.tables query) (params
   pub answer_found : answer m.schema.tables query m.rows params None ≡ map (picked query) (option_to_list found)
   answer_found =
       answer_by_key m.schema.tables query k m.rows params found
-      (wide_rows m.schema.tables m.rows k.table keeps.fit table.key plain.key)
+      (wide_rows m.schema.tables m.rows k.table keeps.fit table.key (each_by (λ col. col < length table.columns) table.key made.key.inside))
       (fit_count _ params fits_key ∙ length-map (key_types table) param_type ∙ length-map table.key (type_of table))
       (rows_with_key m.schema.tables m.rows k.table params keeps.apart)
 
@@ -161,7 +165,7 @@ module _ (m : Model) (query : Query) (k : IsByKey m.schema.tables query) (params
   read_is None is None read = refl
   read_is None is (Some row) read = absurd read
   read_is (Some r) is None read = absurd read
-  read_is (Some r) is (Some row) read = ap Some (same_row table plain r row (row_found row_code m.schema.tables m.rows k.table params r keeps is).fits read.0 read.1)
+  read_is (Some r) is (Some row) read = ap Some (same_row table made.sized r row (row_found row_code m.schema.tables m.rows k.table params r keeps is).fits read.0 read.1)
 
   pub answer_read : (content : Content) (row : Option (List Value)) → content ≡ content_of m → IsRead (types_of table) (get content (rowkey k.table params)) row → answer m.schema.tables query m.rows params None ≡ map (picked query) (option_to_list row)
   answer_read content row is read =
@@ -183,6 +187,11 @@ module _ (m : Model) (query : Query) (k : IsByKey m.schema.tables query) (params
 
 pub first_table : (tables : List Table) (query : Query) (k : IsByKey tables query) → (relation_at query 1).table ≡ k.table
 first_table tables query k = ap (λ (relations : List Relation). (slice_index_or relations 0 no_relation).table) k.relations
+
+pub table_number : (schema : Schema) (n t : ℕ) → IsBuilt schema → IsQueryNumber schema n → t ≡ (relation_at (query_at schema n) 1).table → IsTableNumber schema.tables t
+table_number schema n t built number is =
+    let k = by_key_at schema n built number.from_one number.there number.query in
+    subst (IsTableNumber schema.tables) (sym (is ∙ first_table schema.tables (query_at schema n) k)) k.number
 
 select_first : (width : ℕ) (select : List ColRef) → AllByRecursion (λ (col : ColRef). (col.rel ≡ 1) × (col.col < width)) select → AllByRecursion (λ (col : ColRef). col.rel ≡ 1) select
 select_first width [] h = tt

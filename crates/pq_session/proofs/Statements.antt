@@ -1,7 +1,9 @@
 -- The step of a piece, by what its text spells.
-use Rattle.std.proofs.Common.{◌≡◌, ℕ, ◌<◌, ◌≤◌, Bool, true, false, cond, List, length, Option, Some, None, Result, Ok, Err, refl, sym, ap, ◌∙◌, arith, ◌⊎◌, inl, inr}
+use Rattle.std.proofs.Common.{◌≡◌, ℕ, ◌-◌, ◌<◌, ◌≤◌, Bool, true, false, cond, List, length, Ok, Err, refl, sym, ap, ◌∙◌, arith}
 use Rattle.std.specs.Prelude.{nat_le}
 use Rattle.std.proofs.lemmas.Bool.{leb-true, leb-false}
+use Rattle.pq_base.specs.declared.refusal.Refusal.TheVariants.{StatementLong, NotUtf8, Syntax}
+use Rattle.pq_shape.specs.Faults.{offset_at}
 use Rattle.pq_text.specs.declared.token.Token.{Token}
 use Rattle.pq_text.specs.declared.piece.Piece.{Piece}
 use Rattle.pq_text.specs.declared.piece.Piece.TheVariants as piece
@@ -9,7 +11,7 @@ use Rattle.pq_text.specs.Tokens.{tokens_of}
 use Rattle.pq_def_read.specs.declared.statement.Statement.{Statement}
 use Rattle.pq_def_read.specs.Reading.{statement_of}
 use Rattle.pq_session.specs.Model.{Model}
-use Rattle.pq_session.specs.Step.{Step, not_built, read_as, performed, text_step, step}
+use Rattle.pq_session.specs.Step.{refused_unread, read_as, performed, text_step, step}
 
 short : (n : ℕ) → n ≤ 65536 → nat_le n 65536 ≡ true
 short n few =
@@ -26,11 +28,11 @@ long n many =
     ] refl
 
 module _ (m : Model) (number : ℕ) (text : List ℕ) where
-  by_length : (b : Bool) → nat_le (length text) 65536 ≡ b → text_step m number text ≡ cond b (read_as m number text (tokens_of text) (statement_of text (tokens_of text))) (not_built m number)
+  by_length : (b : Bool) → nat_le (length text) 65536 ≡ b → text_step m number text ≡ cond b (read_as m number text (tokens_of text) (statement_of text (tokens_of text))) (refused_unread m number StatementLong)
   unfolding text_step
-  by_length b is = ap (λ c. cond c (read_as m number text (tokens_of text) (statement_of text (tokens_of text))) (not_built m number)) is
+  by_length b is = ap (λ c. cond c (read_as m number text (tokens_of text) (statement_of text (tokens_of text))) (refused_unread m number StatementLong)) is
 
-  pub too_long : 65536 < length text → text_step m number text ≡ not_built m number
+  pub too_long : 65536 < length text → text_step m number text ≡ refused_unread m number StatementLong
   too_long many = by_length false (long (length text) many)
 
   pub read_step : (tokens : List Token) (read : Statement) → length text ≤ 65536 → tokens ≡ tokens_of text → statement_of text tokens ≡ Ok read → performed m number text tokens read ≡ text_step m number text
@@ -39,7 +41,7 @@ module _ (m : Model) (number : ℕ) (text : List ℕ) where
       ∙ ap (λ ts. read_as m number text ts (statement_of text ts)) (sym found)
       ∙ ap (read_as m number text tokens) is)
 
-  pub not_read : (tokens : List Token) (left : ℕ) → length text ≤ 65536 → tokens ≡ tokens_of text → statement_of text tokens ≡ Err left → text_step m number text ≡ not_built m number
+  pub not_read : (tokens : List Token) (left : ℕ) → length text ≤ 65536 → tokens ≡ tokens_of text → statement_of text tokens ≡ Err left → text_step m number text ≡ refused_unread m number (Syntax (offset_at text tokens (length tokens - left)))
   not_read tokens left few found is =
       by_length true (short (length text) few)
       ∙ ap (λ ts. read_as m number text ts (statement_of text ts)) (sym found)
@@ -49,7 +51,10 @@ pub text_piece : (m : Model) (number : ℕ) (text : List ℕ) (p : Piece) → p 
 unfolding step
 text_piece m number text p is = sym (ap (step m number) is)
 
-pub other_piece : (m : Model) (number : ℕ) (p : Piece) → (p ≡ piece.NotUtf8) ⊎ (p ≡ piece.TooLong) → step m number p ≡ not_built m number
+pub other_piece : (m : Model) (number : ℕ) (p : Piece) → p ≡ piece.NotUtf8 → step m number p ≡ refused_unread m number NotUtf8
 unfolding step
-other_piece m number p (inl is) = ap (step m number) is
-other_piece m number p (inr is) = ap (step m number) is
+other_piece m number p is = ap (step m number) is
+
+pub long_piece : (m : Model) (number : ℕ) (p : Piece) → p ≡ piece.TooLong → step m number p ≡ refused_unread m number StatementLong
+unfolding step
+long_piece m number p is = ap (step m number) is

@@ -1,9 +1,9 @@
 -- The canonical texts of definitions that are built, where one more table comes.
-use Rattle.std.proofs.Common.{◌≡◌, ℕ, zero, suc, ◌+◌, ◌-◌, ◌<◌, List, [], ◌∷◌, ◌++◌, length, codes, Option, refl, sym, ap, ◌∙◌, subst, arith}
+use Rattle.std.proofs.Common.{◌≡◌, ℕ, zero, suc, ◌-◌, ◌<◌, List, [], ◌∷◌, ◌++◌, length, codes, Option, refl, sym, ap, ◌∙◌, subst, arith}
 use Rattle.std.specs.Prelude.{slice_index_or}
 use Rattle.std.specs.List.{AllByRecursion}
 use Rattle.std.specs.Option.{option_map_or}
-use Rattle.std.proofs.lemmas.List.{get_or_append_left, length-append}
+use Rattle.std.proofs.lemmas.List.{get_or_append_left}
 use Rattle.std.proofs.lemmas.Option.{slice_get-get_or}
 use Rattle.pq_schema.specs.declared.table.Foreign.{Foreign}
 use Rattle.pq_schema.specs.declared.table.Table.{Table}
@@ -15,6 +15,7 @@ use Rattle.pq_schema.specs.declared.query.Relation.{Relation}
 use Rattle.pq_schema.specs.declared.query.Query.{Query}
 use Rattle.pq_schema.specs.declared.made.Definition.{Definition}
 use Rattle.pq_schema.specs.declared.made.Definition.TheVariants.{OfTable, OfQuery}
+use Rattle.pq_schema.specs.Sound.{IsMade, IsMadeForeign, AreMade}
 use Rattle.pq_schema.specs.Tables.{table_at, no_table}
 use Rattle.pq_schema.specs.Relations.{relation_at, no_relation, table_of}
 use Rattle.pq_content.specs.Tables.{IsTableNumber}
@@ -22,38 +23,40 @@ use Rattle.pq_content.proofs.MoreTables.{table_at-more}
 use Rattle.pq_print.specs.Lists.{each_after, separated, clause}
 use Rattle.pq_print.specs.Report.{dir_text}
 use Rattle.pq_print.specs.Canonical.{column_name, column_text, columns_text, limit_text, foreign_text, items_text, table_text, ref_text, relation_text, op_text, operand_text, pred_text, stop_text, select_text, query_text, numbered_text, text_of}
-use Rattle.pq_session.specs.Built.{IsPlain, IsByKey, IsBuiltDefinition}
-use Rattle.pq_session.proofs.Lists.{each_at}
+use Rattle.pq_session.specs.Built.{IsByKey}
+use Rattle.pq_session.proofs.Known.{IsBuiltDefinition, number-more}
+use Rattle.pq_session.proofs.Lists.{each_by, each_weaker}
 
 -- ---- tables
 
--- the text of a table without foreign keys names no other table
+-- the text of a table names the tables of its foreign keys
 module _ (tables more : List Table) (table : Table) where
-  no_foreign : (foreigns : List Foreign) → foreigns ≡ [] → each_after (codes ", ") (foreign_text more table) foreigns ≡ each_after (codes ", ") (foreign_text tables table) foreigns
-  no_foreign foreigns none = ap (each_after (codes ", ") (foreign_text more table)) none ∙ sym (ap (each_after (codes ", ") (foreign_text tables table)) none)
+  same_foreign : (foreigns : List Foreign) → AllByRecursion (λ (foreign : Foreign). table_at more foreign.table ≡ table_at tables foreign.table) foreigns → each_after (codes ", ") (foreign_text more table) foreigns ≡ each_after (codes ", ") (foreign_text tables table) foreigns
+  unfolding foreign_text
+  same_foreign [] same = refl
+  same_foreign (foreign ∷ foreigns) same =
+      λ i. (codes ", " ++ codes "FOREIGN KEY " ++ columns_text table foreign.cols ++ codes " REFERENCES " ++ (same.0 i).name) ++ same_foreign foreigns same.1 i
 
-  same_items : table.foreign ≡ [] → items_text more table ≡ items_text tables table
+  same_items : AllByRecursion (λ (foreign : Foreign). table_at more foreign.table ≡ table_at tables foreign.table) table.foreign → items_text more table ≡ items_text tables table
   unfolding items_text
-  same_items none = ap (λ (last : List ℕ). separated (codes ", ") column_text table.columns ++ codes ", PRIMARY KEY " ++ columns_text table table.key ++ each_after (codes ", ") (limit_text table) table.limits ++ last) (no_foreign table.foreign none)
+  same_items same = ap (λ (last : List ℕ). separated (codes ", ") column_text table.columns ++ codes ", PRIMARY KEY " ++ columns_text table table.key ++ each_after (codes ", ") (limit_text table) table.limits ++ last) (same_foreign table.foreign same)
 
-  same_table_text : table.foreign ≡ [] → table_text more table ≡ table_text tables table
+  same_table_text : AllByRecursion (λ (foreign : Foreign). table_at more foreign.table ≡ table_at tables foreign.table) table.foreign → table_text more table ≡ table_text tables table
   unfolding table_text
-  same_table_text none = ap (λ (items : List ℕ). codes "CREATE TABLE " ++ table.name ++ codes " (" ++ items ++ codes ");") (same_items none)
+  same_table_text same = ap (λ (items : List ℕ). codes "CREATE TABLE " ++ table.name ++ codes " (" ++ items ++ codes ");") (same_items same)
 
 numbered_is : (tables : List Table) (t : ℕ) → IsTableNumber tables t → numbered_text tables t ≡ table_text tables (table_at tables t)
 numbered_is tables t is = ap (λ (o : Option Table). option_map_or (table_text tables) o []) (slice_get-get_or tables (t - 1) no_table (let low = is.0 in let high = is.1 in omega arith))
 
-pub number-more : (tables : List Table) (table : Table) (t : ℕ) → IsTableNumber tables t → IsTableNumber (tables ++ table ∷ []) t
-number-more tables table t is = (is.0, let high = is.1 in omega (arith, length-append tables (table ∷ [])))
-
-numbered-more : (tables : List Table) (table : Table) (t : ℕ) → AllByRecursion IsPlain tables → IsTableNumber tables t → numbered_text (tables ++ table ∷ []) t ≡ numbered_text tables t
-numbered-more tables table t plain is =
+numbered-more : (tables : List Table) (table : Table) (t : ℕ) → AreMade tables → IsTableNumber tables t → numbered_text (tables ++ table ∷ []) t ≡ numbered_text tables t
+numbered-more tables table t made is =
     let more : List Table = tables ++ table ∷ [] in
-    let place : t - 1 < length tables = let low = is.0 in let high = is.1 in omega arith in
-    let own : IsPlain (table_at tables t) = each_at IsPlain tables (t - 1) no_table plain place in
+    let own : IsMade tables t (table_at tables t) = made t is.0 is.1 in
+    let earlier : (foreign : Foreign) → IsMadeForeign tables t (table_at tables t).columns foreign → table_at more foreign.table ≡ table_at tables foreign.table =
+    λ foreign f. table_at-more tables table foreign.table (f.from_one, (let below = f.earlier in let high = is.1 in omega arith)) in
     numbered_is more t (number-more tables table t is)
     ∙ ap (table_text more) (table_at-more tables table t is)
-    ∙ same_table_text tables more (table_at tables t) own.foreign
+    ∙ same_table_text tables more (table_at tables t) (each_weaker (IsMadeForeign tables t (table_at tables t).columns) _ earlier (table_at tables t).foreign (each_by (IsMadeForeign tables t (table_at tables t).columns) (table_at tables t).foreign own.foreign))
     ∙ sym (numbered_is tables t is)
 
 -- ---- queries
@@ -114,6 +117,6 @@ module _ (tables : List Table) (table : Table) (query : Query) (k : IsByKey tabl
 
 -- ---- definitions
 
-pub text-more : (tables : List Table) (table : Table) (definition : Definition) → AllByRecursion IsPlain tables → IsBuiltDefinition tables definition → text_of (tables ++ table ∷ []) definition ≡ text_of tables definition
-text-more tables table (OfTable number made) plain built = numbered-more tables table number plain built.0
-text-more tables table (OfQuery query made) plain built = query-more tables table query built.0
+pub text-more : (tables : List Table) (table : Table) (definition : Definition) → AreMade tables → IsBuiltDefinition tables definition → text_of (tables ++ table ∷ []) definition ≡ text_of tables definition
+text-more tables table (OfTable number made) are built = numbered-more tables table number are built
+text-more tables table (OfQuery query made) are built = query-more tables table query built.0

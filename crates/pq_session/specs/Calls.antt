@@ -1,8 +1,7 @@
 -- What calls on a store make of its content.
-use Rattle.std.specs.Prelude.{◌≡◌, ℕ, ◌+◌, ◌⊎◌, Bool, true, false, List, Option, Some, None, IsSome}
+use Rattle.std.specs.Prelude.{◌≡◌, ℕ, ◌⊎◌, Bool, true, false, List, Option, Some, None, IsSome}
 use Rattle.std.specs.FinMap.{get, insert}
 use Rattle.pq_store.specs.Content.{Content}
-use Rattle.pq_store.specs.Counts.{Counts}
 
 -- the key was absent, and now has the value; or it was there, and nothing changed
 abbrev pub PutsNew : Bool → List ℕ → List ℕ → Option Content → Option Content → Type 0
@@ -14,8 +13,3 @@ PutsNew false key value (Some content) now = IsSome (get content key) × (now �
 abbrev pub MayPut : List ℕ → List ℕ → Option Content → Option Content → Type 0
 MayPut key value None now = now ≡ None
 MayPut key value (Some content) now = (now ≡ Some content) ⊎ ((get content key ≡ None) × (now ≡ Some (insert content key value)))
-
--- a read that finds one entry, or a read that finds none and a write
-abbrev pub put_counts : Bool → Counts → Counts
-put_counts true before = record { ops = before.ops + 2; entries = before.entries }
-put_counts false before = record { ops = before.ops + 1; entries = before.entries + 1 }

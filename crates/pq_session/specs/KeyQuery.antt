@@ -12,7 +12,8 @@ use Rattle.pq_content.specs.Tables.{key_types}
 use Rattle.pq_session.specs.declared.key_select.KeyColumn.{KeyColumn}
 use Rattle.pq_session.specs.declared.key_select.KeyTest.{KeyTest}
 use Rattle.pq_session.specs.declared.key_select.KeySelect.{KeySelect}
-use Rattle.pq_session.specs.Built.{first_column, key_preds, param_type}
+use Rattle.pq_schema.specs.Resolved.{param_type}
+use Rattle.pq_session.specs.Built.{first_column, key_preds}
 
 -- the relation's alias, which is the table's name where none is given
 abbrev pub alias_of : KeySelect → List ℕ
@@ -41,7 +42,7 @@ are_tests table alias number [] [] = true
 are_tests table alias number (col ∷ cols) (test ∷ tests) = is_test_of table alias number col test && are_tests table alias (number + 1) cols tests
 are_tests table alias number _ _ = false
 
--- it selects at most 192 columns of the table, by its whole key
+-- it selects 1 to 192 columns of the table, by its whole key
 abbrev pub is_by_key : Table → KeySelect → Bool
 is_by_key table select =
     nat_le (length select.select) 192

@@ -1,10 +1,10 @@
 -- Reports and openings that the model allows.
-use Rattle.std.specs.Prelude.{◌≡◌, ℕ, ◌≤◌, length}
-use Rattle.pq_base.specs.declared.number.Bound.{Bound}
+use Rattle.std.specs.Prelude.{◌≡◌, ◌≤◌, length, Option, IfSome}
 use Rattle.pq_print.specs.declared.report.Report.{Report}
 use Rattle.pq_print.specs.declared.report.Opened.{Opened}
+use Rattle.pq_store.specs.Content.{Content}
 use Rattle.pq_session.specs.Model.{Model}
-use Rattle.pq_session.specs.Step.{bound}
+use Rattle.pq_session.specs.Opening.{IsOpeningBound}
 
 -- all is equal but the used numbers, and these are at most the bound
 pub record Matches (expected report : Report) : Type 0 where
@@ -12,9 +12,10 @@ pub record Matches (expected report : Report) : Type 0 where
   pub ops : report.used.ops ≤ expected.bound.ops
   pub entries : report.used.entries ≤ expected.bound.entries
 
--- the line of an opening: as many definitions as there are, and used at most the bound of two calls
-pub record IsOpening (m : Model) (opened : Opened) : Type 0 where
+-- the line of an opening: as many definitions as there are, the bound of two calls and those of an intent, and used
+-- at most that
+pub record IsOpening (content : Option Content) (m : Model) (opened : Opened) : Type 0 where
   pub defs : opened.defs ≡ length m.schema.definitions
-  pub most : opened.bound ≡ bound 2 257
+  pub most : IfSome content (λ pairs. IsOpeningBound pairs opened.bound)
   pub ops : opened.used.ops ≤ opened.bound.ops
   pub entries : opened.used.entries ≤ opened.bound.entries

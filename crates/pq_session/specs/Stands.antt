@@ -1,15 +1,16 @@
 -- What a content stands for.
-use Rattle.std.specs.Prelude.{◌≡◌, ℕ, ◌+◌, List, [], ◌∷◌, Option, Some}
+use Rattle.std.specs.Prelude.{◌≡◌, ℕ, ◌+◌, length, List, [], ◌∷◌, Option, Some}
 use Rattle.pq_key_code.specs.KeyCode.{code_of, catkey}
 use Rattle.pq_row_code.specs.RowCode.{row_code}
 use Rattle.pq_schema.specs.Schema.{Schema}
 use Rattle.pq_schema.specs.declared.made.Definition.{Definition}
 use Rattle.pq_schema.specs.declared.table.Table.{Table}
-use Rattle.pq_print.specs.Canonical.{text_of}
+use Rattle.pq_print.specs.Canonical.{text_of, definition_text}
 use Rattle.pq_content.specs.Pairs.{Content, Pair, pairs}
 use Rattle.pq_content.specs.Tables.{Keeps}
 use Rattle.pq_session.specs.Built.{IsBuilt}
-use Rattle.pq_session.specs.Model.{Model, blank}
+use Rattle.pq_intent.specs.Settling.{Settles}
+use Rattle.pq_session.specs.Model.{Model}
 
 -- the format, the mark that the definition is ready, and its canonical text
 abbrev pub catalog_value : List ℕ → List ℕ
@@ -27,6 +28,13 @@ catalog_from tables number (definition ∷ definitions) = catalog_pair tables nu
 abbrev pub catalog_pairs : Schema → List Pair
 catalog_pairs schema = catalog_from schema.tables 1 schema.definitions
 
+-- the key and the value of a schema's last definition
+abbrev pub last_key : Schema → List ℕ
+last_key schema = catkey (length schema.definitions)
+
+abbrev pub last_value : Schema → List ℕ
+last_value schema = catalog_value (definition_text schema (length schema.definitions))
+
 -- just the pairs of the rows, of their entries and of the definitions
 unfoldable pub content_of : Model → Content
 content_of m = pairs code_of row_code m.schema.tables m.rows (catalog_pairs m.schema)
@@ -42,7 +50,9 @@ pub record Stands (content : Option Content) (schema : Schema) (m : Model) : Typ
   pub settled : Settled content m
   pub known : schema ≡ m.schema
 
--- the content of a store that can be opened so far: it is empty
+-- the rows keep valid definitions, and the content is told and settles to that of the model: it is that
+-- content, or an intent stands in it whose changes make it that content
 pub record Opens (content : Option Content) (m : Model) : Type 0 where
-  pub settled : Settled content m
-  pub empty : m ≡ blank
+  pub valid : IsBuilt m.schema
+  pub keeps : Keeps row_code m.schema.tables m.rows
+  pub settles : Settles content (content_of m)

@@ -7,24 +7,30 @@ ghost use Rattle.pq_store.specs.Content.{HasBrokeCause};
 ghost use Rattle.pq_store.specs.Counts.{charged};
 ghost use Rattle.pq_session.specs.Calls.{PutsNew, MayPut};
 ghost use Rattle.pq_schema.specs.Schema.{with_query};
-ghost use Rattle.pq_session.specs.Built.{IsByKey};
+ghost use Rattle.pq_session.specs.Built.{IsKeyDefinition};
 ghost use Rattle.pq_session.specs.Extends.{Extends};
 ghost use Rattle.pq_session.specs.KeyQuery.{read_query};
 ghost use Rattle.pq_session.specs.KeySelect.{select_from};
-ghost use Rattle.pq_session.specs.Causes.{IsSound};
+ghost use Rattle.pq_intent.specs.Errors.{IsSound};
 ghost use Rattle.pq_session.specs.Promise.{Promises};
 ghost use Rattle.pq_session.specs.Reports.{define_report};
-ghost use Rattle.pq_session.specs.Step.{is_plain, by_key, created, prepared, prepared_as};
-ghost use Rattle.pq_session.specs.Stands.{catalog_value};
+ghost use Rattle.pq_session.specs.Step.{by_key, created, prepared, prepared_as};
+ghost use Rattle.pq_session.specs.Lines.{AreInside, table_lines};
+ghost use Rattle.pq_session.specs.Stands.{catalog_value, last_key, last_value};
+ghost use Rattle.pq_schema.specs.Names.{IsName, IsTableDef};
+ghost use Rattle.pq_text.specs.Tokens.{tokens_of};
+ghost use Rattle.pq_schema.specs.Tables.{table_at};
+ghost use Rattle.pq_content.specs.Tables.{IsTableNumber};
 
 use crate::key_select::read_select;
-use crate::reports::{done_report, not_built_report};
+use crate::lines::table_lines;
+use crate::reports::{not_built_report, unread_report};
 use crate::session::Session;
-use pq_base::{Bound, Bytes, Choice, List, NoMem, PText, Stopped, Used};
+use pq_base::{Bound, Bytes, Choice, List, NoMem, PText, Refusal, Stopped, Used};
 use pq_grammar::ReadError;
 use pq_key_code::catalog_key;
 use pq_print::{End, Line, Report, print_definition};
-use pq_schema::{Catalog, Query, TableDef};
+use pq_schema::{Catalog, Query, Table, TableDef};
 use pq_shape::shapes;
 use pq_store::{Broke, Damage, Guard, Meter, Pair, Store};
 use pq_text::Token;
@@ -74,19 +80,19 @@ fn put_absent<S: Store<L>, L: Ledger>(
     }
 }
 
-fn is_plain(def: &TableDef) -> bool
-    ensures { result ≡ is_plain def.now }
+/// The report of a table that was made.
+fn table_report(alloc: Global, number: u32, table: &Table) -> Result<Report, NoMem>
+    requires few { length table.now.indexes ≤ 16 }
+    requires inside { AreInside table.now.columns table.now.indexes }
+    ensures { IfOk result (λ report. report ≡ define_report number (table_lines table.now)) }
 {
-    def.limits.items().is_empty() && def.foreign.items().is_empty()
-}
-
-/// The report of a definition that was made.
-fn table_report(alloc: Global, number: u32) -> Report
-    ensures { result ≡ define_report number [] }
-{
-    let bound = Bound { ops: 1, entries: 0 };
-    let used = Used { ops: 1, entries: 0 };
-    done_report(alloc, number, bound, used)
+    Ok(Report {
+        number,
+        lines: table_lines(alloc, table)?,
+        end: End::Done,
+        bound: Bound { ops: 1, entries: 0 },
+        used: Used { ops: 1, entries: 0 },
+    })
 }
 
 /// The report of a query by its key that was prepared.
@@ -111,32 +117,65 @@ fn query_report(alloc: Global, number: u32, name: &PText) -> Result<Report, NoMe
     })
 }
 
+/// A definition's number, or why it is refused.
+type Numbered = Result<u8, Refusal>;
+
 impl Session {
-    /// The session with the table that the definition makes, or as it was where it is refused.
-    fn with_table_of(self, alloc: Global, def: &TableDef) -> Result<(Session, bool), NoMem>
-        ensures { IfOk result (λ made. Extends self def.now made.0 made.1) }
+    /// The session with the table that the definition makes, and its number; or as it was, where it
+    /// is refused.
+    pub(crate) fn with_table_of(
+        self,
+        alloc: Global,
+        def: TableDef,
+    ) -> Result<(Session, Numbered), NoMem>
+        requires { IsTableDef def }
+        ensures { IfOk result (λ made. Extends self def made.0 made.1) }
     {
         let Session { catalog } = self;
         let mut catalog = catalog;
         match catalog.add_table(alloc, def) {
-            Ok(_) => Ok((Session { catalog }, true)),
-            Err(Stopped::Refused(_)) => Ok((Session { catalog }, false)),
+            Ok(number) => Ok((Session { catalog }, Ok(number))),
+            Err(Stopped::Refused(why)) => Ok((Session { catalog }, Err(why))),
             Err(Stopped::NoMem) => Err(NoMem),
         }
     }
 
     /// The session with this query.
-    fn with_query(self, alloc: Global, query: Query) -> Result<Session, NoMem>
-        requires by_key { IsByKey self.tables query }
-        requires room { length self.definitions < 256 }
-        ensures { IfOk result (λ next. next ≡ with_query self query) }
+    pub(crate) fn with_query(self, alloc: Global, query: Query) -> Result<Session, NoMem>
+        requires { IsKeyDefinition self query }
+        ensures { IfOk result (λ next. next ≡ with_query self query None) }
     {
         let Session { catalog } = self;
         let mut catalog = catalog;
-        match catalog.add_query(alloc, query) {
+        match catalog.add_query(alloc, query, None) {
             Ok(_) => Ok(Session { catalog }),
-            Err(NoMem) => Err(NoMem),
+            Err(Stopped::NoMem) => Err(NoMem),
+            Err(Stopped::Refused(_)) => unreachable!(),
         }
+    }
+
+    /// Writes the pair of the last definition, which is a table, and reports it.
+    fn write_table<S: Store<L>, L: Ledger>(
+        self,
+        alloc: Global,
+        number: u32,
+        table: u8,
+        store: &mut S,
+        meter: &mut Meter<L>,
+    ) -> Result<(Session, Report), Broke>
+        requires table { IsTableNumber self.tables table }
+        requires defined { 1 ≤ length self.definitions }
+        ensures done { IfOk result (λ made. (made.0 ≡ self) × (made.1 ≡ define_report number (table_lines (table_at self.tables table)))) }
+        ensures put { OnOk result (PutsNew true (last_key self) (last_value self) (S.content store.old) (S.content store.new)) }
+        ensures stopped { OnErr result (MayPut (last_key self) (last_value self) (S.content store.old) (S.content store.new)) }
+        ensures damage { IfErr result (λ broke. IfSome (S.content store.old) (λ pairs. value_at_key pairs (last_key self) ≡ None → IsSound broke)) }
+        ensures meter { OnOk result (meter.new ≡ charged meter.old 0) }
+        ensures cause { HasBrokeCause (S.faults store.old) (S.faults store.new) result }
+    {
+        let report = table_report(alloc, number, self.catalog.table(table))?;
+        let pair = last_pair(alloc, &self.catalog)?;
+        put_absent(alloc, pair, store, meter)?;
+        Ok((self, report))
     }
 
     /// Defines a table, where nothing refuses it.
@@ -144,23 +183,19 @@ impl Session {
         self,
         alloc: Global,
         number: u32,
-        def: &TableDef,
+        def: TableDef,
         store: &mut S,
         meter: &mut Meter<L>,
     ) -> Result<(Session, Report), Broke>
-        ensures step { Promises (λ m. created m number def.now) (S.content store.old) (S.content store.new) self meter.old meter.new result }
+        requires { IsTableDef def }
+        ensures step { Promises (λ m. created m number def) (S.content store.old) (S.content store.new) self meter.old meter.new result }
         ensures cause { HasBrokeCause (S.faults store.old) (S.faults store.new) result }
     {
-        if !is_plain(def) {
-            return Ok((self, not_built_report(alloc, number)));
-        }
         let (session, made) = self.with_table_of(alloc, def)?;
-        if !made {
-            return Ok((session, not_built_report(alloc, number)));
+        match made {
+            Err(why) => Ok((session, unread_report(alloc, number, why))),
+            Ok(table) => session.write_table(alloc, number, table, store, meter),
         }
-        let pair = last_pair(alloc, &session.catalog)?;
-        put_absent(alloc, pair, store, meter)?;
-        Ok((session, table_report(alloc, number)))
     }
 
     /// Defines a query by its key, where its table and columns are there.
@@ -172,8 +207,7 @@ impl Session {
         store: &mut S,
         meter: &mut Meter<L>,
     ) -> Result<(Session, Report), Broke>
-        requires by_key { IsByKey self.tables query }
-        requires room { length self.definitions < 256 }
+        requires { IsKeyDefinition self query }
         ensures step { Promises (λ m. prepared_as m number (Some query)) (S.content store.old) (S.content store.new) self meter.old meter.new result }
         ensures cause { HasBrokeCause (S.faults store.old) (S.faults store.new) result }
     {
@@ -186,7 +220,7 @@ impl Session {
 
     /// The query that the tokens from a place on spell, where it is one by its key.
     #[tactic(auto, unfolding(pq_grammar::specs::Answers::Gives))]
-    fn query_from(
+    pub(crate) fn query_from(
         &self,
         alloc: Global,
         name: &PText,
@@ -217,6 +251,8 @@ impl Session {
         store: &mut S,
         meter: &mut Meter<L>,
     ) -> Result<(Session, Report), Broke>
+        requires spelled { tokens.now ≡ tokens_of text.now }
+        requires name { IsName name.now }
         ensures step { Promises (λ m. prepared m number name.now (select_from text.now tokens.now from)) (S.content store.old) (S.content store.new) self meter.old meter.new result }
         ensures cause { HasBrokeCause (S.faults store.old) (S.faults store.new) result }
     {

@@ -2,7 +2,8 @@
 ghost use Rattle.std.specs.Prelude.{◌≡◌, ◌≤◌, ◌<◌, ◌+◌, ◌∷◌, [], true, All as AllItems, length, map, is_some, unwrap_or, IfOk};
 ghost use Rattle.std.specs.List.{list_all};
 ghost use Rattle.pq_content.specs.Tables.{key_types};
-ghost use Rattle.pq_session.specs.Built.{key_preds, param_type};
+ghost use Rattle.pq_schema.specs.Resolved.{param_type};
+ghost use Rattle.pq_session.specs.Built.{key_preds};
 ghost use Rattle.pq_session.specs.KeyQuery.{alias_of, is_column_of, is_place, is_number, is_test_of, are_tests, is_by_key, column_of, query_by_key, query_over, key_query};
 
 use crate::key_select::{KeyColumn, KeySelect, KeyTest};

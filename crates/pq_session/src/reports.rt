@@ -34,10 +34,17 @@ pub fn done_report(alloc: Global, number: u32, bound: Bound, used: Used) -> Repo
     }
 }
 
+/// The report of a statement that is refused before any call of the store.
+pub fn unread_report(alloc: Global, number: u32, why: Refusal) -> Report
+    ensures { result ≡ refusal_report number why (bound 0 0) }
+{
+    let bound = Bound { ops: 0, entries: 0 };
+    refusal_report(alloc, number, why, bound, NOTHING_USED)
+}
+
 /// The report of a statement that isn't built.
 pub fn not_built_report(alloc: Global, number: u32) -> Report
     ensures { result ≡ refusal_report number Refusal.NotBuilt (bound 0 0) }
 {
-    let bound = Bound { ops: 0, entries: 0 };
-    refusal_report(alloc, number, Refusal::NotBuilt, bound, NOTHING_USED)
+    unread_report(alloc, number, Refusal::NotBuilt)
 }

@@ -6,25 +6,36 @@ ghost use Rattle.pq_plan.specs.Answer.{answer, values_at as cells_at};
 ghost use Rattle.pq_base.specs.Values.{AllFit};
 ghost use Rattle.pq_schema.specs.Relations.{relation_at};
 ghost use Rattle.pq_schema.specs.Schema.{query_at};
+ghost use Rattle.pq_content.specs.Tables.{types_of};
 ghost use Rattle.pq_session.specs.Model.{Model};
-ghost use Rattle.pq_session.specs.Causes.{IsSound};
+ghost use Rattle.pq_intent.specs.Errors.{IsSound};
 ghost use Rattle.pq_session.specs.Promise.{Promises};
 ghost use Rattle.pq_session.specs.Reads.{IsRead, IsNoRow, IsQueryNumber, read_counts};
 ghost use Rattle.pq_session.specs.Reports.{row_report};
 ghost use Rattle.pq_session.specs.Stands.{Stands};
 ghost use Rattle.pq_session.specs.Step.{ran};
 
-use crate::insert::types_of;
 use crate::reports::not_built_report;
 use crate::session::Session;
 use pq_base::{Bound, Bytes, ColType, List, NoMem, PText, Row, Used, all_fit};
 use pq_key_code::row_key;
 use pq_print::{End, Line, Report};
 use pq_row_code::decode_row;
-use pq_schema::{ColRef, Query};
+use pq_schema::{ColRef, Query, Table};
 use pq_store::{Broke, Damage, Meter, Store};
 use std::alloc::Global;
 use std::sync::ledger::Ledger;
+
+/// The types of the columns.
+fn types_of(alloc: Global, table: &Table) -> Result<List<ColType>, NoMem>
+    ensures { IfOk result (λ types. types ≡ types_of table.now) }
+{
+    let mut types = List::new(alloc);
+    for column in table.columns.items() {
+        types.push(alloc, column.ty)?;
+    }
+    Ok(types)
+}
 
 fn damaged(alloc: Global, key: &[u8], value: Bytes) -> Result<Damage, NoMem> {
     let key = Bytes::of_bytes(alloc, key)?;

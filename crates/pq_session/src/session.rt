@@ -1,22 +1,27 @@
 //! The session: the view of a store's definitions.
-ghost use Rattle.std.specs.Prelude.{◌≡◌, ◌≤◌, ◌<◌, ◌+◌, ◌⊎◌, true, length, IfOk, IfErr, IfSome, OnErr, None, drop, ℕ};
+ghost use Rattle.std.specs.Prelude.{◌≡◌, ◌≤◌, ◌<◌, ◌+◌, ◌^◌, ◌⊎◌, true, length, IfOk, IfErr, IfSome, OnErr, None, drop, ℕ};
 ghost use Rattle.pq_store.specs.Content.{HasBrokeCause};
 ghost use Rattle.pq_base.specs.declared.refusal.Refusal.TheVariants.{NotBuilt};
+ghost use Rattle.pq_schema.specs.Schema.{empty_schema};
+ghost use Rattle.pq_text.specs.Tokens.{tokens_of};
 ghost use Rattle.pq_session.specs.Model.{Model as Tables};
-ghost use Rattle.pq_session.specs.Opening.{opening_of, first_met, FirstDamage, NamesFirst};
-ghost use Rattle.pq_session.specs.Causes.{IsSound};
+ghost use Rattle.pq_session.specs.Names.{IsNamed};
+ghost use Rattle.pq_session.specs.Opening.{opening_of, started_of, opened, catalog_in, IsStarted, TellsSchema, NamesPair, NamesFlaw};
+ghost use Rattle.pq_intent.specs.Errors.{IsSound};
 ghost use Rattle.pq_session.specs.Matches.{Matches, IsOpening};
 ghost use Rattle.pq_session.specs.Promise.{Promises};
-ghost use Rattle.pq_session.specs.Stands.{Settled, Stands, Opens};
-ghost use Rattle.pq_session.specs.Step.{bound, refusal_report, performed, text_step, step};
+ghost use Rattle.pq_session.specs.Stands.{Stands, Opens};
+ghost use Rattle.pq_session.specs.Step.{bound, report_of, refusal_report, performed, text_step, step};
+ghost use Rattle.pq_session.specs.Lines.{show_lines};
 
-use crate::reports::not_built_report;
-use pq_base::{Bound, List, PText, Stopped, Used};
+use crate::lines::show_lines;
+use crate::reports::{NOTHING_USED, not_built_report, unread_report};
+use pq_base::{Bound, List, NoMem, PText, Refusal, Stopped, Used};
 use pq_def_read::{Statement, read_statement};
-use pq_key_code::intent_key;
-use pq_print::Report;
+use pq_intent::{Settled, settle};
+use pq_print::{End, Report};
 use pq_schema::Catalog;
-use pq_store::{Broke, Damage, Meter, Pair, Store};
+use pq_store::{Broke, Meter, Store};
 use pq_text::{Piece, Token, tokens};
 use std::alloc::Global;
 use std::marker::Model;
@@ -52,67 +57,84 @@ pub struct Started {
     pub used: Used,
 }
 
-/// The first pair, as what shows damage.
-fn first_damage(found: List<Pair>) -> Option<Damage>
-    ensures { FirstDamage found result }
+/// What was opened after a settling, by one range that found a pair for each definition.
+fn opened_by(session: Session, settled: &Settled) -> Started
+    requires ops { settled.now.used.ops < 2 ^ 40 }
+    requires entries { settled.now.used.entries ≤ 1 }
+    ensures started { result ≡ started_of session settled.now (length session.definitions) }
+    ensures few { length session.definitions ≤ 256 }
 {
-    match found.into_vec().into_iter().next() {
-        Some(Pair { key, value }) => Some(Damage {
-            key,
-            value: Some(value),
-        }),
-        None => None,
+    let found = session.catalog.definitions().len();
+    let ops = settled.used.ops + 1;
+    Started {
+        defs: session.catalog.defs(),
+        session,
+        bound: Bound {
+            ops: ops as u128,
+            entries: 257,
+        },
+        used: Used {
+            ops,
+            entries: settled.used.entries + found as u64,
+        },
     }
 }
 
 impl Session {
-    /// Opens a store: one read of the intent's key, and one range over the catalog. So far the store
-    /// has to be empty there: the first pair that is met is damage.
+    /// A session without definitions.
+    pub fn blank(alloc: Global) -> Session
+        ensures { result ≡ empty_schema }
+    {
+        Session {
+            catalog: Catalog::new(alloc),
+        }
+    }
+
+    /// Opens a store: what an intent left is made whole, and then the catalog is read, by one range. The
+    /// first pair that is no definition's is damage, and so is an intent that is none.
     pub fn start<S: Store<L>, L: Ledger>(
         alloc: Global,
         store: &mut S,
         meter: &mut Meter<L>,
     ) -> Result<Started, Broke>
-        ensures opened { IfOk result (λ s. (m : Tables) → Opens (S.content store.old) m → IsOpening m (opening_of s)) }
+        ensures opened { IfOk result (λ s. (m : Tables) → Opens (S.content store.old) m → IsOpening (S.content store.old) m (opening_of s)) }
         ensures stands { IfOk result (λ s. (m : Tables) → Opens (S.content store.old) m → Stands (S.content store.new) s.session m) }
-        ensures kept { (m : Tables) → Opens (S.content store.old) m → Settled (S.content store.new) m }
-        ensures same { S.content store.new ≡ S.content store.old }
+        ensures kept { (m : Tables) → Opens (S.content store.old) m → Opens (S.content store.new) m }
         ensures ops { IfOk result (λ s. meter.new.ops ≡ meter.old.ops + s.used.ops) }
         ensures entries { IfOk result (λ s. meter.new.entries ≡ meter.old.entries + s.used.entries) }
-        ensures empty { IfOk result (λ s. IfSome (S.content store.old) (λ pairs. first_met pairs ≡ None)) }
-        ensures first { IfErr result (λ broke. IfSome (S.content store.old) (λ pairs. NamesFirst pairs broke)) }
+        // Over a told store, what its catalog says, or the first flaw that it has.
+        ensures told { IfOk result (λ s. IfSome (S.content store.old) (λ pairs. TellsSchema pairs s.session)) }
+        ensures flaw { IfErr result (λ broke. IfSome (S.content store.old) (λ pairs. NamesFlaw pairs broke)) }
         ensures damage { IfErr result (λ broke. (m : Tables) → Opens (S.content store.old) m → IsSound broke) }
         ensures cause { HasBrokeCause (S.faults store.old) (S.faults store.new) result }
     {
-        let key = intent_key(alloc)?;
-        match store.get(alloc, key.items(), meter) {
-            Err(error) => return Err(Broke::from(error)),
-            Ok(Some(value)) => {
-                return Err(Broke::Damaged(Damage {
-                    key,
-                    value: Some(value),
-                }));
-            }
-            Ok(None) => {}
-        }
+        let settled = settle(alloc, store, meter)?;
+        Session::read_catalog(alloc, &settled, store, meter)
+    }
+
+    /// Reads the definitions of a store that was settled.
+    fn read_catalog<S: Store<L>, L: Ledger>(
+        alloc: Global,
+        settled: &Settled,
+        store: &mut S,
+        meter: &mut Meter<L>,
+    ) -> Result<Started, Broke>
+        requires ops { settled.now.used.ops < 2 ^ 40 }
+        requires entries { settled.now.used.entries ≤ 1 }
+        ensures session { IfOk result (λ s. IfSome (S.content store.old) (λ pairs. opened empty_schema (catalog_in pairs) ≡ Ok s.session)) }
+        ensures started { IfOk result (λ s. IsStarted s settled.now meter.old meter.new) }
+        ensures flaw { IfErr result (λ broke. IfSome (S.content store.old) (λ pairs. NamesPair pairs broke)) }
+        ensures same { S.content store.new ≡ S.content store.old }
+        ensures cause { HasBrokeCause (S.faults store.old) (S.faults store.new) result }
+    {
         let found = match store.range(alloc, &[1], &[2], 257, meter) {
             Err(error) => return Err(Broke::from(error)),
             Ok(found) => found,
         };
-        if let Some(damage) = first_damage(found) {
-            return Err(Broke::Damaged(damage));
+        match Session::blank(alloc).with_pairs(alloc, found.items())? {
+            Err(damage) => Err(Broke::Damaged(damage)),
+            Ok(session) => Ok(opened_by(session, settled)),
         }
-        Ok(Started {
-            session: Session {
-                catalog: Catalog::new(alloc),
-            },
-            defs: 0,
-            bound: Bound {
-                ops: 2,
-                entries: 257,
-            },
-            used: Used { ops: 2, entries: 0 },
-        })
     }
 
     /// Makes what a statement of a text asks for.
@@ -126,16 +148,13 @@ impl Session {
         store: &mut S,
         meter: &mut Meter<L>,
     ) -> Result<(Session, Report), Broke>
+        requires spelled { tokens.now ≡ tokens_of text.now }
+        requires named { IsNamed statement }
         ensures step { Promises (λ m. performed m number text.now tokens.now statement) (S.content store.old) (S.content store.new) self meter.old meter.new result }
         ensures cause { HasBrokeCause (S.faults store.old) (S.faults store.new) result }
     {
         match statement {
-            Statement::Create(def) => self.create(alloc, number, &def, store, meter),
-            Statement::Insert {
-                table,
-                cols: None,
-                values,
-            } => self.insert(alloc, number, &table, &values, store, meter),
+            Statement::Create(def) => self.create(alloc, number, def, store, meter),
             Statement::Prepare { name, from } => {
                 self.prepare(alloc, number, &name, text, tokens, from, store, meter)
             }
@@ -144,12 +163,12 @@ impl Session {
                 values,
                 after: None,
             } => self.run(alloc, number, &name, &values, store, meter),
-            Statement::Insert { cols: Some(_), .. } => Ok(self.not_built(alloc, number)),
-            Statement::Update { .. } => Ok(self.not_built(alloc, number)),
-            Statement::Delete { .. } => Ok(self.not_built(alloc, number)),
-            Statement::Explain { .. } => Ok(self.not_built(alloc, number)),
             Statement::Run { after: Some(_), .. } => Ok(self.not_built(alloc, number)),
-            Statement::Show => Ok(self.not_built(alloc, number)),
+            Statement::Explain { .. } => Ok(self.not_built(alloc, number)),
+            Statement::Show => Ok(self.show(alloc, number)?),
+            written @ (Statement::Insert { .. }
+            | Statement::Update { .. }
+            | Statement::Delete { .. }) => self.write(alloc, number, &written, store, meter),
         }
     }
 
@@ -158,6 +177,22 @@ impl Session {
         ensures { result ≡ (self, refusal_report number NotBuilt (bound 0 0)) }
     {
         (self, not_built_report(alloc, number))
+    }
+
+    /// Shows the definitions, and the indexes that each of them made.
+    fn show(self, alloc: Global, number: u32) -> Result<(Session, Report), NoMem>
+        ensures { IfOk result (λ made. made ≡ (self, report_of number (show_lines self) End.Done (bound 0 0))) }
+    {
+        let lines = show_lines(alloc, &self.catalog)?;
+        let bound = Bound { ops: 0, entries: 0 };
+        let report = Report {
+            number,
+            lines,
+            end: End::Done,
+            bound,
+            used: NOTHING_USED,
+        };
+        Ok((self, report))
     }
 
     /// Makes the statement of a text.
@@ -173,18 +208,18 @@ impl Session {
         ensures cause { HasBrokeCause (S.faults store.old) (S.faults store.new) result }
     {
         if text.bytes().len() > STATEMENT_BYTES {
-            return Ok((self, not_built_report(alloc, number)));
+            return Ok((self, unread_report(alloc, number, Refusal::StatementLong)));
         }
         let found = tokens(alloc, text)?;
         match read_statement(alloc, text, &found) {
             Err(Stopped::NoMem) => Err(Broke::NoMem),
-            Err(Stopped::Refused(_)) => Ok((self, not_built_report(alloc, number))),
+            Err(Stopped::Refused(why)) => Ok((self, unread_report(alloc, number, why))),
             Ok(statement) => self.perform(alloc, number, text, &found, statement, store, meter),
         }
     }
 
     /// Makes one step of the model: the statement of a piece of the script, with its number. On an
-    /// error the session is spent, and the store stands for what stood before the step or after it.
+    /// error the session is spent, and the store opens to what stood before the step or after it.
     pub fn statement<S: Store<L>, L: Ledger>(
         self,
         alloc: Global,
@@ -201,7 +236,7 @@ impl Session {
         ensures few_ops { IfOk result (λ p. p.1.used.ops ≤ p.1.bound.ops) }
         ensures few_entries { IfOk result (λ p. p.1.used.entries ≤ p.1.bound.entries) }
         ensures stopped { OnErr result ((m : Tables) → Stands (S.content store.old) self m
-            → Settled (S.content store.new) m ⊎ Settled (S.content store.new) (step m number piece.now).model) }
+            → Opens (S.content store.new) m ⊎ Opens (S.content store.new) (step m number piece.now).model) }
         ensures damage { IfErr result (λ broke. (m : Tables) → Stands (S.content store.old) self m → IsSound broke) }
         ensures cause { HasBrokeCause (S.faults store.old) (S.faults store.new) result }
     {
@@ -221,7 +256,8 @@ impl Session {
     {
         match piece {
             Piece::Statement(text) => self.text_statement(alloc, number, text, store, meter),
-            Piece::NotUtf8 | Piece::TooLong => Ok((self, not_built_report(alloc, number))),
+            Piece::NotUtf8 => Ok((self, unread_report(alloc, number, Refusal::NotUtf8))),
+            Piece::TooLong => Ok((self, unread_report(alloc, number, Refusal::StatementLong))),
         }
     }
 }

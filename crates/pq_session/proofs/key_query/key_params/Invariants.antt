@@ -1,6 +1,6 @@
 use Rattle.std.proofs.Common.{◌≡◌, take, map}
 use Rattle.pq_content.specs.Tables.{types_at}
-use Rattle.pq_session.specs.Built.{param_type}
+use Rattle.pq_schema.specs.Resolved.{param_type}
 use Rattle.pq_session.proofs.key_query.key_params.Given as goal
 
 abbrev pub invariant-loop-col : goal.invariant-loop-col

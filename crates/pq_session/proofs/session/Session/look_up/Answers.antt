@@ -1,6 +1,5 @@
 use Rattle.std.proofs.Common.{◌≡◌, ◌∙◌, ap, sym, subst, [], ◌∷◌, Some, None, List, ℕ, Option}
 use Rattle.std.specs.Prelude.{IfSome}
-use Rattle.std.specs.FinMap.{get}
 use Rattle.std.proofs.lemmas.Result.{err_from_is_err_and}
 use Rattle.pq_base.specs.declared.value.Value.{Value}
 use Rattle.pq_base.specs.declared.value.ColType.{ColType}
@@ -11,11 +10,11 @@ use Rattle.pq_schema.specs.Relations.{relation_at}
 use Rattle.pq_schema.specs.Schema.{Schema, query_at}
 use Rattle.pq_schema.specs.Tables.{table_at}
 use Rattle.pq_key_code.specs.KeyCode.{rowkey}
-use Rattle.pq_content.specs.Tables.{types_of}
+use Rattle.pq_content.specs.Tables.{IsTableNumber, types_of}
 use Rattle.pq_plan.specs.Answer.{values_at}
 use Rattle.pq_session.specs.Built.{IsBuilt}
-use Rattle.pq_session.specs.Reads.{IsRead, IsQueryNumber}
-use Rattle.pq_session.proofs.Runs.{Looked, looked_answer, looked_sound, looked_first, looked_there}
+use Rattle.pq_session.specs.Reads.{IsQueryNumber}
+use Rattle.pq_session.proofs.Runs.{table_number, Looked, looked_answer, looked_sound, looked_first, looked_there}
 use Rattle.pq_session.proofs.session.Session.look_up.Goals as goal
 
 -- the facts of a look-up, as they come one by one
@@ -29,6 +28,19 @@ looked_up {n} {t} {params} {types} {key} {inside} {schema} view valid number fit
   types_is = types_is ∙ ap types_of (table_is ∙ ap (λ (s : Schema). table_at s.tables t) view);
   key_is = key_is;
 }
+
+-- the table of the query's relation
+there : (inside schema : Schema) (n t : ℕ) (query : Query) → inside ≡ schema → IsBuilt inside → IsQueryNumber schema n → query ≡ query_at inside n → t ≡ (relation_at query 1).table → IsTableNumber inside.tables t
+there inside schema n t query view built number query_is t_is =
+    table_number inside n t built (subst (λ (s : Schema). IsQueryNumber s n) (sym view) number) (t_is ∙ ap (λ (q : Query). (relation_at q 1).table) query_is)
+
+pub table-table-requires-clause-from_one : goal.table-table-requires-clause-from_one
+table-table-requires-clause-from_one g c =
+    (there c.self.inside.catalog c.args.self.now c.args.query c.first_table-number.result _ c.self.view_is c.self.invariant c.requires.number c.query-found.ensures c.first_table-number.ensures).0
+
+pub table-table-requires-clause-there : goal.table-table-requires-clause-there
+table-table-requires-clause-there g c =
+    (there c.self.inside.catalog c.args.self.now c.args.query c.first_table-number.result _ c.self.view_is c.self.invariant c.requires.number c.query-found.ensures c.first_table-number.ensures).1
 
 pub returns-in_err-row-clause-damage : goal.returns-in_err-row-clause-damage
 returns-in_err-row-clause-damage g c =

@@ -1,7 +1,6 @@
 use Rattle.std.proofs.Common.{◌≡◌, ◌-◌, ℕ, ap, sym, ◌∙◌, subst, take, drop, length, List, Ok, refl, arith}
 use Rattle.std.specs.Prelude.{IfOk, min}
 use Rattle.std.proofs.lemmas.List.{take_all, drop_min, length-drop}
-use Rattle.pq_schema.specs.declared.query.Query.{Query}
 use Rattle.pq_shape.specs.declared.shape.Shape.{Shape}
 use Rattle.pq_shape.specs.Shapes.{shapes_of}
 use Rattle.pq_session.specs.KeyQuery.{read_query}

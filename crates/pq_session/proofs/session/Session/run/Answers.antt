@@ -1,10 +1,10 @@
-use Rattle.std.proofs.Common.{◌≡◌, ◌∙◌, ap, sym, true, false, Some, None}
+use Rattle.std.proofs.Common.{◌≡◌, ◌∙◌, sym, true, false, Some, None}
+use Rattle.std.proofs.lemmas.Result.{err_from_is_err_and}
 use Rattle.pq_base.specs.Values.{all_fit}
 use Rattle.pq_schema.specs.Schema.{find_query, query_at}
-use Rattle.pq_session.specs.Reads.{IsQueryNumber}
-use Rattle.pq_session.specs.Step.{ran, ran_query}
+use Rattle.pq_session.specs.Step.{ran_query}
 use Rattle.pq_session.proofs.Runs.{found_query, no_such_query, params_refused, params_taken, run_done}
-use Rattle.pq_session.proofs.Promises.{done_as, not_built_done}
+use Rattle.pq_session.proofs.Promises.{done_as, not_built_done, broken_kept}
 use Rattle.pq_session.proofs.session.Session.run.Goals as goal
 
 pub returns-in_default-clause-step : goal.returns-in_default-clause-step
@@ -35,3 +35,13 @@ returns-clause-step g c =
     rw c.in_ok-report.ensures (done_as (λ m. ran_query m c.args.number (query_at c.args.self c.in-Some.query) c.args.params.now) _ _ _ c.args.self c.args.self _ _ _
     (λ m is. params_taken c.args.self m c.args.number c.args.name.now c.args.params.now is c.in-Some.query found taken)
     (run_done c.args.self c.args.number c.in-Some.query c.args.params.now c.in_ok-row.row _ _ _ _ c.in_ok-row.ensures.same c.in_ok-row.ensures.meter c.in_ok-row.ensures.answer))
+
+pub returns-in_err-row-clause-step : goal.returns-in_err-row-clause-step
+returns-in_err-row-clause-step g c =
+    let p = err_from_is_err_and c.from_residual.result c.from_residual.ensures.1 in
+    rw (p.1, p.2) (broken_kept _ _ _ c.args.self _ c.in_err-row.ensures.same c.in_err-row.ensures.damage)
+
+pub returns-in_err-report-clause-step : goal.returns-in_err-report-clause-step
+returns-in_err-report-clause-step g c =
+    let p = err_from_is_err_and c.from_residual-in_err-report.result c.from_residual-in_err-report.ensures.1 in
+    rw (p.1, p.2) (broken_kept _ _ _ c.args.self _ c.in_ok-row.ensures.same (λ m s. tt))

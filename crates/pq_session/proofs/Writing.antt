@@ -1,0 +1,249 @@
+-- What a write makes of what a content stands for.
+use Rattle.std.proofs.Common.{◌≡◌, ℕ, List, [], map, Option, Some, Result, Ok, Err, refl, sym, ap, ◌∙◌, subst, arith, inl, inr, ◌⊎◌}
+use Rattle.std.specs.Prelude.{MatchResult}
+use Rattle.pq_base.specs.declared.number.Bound.{Bound}
+use Rattle.pq_base.specs.declared.refusal.Refusal.{Refusal}
+use Rattle.pq_base.specs.declared.refusal.Stopped.{Stopped}
+use Rattle.pq_base.specs.declared.refusal.Stopped.TheVariants.{Refused}
+use Rattle.pq_base.specs.Answers.{Answers}
+use Rattle.pq_row_code.specs.RowCode.{row_code}
+use Rattle.pq_row_code.specs.declared.changes.Change.{Change}
+use Rattle.pq_schema.specs.Schema.{Schema}
+use Rattle.pq_schema.specs.declared.table.Table.{Table}
+use Rattle.pq_schema.proofs.Valid.{valid_small}
+use Rattle.pq_print.specs.declared.report.End.TheVariants as end
+use Rattle.pq_content.specs.Pairs.{Pair, changed}
+use Rattle.pq_content.specs.Standing.{change_of}
+use Rattle.pq_content.specs.Tables.{Rows, Keeps}
+use Rattle.pq_store.specs.Content.{Content}
+use Rattle.pq_store.specs.Counts.{Counts, Allowed, granted, used_of}
+use Rattle.pq_store.specs.declared.damage.Broke.{Broke}
+use Rattle.pq_store.specs.declared.damage.Broke.TheVariants as broke
+use Rattle.pq_intent.specs.Errors.{IsSound}
+use Rattle.pq_intent.specs.Settling.{IsSettled, Settles}
+use Rattle.pq_intent.specs.Spending.{Spends}
+use Rattle.pq_text.specs.declared.token.Token.{Token}
+use Rattle.pq_print.specs.declared.report.Report.{Report}
+use Rattle.pq_def_read.specs.declared.statement.Statement.{Statement}
+use Rattle.pq_def_read.specs.declared.statement.Statement.TheVariants as statement
+use Rattle.pq_index_keep.specs.declared.plan.Planned.{Planned}
+use Rattle.pq_index_keep.specs.declared.plan.Planned.TheVariants as planned
+use Rattle.pq_index_keep.specs.declared.write.Write.{Write}
+use Rattle.pq_index_keep.specs.Bounds.{write_tests, write_bound}
+use Rattle.pq_index_keep.specs.Checking.{checked, IsWriting}
+use Rattle.pq_index_keep.specs.Effects.{effect}
+use Rattle.pq_index_keep.specs.Promises as keep
+use Rattle.pq_index_keep.specs.Promises.{Plans, MakesRows, Reads, world}
+use Rattle.pq_index_keep.specs.Sound as writable
+use Rattle.pq_index_keep.specs.Sound.{IsWrite}
+use Rattle.pq_index_keep.proofs.Few.{IsFew, few_of}
+use Rattle.pq_index_keep.proofs.FromMade.{valid_writable}
+use Rattle.pq_session.specs.Built.{IsBuilt}
+use Rattle.pq_session.specs.Matches.{Matches}
+use Rattle.pq_session.specs.Model.{Model}
+use Rattle.pq_session.specs.Promise.{Done, Broken, Promises}
+use Rattle.pq_session.specs.Stands.{Settled, Stands, Opens, content_of, catalog_pairs}
+use Rattle.pq_session.specs.Step.{Step, report_of, refusal_report, refused, refused_unread, effected, effected_as, written, written_as, performed}
+use Rattle.pq_session.proofs.Catalogs.{are_catalog}
+use Rattle.pq_session.proofs.Made.{valid_of}
+use Rattle.pq_session.proofs.Standing.{no_intent_in, settled_opens}
+
+-- rows of the tables that are built can be written
+pub writable_tables : (schema : Schema) → IsBuilt schema → writable.IsSound schema.tables
+writable_tables schema built = valid_writable (valid_of schema built)
+
+pub bound_few : (schema : Schema) (write : Write) → IsBuilt schema → IsWrite schema.tables write → IsFew (write_bound schema.tables write)
+bound_few schema write built is = few_of schema.tables write (writable_tables schema built) (valid_small (valid_of schema built)).tables is
+
+-- ---- what the plan and the commit are told of the content
+
+pub settled_rows : (old : Option Content) (schema : Schema) (m : Model) → Stands old schema m → keep.Settled old schema.tables m.rows (catalog_pairs schema)
+unfolding content_of
+settled_rows old schema m s = record {
+  keeps = subst (λ (x : Schema). Keeps row_code x.tables m.rows) (sym s.known) s.settled.keeps;
+  catalog = are_catalog schema;
+  is = s.settled.told ∙ ap (λ (x : Schema). Some (content_of (record { schema = x; rows = m.rows }))) (sym s.known);
+}
+
+pub settled_for : (old mid : Option Content) (schema : Schema) (m : Model) → mid ≡ old → Stands old schema m → IsSettled mid (content_of m)
+settled_for old mid schema m same s = record { told = same ∙ s.settled.told; no_intent = no_intent_in m }
+
+-- ---- refused
+
+step_refused : (m : Model) (number : ℕ) (write : Write) (why : Refusal) (schema : Schema) → schema ≡ m.schema → effect schema.tables m.rows write ≡ Err why
+    → effected m number write ≡ refused m number why (write_bound schema.tables write)
+unfolding effected
+step_refused m number write why schema known is =
+    subst (λ (x : Schema). effect x.tables m.rows write ≡ Err why → effected m number write ≡ refused m number why (write_bound x.tables write)) (sym known)
+    (λ same. ap (effected_as m number (write_bound m.schema.tables write)) same) is
+
+refused_by : (number : ℕ) (write : Write) (why : Refusal) (old now : Option Content) (schema : Schema) (f0 f1 : ℕ) (allowed : Allowed) (before after : Counts)
+    → Reads (world old f0 (granted (write_bound schema.tables write).ops (write_bound schema.tables write).entries) before) (world now f1 allowed after) (write_tests schema.tables write).ops (write_tests schema.tables write).entries
+    → ((rows : Rows) (others : List Pair) → keep.Settled old schema.tables rows others → effect schema.tables rows write ≡ Err why)
+    → Done (λ m. effected m number write) old now schema schema before after (record (refusal_report number why (write_bound schema.tables write)) { used = used_of allowed })
+refused_by number write why old now schema f0 f1 allowed before after reads answer = record {
+  matches = λ m s. subst (λ (x : Step). Matches x.report (record (refusal_report number why (write_bound schema.tables write)) { used = used_of allowed }))
+      (sym (step_refused m number write why schema s.known (answer m.rows (catalog_pairs schema) (settled_rows old schema m s))))
+      (record { same = refl; ops = omega (arith, ap (λ (c : Counts). c.ops) reads.granted); entries = omega (arith, ap (λ (c : Counts). c.entries) reads.granted) });
+  made = λ m s. subst (λ (x : Step). Stands now schema x.model)
+      (sym (step_refused m number write why schema s.known (answer m.rows (catalog_pairs schema) (settled_rows old schema m s))))
+      (subst (λ (o : Option Content). Stands o schema m) (sym reads.same) s);
+  ops = omega (arith, ap (λ (c : Counts). c.ops) reads.granted, reads.spent_ops, reads.rise_ops);
+  entries = omega (arith, ap (λ (c : Counts). c.entries) reads.granted, reads.spent_entries, reads.rise_entries);
+  few_ops = omega (arith, ap (λ (c : Counts). c.ops) reads.granted);
+  few_entries = omega (arith, ap (λ (c : Counts). c.entries) reads.granted);
+}
+
+pub refused_done : (number : ℕ) (write : Write) (why : Refusal) (old now : Option Content) (schema : Schema) (most : Bound) (f0 f1 : ℕ) (given allowed : Allowed) (before after : Counts) (q : Planned)
+    → most ≡ write_bound schema.tables write → given ≡ granted most.ops most.entries → q ≡ planned.Refused why
+    → Reads (world old f0 given before) (world now f1 allowed after) (write_tests schema.tables write).ops (write_tests schema.tables write).entries
+    → ((rows : Rows) (others : List Pair) → keep.Settled old schema.tables rows others → Plans schema.tables rows others write q)
+    → Done (λ m. effected m number write) old now schema schema before after (record (refusal_report number why most) { used = used_of allowed })
+refused_done number write why old now schema most f0 f1 given allowed before after q is_most is_given is reads answer =
+    subst (λ (x : Bound). Done (λ m. effected m number write) old now schema schema before after (record (refusal_report number why x) { used = used_of allowed })) (sym is_most)
+    (refused_by number write why old now schema f0 f1 allowed before after
+    (subst (λ (a : Allowed). Reads (world old f0 a before) (world now f1 allowed after) (write_tests schema.tables write).ops (write_tests schema.tables write).entries) (is_given ∙ ap (λ (b : Bound). granted b.ops b.entries) is_most) reads)
+    (subst (λ (x : Planned). (rows : Rows) (others : List Pair) → keep.Settled old schema.tables rows others → Plans schema.tables rows others write x) is answer))
+
+-- ---- made
+
+planned_as : (old : Option Content) (schema : Schema) (write : Write) (q : Planned) (changes : List Change) → q ≡ planned.Changes changes
+    → ((rows : Rows) (others : List Pair) → keep.Settled old schema.tables rows others → Plans schema.tables rows others write q)
+    → (rows : Rows) (others : List Pair) → keep.Settled old schema.tables rows others → Plans schema.tables rows others write (planned.Changes changes)
+planned_as old schema write q changes is answer = subst (λ (x : Planned). (rows : Rows) (others : List Pair) → keep.Settled old schema.tables rows others → Plans schema.tables rows others write x) is answer
+
+record Made (tables : List Table) (rows : Rows) (others : List Pair) (write : Write) (changes : List Change) : Type 0 where
+  rows_made : Rows
+  is : effect tables rows write ≡ Ok rows_made
+  makes : MakesRows tables rows others write changes rows_made
+
+made_by : (tables : List Table) (rows : Rows) (others : List Pair) (write : Write) (changes : List Change) (r : Result Rows Refusal) → r ≡ effect tables rows write
+    → MatchResult r (MakesRows tables rows others write changes) (λ refusal. ⊥) → Made tables rows others write changes
+made_by tables rows others write changes (Ok made) is makes = record { rows_made = made; is = sym is; makes = makes }
+made_by tables rows others write changes (Err why) is makes = absurd makes
+
+made_of : (schema : Schema) (m : Model) (old : Option Content) (write : Write) (changes : List Change) → Stands old schema m
+    → ((rows : Rows) (others : List Pair) → keep.Settled old schema.tables rows others → Plans schema.tables rows others write (planned.Changes changes))
+    → Made m.schema.tables m.rows (catalog_pairs m.schema) write changes
+made_of schema m old write changes s answer =
+    subst (λ (x : Schema). Made x.tables m.rows (catalog_pairs x) write changes) s.known
+    (made_by schema.tables m.rows (catalog_pairs schema) write changes (effect schema.tables m.rows write) refl (answer m.rows (catalog_pairs schema) (settled_rows old schema m s)))
+
+-- the model with these rows
+abbrev with_rows : Model → Rows → Model
+with_rows m rows = record m { rows = rows }
+
+step_made : (m : Model) (number : ℕ) (write : Write) (rows : Rows) → effect m.schema.tables m.rows write ≡ Ok rows
+    → effected m number write ≡ record { model = with_rows m rows; report = report_of number [] end.Done (write_bound m.schema.tables write) }
+unfolding effected
+step_made m number write rows is = ap (effected_as m number (write_bound m.schema.tables write)) is
+
+content_made : (m : Model) (write : Write) (changes : List Change) (p : Made m.schema.tables m.rows (catalog_pairs m.schema) write changes)
+    → changed (map change_of changes) (content_of m) ≡ content_of (with_rows m p.rows_made)
+unfolding content_of
+content_made m write changes p = p.makes.content
+
+changed_by : (number : ℕ) (write : Write) (changes : List Change) (old mid now : Option Content) (schema : Schema) (f0 f1 : ℕ) (left allowed : Allowed) (before between after : Counts)
+    → Reads (world old f0 (granted (write_bound schema.tables write).ops (write_bound schema.tables write).entries) before) (world mid f1 left between) (write_tests schema.tables write).ops (write_tests schema.tables write).entries
+    → ((rows : Rows) (others : List Pair) → keep.Settled old schema.tables rows others → Plans schema.tables rows others write (planned.Changes changes))
+    → ((pairs : Content) → IsSettled mid pairs → now ≡ Some (changed (map change_of changes) pairs))
+    → (most : ℕ) → Spends most left allowed between after
+    → Done (λ m. effected m number write) old now schema schema before after (record (report_of number [] end.Done (write_bound schema.tables write)) { used = used_of allowed })
+changed_by number write changes old mid now schema f0 f1 left allowed before between after reads answer commits most spends =
+    let granted_ops = ap (λ (c : Counts). c.ops) reads.granted in
+    let granted_entries = ap (λ (c : Counts). c.entries) reads.granted in
+    let same_ops = ap (λ (c : Counts). c.ops) spends.granted in
+    let same_entries = ap (λ (c : Counts). c.entries) spends.granted in
+    record {
+      matches = λ m s.
+          let p = made_of schema m old write changes s answer in
+          subst (λ (x : Step). Matches x.report (record (report_of number [] end.Done (write_bound schema.tables write)) { used = used_of allowed })) (sym (step_made m number write p.rows_made p.is))
+          (subst (λ (x : Schema). Matches (report_of number [] end.Done (write_bound x.tables write)) (record (report_of number [] end.Done (write_bound schema.tables write)) { used = used_of allowed })) s.known
+          (record { same = refl; ops = omega (arith, granted_ops, same_ops); entries = omega (arith, granted_entries, same_entries) }));
+      made = λ m s.
+          let p = made_of schema m old write changes s answer in
+          subst (λ (x : Step). Stands now schema x.model) (sym (step_made m number write p.rows_made p.is))
+          (record {
+            settled = record {
+              valid = s.settled.valid;
+              keeps = p.makes.keeps;
+              told = commits (content_of m) (settled_for old mid schema m reads.same s) ∙ ap Some (content_made m write changes p);
+            };
+            known = s.known;
+          });
+      ops = omega (arith, granted_ops, same_ops, reads.spent_ops, reads.rise_ops, spends.ops, spends.rise);
+      entries = omega (arith, granted_entries, same_entries, reads.spent_entries, reads.rise_entries, spends.entries_left, spends.entries);
+      few_ops = omega (arith, granted_ops, same_ops);
+      few_entries = omega (arith, granted_entries, same_entries);
+    }
+
+pub changed_done : (number : ℕ) (write : Write) (changes : List Change) (old mid now : Option Content) (schema : Schema) (most : Bound) (f0 f1 : ℕ) (given left allowed : Allowed) (before between after : Counts) (q : Planned)
+    → most ≡ write_bound schema.tables write → given ≡ granted most.ops most.entries → q ≡ planned.Changes changes
+    → Reads (world old f0 given before) (world mid f1 left between) (write_tests schema.tables write).ops (write_tests schema.tables write).entries
+    → ((rows : Rows) (others : List Pair) → keep.Settled old schema.tables rows others → Plans schema.tables rows others write q)
+    → ((pairs : Content) → IsSettled mid pairs → now ≡ Some (changed (map change_of changes) pairs))
+    → (limit : ℕ) → Spends limit left allowed between after
+    → Done (λ m. effected m number write) old now schema schema before after (record (report_of number [] end.Done most) { used = used_of allowed })
+changed_done number write changes old mid now schema most f0 f1 given left allowed before between after q is_most is_given is reads answer commits limit spends =
+    subst (λ (x : Bound). Done (λ m. effected m number write) old now schema schema before after (record (report_of number [] end.Done x) { used = used_of allowed })) (sym is_most)
+    (changed_by number write changes old mid now schema f0 f1 left allowed before between after
+    (subst (λ (a : Allowed). Reads (world old f0 a before) (world mid f1 left between) (write_tests schema.tables write).ops (write_tests schema.tables write).entries) (is_given ∙ ap (λ (b : Bound). granted b.ops b.entries) is_most) reads)
+    (planned_as old schema write q changes is answer)
+    commits limit spends)
+
+-- ---- broken off
+
+no_damage : (error : Broke) → keep.IsUndamaged error → IsSound error
+no_damage broke.Failed sound = tt
+no_damage broke.NoMem sound = tt
+no_damage (broke.Damaged damage) sound = absurd sound
+
+pub planning_broke : (number : ℕ) (write : Write) (error : Broke) (old now : Option Content) (schema : Schema) → now ≡ old
+    → ((rows : Rows) (others : List Pair) → keep.Settled old schema.tables rows others → keep.IsUndamaged error) → Broken (λ m. effected m number write) old now schema error
+planning_broke number write error old now schema same undamaged = record {
+  stopped = λ m s. inl (settled_opens (subst (λ o. Settled o m) (sym same) s.settled));
+  sound = λ m s. no_damage error (undamaged m.rows (catalog_pairs schema) (settled_rows old schema m s));
+}
+
+stopped_at : (m : Model) (number : ℕ) (write : Write) (changes : List Change) (now : Option Content) → IsBuilt m.schema → Keeps row_code m.schema.tables m.rows
+    → Made m.schema.tables m.rows (catalog_pairs m.schema) write changes
+    → Settles now (content_of m) ⊎ Settles now (changed (map change_of changes) (content_of m)) → Opens now m ⊎ Opens now (effected m number write).model
+stopped_at m number write changes now valid keeps p (inl settles) = inl (record { valid = valid; keeps = keeps; settles = settles })
+stopped_at m number write changes now valid keeps p (inr settles) =
+    inr (subst (λ (x : Step). Opens now x.model) (sym (step_made m number write p.rows_made p.is))
+    (record { valid = valid; keeps = p.makes.keeps; settles = subst (Settles now) (content_made m write changes p) settles }))
+
+pub commit_broke : (number : ℕ) (write : Write) (changes : List Change) (error : Broke) (old mid now : Option Content) (schema : Schema) (q : Planned) → q ≡ planned.Changes changes → mid ≡ old
+    → ((rows : Rows) (others : List Pair) → keep.Settled old schema.tables rows others → Plans schema.tables rows others write q)
+    → ((pairs : Content) → IsSettled mid pairs → Settles now pairs ⊎ Settles now (changed (map change_of changes) pairs))
+    → ((pairs : Content) → IsSettled mid pairs → IsSound error)
+    → Broken (λ m. effected m number write) old now schema error
+commit_broke number write changes error old mid now schema q is same answer stops sound = record {
+  stopped = λ m s. stopped_at m number write changes now s.settled.valid s.settled.keeps (made_of schema m old write changes s (planned_as old schema write q changes is answer)) (stops (content_of m) (settled_for old mid schema m same s));
+  sound = λ m s. sound (content_of m) (settled_for old mid schema m same s);
+}
+
+-- ---- the write that a statement is
+
+pub written_ok : (m : Model) (number : ℕ) (read : Statement) (made : Write) (schema : Schema) → checked schema read ≡ Ok made → m.schema ≡ schema → effected m number made ≡ written m number read
+unfolding written
+written_ok m number read made schema is known = sym (ap (written_as m number) (ap (λ (x : Schema). checked x read) known ∙ is))
+
+pub written_err : (m : Model) (number : ℕ) (read : Statement) (why : Refusal) (schema : Schema) → checked schema read ≡ Err why → m.schema ≡ schema → written m number read ≡ refused_unread m number why
+unfolding written
+written_err m number read why schema is known = ap (written_as m number) (ap (λ (x : Schema). checked x read) known ∙ is)
+
+pub refusal_told : (left : Stopped) (why : Refusal) (said : Result Write Refusal) → left ≡ Refused why → Answers {A = Write} (Err left) said → said ≡ Err why
+refusal_told left why said is told = subst (λ (x : Stopped). Answers {A = Write} (Err x) said) is told
+
+pub written_as_performed : (number : ℕ) (text : List ℕ) (tokens : List Token) (read : Statement) → IsWriting read
+    → (old now : Option Content) (schema : Schema) (before after : Counts) (result : Result (Schema × Report) Broke)
+    → Promises (λ m. written m number read) old now schema before after result → Promises (λ m. performed m number text tokens read) old now schema before after result
+written_as_performed number text tokens (statement.Insert table cols values) is old now schema before after result p = p
+written_as_performed number text tokens (statement.Update table sets key) is old now schema before after result p = p
+written_as_performed number text tokens (statement.Delete table key) is old now schema before after result p = p
+written_as_performed number text tokens (statement.Create def) is old now schema before after result p = absurd is
+written_as_performed number text tokens (statement.Prepare name from) is old now schema before after result p = absurd is
+written_as_performed number text tokens (statement.Explain from) is old now schema before after result p = absurd is
+written_as_performed number text tokens (statement.Run name params after) is old now schema before later result p = absurd is
+written_as_performed number text tokens statement.Show is old now schema before after result p = absurd is
