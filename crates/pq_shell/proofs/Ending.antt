@@ -2,6 +2,7 @@
 use Rattle.std.proofs.Common.{◌≡◌, ℕ, ◌+◌, inl, inr, Bool, true, false, ◌||◌, Option, Some, Result, Ok, Err, IfOk, IfErr, List, [], ◌∷◌, ◌++◌, length, get_or, refl, sym, ap, ◌∙◌, subst, arith, ◌≤◌, add-zero, append-nil, length-append}
 use Rattle.std.proofs.lemmas.List.{length-map}
 use Rattle.std.specs.Io.KnownBytes.{append_known}
+use Rattle.pq_store.specs.Content.{Content}
 use Rattle.pq_store.specs.Counts.{Counts}
 use Rattle.pq_store.specs.declared.damage.Damage.{Damage}
 use Rattle.pq_text.specs.declared.piece.Piece.{Piece}
@@ -91,8 +92,8 @@ from_start {a = a} {b = b} {p = p} {q = q} {h = h} {h' = h'} {o = o} {o' = o'} f
       counted = omega (arith, progressed.counted, none, length-map told Cut);
     }
 
-pub Finished-of : {left left' : Option (List ℕ)} {a b d : Model → Type 0} {p q : Progress} {h h' h'' h''' : Option (List ℕ)} {o o' o'' : Counts} {ending : Ending} (ended : Ended) → p.splitter ≡ start → p.tally.count ≡ 0 → p.tally.refused ≡ false → Opening a b h h' o o' → Consumed ending left left' b d p q h' h'' o' o'' → ReportsRest ending q ended h'' h''' → (bytes : List ℕ) × Took ended.ending left left' bytes × Ran run_way a d (items_of ended.ending bytes) h h''' o o'' ended.refused
-Finished-of {left = left} {left' = left'} {a = a} {b = b} {d = d} {q = q} {h = h} {h' = h'} {h'' = h''} {h''' = h'''} {o = o} {o' = o'} {o'' = o''} {ending = ending} ended fresh none clean opening consumed rest =
+pub Finished-of : {k : Option Content} {left left' : Option (List ℕ)} {a b d : Model → Type 0} {p q : Progress} {h h' h'' h''' : Option (List ℕ)} {o o' o'' : Counts} {ending : Ending} (ended : Ended) → p.splitter ≡ start → p.tally.count ≡ 0 → p.tally.refused ≡ false → Opening k a b h h' o o' → Consumed ending left left' b d p q h' h'' o' o'' → ReportsRest ending q ended h'' h''' → (bytes : List ℕ) × Took ended.ending left left' bytes × Ran k run_way a d (items_of ended.ending bytes) h h''' o o'' ended.refused
+Finished-of {k = k} {left = left} {left' = left'} {a = a} {b = b} {d = d} {q = q} {h = h} {h' = h'} {h'' = h''} {h''' = h'''} {o = o} {o' = o'} {o'' = o''} {ending = ending} ended fresh none clean opening consumed rest =
     let c = from_start fresh none clean consumed in
     let flag = has_rest ending q.splitter in
     let refused = q.tally.refused || flag in
@@ -100,11 +101,11 @@ Finished-of {left = left} {left' = left'} {a = a} {b = b} {d = d} {q = q} {h = h
     subst (λ n. Served run_way d d n (rest_items flag) h'' h''' o'' o'' q.tally.refused refused) c.counted (served_rest d (q.tally.count + 1) flag q.tally.refused h'' h''' o'' rest.text) in
     let all : Served run_way b d 1 (items_of ending c.bytes) h' h''' o' o'' false refused =
     subst (λ xs. Served run_way b d 1 xs h' h''' o' o'' false refused) (items_all ending c.fed) (Served-append c.served last) in
-    let ran : Ran run_way a d (items_of ending c.bytes) h h''' o o'' ended.refused = subst (λ y. Ran run_way a d (items_of ending c.bytes) h h''' o o'' y) (sym rest.refused_is) (Ran-of opening all) in
-    (c.bytes, subst (λ e. Took e left left' c.bytes) (sym rest.ending_is) c.took, subst (λ e. Ran run_way a d (items_of e c.bytes) h h''' o o'' ended.refused) (sym rest.ending_is) ran)
+    let ran : Ran k run_way a d (items_of ending c.bytes) h h''' o o'' ended.refused = subst (λ y. Ran k run_way a d (items_of ending c.bytes) h h''' o o'' y) (sym rest.refused_is) (Ran-of opening all) in
+    (c.bytes, subst (λ e. Took e left left' c.bytes) (sym rest.ending_is) c.took, subst (λ e. Ran k run_way a d (items_of e c.bytes) h h''' o o'' ended.refused) (sym rest.ending_is) ran)
 
 -- the run stopped among the pieces
-pub Stopped-among : {stop : Stop} {left left' : Option (List ℕ)} {a b d : Model → Type 0} {p : Progress} {h h' h'' : Option (List ℕ)} {o o' : Counts} → p.splitter ≡ start → p.tally.count ≡ 0 → Opening a b h h' o o' → StoppedAmong stop left left' b d p h' h'' → (ending : Ending) × (bytes : List ℕ) × Took ending left left' bytes × StoppedLater run_way stop a d (items_of ending bytes) h h''
+pub Stopped-among : {k : Option Content} {stop : Stop} {left left' : Option (List ℕ)} {a b d : Model → Type 0} {p : Progress} {h h' h'' : Option (List ℕ)} {o o' : Counts} → p.splitter ≡ start → p.tally.count ≡ 0 → Opening k a b h h' o o' → StoppedAmong stop left left' b d p h' h'' → (ending : Ending) × (bytes : List ℕ) × Took ending left left' bytes × StoppedLater k run_way stop a d (items_of ending bytes) h h''
 Stopped-among {stop = stop} {b = b} {d = d} {p = p} {h' = h'} {h'' = h''} fresh none opening among =
     let number : p.tally.count + 1 ≡ 1 = omega (arith, none) in
     let items : cut_items (pieces_from p.splitter among.bytes) ≡ cut_items (pieces_of among.bytes) = ap (λ s. cut_items (pieces_from s among.bytes)) fresh ∙ ap cut_items (pieces_from-start among.bytes) in
@@ -113,14 +114,14 @@ Stopped-among {stop = stop} {b = b} {d = d} {p = p} {h' = h'} {h'' = h''} fresh 
     (Faulted, among.bytes, among.took, StoppedLater-of opening stopped)
 
 -- the run stopped at the rest
-pub Stopped-at_rest : {stop : Stop} {left left' : Option (List ℕ)} {a b d : Model → Type 0} {p q : Progress} {h h' h'' h''' : Option (List ℕ)} {o o' o'' : Counts} {ending : Ending} → p.splitter ≡ start → p.tally.count ≡ 0 → p.tally.refused ≡ false → Opening a b h h' o o' → Consumed ending left left' b d p q h' h'' o' o'' → StoppedAtRest stop ending q h'' h''' → (e : Ending) × (bytes : List ℕ) × Took e left left' bytes × StoppedLater run_way stop a d (items_of e bytes) h h'''
-Stopped-at_rest {stop = stop} {b = b} {d = d} {q = q} {h' = h'} {h'' = h''} {h''' = h'''} {ending = ending} fresh none clean opening consumed rest =
+pub Stopped-at_rest : {k : Option Content} {stop : Stop} {left left' : Option (List ℕ)} {a b d w : Model → Type 0} {p q : Progress} {h h' h'' h''' : Option (List ℕ)} {o o' o'' : Counts} {ending : Ending} → p.splitter ≡ start → p.tally.count ≡ 0 → p.tally.refused ≡ false → Opening k a b h h' o o' → Consumed ending left left' b d p q h' h'' o' o'' → ((m : Model) → d m → w m) → StoppedAtRest stop ending q h'' h''' → (e : Ending) × (bytes : List ℕ) × Took e left left' bytes × StoppedLater k run_way stop a w (items_of e bytes) h h'''
+Stopped-at_rest {stop = stop} {b = b} {d = d} {w = w} {q = q} {h' = h'} {h'' = h''} {h''' = h'''} {ending = ending} fresh none clean opening consumed weaker rest =
     let c = from_start fresh none clean consumed in
     let n = q.tally.count + 1 in
-    let here : Stopped run_way stop d d n (Rest ∷ []) h'' h''' = Stopped-writing run_way stop n Rest h'' h''' (rest_report n) (λ m s. rest_matches n) (λ m s. s) rest.cut in
-    let last : Stopped run_way stop d d (1 + length (cut_items c.told)) (Rest ∷ []) h'' h''' = subst (λ k. Stopped run_way stop d d k (Rest ∷ []) h'' h''') c.counted here in
+    let here : Stopped run_way stop d w n (Rest ∷ []) h'' h''' = Stopped-writing run_way stop n Rest h'' h''' (rest_report n) (λ m s. rest_matches n) weaker rest.cut in
+    let last : Stopped run_way stop d w (1 + length (cut_items c.told)) (Rest ∷ []) h'' h''' = subst (λ k. Stopped run_way stop d w k (Rest ∷ []) h'' h''') c.counted here in
     let items : cut_items c.told ++ Rest ∷ [] ≡ items_of ending c.bytes = ap (λ flag. cut_items c.told ++ rest_items flag) (sym rest.some_rest) ∙ items_all ending c.fed in
-    let stopped : Stopped run_way stop b d 1 (items_of ending c.bytes) h' h''' = subst (λ xs. Stopped run_way stop b d 1 xs h' h''') items (Stopped-after c.served.made last) in
+    let stopped : Stopped run_way stop b w 1 (items_of ending c.bytes) h' h''' = subst (λ xs. Stopped run_way stop b w 1 xs h' h''') items (Stopped-after c.served.made last) in
     (ending, c.bytes, c.took, StoppedLater-of opening stopped)
 
 finished : (ending : Ending) (refused : Bool) (before now : World) → Finished ending refused before now → Ends (status_of ending refused) before now

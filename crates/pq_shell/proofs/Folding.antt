@@ -4,6 +4,7 @@ use Rattle.std.proofs.lemmas.Grind.{common_steps, flat_map-append}
 use Rattle.std.proofs.lemmas.List.Folds.{list_any-append}
 use Rattle.std.specs.List.{flat_map, sum_by, list_any}
 use Rattle.std.specs.Io.KnownBytes.{append_known}
+use Rattle.pq_store.specs.Content.{Content}
 use Rattle.pq_store.specs.Counts.{Counts}
 use Rattle.pq_store.specs.declared.damage.Broke.{Broke}
 use Rattle.pq_store.specs.declared.damage.Broke.TheVariants as broke
@@ -12,7 +13,7 @@ use Rattle.pq_print.specs.declared.report.Opened.{Opened}
 use Rattle.pq_print.specs.Report.{opening_line, is_refusal}
 use Rattle.pq_session.specs.Model.{Model}
 use Rattle.pq_session.specs.Matches.{Matches, IsOpening}
-use Rattle.pq_session.specs.Causes.{IsSound}
+use Rattle.pq_intent.specs.Errors.{IsSound}
 use Rattle.pq_shell.specs.Stops.{stop_of, CutsOff}
 use Rattle.pq_shell.specs.Fold.{Way, after, Reported, Folds, Made, Served, BeforeOrAfter, Halts, Stopped, Opening, StoppedOpening, Ran, StoppedLater}
 use Rattle.pq_shell.specs.declared.stop.Stop.{Stop}
@@ -174,20 +175,20 @@ Stopped-broke f broke.NoMem n item h kept sound = Stopped-at f stops.NoMem n (it
 Stopped-broke f (broke.Damaged damage) n item h kept sound = Stopped-at f (stops.Damaged damage) n (item ∷ []) h h [] (sym (append_known-none h)) (λ m s. absurd (sound m s))
 
 -- the session broke off at the opening
-pub Opening-broke : (error : Broke) (a b : Model → Type 0) (h : Option (List ℕ)) → ((m : Model) → a m → b m) → ((m : Model) → a m → IsSound error) → StoppedOpening (stop_of error) a b h h
-Opening-broke broke.Failed a b h kept sound = record { part = []; text = sym (append_known-none h); stands = λ m s. (kept m s, refl) }
-Opening-broke broke.NoMem a b h kept sound = record { part = []; text = sym (append_known-none h); stands = λ m s. (kept m s, refl) }
-Opening-broke (broke.Damaged damage) a b h kept sound = record { part = []; text = sym (append_known-none h); stands = λ m s. absurd (sound m s) }
+pub Opening-broke : (k : Option Content) (error : Broke) (a b : Model → Type 0) (h : Option (List ℕ)) → ((m : Model) → a m → b m) → ((m : Model) → a m → IsSound error) → StoppedOpening k (stop_of error) a b h h
+Opening-broke k broke.Failed a b h kept sound = record { part = []; text = sym (append_known-none h); stands = λ m s. (kept m s, refl) }
+Opening-broke k broke.NoMem a b h kept sound = record { part = []; text = sym (append_known-none h); stands = λ m s. (kept m s, refl) }
+Opening-broke k (broke.Damaged damage) a b h kept sound = record { part = []; text = sym (append_known-none h); stands = λ m s. absurd (sound m s) }
 
 -- the run stopped while the opening's line was written
-pub Opening-writing : (stop : Stop) (a b : Model → Type 0) (h h' : Option (List ℕ)) (opened : Opened) → ((m : Model) → a m → IsOpening m opened) → ((m : Model) → a m → b m) → CutsOff stop (opening_line opened) h h' → StoppedOpening stop a b h h'
-Opening-writing stops.StoreFailed a b h h' opened opens stands cut = absurd cut
-Opening-writing (stops.Damaged damage) a b h h' opened opens stands cut = absurd cut
-Opening-writing stops.NoMem a b h h' opened opens stands cut = record { part = []; text = cut ∙ sym (append_known-none h); stands = λ m s. (stands m s, refl) }
-Opening-writing stops.WriteFailed a b h h' opened opens stands cut = record { part = cut.0; text = cut.2; stands = λ m s. (stands m s, (opened, opens m s, cut.1)) }
+pub Opening-writing : (k : Option Content) (stop : Stop) (a b : Model → Type 0) (h h' : Option (List ℕ)) (opened : Opened) → ((m : Model) → a m → IsOpening k m opened) → ((m : Model) → a m → b m) → CutsOff stop (opening_line opened) h h' → StoppedOpening k stop a b h h'
+Opening-writing k stops.StoreFailed a b h h' opened opens stands cut = absurd cut
+Opening-writing k (stops.Damaged damage) a b h h' opened opens stands cut = absurd cut
+Opening-writing k stops.NoMem a b h h' opened opens stands cut = record { part = []; text = cut ∙ sym (append_known-none h); stands = λ m s. (stands m s, refl) }
+Opening-writing k stops.WriteFailed a b h h' opened opens stands cut = record { part = cut.0; text = cut.2; stands = λ m s. (stands m s, (opened, opens m s, cut.1)) }
 
 -- the opening, and then the items
-pub Ran-of : {I : Type 0} {f : Way I} {a b c : Model → Type 0} {xs : List I} {h h' h'' : Option (List ℕ)} {o o' o'' : Counts} {refused : Bool} → Opening a b h h' o o' → Served f b c 1 xs h' h'' o' o'' false refused → Ran f a c xs h h'' o o'' refused
+pub Ran-of : {k : Option Content} {I : Type 0} {f : Way I} {a b c : Model → Type 0} {xs : List I} {h h' h'' : Option (List ℕ)} {o o' o'' : Counts} {refused : Bool} → Opening k a b h h' o o' → Served f b c 1 xs h' h'' o' o'' false refused → Ran k f a c xs h h'' o o'' refused
 Ran-of {f = f} {h = h} p q = record {
   opened = p.opened;
   reports = q.reports;
@@ -200,7 +201,7 @@ Ran-of {f = f} {h = h} p q = record {
 }
 
 -- the opening, and then a stop among the items
-pub StoppedLater-of : {I : Type 0} {f : Way I} {stop : Stop} {a b c : Model → Type 0} {xs : List I} {h h' h'' : Option (List ℕ)} {o o' : Counts} → Opening a b h h' o o' → Stopped f stop b c 1 xs h' h'' → StoppedLater f stop a c xs h h''
+pub StoppedLater-of : {k : Option Content} {I : Type 0} {f : Way I} {stop : Stop} {a b c : Model → Type 0} {xs : List I} {h h' h'' : Option (List ℕ)} {o o' : Counts} → Opening k a b h h' o o' → Stopped f stop b c 1 xs h' h'' → StoppedLater k f stop a c xs h h''
 StoppedLater-of {f = f} p q = record {
   opened = p.opened;
   opens = p.opens;

@@ -2,6 +2,7 @@
 use Rattle.std.specs.Prelude.{◌≡◌, ℕ, ◌+◌, ◌⊎◌, Option, Bool, ◌||◌, List, [], ◌∷◌, ◌++◌, length}
 use Rattle.std.specs.List.{flat_map, sum_by, list_any}
 use Rattle.std.specs.Io.KnownBytes.{append_known}
+use Rattle.pq_store.specs.Content.{Content}
 use Rattle.pq_store.specs.Counts.{Counts}
 use Rattle.pq_print.specs.declared.report.Report.{Report}
 use Rattle.pq_print.specs.declared.report.Opened.{Opened}
@@ -77,33 +78,33 @@ pub record Stopped {Item : Type 0} (way : Way Item) (stop : Stop) (before now : 
   pub text : held_now ≡ append_known held (flat_map way.show reports ++ part)
   pub stands : (m : Model) → before m → Reported way m number done reports × Halts way stop (after way m number done) (number + length done) todo now part
 
--- the store was opened, and the opening's line is out
-pub record Opening (before now : Model → Type 0) (held held_now : Option (List ℕ)) (counts counts_now : Counts) : Type 0 where
+-- the store was opened with this content, and the opening's line is out
+pub record Opening (content : Option Content) (before now : Model → Type 0) (held held_now : Option (List ℕ)) (counts counts_now : Counts) : Type 0 where
   pub opened : Opened
-  pub opens : (m : Model) → before m → IsOpening m opened
+  pub opens : (m : Model) → before m → IsOpening content m opened
   pub stands : (m : Model) → before m → now m
   pub text : held_now ≡ append_known held (opening_line opened)
   pub ops : counts_now.ops ≡ counts.ops + opened.used.ops
   pub entries : counts_now.entries ≡ counts.entries + opened.used.entries
 
 -- how much of the opening's line is out where the run stopped there
-abbrev pub HaltsOpening : Stop → Model → List ℕ → Type 0
-HaltsOpening stops.StoreFailed m part = part ≡ []
-HaltsOpening stops.NoMem m part = part ≡ []
-HaltsOpening stops.WriteFailed m part = (opened : Opened) × IsOpening m opened × IsCut part (opening_line opened)
-HaltsOpening (stops.Damaged damage) m part = ⊥
+abbrev pub HaltsOpening : Option Content → Stop → Model → List ℕ → Type 0
+HaltsOpening content stops.StoreFailed m part = part ≡ []
+HaltsOpening content stops.NoMem m part = part ≡ []
+HaltsOpening content stops.WriteFailed m part = (opened : Opened) × IsOpening content m opened × IsCut part (opening_line opened)
+HaltsOpening content (stops.Damaged damage) m part = ⊥
 
 -- the run stopped at the opening
-pub record StoppedOpening (stop : Stop) (before now : Model → Type 0) (held held_now : Option (List ℕ)) : Type 0 where
+pub record StoppedOpening (content : Option Content) (stop : Stop) (before now : Model → Type 0) (held held_now : Option (List ℕ)) : Type 0 where
   pub part : List ℕ
   pub text : held_now ≡ append_known held part
-  pub stands : (m : Model) → before m → now m × HaltsOpening stop m part
+  pub stands : (m : Model) → before m → now m × HaltsOpening content stop m part
 
 -- the store was opened and the items were made, all is out, and the meter rose by the used numbers
-pub record Ran {Item : Type 0} (way : Way Item) (before now : Model → Type 0) (items : List Item) (held held_now : Option (List ℕ)) (counts counts_now : Counts) (refused : Bool) : Type 0 where
+pub record Ran {Item : Type 0} (content : Option Content) (way : Way Item) (before now : Model → Type 0) (items : List Item) (held held_now : Option (List ℕ)) (counts counts_now : Counts) (refused : Bool) : Type 0 where
   pub opened : Opened
   pub reports : List Report
-  pub opens : (m : Model) → before m → IsOpening m opened
+  pub opens : (m : Model) → before m → IsOpening content m opened
   pub folds : Folds way before now 1 items reports
   pub text : held_now ≡ append_known held (opening_line opened ++ flat_map way.show reports)
   pub ops : counts_now.ops ≡ counts.ops + opened.used.ops + sum_by (λ r. r.used.ops) reports
@@ -111,7 +112,7 @@ pub record Ran {Item : Type 0} (way : Way Item) (before now : Model → Type 0) 
   pub refusal : refused ≡ list_any is_refusal reports
 
 -- the store was opened, and the run stopped among the items
-pub record StoppedLater {Item : Type 0} (way : Way Item) (stop : Stop) (before now : Model → Type 0) (items : List Item) (held held_now : Option (List ℕ)) : Type 0 where
+pub record StoppedLater {Item : Type 0} (content : Option Content) (way : Way Item) (stop : Stop) (before now : Model → Type 0) (items : List Item) (held held_now : Option (List ℕ)) : Type 0 where
   pub opened : Opened
-  pub opens : (m : Model) → before m → IsOpening m opened
+  pub opens : (m : Model) → before m → IsOpening content m opened
   pub stopped : Stopped way stop before now 1 items (append_known held (opening_line opened)) held_now

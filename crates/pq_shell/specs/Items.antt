@@ -1,6 +1,6 @@
 -- What of a script is run: its pieces, and its rest where that is unfinished.
 use Rattle.std.specs.Prelude.{ℕ, Bool, true, false, List, [], ◌∷◌, ◌++◌, map}
-use Rattle.pq_base.specs.declared.refusal.Refusal.TheVariants.{NotBuilt}
+use Rattle.pq_base.specs.declared.refusal.Refusal.TheVariants.{Unfinished}
 use Rattle.pq_text.specs.declared.piece.Piece.{Piece}
 use Rattle.pq_text.specs.Pieces.{pieces_of, rest_of, is_unfinished}
 use Rattle.pq_print.specs.declared.report.End.TheVariants.{Refused}
@@ -34,7 +34,7 @@ abbrev pub rest_report : ℕ → Report
 rest_report number = record {
   number = number;
   lines = [];
-  end = Refused NotBuilt;
+  end = Refused Unfinished;
   bound = record { ops = 0; entries = 0 };
   used = record { ops = 0; entries = 0 };
 }

@@ -28,18 +28,18 @@ pub record World : Type 0 where
 pub record Finished (ending : Ending) (refused : Bool) (before now : World) : Type 0 where
   pub bytes : List ℕ
   pub took : Took ending before.left now.left bytes
-  pub ran : Ran run_way (Opens before.content) (Settled now.content) (items_of ending bytes) before.held now.held before.counts now.counts refused
+  pub ran : Ran before.content run_way (Opens before.content) (Settled now.content) (items_of ending bytes) before.held now.held before.counts now.counts refused
 
 -- a script was read so, and the run stopped among its items
 pub record StoppedReading (stop : Stop) (before now : World) : Type 0 where
   pub ending : Ending
   pub bytes : List ℕ
   pub took : Took ending before.left now.left bytes
-  pub stopped : StoppedLater run_way stop (Opens before.content) (Settled now.content) (items_of ending bytes) before.held now.held
+  pub stopped : StoppedLater before.content run_way stop (Opens before.content) (Opens now.content) (items_of ending bytes) before.held now.held
 
 -- the run stopped at the opening, or among the items of the script
 abbrev pub Broken : Stop → World → World → Type 0
-Broken stop before now = StoppedOpening stop (Opens before.content) (Settled now.content) before.held now.held ⊎ StoppedReading stop before now
+Broken stop before now = StoppedOpening before.content stop (Opens before.content) (Opens now.content) before.held now.held ⊎ StoppedReading stop before now
 
 -- the store's content could not be opened, and the last line names the key that shows it
 pub record ShowsDamage (before now : World) : Type 0 where

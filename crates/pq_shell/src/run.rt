@@ -39,8 +39,8 @@ fn open<S: Store<L>, O: Sink, L: Ledger>(
     meter: &mut Meter<L>,
     sink: &mut O,
 ) -> Result<Session, Stop>
-    ensures ok { IfOk result (λ session. Opening (Opens (S.content store.old)) (Stands (S.content store.new) session) (O.held sink.old) (O.held sink.new) meter.old meter.new) }
-    ensures err { IfErr result (λ stop. StoppedOpening stop (Opens (S.content store.old)) (Settled (S.content store.new)) (O.held sink.old) (O.held sink.new)) }
+    ensures ok { IfOk result (λ session. Opening (S.content store.old) (Opens (S.content store.old)) (Stands (S.content store.new) session) (O.held sink.old) (O.held sink.new) meter.old meter.new) }
+    ensures err { IfErr result (λ stop. StoppedOpening (S.content store.old) stop (Opens (S.content store.old)) (Opens (S.content store.new)) (O.held sink.old) (O.held sink.new)) }
     ensures causes { Causes (S.faults store.old) (S.faults store.new) (O.faults sink.old) (O.faults sink.new) result }
 {
     let started = match Session::start(alloc, store, meter) {
@@ -69,7 +69,7 @@ fn run_source<S: Store<L>, I: Source, O: Sink, L: Ledger>(
     requires { progress.old.tally.count + script_limit < 2 ^ 32 }
     ensures ok { IfOk result (λ ending. Consumed ending (I.left source.old) (I.left source.new) (Stands (S.content store.old) session) (Settled (S.content store.new)) progress.old progress.new
         (O.held sink.old) (O.held sink.new) meter.old meter.new) }
-    ensures err { IfErr result (λ stop. StoppedAmong stop (I.left source.old) (I.left source.new) (Stands (S.content store.old) session) (Settled (S.content store.new)) progress.old
+    ensures err { IfErr result (λ stop. StoppedAmong stop (I.left source.old) (I.left source.new) (Stands (S.content store.old) session) (Opens (S.content store.new)) progress.old
         (O.held sink.old) (O.held sink.new)) }
     ensures causes { Causes (S.faults store.old) (S.faults store.new) (O.faults sink.old) (O.faults sink.new) result }
     ensures taken { (taken : List ℕ) × (I.left source.old ≡ prepend_known taken (I.left source.new)) × (length taken ≤ script_limit + 1) }

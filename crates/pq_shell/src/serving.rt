@@ -4,7 +4,7 @@ ghost use Rattle.std.specs.Io.KnownBytes.{append_known};
 ghost use Rattle.pq_store.specs.Content.{HasRisen};
 ghost use Rattle.pq_text.specs.Summaries.{start, pieces_from};
 ghost use Rattle.pq_print.specs.Report.{printed};
-ghost use Rattle.pq_session.specs.Stands.{Stands, Settled};
+ghost use Rattle.pq_session.specs.Stands.{Stands, Opens};
 ghost use Rattle.pq_shell.specs.Fold.{Served, Stopped};
 ghost use Rattle.pq_shell.specs.Items.{Cut, cut_items, rest_report, run_way};
 ghost use Rattle.pq_shell.specs.Serving.{Progressed, ReportsRest, StoppedAtRest, has_rest};
@@ -88,7 +88,7 @@ fn serve<S: Store<L>, O: Sink, L: Ledger>(
     ensures ok { IfOk result (λ next. Served run_way (Stands (S.content store.old) session) (Stands (S.content store.new) next) (tally.old.count + 1) (Cut piece.now ∷ [])
         (O.held sink.old) (O.held sink.new) meter.old meter.new tally.old.refused tally.new.refused) }
     ensures count { OnOk result (tally.new.count ≡ tally.old.count + 1) }
-    ensures err { IfErr result (λ stop. Stopped run_way stop (Stands (S.content store.old) session) (Settled (S.content store.new)) (tally.old.count + 1) (Cut piece.now ∷ [])
+    ensures err { IfErr result (λ stop. Stopped run_way stop (Stands (S.content store.old) session) (Opens (S.content store.new)) (tally.old.count + 1) (Cut piece.now ∷ [])
         (O.held sink.old) (O.held sink.new)) }
     ensures causes { Causes (S.faults store.old) (S.faults store.new) (O.faults sink.old) (O.faults sink.new) result }
 {
@@ -115,7 +115,7 @@ pub fn run_part<S: Store<L>, O: Sink, L: Ledger>(
     requires { progress.old.tally.count + length bytes.now < 2 ^ 32 }
     ensures ok { IfOk result (λ next. Progressed (Stands (S.content store.old) session) (Stands (S.content store.new) next) bytes.now progress.old progress.new
         (O.held sink.old) (O.held sink.new) meter.old meter.new) }
-    ensures err { IfErr result (λ stop. Stopped run_way stop (Stands (S.content store.old) session) (Settled (S.content store.new)) (progress.old.tally.count + 1)
+    ensures err { IfErr result (λ stop. Stopped run_way stop (Stands (S.content store.old) session) (Opens (S.content store.new)) (progress.old.tally.count + 1)
         (cut_items (pieces_from progress.old.splitter bytes.now)) (O.held sink.old) (O.held sink.new)) }
     ensures causes { Causes (S.faults store.old) (S.faults store.new) (O.faults sink.old) (O.faults sink.new) result }
 {
@@ -149,7 +149,7 @@ fn rest_report(alloc: Global, number: u32) -> Report
     Report {
         number,
         lines: List::new(alloc),
-        end: End::Refused(Refusal::NotBuilt),
+        end: End::Refused(Refusal::Unfinished),
         bound: Bound { ops: 0, entries: 0 },
         used: Used { ops: 0, entries: 0 },
     }

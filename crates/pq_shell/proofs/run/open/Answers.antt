@@ -5,9 +5,9 @@ use Rattle.pq_shell.proofs.run.open.Goals as goal
 
 pub returns-in-Err-clause-err : goal.returns-in-Err-clause-err
 returns-in-Err-clause-err g c =
-    rw c.of.ensures (Opening-broke c.in-Err.broke _ _ _ c.in-Err.ensures.kept c.in-Err.ensures.damage)
+    rw c.of.ensures (Opening-broke _ c.in-Err.broke _ _ _ c.in-Err.ensures.kept c.in-Err.ensures.damage)
 
 pub returns-in_err-write_opening-clause-err : goal.returns-in_err-write_opening-clause-err
 returns-in_err-write_opening-clause-err g c =
     let p = err_from_is_err_and c.from_residual.result c.from_residual.ensures.1 in
-    rw (p.1, p.2) (Opening-writing _ _ _ _ _ (opening_of c.in-Ok.started) c.in-Ok.ensures.opened c.in-Ok.ensures.kept c.in_err-write_opening.ensures.err)
+    rw (p.1, p.2) (Opening-writing _ _ _ _ _ _ (opening_of c.in-Ok.started) c.in-Ok.ensures.opened c.in-Ok.ensures.kept c.in_err-write_opening.ensures.err)

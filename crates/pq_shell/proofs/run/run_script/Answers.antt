@@ -1,5 +1,6 @@
 use Rattle.std.proofs.Common.{inr}
 use Rattle.std.proofs.lemmas.Result.{err_from_is_err_and, IfOk-weaker, IfErr-weaker}
+use Rattle.pq_session.proofs.Standing.{settled_opens}
 use Rattle.pq_shell.proofs.Ending.{Finished-of, Stopped-among, Stopped-at_rest}
 use Rattle.pq_shell.proofs.run.run_script.Goals as goal
 
@@ -18,4 +19,4 @@ returns-clause-ok g c =
 pub returns-clause-err : goal.returns-clause-err
 returns-clause-err g c =
     let start = c.new-progress.ensures in
-    IfErr-weaker c.finish.result _ _ (λ stop rest. let f = Stopped-at_rest start.splitter start.count start.refused c.in_ok-session.ensures.ok c.in_ok-ending.ensures.ok rest in inr (record { ending = f.0; bytes = f.1; took = f.2; stopped = f.3 })) c.finish.ensures.err
+    IfErr-weaker c.finish.result _ _ (λ stop rest. let f = Stopped-at_rest start.splitter start.count start.refused c.in_ok-session.ensures.ok c.in_ok-ending.ensures.ok (λ m s. settled_opens s) rest in inr (record { ending = f.0; bytes = f.1; took = f.2; stopped = f.3 })) c.finish.ensures.err

@@ -2,6 +2,7 @@ use Rattle.std.proofs.Common.{rules, ◌-◌, ◌<◌, take, drop, length, sym, 
 use Rattle.std.proofs.lemmas.Result.{err_from_is_err_and}
 use Rattle.std.proofs.lemmas.List.{take-append-drop}
 use Rattle.pq_text.specs.Pieces.{listed}
+use Rattle.pq_session.proofs.Standing.{settled_opens}
 use Rattle.pq_shell.specs.Items.{run_way}
 use Rattle.pq_shell.specs.Serving.{Fed}
 use Rattle.pq_shell.proofs.Known.{take_two, length_part}
@@ -16,7 +17,7 @@ pub returns-in-Err-clause-err : goal.returns-in-Err-clause-err
 returns-in-Err-clause-err g c =
     let bytes = c.args.bytes.now in
     let at = c.loop-at.at in
-    Stopped-later (drop at bytes) bytes (sym (take-append-drop at bytes)) c.loop-at.invariant.progressed (Stopped-between run_way _ _ _ (λ m s. s.settled))
+    Stopped-later (drop at bytes) bytes (sym (take-append-drop at bytes)) c.loop-at.invariant.progressed (Stopped-between run_way _ _ _ (λ m s. settled_opens s.settled))
 
 pub returns-in_err-session-clause-err : goal.returns-in_err-session-clause-err
 returns-in_err-session-clause-err g c =
