@@ -41,6 +41,13 @@ impl PText {
         self.text.as_str().as_bytes()
     }
 
+    /// The text as a `str`.
+    pub fn as_str(&self) -> &str
+        ensures { result.now ≡ self.now }
+    {
+        self.text.as_str()
+    }
+
     /// Another text of the same bytes.
     pub fn copy(&self, alloc: Global) -> Result<PText, NoMem>
         ensures { IfOk result (λ copy. copy ≡ self.now) }
