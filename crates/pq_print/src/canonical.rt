@@ -33,7 +33,7 @@ pub fn print_definition(alloc: Global, catalog: &Catalog, number: u16) -> Result
     requires there { number ≤ length catalog.now.definitions }
     ensures { IfOk result (λ text. text ≡ definition_text catalog.now number) }
 {
-    let definition = &catalog.definitions()[number as usize - 1];
+    let definition = catalog.definition_at(number);
     let mut text = String::new(alloc);
     put_definition(catalog.tables(), definition, &mut text)?;
     match PText::from_bytes(alloc, text.as_str().as_bytes())? {

@@ -226,6 +226,11 @@ definition_room schema name none =
     let full = nat_le 256 (length schema.definitions) in
     leb-false 256 (length schema.definitions) (not_refused full (refusal.Count 2) (neither (refused_if full (refusal.Count 2)) (refused_if (is_taken schema name) (refusal.NameTaken name)) none).0)
 
+-- its name is that of no other
+pub definition_free : (schema : Schema) (name : List ℕ) → definition_refusal schema name ≡ None → is_taken schema name ≡ false
+definition_free schema name none =
+    not_refused (is_taken schema name) (refusal.NameTaken name) (neither (refused_if (nat_le 256 (length schema.definitions)) (refusal.Count 2)) (refused_if (is_taken schema name) (refusal.NameTaken name)) none).1
+
 module _ (schema : Schema) (def : TableDef) (none : table_refusal schema def ≡ None) where
   first : (name_refusal schema def.name ≡ None) × (or_else (counts_refusal def) (or_else (columns_refusal def.columns) (groups_refusal schema def)) ≡ None)
   first = neither (name_refusal schema def.name) (or_else (counts_refusal def) (or_else (columns_refusal def.columns) (groups_refusal schema def))) none
@@ -392,6 +397,11 @@ made_is schema def table made = (accepted (table_refusal schema def) (table_of_d
 pub made_few : (schema : Schema) (def : TableDef) (table : Table) → new_table schema def ≡ Ok table → length table.indexes ≤ 16
 made_few schema def table made =
     subst (λ (t : Table). length t.indexes ≤ 16) (made_is schema def table made) (is_made schema def (made_none schema def table made)).few_indexes
+
+pub made_free : (schema : Schema) (def : TableDef) (table : Table) → new_table schema def ≡ Ok table → is_taken schema table.name ≡ false
+made_free schema def table made =
+    subst (λ (t : Table). is_taken schema t.name ≡ false) (made_is schema def table made)
+    (ap (is_taken schema) (groups_as_before (groups (bare_table schema def)) (bare_table schema def)).name ∙ definition_free schema def.name (name_parts schema def (made_none schema def table made)).0)
 
 -- the type of a column as it is defined
 pub type_named : (columns : List ColumnDef) (col : ℕ) (def : ColumnDef) → col < length columns → def ≡ get_or columns col def → type_at (map column_of columns) col ≡ (column_of def).ty

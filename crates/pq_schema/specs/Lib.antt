@@ -1,6 +1,7 @@
 pub mod Candidates
 pub mod Costs
 pub mod Definitions
+pub mod Named
 pub mod Names
 pub mod Relations
 pub mod Resolved

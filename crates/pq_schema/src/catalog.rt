@@ -1,12 +1,14 @@
 //! The definitions of a schema in order: tables by their numbers from 1, definitions likewise.
-ghost use Rattle.std.specs.Prelude.{◌≡◌, ◌≤◌, ◌<◌, ◌++◌, ◌∷◌, [], length, map, option_map, position, Some, IfOk, IfSome, OnOk, OnErr};
+ghost use Rattle.std.specs.Prelude.{◌≡◌, ◌≤◌, ◌<◌, ◌++◌, ◌∷◌, [], length, map, option_map, position, false, string_bytes, Some, None, IfOk, IfSome, OnOk, OnErr};
 ghost use Rattle.pq_schema.specs.Schema.{empty_schema, definition_at, def_of, find_table, find_query, is_table, is_query, is_taken, IsQueryDefinition, query_at, query_of, number_of, with_table, with_query, with_wanted, made_of};
+ghost use Rattle.indexmap.specs.IndexMap.{get_by_text, spare};
 ghost use Rattle.pq_schema.specs.Tables.{table_at, referring, foreign_to};
 ghost use Rattle.pq_schema.specs.Valid.{IsValid, IsDefined};
 
 use crate::made::{Def, Definition, Made};
 use crate::query::Query;
 use crate::table::{Foreign, NewIndex, Referring, Table};
+use indexmap::IndexMap;
 use pq_base::{List, NoMem, PText};
 use std::alloc::Global;
 use std::marker::Model;
@@ -15,30 +17,24 @@ use std::marker::Model;
 #[derive(Debug, Drop)]
 pub struct Catalog {
     tables: Vec<Table>,
-    definitions: List<Definition>,
+    /// The definitions by the names that they define.
+    definitions: IndexMap<String, Definition>,
 }
 
 impl Model for Catalog {
+    ghost use Rattle.indexmap.specs.IndexMap.{values};
+    ghost use Rattle.pq_schema.specs.Named.{AreNamed};
     ghost use Rattle.pq_schema.specs.Schema.{Schema};
     ghost use Rattle.pq_schema.specs.Valid.{IsSound};
 
     ghost Value = { Schema };
 
-    ghost view = { λ c. record { tables = c.tables.items; definitions = c.definitions } };
+    ghost view = { λ c. record { tables = c.tables.items; definitions = values c.definitions } };
 
-    ghost invariant = { λ c. IsSound (record { tables = c.tables.items; definitions = c.definitions }) };
+    ghost invariant = { λ c. IsSound (record { tables = c.tables.items; definitions = values c.definitions }) × AreNamed c.tables.items c.definitions.entries };
 }
 
 impl Definition {
-    fn is_query(&self, name: &PText) -> bool
-        ensures { result ≡ is_query name.now self.now }
-    {
-        match self {
-            Definition::OfTable { .. } => false,
-            Definition::OfQuery { query, .. } => query.name.bytes() == name.bytes(),
-        }
-    }
-
     fn as_query(&self) -> &Query
         requires { IsQueryDefinition self.now }
         ensures { result.now ≡ query_of self.now }
@@ -63,22 +59,6 @@ impl Definition {
     }
 }
 
-fn table_place(tables: &[Table], name: &PText) -> Option<usize>
-    ensures { result ≡ position (is_table name.now) tables.now }
-{
-    tables
-        .iter()
-        .position(|table| table.name.bytes() == name.bytes())
-}
-
-fn query_place(definitions: &[Definition], name: &PText) -> Option<usize>
-    ensures { result ≡ position (is_query name.now) definitions.now }
-{
-    definitions
-        .iter()
-        .position(|definition| definition.is_query(name))
-}
-
 fn made_by(wanted: &Option<NewIndex>) -> Option<Made>
     ensures { result ≡ option_map made_of wanted.now }
 {
@@ -98,6 +78,22 @@ fn put_table(tables: &mut Vec<Table>, table: Table) -> Result<(), NoMem>
 {
     tables.push(table)?;
     Ok(())
+}
+
+/// Puts a definition behind the others, by a name that none of them has.
+fn put_definition(
+    definitions: &mut IndexMap<String, Definition>,
+    name: String,
+    definition: Definition,
+)
+    requires room { 0 < spare definitions.old }
+    requires free { get_by_text definitions.old (string_bytes name) ≡ None }
+    ensures { definitions.new.entries ≡ definitions.old.entries ++ (name, definition) ∷ [] }
+{
+    match definitions.insert(name, definition) {
+        Ok(_) => {}
+        Err(_) => unreachable!(),
+    }
 }
 
 /// Puts the index behind those of its table. After `NoMem` nothing is changed.
@@ -156,7 +152,7 @@ impl Catalog {
     {
         Catalog {
             tables: Vec::new(alloc),
-            definitions: List::new(alloc),
+            definitions: IndexMap::new(alloc),
         }
     }
 
@@ -172,9 +168,10 @@ impl Catalog {
         ensures found { result ≡ find_table self.now name.now }
         ensures there { IfSome result (λ number. (1 ≤ number) × (number ≤ length self.now.tables)) }
     {
-        match table_place(self.tables.as_slice(), name) {
-            Some(place) => Some(place as u8 + 1),
+        match self.definitions.get(name.as_str()) {
             None => None,
+            Some(Definition::OfQuery { .. }) => None,
+            Some(Definition::OfTable { table, .. }) => Some(*table),
         }
     }
 
@@ -182,9 +179,10 @@ impl Catalog {
     pub fn find_query(&self, name: &PText) -> Option<u16>
         ensures { result ≡ find_query self.now name.now }
     {
-        match query_place(self.definitions.items(), name) {
-            Some(place) => Some(place as u16 + 1),
+        match self.definitions.get_full(name.as_str()) {
             None => None,
+            Some((_, _, Definition::OfTable { .. })) => None,
+            Some((place, _, Definition::OfQuery { .. })) => Some(place as u16 + 1),
         }
     }
 
@@ -192,7 +190,7 @@ impl Catalog {
     pub fn is_taken(&self, name: &PText) -> bool
         ensures { result ≡ is_taken self.now name.now }
     {
-        self.find_table(name).is_some() || self.find_query(name).is_some()
+        self.definitions.contains_key(name.as_str())
     }
 
     /// The table of this number, from 1.
@@ -213,12 +211,13 @@ impl Catalog {
         self.tables.as_slice()
     }
 
-    /// The definitions in order.
-    pub fn definitions(&self) -> &[Definition]
-        ensures definitions { result.now ≡ self.now.definitions }
-        ensures few { length self.now.definitions ≤ 256 }
+    /// The definition of this number, from 1.
+    pub fn definition_at(&self, number: u16) -> &Definition
+        requires from_one { 1 ≤ number }
+        requires there { number ≤ length self.now.definitions }
+        ensures { result.now ≡ definition_at self.now number }
     {
-        self.definitions.items()
+        &self.definitions[number as usize - 1]
     }
 
     /// The query of this definition's number, from 1.
@@ -228,32 +227,28 @@ impl Catalog {
         requires query { IsQueryDefinition (definition_at self.now number) }
         ensures { result.now ≡ query_at self.now number }
     {
-        let definition = &self.definitions.items()[number as usize - 1];
-        definition.as_query()
+        self.definition_at(number).as_query()
     }
 
     /// Puts a table behind the others, and its definition last. After `NoMem` nothing is changed.
     pub(crate) fn push_table(&mut self, alloc: Global, table: Table) -> Result<(), NoMem>
         requires next { IsValid (with_table self.old table) }
+        requires free { is_taken self.old table.name ≡ false }
         requires indexes { length table.indexes ≤ 16 }
         ensures ok { OnOk result (self.new ≡ with_table self.old table) }
         ensures err { OnErr result (self.new ≡ self.old) }
     {
+        let name = String::from_str(alloc, table.name.as_str())?;
         let number = self.tables.len() as u8 + 1;
         let made = table.indexes.items().len() as u8;
         let definition = Definition::OfTable {
             table: number,
             made,
         };
-        let defs = self.definitions.items().len();
-        self.definitions.push(alloc, definition)?;
-        match put_table(&mut self.tables, table) {
-            Ok(()) => Ok(()),
-            Err(NoMem) => {
-                self.definitions.truncate(defs);
-                Err(NoMem)
-            }
-        }
+        self.definitions.reserve(1)?;
+        put_table(&mut self.tables, table)?;
+        put_definition(&mut self.definitions, name, definition);
+        Ok(())
     }
 
     /// Puts a query's definition last, and the index that it wants behind those of its table. After
@@ -264,21 +259,21 @@ impl Catalog {
         query: Query,
         wanted: Option<NewIndex>,
     ) -> Result<(), NoMem>
-        requires { IsDefined self.old query wanted }
+        requires defined { IsDefined self.old query wanted }
+        requires free { is_taken self.old query.name ≡ false }
         ensures ok { OnOk result (self.new ≡ with_query self.old query wanted) }
         ensures err { OnErr result (self.new ≡ self.old) }
     {
+        let name = String::from_str(alloc, query.name.as_str())?;
         let made = made_by(&wanted);
-        let defs = self.definitions.items().len();
-        self.definitions
-            .push(alloc, Definition::OfQuery { query, made })?;
-        match put_wanted(alloc, &mut self.tables, wanted) {
-            Ok(()) => Ok(()),
-            Err(NoMem) => {
-                self.definitions.truncate(defs);
-                Err(NoMem)
-            }
-        }
+        self.definitions.reserve(1)?;
+        put_wanted(alloc, &mut self.tables, wanted)?;
+        put_definition(
+            &mut self.definitions,
+            name,
+            Definition::OfQuery { query, made },
+        );
+        Ok(())
     }
 
     /// The foreign keys to the table of this number, in order of tables, then of declaration, each by its
@@ -301,9 +296,10 @@ impl Catalog {
 
     /// How many definitions there are.
     pub fn defs(&self) -> u16
-        ensures { result ≡ length self.now.definitions }
+        ensures defs { result ≡ length self.now.definitions }
+        ensures few { length self.now.definitions ≤ 256 }
     {
-        self.definitions.items().len() as u16
+        self.definitions.len() as u16
     }
 
     /// The kind of a definition, by its number from 1.
@@ -312,6 +308,6 @@ impl Catalog {
         requires there { number ≤ length self.now.definitions }
         ensures { result ≡ def_of (definition_at self.now number) }
     {
-        self.definitions.items()[number as usize - 1].kind()
+        self.definition_at(number).kind()
     }
 }

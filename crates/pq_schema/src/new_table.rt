@@ -215,7 +215,7 @@ impl Catalog {
     fn check_definition(&self, alloc: Global, name: &PText) -> Result<(), Stopped>
         ensures { Passes result (definition_refusal self.now name.now) }
     {
-        if self.definitions().len() >= DEFINITIONS {
+        if usize::from(self.defs()) >= DEFINITIONS {
             return Err(counted(DEFINITIONS_WORD));
         }
         if self.is_taken(name) {

@@ -214,7 +214,7 @@ impl Session {
     ) -> Result<Option<Query>, NoMem>
         ensures { IfOk result (λ query. query ≡ key_query self.now name.now select.now) }
     {
-        if self.catalog.definitions().len() >= DEFINITIONS || self.catalog.is_taken(name) {
+        if usize::from(self.catalog.defs()) >= DEFINITIONS || self.catalog.is_taken(name) {
             return Ok(None);
         }
         let Some(number) = self.catalog.find_table(&select.table) else {

@@ -141,10 +141,9 @@ pub fn show_lines(alloc: Global, catalog: &Catalog) -> Result<List<Line>, NoMem>
     requires { IsShown catalog.now }
     ensures { IfOk result (λ lines. lines ≡ show_lines catalog.now) }
 {
-    let count = catalog.definitions().len();
     let mut lines = List::new(alloc);
-    for place in 0..count {
-        put_definition_lines(alloc, catalog, place as u16 + 1, &mut lines)?;
+    for place in 0..catalog.defs() {
+        put_definition_lines(alloc, catalog, place + 1, &mut lines)?;
     }
     Ok(lines)
 }

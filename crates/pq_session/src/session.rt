@@ -64,10 +64,10 @@ fn opened_by(session: Session, settled: &Settled) -> Started
     ensures started { result ≡ started_of session settled.now (length session.definitions) }
     ensures few { length session.definitions ≤ 256 }
 {
-    let found = session.catalog.definitions().len();
+    let defs = session.catalog.defs();
     let ops = settled.used.ops + 1;
     Started {
-        defs: session.catalog.defs(),
+        defs,
         session,
         bound: Bound {
             ops: ops as u128,
@@ -75,7 +75,7 @@ fn opened_by(session: Session, settled: &Settled) -> Started
         },
         used: Used {
             ops,
-            entries: settled.used.entries + found as u64,
+            entries: settled.used.entries + u64::from(defs),
         },
     }
 }
