@@ -4,6 +4,7 @@ use Rattle.std.specs.Prelude.{IfSome, IfOk, IfErr, OnOk, OnErr}
 use Rattle.std.proofs.Math.Seq.{get_or-append_seam}
 use Rattle.std.specs.FinMap.{get, insert}
 use Rattle.std.proofs.lemmas.List.{length-append}
+use Rattle.pq_base.specs.declared.number.Bound.{Bound}
 use Rattle.pq_base.specs.declared.number.Choice.TheVariants.{Whole}
 use Rattle.pq_base.specs.declared.refusal.Refusal.{Refusal}
 use Rattle.pq_schema.specs.declared.definition.TableDef.{TableDef}
@@ -34,7 +35,7 @@ use Rattle.pq_session.specs.Model.{Model}
 use Rattle.pq_print.specs.declared.report.Report.{Report}
 use Rattle.pq_schema.specs.Tables.{table_at, no_table}
 use Rattle.pq_session.specs.Extends.{Extends}
-use Rattle.pq_session.specs.Promise.{Done as Promised, Broken, Promises}
+use Rattle.pq_session.specs.Promise.{Done as Promised, Broken, Promises, IsWithin, bound_over}
 use Rattle.pq_session.specs.Reports.{define_report}
 use Rattle.pq_session.specs.Stands.{Settled, Stands, content_of, catalog_value, last_key, last_value}
 use Rattle.pq_session.specs.declared.key_select.KeySelect.{KeySelect}
@@ -81,7 +82,7 @@ leads_query m query s key =
     }
 
 module _ (number : ℕ) (lines : List Line) (f : Model → Step) (old now : Option Content) (schema next : Schema)
-    (leads : (m : Model) → Stands old schema m → Leads m next × (f m ≡ defined m number next lines)) where
+    (leads : (m : Model) → Stands old schema m → Leads m next × (f m ≡ defined m number next lines)) (one : bound 1 0 ≡ bound_over f schema) where
   added : (m : Model) → Stands old schema m → now ≡ Some (insert (content_of m) (last_key next) (last_value next)) → Settled now (record m { schema = next })
   added m s is =
       let l = (leads m s).0 in
@@ -98,17 +99,20 @@ module _ (number : ℕ) (lines : List Line) (f : Model → Step) (old now : Opti
     entries = refl;
     few_ops = lit≤ tt;
     few_entries = lit≤ tt;
+    bound = one;
+    refused = λ refusal. absurd refusal;
   }
 
   -- the key is absent, so that no damage is found
-  pub define_broken : (broke : Broke) → MayPut (last_key next) (last_value next) old now
-      → IfSome old (λ pairs. get pairs (last_key next) ≡ None → IsSound broke) → Broken f old now schema broke
-  define_broken broke may sound = record {
+  pub define_broken : (before after : Counts) (broke : Broke) → MayPut (last_key next) (last_value next) old now
+      → IfSome old (λ pairs. get pairs (last_key next) ≡ None → IsSound broke) → IsWithin (bound 1 0) before after → Broken f old now schema before after broke
+  define_broken before after broke may sound within = record {
     stopped = λ m s. elim (subst (λ o. MayPut (last_key next) (last_value next) o now) s.settled.told may) [
       | inl same ↦ inl (settled_opens (record { valid = s.settled.valid; keeps = s.settled.keeps; told = same }))
       | inr put ↦ inr (settled_opens (subst (λ (x : Step). Settled now x.model) (sym (leads m s).1) (added m s put.1)))
     ];
     sound = λ m s. subst (λ o. IfSome o (λ pairs. get pairs (last_key next) ≡ None → IsSound broke)) s.settled.told sound (leads m s).0.absent;
+    within = subst (λ (b : Bound). IsWithin b before after) one within;
   }
 
 -- ---- tables
@@ -139,12 +143,13 @@ IsWritten old now next number lines before after result =
     × OnErr result (MayPut (last_key next) (last_value next) old now)
     × IfErr result (λ broke. IfSome old (λ pairs. get pairs (last_key next) ≡ None → IsSound broke))
     × OnOk result (after ≡ charged before 0)
+    × IsWithin (bound 1 0) before after
 
 written_as : (f : Model → Step) (old now : Option Content) (schema next : Schema) (number : ℕ) (lines : List Line) (before after : Counts) (result : Result (Schema × Report) Broke)
-    → ((m : Model) → Stands old schema m → Leads m next × (f m ≡ defined m number next lines)) → IsWritten old now next number lines before after result → Promises f old now schema before after result
-written_as f old now schema next number lines before after (Ok made) leads h =
-    rw (h.0.0, h.0.1, h.4) (define_done number lines f old now schema next leads before h.1)
-written_as f old now schema next number lines before after (Err broke) leads h = define_broken number lines f old now schema next leads broke h.2 h.3
+    → ((m : Model) → Stands old schema m → Leads m next × (f m ≡ defined m number next lines)) → bound 1 0 ≡ bound_over f schema → IsWritten old now next number lines before after result → Promises f old now schema before after result
+written_as f old now schema next number lines before after (Ok made) leads one h =
+    rw (h.0.0, h.0.1, h.4) (define_done number lines f old now schema next leads one before h.1)
+written_as f old now schema next number lines before after (Err broke) leads one h = define_broken number lines f old now schema next leads one before after broke h.2 h.3 h.5
 
 pub table_written : (old now : Option Content) (schema session : Schema) (number : ℕ) (def : TableDef) → IsTableDef def → (t : ℕ) (before after : Counts) (result : Result (Schema × Report) Broke)
     → Extends schema def session (Ok t)
@@ -153,14 +158,16 @@ pub table_written : (old now : Option Content) (schema session : Schema) (number
     → OnErr result (MayPut (last_key session) (last_value session) old now)
     → IfErr result (λ broke. IfSome old (λ pairs. get pairs (last_key session) ≡ None → IsSound broke))
     → OnOk result (after ≡ charged before 0)
+    → IsWithin (bound 1 0) before after
     → Promises (λ m. created m number def) old now schema before after result
-table_written old now schema session number def is_def t before after result e done put stopped damage meter =
+table_written old now schema session number def is_def t before after result e done put stopped damage meter within =
     let table = e.0 in
     let next = with_table schema table in
-    let all : IsWritten old now session number (table_lines (table_at session.tables t)) before after result = (done, put, stopped, damage, meter) in
+    let all : IsWritten old now session number (table_lines (table_at session.tables t)) before after result = (done, put, stopped, damage, meter, within) in
     let there = subst (λ (s : Schema). IsWritten old now s number (table_lines (table_at s.tables t)) before after result) e.2 all in
     let lined = subst (λ (x : Table). IsWritten old now next number (table_lines x) before after result) (last_table schema.tables table t e.3) there in
-    written_as (λ m. created m number def) old now schema next number (table_lines table) before after result (leads_created old schema number def table is_def e.1) lined
+    written_as (λ m. created m number def) old now schema next number (table_lines table) before after result (leads_created old schema number def table is_def e.1)
+    (ap (λ (x : Step). x.report.bound) (sym (created_by (record { schema = schema; rows = [] }) number schema def refl (Ok table) e.1))) lined
 
 -- ---- queries
 

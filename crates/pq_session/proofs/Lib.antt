@@ -10,6 +10,7 @@ pub mod Known
 pub mod Lists
 pub mod Made
 pub mod Next
+pub mod Numbers
 pub mod Openings
 pub mod Promises
 pub mod Reopening

@@ -41,9 +41,11 @@ use Rattle.pq_session.proofs.Made.{made_of}
 use Rattle.pq_session.specs.Model.{Model}
 use Rattle.pq_store.specs.Counts.{Counts}
 use Rattle.pq_intent.specs.Errors.{IsSound}
+use Rattle.pq_base.specs.declared.number.Bound.{Bound}
 use Rattle.pq_session.specs.Promise.{Done}
 use Rattle.pq_session.specs.Reports.{row_report}
-use Rattle.pq_session.specs.Step.{ran, ran_by, ran_query, not_built}
+use Rattle.pq_session.specs.Promise.{IsWithin, bound_over}
+use Rattle.pq_session.specs.Step.{Step, by_key, ran, ran_by, ran_query, not_built}
 use Rattle.pq_session.specs.Reads.{IsRead, IsNoRow, IsQueryNumber, read_counts}
 use Rattle.pq_session.specs.Stands.{Settled, Stands, content_of, catalog_pairs}
 use Rattle.pq_session.proofs.Catalogs.{are_catalog}
@@ -281,6 +283,11 @@ module _ (schema : Schema) (m : Model) (number : ℕ) (name : List ℕ) (params 
   pub params_taken : (n : ℕ) → find_query schema name ≡ Some n → all_fit (query_at schema n).params params ≡ true → ran_query m number (query_at schema n) params ≡ ran m number name params
   params_taken n found taken = ap (λ (s : Schema). ran_query m number (query_at s n) params) (sym is) ∙ sym (by_name (Some n) found ∙ fits_as n true taken)
 
+-- a run of the query costs one operation and one entry
+pub run_bound : (schema : Schema) (number : ℕ) (name : List ℕ) (params : List Value) (n : ℕ) → find_query schema name ≡ Some n → all_fit (query_at schema n).params params ≡ true
+    → by_key ≡ bound_over (λ m. ran m number name params) schema
+run_bound schema number name params n found taken = ap (λ (x : Step). x.report.bound) (params_taken schema (record { schema = schema; rows = [] }) number name params refl n found taken)
+
 counted : (row : Option (List Value)) (before after : Counts) → after ≡ read_counts row before → (after.ops ≡ before.ops + 1) × (after.entries ≡ before.entries + length (option_to_list row))
 counted None before after is = (ap (λ (c : Counts). c.ops) is, ap (λ (c : Counts). c.entries) is ∙ omega arith)
 counted (Some row) before after is = (ap (λ (c : Counts). c.ops) is, ap (λ (c : Counts). c.entries) is)
@@ -288,6 +295,15 @@ counted (Some row) before after is = (ap (λ (c : Counts). c.ops) is, ap (λ (c 
 one_row : (row : Option (List Value)) → length (option_to_list row) ≤ 1
 one_row None = zero-le
 one_row (Some row) = lit≤ tt
+
+pub within_run : (schema : Schema) (number : ℕ) (name : List ℕ) (params : List Value) (n : ℕ) → find_query schema name ≡ Some n → all_fit (query_at schema n).params params ≡ true
+    → (before after : Counts) → IsWithin by_key before after → IsWithin (bound_over (λ m. ran m number name params) schema) before after
+within_run schema number name params n found taken before after within = subst (λ (b : Bound). IsWithin b before after) (run_bound schema number name params n found taken) within
+
+pub read_within : (row : Option (List Value)) (before after : Counts) → after ≡ read_counts row before → IsWithin by_key before after
+read_within row before after is =
+    let c = counted row before after is in
+    record { ops = omega (arith, c.0); entries = let one = one_row row in omega (arith, c.1, one) }
 
 pub run_done : (schema : Schema) (number n : ℕ) (params : List Value) (row : Option (List Value)) (old now : Option Content) (before after : Counts) → now ≡ old → after ≡ read_counts row before
     → ((m : Model) → Stands old schema m → answer m.schema.tables (query_at schema n) m.rows params None ≡ option_to_list row)
@@ -301,4 +317,6 @@ run_done schema number n params row old now before after same counts answers =
       entries = c.1;
       few_ops = lit≤ tt;
       few_entries = one_row row;
+      bound = refl;
+      refused = λ refusal. absurd refusal;
     }

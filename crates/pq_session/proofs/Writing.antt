@@ -41,7 +41,7 @@ use Rattle.pq_index_keep.proofs.FromMade.{valid_writable}
 use Rattle.pq_session.specs.Built.{IsBuilt}
 use Rattle.pq_session.specs.Matches.{Matches}
 use Rattle.pq_session.specs.Model.{Model}
-use Rattle.pq_session.specs.Promise.{Done, Broken, Promises}
+use Rattle.pq_session.specs.Promise.{Done, Broken, Promises, IsWithin, bound_over}
 use Rattle.pq_session.specs.Stands.{Settled, Stands, Opens, content_of, catalog_pairs}
 use Rattle.pq_session.specs.Step.{Step, report_of, refusal_report, refused, refused_unread, effected, effected_as, written, written_as, performed}
 use Rattle.pq_session.proofs.Catalogs.{are_catalog}
@@ -68,6 +68,17 @@ settled_rows old schema m s = record {
 pub settled_for : (old mid : Option Content) (schema : Schema) (m : Model) → mid ≡ old → Stands old schema m → IsSettled mid (content_of m)
 settled_for old mid schema m same s = record { told = same ∙ s.settled.told; no_intent = no_intent_in m }
 
+-- ---- the bound
+
+-- whatever the effect is, its bound is that of the write
+effected_bound : (number : ℕ) (write : Write) (schema : Schema) → bound_over (λ m. effected m number write) schema ≡ write_bound schema.tables write
+unfolding effected
+effected_bound number write schema = by (effect schema.tables [] write)
+  where
+    by : (answer : Result Rows Refusal) → (effected_as (record { schema = schema; rows = [] }) number (write_bound schema.tables write) answer).report.bound ≡ write_bound schema.tables write
+    by (Ok rows) = refl
+    by (Err why) = refl
+
 -- ---- refused
 
 step_refused : (m : Model) (number : ℕ) (write : Write) (why : Refusal) (schema : Schema) → schema ≡ m.schema → effect schema.tables m.rows write ≡ Err why
@@ -92,6 +103,8 @@ refused_by number write why old now schema f0 f1 allowed before after reads answ
   entries = omega (arith, ap (λ (c : Counts). c.entries) reads.granted, reads.spent_entries, reads.rise_entries);
   few_ops = omega (arith, ap (λ (c : Counts). c.ops) reads.granted);
   few_entries = omega (arith, ap (λ (c : Counts). c.entries) reads.granted);
+  bound = sym (effected_bound number write schema);
+  refused = λ _. (reads.same, refl);
 }
 
 pub refused_done : (number : ℕ) (write : Write) (why : Refusal) (old now : Option Content) (schema : Schema) (most : Bound) (f0 f1 : ℕ) (given allowed : Allowed) (before after : Counts) (q : Planned)
@@ -175,6 +188,8 @@ changed_by number write changes old mid now schema f0 f1 left allowed before bet
       entries = omega (arith, granted_entries, same_entries, reads.spent_entries, reads.rise_entries, spends.entries_left, spends.entries);
       few_ops = omega (arith, granted_ops, same_ops);
       few_entries = omega (arith, granted_entries, same_entries);
+      bound = sym (effected_bound number write schema);
+      refused = λ refusal. absurd refusal;
     }
 
 pub changed_done : (number : ℕ) (write : Write) (changes : List Change) (old mid now : Option Content) (schema : Schema) (most : Bound) (f0 f1 : ℕ) (given left allowed : Allowed) (before between after : Counts) (q : Planned)
@@ -198,11 +213,32 @@ no_damage broke.Failed sound = tt
 no_damage broke.NoMem sound = tt
 no_damage (broke.Damaged damage) sound = absurd sound
 
-pub planning_broke : (number : ℕ) (write : Write) (error : Broke) (old now : Option Content) (schema : Schema) → now ≡ old
-    → ((rows : Rows) (others : List Pair) → keep.Settled old schema.tables rows others → keep.IsUndamaged error) → Broken (λ m. effected m number write) old now schema error
-planning_broke number write error old now schema same undamaged = record {
-  stopped = λ m s. inl (settled_opens (subst (λ o. Settled o m) (sym same) s.settled));
+-- what was spent of the bound is not more than the bound
+planned_within : (most : Bound) (old mid : Option Content) (f0 f1 : ℕ) (given left : Allowed) (before after : Counts) (ops entries : ℕ) → given ≡ granted most.ops most.entries
+    → Reads (world old f0 given before) (world mid f1 left after) ops entries → IsWithin most before after
+planned_within most old mid f0 f1 given left before after ops entries is reads = record {
+  ops = omega (arith, reads.spent_ops, ap (λ (a : Allowed). a.left.ops) is);
+  entries = omega (arith, reads.spent_entries, ap (λ (a : Allowed). a.left.entries) is);
+}
+
+committed_within : (most : Bound) (old mid : Option Content) (f0 f1 : ℕ) (given left allowed : Allowed) (before between after : Counts) (ops entries limit : ℕ) → given ≡ granted most.ops most.entries
+    → Reads (world old f0 given before) (world mid f1 left between) ops entries → Spends limit left allowed between after → IsWithin most before after
+committed_within most old mid f0 f1 given left allowed before between after ops entries limit is reads spends = record {
+  ops = omega (arith, reads.spent_ops, spends.ops, ap (λ (a : Allowed). a.left.ops) is);
+  entries = omega (arith, reads.spent_entries, spends.entries, ap (λ (a : Allowed). a.left.entries) is);
+}
+
+-- the same of the bound of the write's step
+within_effected : (number : ℕ) (write : Write) (schema : Schema) (most : Bound) (before after : Counts) → most ≡ write_bound schema.tables write → IsWithin most before after → IsWithin (bound_over (λ m. effected m number write) schema) before after
+within_effected number write schema most before after is within = subst (λ (b : Bound). IsWithin b before after) (is ∙ sym (effected_bound number write schema)) within
+
+pub planning_broke : (number : ℕ) (write : Write) (error : Broke) (old now : Option Content) (schema : Schema) (most : Bound) (f0 f1 : ℕ) (given left : Allowed) (before after : Counts) (ops entries : ℕ)
+    → most ≡ write_bound schema.tables write → given ≡ granted most.ops most.entries → Reads (world old f0 given before) (world now f1 left after) ops entries
+    → ((rows : Rows) (others : List Pair) → keep.Settled old schema.tables rows others → keep.IsUndamaged error) → Broken (λ m. effected m number write) old now schema before after error
+planning_broke number write error old now schema most f0 f1 given left before after ops entries is_most is_given reads undamaged = record {
+  stopped = λ m s. inl (settled_opens (subst (λ o. Settled o m) (sym reads.same) s.settled));
   sound = λ m s. no_damage error (undamaged m.rows (catalog_pairs schema) (settled_rows old schema m s));
+  within = within_effected number write schema most before after is_most (planned_within most old now f0 f1 given left before after ops entries is_given reads);
 }
 
 stopped_at : (m : Model) (number : ℕ) (write : Write) (changes : List Change) (now : Option Content) → IsBuilt m.schema → Keeps row_code m.schema.tables m.rows
@@ -213,14 +249,17 @@ stopped_at m number write changes now valid keeps p (inr settles) =
     inr (subst (λ (x : Step). Opens now x.model) (sym (step_made m number write p.rows_made p.is))
     (record { valid = valid; keeps = p.makes.keeps; settles = subst (Settles now) (content_made m write changes p) settles }))
 
-pub commit_broke : (number : ℕ) (write : Write) (changes : List Change) (error : Broke) (old mid now : Option Content) (schema : Schema) (q : Planned) → q ≡ planned.Changes changes → mid ≡ old
+pub commit_broke : (number : ℕ) (write : Write) (changes : List Change) (error : Broke) (old mid now : Option Content) (schema : Schema) (most : Bound) (f0 f1 : ℕ) (given left allowed : Allowed) (before between after : Counts) (ops entries limit : ℕ) (q : Planned)
+    → most ≡ write_bound schema.tables write → given ≡ granted most.ops most.entries → q ≡ planned.Changes changes
+    → Reads (world old f0 given before) (world mid f1 left between) ops entries → Spends limit left allowed between after
     → ((rows : Rows) (others : List Pair) → keep.Settled old schema.tables rows others → Plans schema.tables rows others write q)
     → ((pairs : Content) → IsSettled mid pairs → Settles now pairs ⊎ Settles now (changed (map change_of changes) pairs))
     → ((pairs : Content) → IsSettled mid pairs → IsSound error)
-    → Broken (λ m. effected m number write) old now schema error
-commit_broke number write changes error old mid now schema q is same answer stops sound = record {
-  stopped = λ m s. stopped_at m number write changes now s.settled.valid s.settled.keeps (made_of schema m old write changes s (planned_as old schema write q changes is answer)) (stops (content_of m) (settled_for old mid schema m same s));
-  sound = λ m s. sound (content_of m) (settled_for old mid schema m same s);
+    → Broken (λ m. effected m number write) old now schema before after error
+commit_broke number write changes error old mid now schema most f0 f1 given left allowed before between after ops entries limit q is_most is_given is reads spends answer stops sound = record {
+  stopped = λ m s. stopped_at m number write changes now s.settled.valid s.settled.keeps (made_of schema m old write changes s (planned_as old schema write q changes is answer)) (stops (content_of m) (settled_for old mid schema m reads.same s));
+  sound = λ m s. sound (content_of m) (settled_for old mid schema m reads.same s);
+  within = within_effected number write schema most before after is_most (committed_within most old mid f0 f1 given left allowed before between after ops entries limit is_given reads spends);
 }
 
 -- ---- the write that a statement is

@@ -12,9 +12,9 @@ ghost use Rattle.pq_session.specs.Extends.{Extends};
 ghost use Rattle.pq_session.specs.KeyQuery.{read_query};
 ghost use Rattle.pq_session.specs.KeySelect.{select_from};
 ghost use Rattle.pq_intent.specs.Errors.{IsSound};
-ghost use Rattle.pq_session.specs.Promise.{Promises};
+ghost use Rattle.pq_session.specs.Promise.{Promises, IsWithin};
 ghost use Rattle.pq_session.specs.Reports.{define_report};
-ghost use Rattle.pq_session.specs.Step.{by_key, created, prepared, prepared_as};
+ghost use Rattle.pq_session.specs.Step.{bound, by_key, created, prepared, prepared_as};
 ghost use Rattle.pq_session.specs.Lines.{AreInside, table_lines};
 ghost use Rattle.pq_session.specs.Stands.{catalog_value, last_key, last_value};
 ghost use Rattle.pq_schema.specs.Names.{IsName, IsTableDef};
@@ -64,6 +64,7 @@ fn put_absent<S: Store<L>, L: Ledger>(
     ensures stopped { OnErr result (MayPut pair.key pair.value (S.content store.old) (S.content store.new)) }
     ensures damage { IfErr result (λ broke. IfSome (S.content store.old) (λ pairs. value_at_key pairs pair.key ≡ None → IsSound broke)) }
     ensures meter { OnOk result (meter.new ≡ charged meter.old 0) }
+    ensures within { IsWithin (bound 1 0) meter.old meter.new }
     ensures cause { HasBrokeCause (S.faults store.old) (S.faults store.new) result }
 {
     let Pair { key, value } = pair;
@@ -170,6 +171,7 @@ impl Session {
         ensures stopped { OnErr result (MayPut (last_key self) (last_value self) (S.content store.old) (S.content store.new)) }
         ensures damage { IfErr result (λ broke. IfSome (S.content store.old) (λ pairs. value_at_key pairs (last_key self) ≡ None → IsSound broke)) }
         ensures meter { OnOk result (meter.new ≡ charged meter.old 0) }
+        ensures within { IsWithin (bound 1 0) meter.old meter.new }
         ensures cause { HasBrokeCause (S.faults store.old) (S.faults store.new) result }
     {
         let report = table_report(alloc, number, self.catalog.table(table))?;

@@ -9,11 +9,11 @@ ghost use Rattle.pq_schema.specs.Schema.{query_at};
 ghost use Rattle.pq_content.specs.Tables.{types_of};
 ghost use Rattle.pq_session.specs.Model.{Model};
 ghost use Rattle.pq_intent.specs.Errors.{IsSound};
-ghost use Rattle.pq_session.specs.Promise.{Promises};
+ghost use Rattle.pq_session.specs.Promise.{Promises, IsWithin};
 ghost use Rattle.pq_session.specs.Reads.{IsRead, IsNoRow, IsQueryNumber, read_counts};
 ghost use Rattle.pq_session.specs.Reports.{row_report};
 ghost use Rattle.pq_session.specs.Stands.{Stands};
-ghost use Rattle.pq_session.specs.Step.{ran};
+ghost use Rattle.pq_session.specs.Step.{by_key, ran};
 
 use crate::reports::not_built_report;
 use crate::session::Session;
@@ -58,6 +58,7 @@ fn read_row<S: Store<L>, L: Ledger>(
     ensures fits { IfOk result (λ row. IfSome row (λ row. AllFit types.now row)) }
     ensures same { S.content store.new ≡ S.content store.old }
     ensures meter { IfOk result (λ row. meter.new ≡ read_counts row meter.old) }
+    ensures within { IsWithin by_key meter.old meter.new }
     ensures cause { HasBrokeCause (S.faults store.old) (S.faults store.new) result }
 {
     let code = match store.get(alloc, key, meter) {
@@ -146,6 +147,7 @@ impl Session {
         ensures damage { IfErr result (λ broke. (m : Model) → Stands (S.content store.old) self.now m → IsSound broke) }
         ensures same { S.content store.new ≡ S.content store.old }
         ensures meter { IfOk result (λ row. meter.new ≡ read_counts row meter.old) }
+        ensures within { IsWithin by_key meter.old meter.new }
         ensures cause { HasBrokeCause (S.faults store.old) (S.faults store.new) result }
     {
         let found = self.catalog.query(query);

@@ -9,7 +9,7 @@ ghost use Rattle.pq_session.specs.Names.{IsNamed};
 ghost use Rattle.pq_session.specs.Opening.{opening_of, started_of, opened, catalog_in, IsStarted, TellsSchema, NamesPair, NamesFlaw};
 ghost use Rattle.pq_intent.specs.Errors.{IsSound};
 ghost use Rattle.pq_session.specs.Matches.{Matches, IsOpening};
-ghost use Rattle.pq_session.specs.Promise.{Promises};
+ghost use Rattle.pq_session.specs.Promise.{Promises, IsRefusal, IsWithin, statement_bound};
 ghost use Rattle.pq_session.specs.Stands.{Stands, Opens};
 ghost use Rattle.pq_session.specs.Step.{bound, report_of, refusal_report, performed, text_step, step};
 ghost use Rattle.pq_session.specs.Lines.{show_lines};
@@ -232,9 +232,13 @@ impl Session {
         ensures made { IfOk result (λ p. (m : Tables) → Stands (S.content store.old) self m → Stands (S.content store.new) p.0 (step m number piece.now).model) }
         ensures ops { IfOk result (λ p. meter.new.ops ≡ meter.old.ops + p.1.used.ops) }
         ensures entries { IfOk result (λ p. meter.new.entries ≡ meter.old.entries + p.1.used.entries) }
-        // Over every store, told or not.
+        // Over every store, told or not: the bound is fixed by the schema and the piece alone, what is used
+        // is within it, also where the step breaks off, and a refused statement changes nothing.
+        ensures bound { IfOk result (λ p. p.1.bound ≡ statement_bound self piece.now) }
+        ensures within { IsWithin (statement_bound self piece.now) meter.old meter.new }
         ensures few_ops { IfOk result (λ p. p.1.used.ops ≤ p.1.bound.ops) }
         ensures few_entries { IfOk result (λ p. p.1.used.entries ≤ p.1.bound.entries) }
+        ensures refused { IfOk result (λ p. IsRefusal p.1.end → (S.content store.new ≡ S.content store.old) × (p.0 ≡ self)) }
         ensures stopped { OnErr result ((m : Tables) → Stands (S.content store.old) self m
             → Opens (S.content store.new) m ⊎ Opens (S.content store.new) (step m number piece.now).model) }
         ensures damage { IfErr result (λ broke. (m : Tables) → Stands (S.content store.old) self m → IsSound broke) }

@@ -13,5 +13,5 @@ loop-place-preserved c =
 pub returns : goal.returns
 unfolding show_lines
 returns c =
-    let all : c.loop-place.place ≡ length c.args.catalog.now.definitions = omega (arith, ap length c.definitions-count.ensures.definitions, c.loop-place-test.false, c.loop-place.auto.place-end) in
+    let all : c.loop-place.place ≡ length c.args.catalog.now.definitions = omega (arith, c.defs-place-end.ensures.defs, c.loop-place-test.false, c.loop-place.auto.place-end) in
     c.loop-place.invariant ∙ ap (λ (n : ℕ). flat_map (definition_lines c.args.catalog.now) (range_with_len 1 n)) all

@@ -9,7 +9,7 @@ use Rattle.pq_session.proofs.session.Session.create.Goals as goal
 pub returns-in_err-session-clause-step : goal.returns-in_err-session-clause-step
 returns-in_err-session-clause-step g c =
     let p = err_from_is_err_and c.from_residual.result c.from_residual.ensures.1 in
-    rw (p.1, p.2) (broken_same _ _ c.args.self _ tt)
+    rw (p.1, p.2) (broken_same _ _ c.args.self _ _ tt)
 
 pub returns-in-Err-clause-step : goal.returns-in-Err-clause-step
 returns-in-Err-clause-step g c =
@@ -20,4 +20,4 @@ pub returns-in-Ok-clause-step : goal.returns-in-Ok-clause-step
 returns-in-Ok-clause-step g c =
     let e = subst (λ (r : Result ℕ Refusal). Extends c.args.self c.args.def c.in_ok-session.session r) c.in-Ok.is c.in_ok-session.ensures in
     let w = c.write_table.ensures in
-    table_written _ _ c.args.self c.in_ok-session.session c.args.number c.args.def c.requires c.in-Ok.table _ _ c.write_table.result e w.done w.put w.stopped w.damage w.meter
+    table_written _ _ c.args.self c.in_ok-session.session c.args.number c.args.def c.requires c.in-Ok.table _ _ c.write_table.result e w.done w.put w.stopped w.damage w.meter w.within

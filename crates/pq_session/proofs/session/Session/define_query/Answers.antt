@@ -1,4 +1,4 @@
-use Rattle.std.proofs.Common.{◌≡◌, ◌∙◌, ap, None}
+use Rattle.std.proofs.Common.{◌≡◌, refl, ◌∙◌, ap, None}
 use Rattle.std.proofs.lemmas.Result.{err_from_is_err_and}
 use Rattle.pq_schema.specs.Schema.{with_query}
 use Rattle.pq_session.specs.Stands.{last_key, last_value}
@@ -13,8 +13,8 @@ returns-in_err-put_absent-clause-step g c =
     let is : c.session.inside.catalog ≡ next = c.session.view_is ∙ c.in_ok-session.ensures in
     let key : c.in_ok-pair.pair.key ≡ last_key next = c.in_ok-pair.ensures.key ∙ ap last_key is in
     let value : c.in_ok-pair.pair.value ≡ last_value next = c.in_ok-pair.ensures.value ∙ ap last_value is in
-    rw (p.1, p.2) (define_broken c.args.number (query_lines c.args.query) _ _ _ c.args.self next (leads_prepared _ c.args.self c.args.number c.args.query c.requires) _
-    (rw (← key, ← value) c.in_err-put_absent.ensures.stopped) (rw (← key) c.in_err-put_absent.ensures.damage))
+    rw (p.1, p.2) (define_broken c.args.number (query_lines c.args.query) _ _ _ c.args.self next (leads_prepared _ c.args.self c.args.number c.args.query c.requires) refl _ _ _
+    (rw (← key, ← value) c.in_err-put_absent.ensures.stopped) (rw (← key) c.in_err-put_absent.ensures.damage) c.in_err-put_absent.ensures.within)
 
 pub returns-clause-step : goal.returns-clause-step
 returns-clause-step g c =
@@ -22,20 +22,20 @@ returns-clause-step g c =
     let is : c.session.inside.catalog ≡ next = c.session.view_is ∙ c.in_ok-session.ensures in
     let key : c.in_ok-pair.pair.key ≡ last_key next = c.in_ok-pair.ensures.key ∙ ap last_key is in
     let value : c.in_ok-pair.pair.value ≡ last_value next = c.in_ok-pair.ensures.value ∙ ap last_value is in
-    rw (c.in_ok-report.ensures, c.in_ok-session.ensures, c.in_ok-put_absent.ensures.meter) (define_done c.args.number (query_lines c.args.query) _ _ _ c.args.self next (leads_prepared _ c.args.self c.args.number c.args.query c.requires) _
+    rw (c.in_ok-report.ensures, c.in_ok-session.ensures, c.in_ok-put_absent.ensures.meter) (define_done c.args.number (query_lines c.args.query) _ _ _ c.args.self next (leads_prepared _ c.args.self c.args.number c.args.query c.requires) refl _
     (rw (← key, ← value) c.in_ok-put_absent.ensures.put))
 
 pub returns-in_err-report-clause-step : goal.returns-in_err-report-clause-step
 returns-in_err-report-clause-step g c =
     let p = err_from_is_err_and c.from_residual.result c.from_residual.ensures.1 in
-    rw (p.1, p.2) (broken_same _ _ c.args.self _ tt)
+    rw (p.1, p.2) (broken_same _ _ c.args.self _ _ tt)
 
 pub returns-in_err-session-clause-step : goal.returns-in_err-session-clause-step
 returns-in_err-session-clause-step g c =
     let p = err_from_is_err_and c.from_residual-in_err-session.result c.from_residual-in_err-session.ensures.1 in
-    rw (p.1, p.2) (broken_same _ _ c.args.self _ tt)
+    rw (p.1, p.2) (broken_same _ _ c.args.self _ _ tt)
 
 pub returns-in_err-pair-clause-step : goal.returns-in_err-pair-clause-step
 returns-in_err-pair-clause-step g c =
     let p = err_from_is_err_and c.from_residual-in_err-pair.result c.from_residual-in_err-pair.ensures.1 in
-    rw (p.1, p.2) (broken_same _ _ c.args.self _ tt)
+    rw (p.1, p.2) (broken_same _ _ c.args.self _ _ tt)

@@ -8,7 +8,7 @@ use Rattle.pq_session.proofs.session.Session.perform.Goals as goal
 pub returns-in_err-show-in-Show-clause-step : goal.returns-in_err-show-in-Show-clause-step
 returns-in_err-show-in-Show-clause-step g c =
     let p = err_from_is_err_and c.from_residual.result c.from_residual.ensures.1 in
-    rw (p.1, p.2) (broken_same _ _ c.args.self _ tt)
+    rw (p.1, p.2) (broken_same _ _ c.args.self _ _ tt)
 
 pub returns-in_ok-show-in-Show-clause-step : goal.returns-in_ok-show-in-Show-clause-step
 returns-in_ok-show-in-Show-clause-step g c =
@@ -24,3 +24,12 @@ returns-in-Insert-clause-step g c =
       ]
     ] in
     written_as_performed c.args.number c.args.text.now c.args.tokens.now c.args.statement writing (g.S.Store.content c.args.store.now) (g.S.Store.content c.write.new.store) c.args.self c.args.meter.now c.write.new.meter c.write.result c.write.ensures.step
+
+pub returns-in-Create-clause-step : goal.returns-in-Create-clause-step
+returns-in-Create-clause-step g c = rw c.in-Create.is c.create.ensures.step
+
+pub returns-in-Prepare-clause-step : goal.returns-in-Prepare-clause-step
+returns-in-Prepare-clause-step g c = rw c.in-Prepare.is c.prepare.ensures.step
+
+pub returns-in-Run-default-default-None-clause-step : goal.returns-in-Run-default-default-None-clause-step
+returns-in-Run-default-default-None-clause-step g c = rw (c.in-Run-default-default-None.is, c.in-Run-default-default-None.after-is) c.run.ensures.step

@@ -29,4 +29,4 @@ returns-in-None-clause-step g c =
 pub returns-in_err-query-clause-step : goal.returns-in_err-query-clause-step
 returns-in_err-query-clause-step g c =
     let p = err_from_is_err_and c.from_residual.result c.from_residual.ensures.1 in
-    rw (p.1, p.2) (broken_same _ _ c.args.self _ tt)
+    rw (p.1, p.2) (broken_same _ _ c.args.self _ _ tt)

@@ -35,10 +35,10 @@ returns-in-Ok-clause-step g c =
 pub returns-in_err-found-clause-step : goal.returns-in_err-found-clause-step
 returns-in_err-found-clause-step g c =
     let p = err_from_is_err_and c.from_residual.result c.from_residual.ensures.1 in
-    rw (p.1, p.2) (broken_same _ _ c.args.self _ tt)
+    rw (p.1, p.2) (broken_same _ _ c.args.self _ _ tt)
 
 pub returns-in-Err-NoMem-clause-step : goal.returns-in-Err-NoMem-clause-step
-returns-in-Err-NoMem-clause-step g c = broken_same _ _ c.args.self _ tt
+returns-in-Err-NoMem-clause-step g c = broken_same _ _ c.args.self _ _ tt
 
 pub perform-requires-clause-named : goal.perform-requires-clause-named
 perform-requires-clause-named g c = named_statement c.args.text.now c.in_ok-found.found c.in-Ok.statement c.in_ok-found.ensures.found c.in-Ok.ensures.reads

@@ -8,7 +8,7 @@ pub check_write-requires-clause-sound : goal.check_write-requires-clause-sound
 check_write-requires-clause-sound g c = writable_tables c.self.inside.catalog c.self.invariant
 
 pub returns-in-Err-NoMem-clause-step : goal.returns-in-Err-NoMem-clause-step
-returns-in-Err-NoMem-clause-step g c = broken_same _ _ c.args.self _ tt
+returns-in-Err-NoMem-clause-step g c = broken_same _ _ c.args.self _ _ tt
 
 pub returns-in-Err-Refused-clause-step : goal.returns-in-Err-Refused-clause-step
 returns-in-Err-Refused-clause-step g c =

@@ -1,0 +1,8 @@
+use Rattle.pq_session.proofs.Promises.{promised_bound, promised_within}
+use Rattle.pq_session.proofs.session.Session.statement.Goals as goal
+
+pub returns-clause-bound : goal.returns-clause-bound
+returns-clause-bound g c = promised_bound c.args.number c.args.piece.now _ _ c.args.self _ _ c.piece.result c.piece.ensures.step
+
+pub returns-clause-within : goal.returns-clause-within
+returns-clause-within g c = promised_within c.args.number c.args.piece.now _ _ c.args.self _ _ c.piece.result c.piece.ensures.step
