@@ -2,14 +2,15 @@
 use Rattle.std.proofs.Common.{◌≡◌, ℕ, zero, suc, ◌+◌, ◌<◌, List, [], ◌∷◌, ◌++◌, length, take, map, get_or, Some, None, refl, sym, ap, ◌∙◌, arith, append_assoc, add-one}
 use Rattle.std.proofs.lemmas.List.{map-append}
 use Rattle.pq_base.specs.declared.value.Value.{Value}
-use Rattle.pq_key_code.specs.KeyCode.{code_of}
+use Rattle.pq_key_code.specs.KeyCode.{code_of, rowkey}
 use Rattle.pq_row_code.specs.declared.changes.Change.{Change as Coded}
 use Rattle.pq_row_code.specs.RowCode.{row_code}
 use Rattle.pq_schema.specs.declared.table.Index.{Index}
 use Rattle.pq_schema.specs.declared.table.Table.{Table}
 use Rattle.pq_schema.specs.Sequences.{index_sequence}
-use Rattle.pq_content.specs.Pairs.{Change, entry_pair, entries_from, entry_changes, puts, removals}
+use Rattle.pq_content.specs.Pairs.{Change, entry_pair, entries_from, pairs_of_row, entry_changes, puts, removals, update_changes}
 use Rattle.pq_content.specs.Standing.{change_of}
+use Rattle.pq_content.specs.Tables.{key_of}
 use Rattle.pq_index_keep.specs.Moved.{entry_change}
 
 each_from : (ℕ → Index → List Change) → ℕ → List Index → List Change
@@ -100,3 +101,17 @@ module _ (t : ℕ) (table : Table) (row : List Value) where
         (so_far ∙ ap (λ (l : List Change). map change_of first ++ l) (sym (moves_are 1 (take k xs))))
         more
         ∙ ap (λ (l : List Change). map change_of first ++ l) (moves_are 1 (take (k + 1) xs))
+
+-- ---- the change at the row's own key, and those of its entries
+
+pub own_puts : (t : ℕ) (table : Table) (row : List Value) (at : List ℕ) (changes : List Change) → at ≡ rowkey t (key_of table row) → changes ≡ (at, Some (row_code row)) ∷ puts (entries_from code_of row_code t 1 table table.indexes row)
+    → changes ≡ puts (pairs_of_row code_of row_code t table row)
+own_puts t table row at changes is made = made ∙ ap (λ (k : List ℕ). (k, Some (row_code row)) ∷ puts (entries_from code_of row_code t 1 table table.indexes row)) is
+
+pub own_removals : (t : ℕ) (table : Table) (row : List Value) (at : List ℕ) (changes : List Change) → at ≡ rowkey t (key_of table row) → changes ≡ (at, None) ∷ removals (entries_from code_of row_code t 1 table table.indexes row)
+    → changes ≡ removals (pairs_of_row code_of row_code t table row)
+own_removals t table row at changes is made = made ∙ ap (λ (k : List ℕ). (k, None) ∷ removals (entries_from code_of row_code t 1 table table.indexes row)) is
+
+pub own_updates : (t : ℕ) (table : Table) (old new : List Value) (at : List ℕ) (changes : List Change) → at ≡ rowkey t (key_of table new) → changes ≡ (at, Some (row_code new)) ∷ entry_changes code_of row_code t 1 table table.indexes old new
+    → changes ≡ update_changes code_of row_code t table old new
+own_updates t table old new at changes is made = made ∙ ap (λ (k : List ℕ). (k, Some (row_code new)) ∷ entry_changes code_of row_code t 1 table table.indexes old new) is

@@ -1,6 +1,6 @@
 -- How many changes a write has, and that an intent can hold them.
-use Rattle.std.proofs.Common.{◌≡◌, ℕ, suc, ◌+◌, ◌*◌, ◌≤◌, ◌<◌, ◌^◌, true, false, cond, not, List, [], ◌∷◌, ◌++◌, length, map, Some, None, refl, sym, ap, subst, ◌∙◌, arith}
-use Rattle.std.specs.Prelude.{All, IfSome}
+use Rattle.std.proofs.Common.{◌≡◌, ℕ, suc, ◌+◌, ◌*◌, ◌≤◌, ◌<◌, ◌^◌, true, false, cond, not, List, [], ◌∷◌, ◌++◌, length, map, get_or, replicate, zero, Some, None, refl, sym, ap, subst, ◌∙◌, arith}
+use Rattle.std.specs.Prelude.{All, IfSome, filter}
 use Rattle.std.specs.List.{AllByRecursion, count_by}
 use Rattle.std.proofs.lemmas.List.Sums.{count_by-le-length, length-filter}
 use Rattle.pq_index_keep.specs.Tested.{touches_index}
@@ -11,10 +11,11 @@ use Rattle.std.specs.Int.{w16, to_be_bytes}
 use Rattle.pq_base.specs.Columns.{has_col, set_of}
 use Rattle.pq_base.specs.declared.value.ColType.{ColType}
 use Rattle.pq_base.specs.declared.value.ColType.TheVariants as type
+use Rattle.pq_base.specs.declared.value.Dir.TheVariants.{Asc}
 use Rattle.pq_base.specs.declared.value.Value.{Value}
 use Rattle.pq_base.specs.declared.value.Value.TheVariants as value
 use Rattle.pq_base.specs.Values.{AllFit, FitsType}
-use Rattle.pq_key_code.specs.KeyCode.{code_of}
+use Rattle.pq_key_code.specs.KeyCode.{code_of, rowkey}
 use Rattle.pq_row_code.specs.declared.changes.Change.{Change as Coded}
 use Rattle.pq_row_code.specs.Changes.{IsChange}
 use Rattle.pq_row_code.specs.RowCode.{field, fields, row_code, IsShort}
@@ -22,10 +23,11 @@ use Rattle.pq_schema.specs.declared.table.Column.{Column}
 use Rattle.pq_schema.specs.declared.table.Index.{Index}
 use Rattle.pq_schema.specs.declared.table.Table.{Table}
 use Rattle.pq_schema.specs.Sequences.{ascending, columns_of, without, index_sequence}
-use Rattle.pq_content.specs.Pairs.{Change, entry_pair, entries_from, pairs_of_row, entry_changes, puts, removals, update_changes, row_key}
+use Rattle.pq_content.specs.Pairs.{Change, entry_pair, entries_from, pairs_of_row, entry_changes, puts, removals}
 use Rattle.pq_content.specs.Standing.{change_of, AreOfRows}
-use Rattle.pq_content.specs.Tables.{types_of, key_of, values_of, same_values}
-use Rattle.pq_content.proofs.Lengths.{length-puts, length-removals, length-pairs_of_row, length-update_changes, length-row_key, length-entry_key}
+use Rattle.pq_content.specs.Tables.{types_of, type_of, types_at, key_types, key_of, values_of, same_values}
+use Rattle.pq_content.proofs.Lengths.{length-puts, length-removals, length-pairs_of_row, length-update_changes, IsWithinLength, length-code_of, length-entry_key}
+use Rattle.pq_content.proofs.Values.{key_fits}
 use Rattle.pq_content.proofs.Settling.{inserts_of_rows, deletes_of_rows, updates_of_rows}
 use Rattle.pq_index_keep.specs.Promises.{ArePlanned}
 use Rattle.pq_index_keep.specs.Sound.{IsSized, IsWritable}
@@ -88,6 +90,24 @@ code_short tables table w row fits =
     let few = fit_columns tables table w row fits in
     omega arith
 
+-- ---- a key that fits
+
+type_sized : (columns : List Column) (col : ℕ) → AllByRecursion (λ (column : Column). IsSized column.ty) columns → IsSized (get_or (map (λ (column : Column). column.ty) columns) col type.Bool)
+type_sized [] col sized = tt
+type_sized (c ∷ cs) zero sized = sized.0
+type_sized (c ∷ cs) (suc col) sized = type_sized cs col sized.1
+
+within_short : (x : Value) → IsShort x → IsWithinLength 1000 x
+within_short (value.Int n) h = tt
+within_short (value.Bool b) h = tt
+within_short (value.Text t) h = h
+
+key_within : (table : Table) (cols : List ℕ) (key : List Value) → AllByRecursion (λ (column : Column). IsSized column.ty) table.columns → AllFit (types_at table cols) key → AllByRecursion (IsWithinLength 1000) key
+key_within table [] [] sized fits = tt
+key_within table [] (x ∷ xs) sized fits = absurd fits
+key_within table (c ∷ cols) [] sized fits = absurd fits
+key_within table (c ∷ cols) (x ∷ xs) sized fits = (within_short x (one_short (type_of table c) x (type_sized table.columns c sized) fits.0), key_within table cols xs sized fits.1)
+
 -- ---- changes that an intent can hold
 
 abbrev IsCoded : Change → Type 0
@@ -124,13 +144,15 @@ module _ (tables : List Table) (table : Table) (w : IsWritable tables table) (t 
       let short = w.is_table.short in
       omega arith
 
-  module _ (row : List Value) (fits : AllFit (types_of table) row) where
-    key_coded : length (row_key code_of row_code t (key_of table row)) < 2 ^ 32
-    key_coded =
-        let most = length-row_key 40000 t table row (code_short tables table w row fits) in
-        let short = w.is_table.short in
-        omega (arith, mul-le-mul_right 80009 short)
+  key_coded : (key : List Value) → AllFit (key_types table) key → length (rowkey t key) < 2 ^ 32
+  key_coded key fits =
+      let sized = each_by (λ (column : Column). IsSized column.ty) table.columns w.sized in
+      let most = length-code_of 1000 (replicate (length key) Asc) key (key_within table table.key key sized fits) in
+      let long : length key ≡ length table.key = fit_length (key_types table) key fits ∙ length-map table.key (type_of table) in
+      let short = w.is_table.short in
+      omega arith
 
+  module _ (row : List Value) (fits : AllFit (types_of table) row) where
     value_coded : length (row_code row) < 2 ^ 32
     value_coded = let most = code_short tables table w row fits in omega arith
 
@@ -156,14 +178,15 @@ module _ (tables : List Table) (table : Table) (w : IsWritable tables table) (t 
         let pairs = pairs_of_row code_of row_code t table row in
         let long : length (puts pairs) ≡ suc (length table.indexes) = length-puts pairs ∙ length-pairs_of_row code_of row_code t table row in
         let few = w.is_table.few_indexes in
-        planned_from (puts pairs) (1 + length table.indexes) changes made ((key_coded, value_coded), puts_coded 1 table.indexes narrows) (inserts_of_rows code_of row_code t table row) (omega arith) (omega arith) (omega arith)
+        planned_from (puts pairs) (1 + length table.indexes) changes made ((key_coded (key_of table row) (key_fits table row fits), value_coded), puts_coded 1 table.indexes narrows) (inserts_of_rows code_of row_code t table row) (omega arith) (omega arith) (omega arith)
 
-    pub delete_planned : (changes : List Coded) → map change_of changes ≡ removals (pairs_of_row code_of row_code t table row) → ArePlanned (1 + length table.indexes) changes
-    delete_planned changes made =
+    pub delete_planned : (key : List Value) (at : List ℕ) → AllFit (key_types table) key → at ≡ rowkey t key → (changes : List Coded) → map change_of changes ≡ (at, None) ∷ removals (entries_from code_of row_code t 1 table table.indexes row) → ArePlanned (1 + length table.indexes) changes
+    delete_planned key at fits_key is changes made =
         let pairs = pairs_of_row code_of row_code t table row in
-        let long : length (removals pairs) ≡ suc (length table.indexes) = length-removals pairs ∙ length-pairs_of_row code_of row_code t table row in
+        let rest = removals (entries_from code_of row_code t 1 table table.indexes row) in
+        let long : suc (length rest) ≡ suc (length table.indexes) = length-removals pairs ∙ length-pairs_of_row code_of row_code t table row in
         let few = w.is_table.few_indexes in
-        planned_from (removals pairs) (1 + length table.indexes) changes made ((key_coded, tt), removals_coded 1 table.indexes narrows) (deletes_of_rows code_of row_code t table row) (omega arith) (omega arith) (omega arith)
+        planned_from ((rowkey t key, None) ∷ rest) (1 + length table.indexes) changes (made ∙ ap (λ (k : List ℕ). (k, None) ∷ rest) is) ((key_coded key fits_key, tt), removals_coded 1 table.indexes narrows) (refl, (deletes_of_rows code_of row_code t table row).1) (omega arith) (omega arith) (omega arith)
 
     module _ (new : List Value) (fits_new : AllFit (types_of table) new) (of : Scope) where
       moves_coded : (i : ℕ) (indexes : List Index) → AllByRecursion (λ (index : Index). length index.cols ≤ 36) indexes → AllByRecursion IsCoded (entry_changes code_of row_code t i table indexes row new)
@@ -180,23 +203,18 @@ module _ (tables : List Table) (table : Table) (w : IsWritable tables table) (t 
               let long = narrow_sequence index narrow in
               omega (arith, mul-le-mul_right 80009 long)
 
-      new_key : length (row_key code_of row_code t (key_of table new)) < 2 ^ 32
-      new_key =
-          let most = length-row_key 40000 t table new (code_short tables table w new fits_new) in
-          let short = w.is_table.short in
-          omega (arith, mul-le-mul_right 80009 short)
-
       new_value : length (row_code new) < 2 ^ 32
       new_value = let most = code_short tables table w new fits_new in omega arith
 
-      pub update_planned : ((index : Index) → touches_index of table index ≡ false → values_of (index_sequence table index) row ≡ values_of (index_sequence table index) new) → (changes : List Coded) → map change_of changes ≡ update_changes code_of row_code t table row new
-          → ArePlanned (1 + 2 * count_by (touches_index of table) table.indexes) changes
-      update_planned stays changes made =
-          let most = length-update_changes code_of row_code (touches_index of table) t table row new stays in
+      pub update_planned : ((index : Index) → touches_index of table index ≡ false → values_of (index_sequence table index) row ≡ values_of (index_sequence table index) new) → (key : List Value) (at : List ℕ) → AllFit (key_types table) key → at ≡ rowkey t key
+          → (changes : List Coded) → map change_of changes ≡ (at, Some (row_code new)) ∷ entry_changes code_of row_code t 1 table table.indexes row new → ArePlanned (1 + 2 * count_by (touches_index of table) table.indexes) changes
+      update_planned stays key at fits_key is changes made =
+          let rest = entry_changes code_of row_code t 1 table table.indexes row new in
+          let most : suc (length rest) ≤ 1 + 2 * length (filter (touches_index of table) table.indexes) = length-update_changes code_of row_code (touches_index of table) t table row new stays in
           let same = length-filter (touches_index of table) table.indexes in
           let all = count_by-le-length (touches_index of table) table.indexes in
           let few = w.is_table.few_indexes in
-          planned_from (update_changes code_of row_code t table row new) (1 + 2 * count_by (touches_index of table) table.indexes) changes made ((new_key, new_value), moves_coded 1 table.indexes narrows) (updates_of_rows code_of row_code t table row new) (omega arith) (omega arith) (omega arith)
+          planned_from ((rowkey t key, Some (row_code new)) ∷ rest) (1 + 2 * count_by (touches_index of table) table.indexes) changes (made ∙ ap (λ (k : List ℕ). (k, Some (row_code new)) ∷ rest) is) ((key_coded key fits_key, new_value), moves_coded 1 table.indexes narrows) (refl, (updates_of_rows code_of row_code t table row new).1) (omega arith) (omega arith) (omega arith)
 
 pub short_texts : (table : Table) (row : List Value) → All (λ (column : Column). IsSized column.ty) table.columns → AllFit (types_of table) row → All IsShort row
 short_texts table row sized fits = each_is IsShort row (all_short table.columns row (each_by (λ (column : Column). IsSized column.ty) table.columns sized) fits)

@@ -20,7 +20,7 @@ use Rattle.pq_schema.specs.Tables.{no_table, table_at}
 use Rattle.pq_schema.specs.declared.table.Column.{Column}
 use Rattle.pq_schema.specs.declared.table.Foreign.{Foreign}
 use Rattle.pq_schema.specs.declared.table.Table.{Table}
-use Rattle.pq_content.specs.Pairs.{Pair, Change, pairs, pairs_of_row, removals, changed}
+use Rattle.pq_content.specs.Pairs.{Pair, Change, pairs, entries_from, removals, changed}
 use Rattle.pq_content.specs.Standing.{change_of}
 use Rattle.pq_content.specs.Tables.{Rows, AllOfKinds, IsTableNumber, IsUnreferenced, types_of, key_types, row_at, rows_without, group_of}
 use Rattle.pq_content.proofs.Codes.{key_laws}
@@ -33,8 +33,10 @@ use Rattle.pq_store.specs.declared.damage.Broke.TheVariants.{Failed, NoMem, Dama
 use Rattle.pq_index_keep.specs.Effects.{effect, changes_of, deleted, removal_of, child_refusal, names_key, referenced, no_row}
 use Rattle.pq_index_keep.specs.Promises.{World, Shows, Settled, IsRead, Spoils, Explains, Fails, IsUndamaged, MakesRows, Plans}
 use Rattle.pq_index_keep.specs.Sound.{IsSized, IsSound, IsWritable, IsLike, AreLike, MayName}
+use Rattle.pq_index_keep.specs.declared.calls.StoredRow.{StoredRow}
 use Rattle.pq_index_keep.specs.declared.plan.Planned.TheVariants as planned
 use Rattle.pq_index_keep.specs.declared.write.Write.TheVariants as write
+use Rattle.pq_index_keep.proofs.Changing.{own_removals}
 use Rattle.pq_index_keep.proofs.Inserting.{mapped_none, none_passes, each_weaker, each_is, each_by, writable_at, like_kinds}
 use Rattle.pq_index_keep.proofs.Tests.{settled_get}
 
@@ -81,6 +83,10 @@ module _ (tables : List Table) (rows : Rows) (others : List Pair) (told : Option
   undamaged before after (Damaged d) is h =
       unspoiled (row_at tables rows t key) refl h.code h.no_row
       (sym (settled_get tables rows others told t key s kinds) ∙ subst (λ (o : Option Content). IfSome o (λ c. get c (rowkey t key) ≡ Some h.code)) (is ∙ s.is) h.there)
+
+-- where nothing is read, no row is there
+pub none_read : (found : Option StoredRow) (row : Option (List Value)) → found ≡ None → option_map (λ stored. stored.row) found ≡ row → None ≡ row
+none_read found row none is = ap (option_map (λ (stored : StoredRow). stored.row)) (sym none) ∙ is
 
 pub spoils_explains : (tables : List Table) (t : ℕ) (key : List Value) (before after : World) (error : Broke) → AllOfKinds (key_types (table_at tables t)) key → Spoils (types_of (table_at tables t)) (rowkey t key) before after error → Explains tables before after error
 spoils_explains tables t key before after Failed kinds h = h
@@ -201,10 +207,12 @@ module _ (tables : List Table) (rows : Rows) (others : List Pair) (t : ℕ) (key
   unfolding effect
   delete_refused old refusal found is = ap (deleted tables rows t key) (sym found) ∙ ap (λ (o : Option Refusal). or_ok o (rows_without tables t key rows)) (sym is)
 
-  pub delete_made : (told : Option Content) (old : List Value) (changes : List Coded) → Settled told tables rows others → Some old ≡ row_at tables rows t key → None ≡ child_refusal rows t key 1 tables → map change_of changes ≡ removals (pairs_of_row code_of row_code t (table_at tables t) old)
+  pub delete_made : (told : Option Content) (old : List Value) (changes : List Coded) → Settled told tables rows others → Some old ≡ row_at tables rows t key → None ≡ child_refusal rows t key 1 tables → (at : List ℕ) → at ≡ rowkey t key → map change_of changes ≡ (at, None) ∷ removals (entries_from code_of row_code t 1 (table_at tables t) (table_at tables t).indexes old)
       → Plans tables rows others (write.Delete t key) (planned.Changes changes)
   unfolding effect changes_of
-  delete_made told old changes s found none made =
+  delete_made told old changes s found none at is own =
+      let key_is = (row_found row_code tables rows t key old s.keeps (sym found)).key_is in
+      let made = own_removals t (table_at tables t) old at (map change_of changes) (is ∙ ap (rowkey t) (sym key_is)) own in
       let makes : MakesRows tables rows others (write.Delete t key) changes (rows_without tables t key rows) = record {
         changes_are = made ∙ ap (removal_of (table_at tables t) t) found;
         content = ap (λ (cs : List Change). changed cs (pairs code_of row_code tables rows others)) made ∙ delete_row code_of row_code key_laws tables rows others t key old s.keeps s.catalog (sym found);

@@ -15,10 +15,10 @@ use Rattle.pq_schema.specs.declared.table.Limit.{Limit}
 use Rattle.pq_schema.specs.declared.table.Table.{Table}
 use Rattle.pq_schema.specs.Tables.{table_at}
 use Rattle.pq_content.specs.Pairs.{Pair, pairs, pairs_within}
-use Rattle.pq_content.specs.Tables.{Rows, AllOfKinds, types_of, type_of, types_at, key_types, values_at, row_at, group_of}
+use Rattle.pq_content.specs.Tables.{Rows, AllOfKinds, types_of, type_of, types_at, key_types, values_at, key_of, row_at, group_of}
 use Rattle.pq_content.proofs.Codes.{key_laws}
 use Rattle.pq_content.proofs.Gets.{get_row}
-use Rattle.pq_content.proofs.Values.{kinds_from_fit, fit_at}
+use Rattle.pq_content.proofs.Values.{kinds_from_fit, fit_at, key_of_kinds}
 use Rattle.pq_store.specs.Content.{Content}
 use Rattle.pq_index_keep.specs.Effects.{is_missing, is_full, names_key}
 use Rattle.pq_index_keep.specs.Groups.{group_key}
@@ -46,6 +46,13 @@ told_there tables rows others told t key there s kinds is =
     subst (λ (o : Option Content). IfSome o (λ c. there ≡ is_some (get c (rowkey t key)))) s.is is
     ∙ ap is_some (settled_get tables rows others told t key s kinds)
     ∙ some_mapped (row_at tables rows t key)
+
+-- the same at the key of a row
+pub told_own : (tables : List Table) (rows : Rows) (others : List Pair) (told : Option Content) (t : ℕ) (table : Table) (row : List Value) (at : List ℕ) (there : Bool) → Settled told tables rows others → table ≡ table_at tables t → AllFit (types_of table) row
+    → at ≡ rowkey t (key_of table row) → IfSome told (λ c. there ≡ is_some (get c at)) → there ≡ is_some (row_at tables rows t (key_of table row))
+told_own tables rows others told t table row at there s is fits own answer =
+    let kinds = subst (λ (tb : Table). AllOfKinds (key_types tb) (key_of table row)) is (key_of_kinds table row fits) in
+    told_there tables rows others told t (key_of table row) there s kinds (subst (λ (k : List ℕ). IfSome told (λ c. there ≡ is_some (get c k))) own answer)
 
 pub told_missing : (tables : List Table) (rows : Rows) (others : List Pair) (told : Option Content) (row : List Value) (foreign : Foreign) (there : Bool) → Settled told tables rows others → AllOfKinds (key_types (table_at tables foreign.table)) (values_at foreign.cols row)
     → IfSome told (λ c. there ≡ is_some (get c (rowkey foreign.table (values_at foreign.cols row)))) → not there ≡ is_missing tables rows row foreign

@@ -13,7 +13,7 @@ use Rattle.pq_base.specs.declared.value.ColType.TheVariants as type
 use Rattle.pq_base.specs.declared.value.Value.{Value}
 use Rattle.pq_base.specs.declared.value.Value.TheVariants as value
 use Rattle.pq_base.specs.Values.{AllFit, FitsType}
-use Rattle.pq_key_code.specs.KeyCode.{code_of}
+use Rattle.pq_key_code.specs.KeyCode.{code_of, rowkey}
 use Rattle.pq_row_code.specs.declared.changes.Change.{Change as Coded}
 use Rattle.pq_row_code.specs.RowCode.{row_code}
 use Rattle.pq_schema.specs.Definitions.{refused_if, or_ok}
@@ -24,7 +24,7 @@ use Rattle.pq_schema.specs.Tables.{table_at}
 use Rattle.pq_schema.specs.declared.table.Foreign.{Foreign}
 use Rattle.pq_schema.specs.declared.table.Limit.{Limit}
 use Rattle.pq_schema.specs.declared.table.Table.{Table}
-use Rattle.pq_content.specs.Pairs.{Pair, Change, pairs, update_changes, changed}
+use Rattle.pq_content.specs.Pairs.{Pair, Change, pairs, entry_changes, changed}
 use Rattle.pq_content.specs.Standing.{change_of}
 use Rattle.pq_content.specs.Tables.{Rows, Keeps, MayChange, MayName as MayRefer, types_of, value_of, values_at, values_of, key_of, row_at, rows_without, same_values}
 use Rattle.pq_content.proofs.Codes.{key_laws}
@@ -42,6 +42,7 @@ use Rattle.pq_index_keep.specs.declared.plan.Planned.TheVariants as planned
 use Rattle.pq_index_keep.specs.declared.write.Scope.{Scope}
 use Rattle.pq_index_keep.specs.declared.write.SetCol.{SetCol}
 use Rattle.pq_index_keep.specs.declared.write.Write.TheVariants as write
+use Rattle.pq_index_keep.proofs.Changing.{own_updates}
 use Rattle.pq_index_keep.proofs.Coding.{fit_length}
 use Rattle.pq_index_keep.proofs.Inserting.{each_is, or_none, mapped_none, not_refused, none_passes, each_weaker, there_is, has_room}
 use Rattle.pq_index_keep.proofs.Sets.{members_set}
@@ -125,15 +126,16 @@ module _ (tables : List Table) (rows : Rows) (others : List Pair) (t : ℕ) (key
   update_refused old refusal found is = ap (updated tables rows t key sets) (sym found) ∙ ap (λ (o : Option Refusal). or_ok o ((t, with_sets sets old) ∷ rows_without tables t key rows)) (sym is)
 
   pub update_made : (told : Option Content) (old : List Value) (changes : List Coded) → Settled told tables rows others → IsUpdate tables t key sets → Some old ≡ row_at tables rows t key → None ≡ update_refusal tables rows (scope_of sets) t old (with_sets sets old)
-      → map change_of changes ≡ update_changes code_of row_code t (table_at tables t) old (with_sets sets old) → Plans tables rows others (write.Update t key sets) (planned.Changes changes)
+      → (at : List ℕ) → at ≡ rowkey t key → map change_of changes ≡ (at, Some (row_code (with_sets sets old))) ∷ entry_changes code_of row_code t 1 (table_at tables t) (table_at tables t).indexes old (with_sets sets old) → Plans tables rows others (write.Update t key sets) (planned.Changes changes)
   unfolding effect changes_of
-  update_made told old changes s w found none made =
+  update_made told old changes s w found none here is moved =
       let table = table_at tables t in
       let new = with_sets sets old in
       let of_old = row_found row_code tables rows t key old s.keeps (sym found) in
       let own : key_of table old ≡ key = of_old.key_is in
       let at : row_at tables rows t (key_of table old) ≡ Some old = ap (row_at tables rows t) own ∙ sym found in
       let same : key_of table old ≡ key_of table new = sym (kept_key table sets old w.each) in
+      let made = own_updates t table old new here (map change_of changes) (is ∙ ap (rowkey t) (sym own ∙ same)) moved in
       let parts = or_none _ _ (sym none) in
       let tests = or_none _ _ parts.1 in
       let short : length (row_code new) ≤ 4096 = ltb-false 4096 (length (row_code new)) (not_refused _ _ parts.0) in

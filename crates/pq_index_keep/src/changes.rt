@@ -1,18 +1,16 @@
 //! The changes that a write makes of the pairs of a row.
 ghost use Rattle.std.specs.Prelude.{◌≡◌, ◌≤◌, ◌<◌, ◌+◌, ◌∷◌, ◌++◌, [], All, length, map, IfOk, OnOk, Some, None};
-ghost use Rattle.pq_key_code.specs.KeyCode.{code_of, rowkey};
+ghost use Rattle.pq_key_code.specs.KeyCode.{code_of};
 ghost use Rattle.pq_row_code.specs.RowCode.{row_code, IsShort};
 ghost use Rattle.pq_schema.specs.Sound.{AreColumns, AreParts};
 ghost use Rattle.pq_schema.specs.Sequences.{index_sequence};
-ghost use Rattle.pq_content.specs.Pairs.{entry_pair, entries_from, pairs_of_row, entry_changes, puts, removals, update_changes};
+ghost use Rattle.pq_content.specs.Pairs.{entry_pair, entries_from, entry_changes, puts, removals};
 ghost use Rattle.pq_content.specs.Standing.{change_of};
-ghost use Rattle.pq_content.specs.Tables.{key_of};
 ghost use Rattle.pq_index_keep.specs.Moved.{entry_change};
 
 use crate::groups::{index_prefix, index_sequence};
-use crate::rows::{key_of, same_values, values_of};
+use crate::rows::{same_values, values_of};
 use pq_base::{Bytes, List, NoMem, Row};
-use pq_key_code::row_key;
 use pq_row_code::{Change, encode_row};
 use pq_schema::{Index, Table};
 use std::alloc::Global;
@@ -35,28 +33,20 @@ fn entry_of(
     index_prefix(alloc, number, place, &parts, &values)
 }
 
-/// The row's own key.
-fn own_key(alloc: Global, number: u8, table: &Table, row: &Row) -> Result<Bytes, NoMem>
-    ensures { IfOk result (λ key. key ≡ rowkey number (key_of table.now row.now)) }
-{
-    let key = key_of(alloc, table, row)?;
-    row_key(alloc, number, &key)
-}
-
 /// The change that writes the row at its key.
-fn put_row(alloc: Global, number: u8, table: &Table, row: &Row) -> Result<Change, NoMem>
+fn put_row(alloc: Global, at: Bytes, row: &Row) -> Result<Change, NoMem>
     requires columns { length row.now ≤ 32 }
     requires texts { All IsShort row.now }
-    ensures { IfOk result (λ change. change_of change ≡ (rowkey number (key_of table.now row.now), Some (row_code row.now))) }
+    ensures { IfOk result (λ change. change_of change ≡ (at, Some (row_code row.now))) }
 {
-    let key = own_key(alloc, number, table, row)?;
     let new = Some(encode_row(alloc, row)?);
-    Ok(Change { key, new })
+    Ok(Change { key: at, new })
 }
 
-/// The changes of an INSERT: the row's own pair, and its entry in each index.
+/// The changes of an INSERT: the row's own pair at its key, and its entry in each index.
 pub(crate) fn puts(
     alloc: Global,
+    at: Bytes,
     number: u8,
     table: &Table,
     row: &Row,
@@ -66,10 +56,10 @@ pub(crate) fn puts(
     requires few { length table.now.indexes ≤ 16 }
     requires columns { length row.now ≤ 32 }
     requires texts { All IsShort row.now }
-    ensures { IfOk result (λ changes. map change_of changes ≡ puts (pairs_of_row code_of row_code number table.now row.now)) }
+    ensures { IfOk result (λ changes. map change_of changes ≡ (at, Some (row_code row.now)) ∷ puts (entries_from code_of row_code number 1 table.now table.now.indexes row.now)) }
 {
     let mut changes = List::new(alloc);
-    changes.push(alloc, put_row(alloc, number, table, row)?)?;
+    changes.push(alloc, put_row(alloc, at, row)?)?;
     put_entries(
         alloc,
         number,
@@ -103,9 +93,10 @@ fn put_entries(
     Ok(())
 }
 
-/// The changes of a DELETE: the removals of the row's own pair and of its entries.
+/// The changes of a DELETE: the removals of the row's own pair at its key and of its entries.
 pub(crate) fn removals(
     alloc: Global,
+    at: Bytes,
     number: u8,
     table: &Table,
     row: &Row,
@@ -113,11 +104,10 @@ pub(crate) fn removals(
     requires key { AreColumns table.now.key }
     requires parts { All (λ index. AreParts index.cols) table.now.indexes }
     requires few { length table.now.indexes ≤ 16 }
-    ensures { IfOk result (λ changes. map change_of changes ≡ removals (pairs_of_row code_of row_code number table.now row.now)) }
+    ensures { IfOk result (λ changes. map change_of changes ≡ (at, None) ∷ removals (entries_from code_of row_code number 1 table.now table.now.indexes row.now)) }
 {
     let mut changes = List::new(alloc);
-    let key = own_key(alloc, number, table, row)?;
-    changes.push(alloc, Change { key, new: None })?;
+    changes.push(alloc, Change { key: at, new: None })?;
     remove_entries(
         alloc,
         number,
@@ -179,9 +169,11 @@ fn move_entry(
     changes.push(alloc, Change { key, new })
 }
 
-/// The changes of an UPDATE: the row's pair, and the old and the new entry where they differ.
+/// The changes of an UPDATE: the row's pair at its key, and the old and the new entry where they
+/// differ.
 pub(crate) fn updates(
     alloc: Global,
+    at: Bytes,
     number: u8,
     table: &Table,
     old: &Row,
@@ -192,10 +184,10 @@ pub(crate) fn updates(
     requires few { length table.now.indexes ≤ 16 }
     requires columns { length new.now ≤ 32 }
     requires texts { All IsShort new.now }
-    ensures { IfOk result (λ changes. map change_of changes ≡ update_changes code_of row_code number table.now old.now new.now) }
+    ensures { IfOk result (λ changes. map change_of changes ≡ (at, Some (row_code new.now)) ∷ entry_changes code_of row_code number 1 table.now table.now.indexes old.now new.now) }
 {
     let mut changes = List::new(alloc);
-    changes.push(alloc, put_row(alloc, number, table, new)?)?;
+    changes.push(alloc, put_row(alloc, at, new)?)?;
     move_entries(
         alloc,
         number,

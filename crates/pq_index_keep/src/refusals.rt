@@ -1,23 +1,23 @@
 //! Why a write is refused by the rows that are there.
-ghost use Rattle.std.specs.Prelude.{◌≡◌, ◌≤◌, ◌<◌, ◌+◌, List, All, length, is_some, IfOk, IfErr, IsSome};
+ghost use Rattle.std.specs.Prelude.{◌≡◌, ◌≤◌, ◌<◌, ◌+◌, List, All, length, IfOk, IfErr, IsSome};
 ghost use Rattle.std.specs.List.{sum_by};
 ghost use Rattle.pq_base.specs.Answers.{or_else};
 ghost use Rattle.pq_base.specs.Columns.{set_of};
+ghost use Rattle.pq_key_code.specs.KeyCode.{rowkey};
 ghost use Rattle.pq_schema.specs.Sequences.{group_access};
 ghost use Rattle.pq_schema.specs.Sound.{IsTable, AreColumns};
 ghost use Rattle.pq_schema.specs.Tables.{table_at};
 ghost use Rattle.pq_schema.specs.declared.table.Table.{Table as Definition};
 ghost use Rattle.pq_content.specs.Pairs.{Pair};
-ghost use Rattle.pq_content.specs.Tables.{Rows, AllOfKinds, key_types, values_at, types_of, key_of, row_at};
+ghost use Rattle.pq_content.specs.Tables.{Rows, AllOfKinds, key_types, values_at, types_of, key_of};
 ghost use Rattle.pq_base.specs.Values.{AllFit};
 ghost use Rattle.pq_index_keep.specs.Bounds.{tested_foreign, tested_limits, tested_n, tests};
 ghost use Rattle.pq_index_keep.specs.Effects.{no_parent, no_room, parent_refusal, room_refusal, insert_refusal};
 ghost use Rattle.pq_index_keep.specs.Promises.{world, Affords, Reads, Fails, Settled, IsTested};
 
-use crate::calls::has_row;
+use crate::calls::has_value;
 use crate::limits::first_full;
 use crate::parents::first_lacking;
-use crate::rows::key_of;
 use crate::write::Scope;
 use pq_base::{NoMem, Refusal, Row};
 use pq_schema::Table;
@@ -139,30 +139,10 @@ pub(crate) fn tested_refusal<S: Store<L>, L: Ledger>(
     )
 }
 
-/// Whether a row with the row's key is there.
-fn has_key<S: Store<L>, L: Ledger>(
-    alloc: Global,
-    number: u8,
-    table: &Table,
-    row: &Row,
-    store: &mut S,
-    allowance: &mut Allowance,
-    meter: &mut Meter<L>,
-) -> Result<bool, Broke>
-    requires share { Affords allowance.old 1 1 }
-    ensures reads { Reads (world (S.content store.old) (S.faults store.old) allowance.old meter.old) (world (S.content store.new) (S.faults store.new) allowance.new meter.new) 1 1 }
-    ensures cause { IfErr result (Fails (world (S.content store.old) (S.faults store.old) allowance.old meter.old) (world (S.content store.new) (S.faults store.new) allowance.new meter.new)) }
-    ensures answer { IfOk result (λ there. (tables : List Definition) (rows : Rows) (others : List Pair) → Settled (S.content store.old) tables rows others → table.now ≡ table_at tables number →
-        AllFit (types_of table.now) row.now → there ≡ is_some (row_at tables rows number (key_of table.now row.now))) }
-{
-    let key = key_of(alloc, table, row)?;
-    let there = has_row(alloc, number, &key, store, allowance, meter)?;
-    Ok(there)
-}
-
-/// Why an INSERT of the row is refused.
+/// Why an INSERT of the row at its key is refused.
 pub(crate) fn insert_refusal<S: Store<L>, L: Ledger>(
     alloc: Global,
+    at: &[u8],
     number: u8,
     table: &Table,
     row: &Row,
@@ -174,13 +154,14 @@ pub(crate) fn insert_refusal<S: Store<L>, L: Ledger>(
     requires columns { All (λ f. AreColumns f.cols) table.now.foreign }
     requires few { length table.now.foreign ≤ 4 }
     requires access { All (λ limit. IsSome (group_access table.now (set_of limit.cols))) table.now.limits }
+    requires at { at.now ≡ rowkey number (key_of table.now row.now) }
     requires share { Affords allowance.old (tests Scope.All table.now).ops (tests Scope.All table.now).entries }
     ensures reads { Reads (world (S.content store.old) (S.faults store.old) allowance.old meter.old) (world (S.content store.new) (S.faults store.new) allowance.new meter.new) (tests Scope.All table.now).ops (tests Scope.All table.now).entries }
     ensures cause { IfErr result (Fails (world (S.content store.old) (S.faults store.old) allowance.old meter.old) (world (S.content store.new) (S.faults store.new) allowance.new meter.new)) }
     ensures answer { IfOk result (λ refusal. (tables : List Definition) (rows : Rows) (others : List Pair) → Settled (S.content store.old) tables rows others → table.now ≡ table_at tables number →
         IsTested tables table.now row.now → refusal ≡ insert_refusal tables rows number row.now) }
 {
-    if has_key(alloc, number, table, row, store, allowance, meter)? {
+    if has_value(alloc, at, store, allowance, meter)? {
         let name = table.name.copy(alloc)?;
         return Ok(Some(Refusal::DuplicateKey { table: name }));
     }

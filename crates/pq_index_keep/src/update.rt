@@ -1,9 +1,10 @@
 //! What an UPDATE changes.
-ghost use Rattle.std.specs.Prelude.{◌≡◌, ◌≤◌, ◌<◌, ◌+◌, ◌*◌, List, All, Some, length, slice_set, nat_lt, IfOk, IfErr, IfSome, IsSome};
+ghost use Rattle.std.specs.Prelude.{◌≡◌, ◌≤◌, ◌<◌, ◌+◌, ◌*◌, List, All, Some, length, slice_set, nat_lt, IfOk, IfErr, IsSome};
 ghost use Rattle.std.specs.List.{count_by, sum_by};
 ghost use Rattle.pq_base.specs.Answers.{or_else};
 ghost use Rattle.pq_base.specs.Columns.{set_of};
 ghost use Rattle.pq_base.specs.Values.{AllFit};
+ghost use Rattle.pq_key_code.specs.KeyCode.{rowkey};
 ghost use Rattle.pq_row_code.specs.RowCode.{row_code, IsShort};
 ghost use Rattle.pq_schema.specs.Definitions.{refused_if};
 ghost use Rattle.pq_schema.specs.Sequences.{group_access};
@@ -18,6 +19,7 @@ ghost use Rattle.pq_index_keep.specs.Promises.{world, Affords, Reads, Fails, Exp
 ghost use Rattle.pq_index_keep.specs.Sound.{IsSound, IsUpdate};
 ghost use Rattle.pq_index_keep.specs.Tested.{touches_index, scope_of, with_sets};
 
+use crate::calls::StoredRow;
 use crate::changes::updates;
 use crate::plan::{Planned, no_row, read_row, table_of};
 use crate::refusals::tested_refusal;
@@ -121,25 +123,26 @@ fn plan_change<S: Store<L>, L: Ledger>(
     number: u8,
     key: &Row,
     sets: &List<SetCol>,
-    old: Row,
+    found: StoredRow,
     store: &mut S,
     allowance: &mut Allowance,
     meter: &mut Meter<L>,
 ) -> Result<Planned, Broke>
     requires sound { IsSound catalog.now.tables }
     requires update { IsUpdate catalog.now.tables number key.now sets.now }
-    requires fits { AllFit (types_of (table_at catalog.now.tables number)) old }
+    requires at { found.at ≡ rowkey number key.now }
+    requires fits { AllFit (types_of (table_at catalog.now.tables number)) found.row }
     requires share { Affords allowance.old (tested_foreign (scope_of sets.now) (table_at catalog.now.tables number).foreign + tested_limits (scope_of sets.now) (table_at catalog.now.tables number).limits) (tested_foreign (scope_of sets.now) (table_at catalog.now.tables number).foreign + sum_by (tested_n (scope_of sets.now)) (table_at catalog.now.tables number).limits) }
     ensures reads { Reads (world (S.content store.old) (S.faults store.old) allowance.old meter.old) (world (S.content store.new) (S.faults store.new) allowance.new meter.new) (tested_foreign (scope_of sets.now) (table_at catalog.now.tables number).foreign + tested_limits (scope_of sets.now) (table_at catalog.now.tables number).limits) (tested_foreign (scope_of sets.now) (table_at catalog.now.tables number).foreign + sum_by (tested_n (scope_of sets.now)) (table_at catalog.now.tables number).limits) }
     ensures cause { IfErr result (Fails (world (S.content store.old) (S.faults store.old) allowance.old meter.old) (world (S.content store.new) (S.faults store.new) allowance.new meter.new)) }
     ensures plan { IfOk result (IsPlan (1 + 2 * count_by (touches_index (scope_of sets.now) (table_at catalog.now.tables number)) (table_at catalog.now.tables number).indexes)) }
     ensures answer { IfOk result (λ planned. (rows : Rows) (others : List Pair) → Settled (S.content store.old) catalog.now.tables rows others →
-        Some old ≡ row_at catalog.now.tables rows number key.now → Plans catalog.now.tables rows others (Write.Update number key.now sets.now) planned) }
+        Some found.row ≡ row_at catalog.now.tables rows number key.now → Plans catalog.now.tables rows others (Write.Update number key.now sets.now) planned) }
 {
     let table = table_of(catalog, number);
     let scope = scope_of(sets);
-    let new = new_row(alloc, &old, sets)?;
-    let copy = old.copy(alloc)?;
+    let new = new_row(alloc, &found.row, sets)?;
+    let copy = found.row.copy(alloc)?;
     let before = Some(copy);
     let refusal = update_refusal(
         alloc, &scope, &before, number, table, &new, store, allowance, meter,
@@ -147,7 +150,7 @@ fn plan_change<S: Store<L>, L: Ledger>(
     match refusal {
         Some(refusal) => Ok(Planned::Refused(refusal)),
         None => {
-            let changes = updates(alloc, number, table, &old, &new)?;
+            let changes = updates(alloc, found.at, number, table, &found.row, &new)?;
             Ok(Planned::Changes(changes))
         }
     }
@@ -179,9 +182,9 @@ pub(crate) fn plan_update<S: Store<L>, L: Ledger>(
             Err(NoMem) => Err(Broke::NoMem),
             Ok(refused) => Ok(refused),
         },
-        Ok(Some(old)) => {
+        Ok(Some(found)) => {
             match plan_change(
-                alloc, catalog, number, key, sets, old, store, allowance, meter,
+                alloc, catalog, number, key, sets, found, store, allowance, meter,
             ) {
                 Err(error) => Err(error),
                 Ok(planned) => Ok(planned),

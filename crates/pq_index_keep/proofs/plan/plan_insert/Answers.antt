@@ -1,6 +1,7 @@
 use Rattle.std.proofs.Common.{◌∙◌, sym}
 use Rattle.pq_schema.specs.Tables.{table_at}
 use Rattle.pq_index_keep.specs.Promises.{IsTested}
+use Rattle.pq_index_keep.proofs.Changing.{own_puts}
 use Rattle.pq_index_keep.proofs.Coding.{fit_texts, fit_columns, insert_planned}
 use Rattle.pq_index_keep.proofs.Inserting.{writable_at, is_tested, insert_refused, insert_made}
 use Rattle.pq_index_keep.proofs.plan.plan_insert.Goals as goal
@@ -25,7 +26,7 @@ pub returns-in_ok-changes-in-None-clause-plan : goal.returns-in_ok-changes-in-No
 returns-in_ok-changes-in-None-clause-plan g c =
     let tables = c.args.catalog.now.tables in
     insert_planned tables (table_at tables c.args.number) (writable_at tables c.args.number c.requires.sound c.requires.insert.number) c.args.number c.args.row.now c.requires.insert.fits c.in_ok-changes-in-None.changes
-    (rw (← c.table_of-table.ensures.table) c.in_ok-changes-in-None.ensures)
+    (rw (← c.table_of-table.ensures.table) (own_puts c.args.number c.table_of-table.result.now c.args.row.now c.in_ok-at.at _ c.in_ok-at.ensures c.in_ok-changes-in-None.ensures))
 
 pub returns-in_ok-changes-in-None-clause-answer : goal.returns-in_ok-changes-in-None-clause-answer
 returns-in_ok-changes-in-None-clause-answer g c = λ rows others s.
@@ -33,4 +34,4 @@ returns-in_ok-changes-in-None-clause-answer g c = λ rows others s.
     let tested : IsTested tables c.table_of-table.result.now c.args.row.now = rw c.table_of-table.ensures.table (is_tested tables c.args.number c.args.row.now c.requires.sound c.requires.insert.number c.requires.insert.fits) in
     insert_made tables rows others c.args.number c.args.row.now _ c.in_ok-changes-in-None.changes s c.requires.insert
     (sym c.in-None.is ∙ c.in_ok-refusal.ensures.answer tables rows others s c.table_of-table.ensures.table tested)
-    (rw (← c.table_of-table.ensures.table) c.in_ok-changes-in-None.ensures)
+    (rw (← c.table_of-table.ensures.table) (own_puts c.args.number c.table_of-table.result.now c.args.row.now c.in_ok-at.at _ c.in_ok-at.ensures c.in_ok-changes-in-None.ensures))

@@ -1,7 +1,9 @@
 use Rattle.std.proofs.Common.{◌≡◌, ◌∙◌, ap, refl}
+use Rattle.std.specs.Prelude.{option_map}
 use Rattle.pq_schema.specs.Tables.{table_at}
 use Rattle.pq_content.specs.Tables.{types_of}
 use Rattle.pq_index_keep.specs.Promises.{world}
+use Rattle.pq_index_keep.specs.declared.calls.StoredRow.{StoredRow}
 use Rattle.pq_index_keep.proofs.Deleting.{told_row, undamaged, spoils_explains}
 use Rattle.pq_index_keep.proofs.plan.read_row.Goals as goal
 
@@ -22,4 +24,7 @@ returns-in-Err-clause-undamaged g c = λ rows others s.
 pub returns-clause-answer : goal.returns-clause-answer
 returns-clause-answer g c = λ rows others s.
     let types : c.items.result.now ≡ types_of (table_at c.args.catalog.now.tables c.args.number) = c.items.ensures ∙ c.in_ok-types.ensures ∙ ap types_of c.table_of-table.ensures.table in
-    told_row c.args.catalog.now.tables rows others _ c.args.number c.args.key.now s c.requires.sound c.requires.number c.requires.kinds c.in-Ok.found (rw (types, c.in_ok-at.ensures) at c.in-Ok.ensures.read)
+    told_row c.args.catalog.now.tables rows others _ c.args.number c.args.key.now s c.requires.sound c.requires.number c.requires.kinds (option_map (λ (stored : StoredRow). stored.row) c.in-Ok.found) (rw (types, c.in_ok-at.ensures) at c.in-Ok.ensures.read)
+
+pub returns-clause-at : goal.returns-clause-at
+returns-clause-at g c = rw c.in_ok-at.ensures at c.in-Ok.ensures.at

@@ -10,6 +10,7 @@ use Rattle.pq_content.specs.Tables.{Rows, key_of, row_at}
 use Rattle.pq_index_keep.specs.Effects.{parent_refusal, room_refusal, insert_refusal}
 use Rattle.pq_index_keep.specs.declared.write.Scope.TheVariants.{All}
 use Rattle.pq_index_keep.proofs.Steps.{settled_later}
+use Rattle.pq_index_keep.proofs.Tests.{told_own}
 use Rattle.pq_index_keep.proofs.refusals.insert_refusal.Goals as goal
 
 refused_first : (b : Bool) (why got : Refusal) (rest : Option Refusal) → true ≡ b → got ≡ why → Some got ≡ or_else (refused_if b why) rest
@@ -34,7 +35,7 @@ returns-then-branch-clause-answer g c = λ tables rows others s is tested.
     let row = c.args.row.now in
     as_insert tables rows c.args.number row table _ is
     (refused_first (is_some (row_at tables rows c.args.number (key_of table row))) (DuplicateKey table.name) _ (or_else (parent_refusal tables rows All table row) (room_refusal rows All None c.args.number table row))
-    (sym c.if-branch.true ∙ c.in_ok-has_key.ensures.answer tables rows others s is tested.fits) (ap DuplicateKey c.in_ok-name.ensures))
+    (sym c.if-branch.true ∙ told_own tables rows others _ c.args.number table row c.args.at.now _ s is tested.fits c.requires.at c.in_ok-has_value.ensures.answer) (ap DuplicateKey c.in_ok-name.ensures))
 
 pub returns-clause-answer : goal.returns-clause-answer
 returns-clause-answer g c = λ tables rows others s is tested.
@@ -42,5 +43,5 @@ returns-clause-answer g c = λ tables rows others s is tested.
     let row = c.args.row.now in
     as_insert tables rows c.args.number row table _ is
     (refused_later (is_some (row_at tables rows c.args.number (key_of table row))) (DuplicateKey table.name) _ (or_else (parent_refusal tables rows All table row) (room_refusal rows All None c.args.number table row))
-    (sym c.if-branch.false ∙ c.in_ok-has_key.ensures.answer tables rows others s is tested.fits)
-    (c.in_ok-rest.ensures.answer tables rows others (settled_later _ _ _ _ tables rows others c.has_key.ensures.reads s) is tested))
+    (sym c.if-branch.false ∙ told_own tables rows others _ c.args.number table row c.args.at.now _ s is tested.fits c.requires.at c.in_ok-has_value.ensures.answer)
+    (c.in_ok-rest.ensures.answer tables rows others (settled_later _ _ _ _ tables rows others c.has_value.ensures.reads s) is tested))

@@ -18,57 +18,58 @@ scope_of-scope-requires g c =
 pub new_row-requires : goal.new_row-requires
 new_row-requires g c =
     let tables = c.args.catalog.now.tables in
-    sets_inside (table_at tables c.args.number) c.args.sets.now c.args.old c.requires.update.each c.requires.fits
+    sets_inside (table_at tables c.args.number) c.args.sets.now c.args.found.row c.requires.update.each c.requires.fits
 
 pub update_refusal-requires-clause-long : goal.update_refusal-requires-clause-long
 update_refusal-requires-clause-long g c =
     let tables = c.args.catalog.now.tables in
     let table = table_at tables c.args.number in
-    rw c.in_ok-new.ensures (fit_columns tables table (writable_at tables c.args.number c.requires.sound c.requires.update.number) (with_sets c.args.sets.now c.args.old) (fit_sets table c.args.sets.now c.args.old c.requires.update.each c.requires.fits))
+    rw c.in_ok-new.ensures (fit_columns tables table (writable_at tables c.args.number c.requires.sound c.requires.update.number) (with_sets c.args.sets.now c.args.found.row) (fit_sets table c.args.sets.now c.args.found.row c.requires.update.each c.requires.fits))
 
 pub update_refusal-requires-clause-texts : goal.update_refusal-requires-clause-texts
 update_refusal-requires-clause-texts g c =
     let tables = c.args.catalog.now.tables in
     let table = table_at tables c.args.number in
-    rw c.in_ok-new.ensures (fit_texts tables table (writable_at tables c.args.number c.requires.sound c.requires.update.number) (with_sets c.args.sets.now c.args.old) (fit_sets table c.args.sets.now c.args.old c.requires.update.each c.requires.fits))
+    rw c.in_ok-new.ensures (fit_texts tables table (writable_at tables c.args.number c.requires.sound c.requires.update.number) (with_sets c.args.sets.now c.args.found.row) (fit_sets table c.args.sets.now c.args.found.row c.requires.update.each c.requires.fits))
 
 pub updates-requires-clause-columns : goal.updates-requires-clause-columns
 updates-requires-clause-columns g c =
     let tables = c.args.catalog.now.tables in
     let table = table_at tables c.args.number in
-    rw c.in_ok-new.ensures (fit_columns tables table (writable_at tables c.args.number c.requires.sound c.requires.update.number) (with_sets c.args.sets.now c.args.old) (fit_sets table c.args.sets.now c.args.old c.requires.update.each c.requires.fits))
+    rw c.in_ok-new.ensures (fit_columns tables table (writable_at tables c.args.number c.requires.sound c.requires.update.number) (with_sets c.args.sets.now c.args.found.row) (fit_sets table c.args.sets.now c.args.found.row c.requires.update.each c.requires.fits))
 
 pub updates-requires-clause-texts : goal.updates-requires-clause-texts
 updates-requires-clause-texts g c =
     let tables = c.args.catalog.now.tables in
     let table = table_at tables c.args.number in
-    rw c.in_ok-new.ensures (fit_texts tables table (writable_at tables c.args.number c.requires.sound c.requires.update.number) (with_sets c.args.sets.now c.args.old) (fit_sets table c.args.sets.now c.args.old c.requires.update.each c.requires.fits))
+    rw c.in_ok-new.ensures (fit_texts tables table (writable_at tables c.args.number c.requires.sound c.requires.update.number) (with_sets c.args.sets.now c.args.found.row) (fit_sets table c.args.sets.now c.args.found.row c.requires.update.each c.requires.fits))
 
 pub returns-in-Some-clause-answer : goal.returns-in-Some-clause-answer
 returns-in-Some-clause-answer g c = λ rows others s found.
     let tables = c.args.catalog.now.tables in
     let table = table_at tables c.args.number in
-    let fits = fit_sets table c.args.sets.now c.args.old c.requires.update.each c.requires.fits in
-    let tested : IsTested tables c.table_of-table.result.now c.in_ok-new.new = rw (c.table_of-table.ensures.table, c.in_ok-new.ensures) (is_tested tables c.args.number (with_sets c.args.sets.now c.args.old) c.requires.sound c.requires.update.number fits) in
-    update_refused tables rows others c.args.number c.args.key.now c.args.sets.now c.args.old c.in-Some.refusal found
-    (sym c.in-Some.is ∙ as_update tables rows c.args.number c.args.sets.now c.args.old _ (Some c.in_ok-copy.copy) c.table_of-table.result.now c.in_ok-new.new _ c.table_of-table.ensures.table c.in_ok-new.ensures c.scope_of-scope.ensures (ap (λ (v : List Value). Some v) c.in_ok-copy.ensures)
+    let fits = fit_sets table c.args.sets.now c.args.found.row c.requires.update.each c.requires.fits in
+    let tested : IsTested tables c.table_of-table.result.now c.in_ok-new.new = rw (c.table_of-table.ensures.table, c.in_ok-new.ensures) (is_tested tables c.args.number (with_sets c.args.sets.now c.args.found.row) c.requires.sound c.requires.update.number fits) in
+    update_refused tables rows others c.args.number c.args.key.now c.args.sets.now c.args.found.row c.in-Some.refusal found
+    (sym c.in-Some.is ∙ as_update tables rows c.args.number c.args.sets.now c.args.found.row _ (Some c.in_ok-copy.copy) c.table_of-table.result.now c.in_ok-new.new _ c.table_of-table.ensures.table c.in_ok-new.ensures c.scope_of-scope.ensures (ap (λ (v : List Value). Some v) c.in_ok-copy.ensures)
     (c.in_ok-refusal.ensures.answer tables rows others s c.table_of-table.ensures.table tested))
 
-pub returns-clause-plan : goal.returns-clause-plan
-returns-clause-plan g c =
+pub returns-in_ok-changes-in-None-clause-plan : goal.returns-in_ok-changes-in-None-clause-plan
+returns-in_ok-changes-in-None-clause-plan g c =
     let tables = c.args.catalog.now.tables in
     let table = table_at tables c.args.number in
-    let fits = fit_sets table c.args.sets.now c.args.old c.requires.update.each c.requires.fits in
-    update_planned tables table (writable_at tables c.args.number c.requires.sound c.requires.update.number) c.args.number c.args.old c.requires.fits (with_sets c.args.sets.now c.args.old) fits (scope_of c.args.sets.now) (kept_sequence table c.args.sets.now c.args.old) c.in_ok-changes-in-None.changes
+    let fits = fit_sets table c.args.sets.now c.args.found.row c.requires.update.each c.requires.fits in
+    update_planned tables table (writable_at tables c.args.number c.requires.sound c.requires.update.number) c.args.number c.args.found.row c.requires.fits (with_sets c.args.sets.now c.args.found.row) fits (scope_of c.args.sets.now) (kept_sequence table c.args.sets.now c.args.found.row) c.args.key.now c.args.found.at c.requires.update.fits c.requires.at c.in_ok-changes-in-None.changes
     (rw (← c.table_of-table.ensures.table, ← c.in_ok-new.ensures) c.in_ok-changes-in-None.ensures)
 
-pub returns-clause-answer : goal.returns-clause-answer
-returns-clause-answer g c = λ rows others s found.
+pub returns-in_ok-changes-in-None-clause-answer : goal.returns-in_ok-changes-in-None-clause-answer
+returns-in_ok-changes-in-None-clause-answer g c = λ rows others s found.
     let tables = c.args.catalog.now.tables in
     let table = table_at tables c.args.number in
-    let fits = fit_sets table c.args.sets.now c.args.old c.requires.update.each c.requires.fits in
-    let tested : IsTested tables c.table_of-table.result.now c.in_ok-new.new = rw (c.table_of-table.ensures.table, c.in_ok-new.ensures) (is_tested tables c.args.number (with_sets c.args.sets.now c.args.old) c.requires.sound c.requires.update.number fits) in
-    update_made tables rows others c.args.number c.args.key.now c.args.sets.now _ c.args.old c.in_ok-changes-in-None.changes s c.requires.update found
-    (sym c.in-None.is ∙ as_update tables rows c.args.number c.args.sets.now c.args.old _ (Some c.in_ok-copy.copy) c.table_of-table.result.now c.in_ok-new.new _ c.table_of-table.ensures.table c.in_ok-new.ensures c.scope_of-scope.ensures (ap (λ (v : List Value). Some v) c.in_ok-copy.ensures)
+    let fits = fit_sets table c.args.sets.now c.args.found.row c.requires.update.each c.requires.fits in
+    let tested : IsTested tables c.table_of-table.result.now c.in_ok-new.new = rw (c.table_of-table.ensures.table, c.in_ok-new.ensures) (is_tested tables c.args.number (with_sets c.args.sets.now c.args.found.row) c.requires.sound c.requires.update.number fits) in
+    update_made tables rows others c.args.number c.args.key.now c.args.sets.now _ c.args.found.row c.in_ok-changes-in-None.changes s c.requires.update found
+    (sym c.in-None.is ∙ as_update tables rows c.args.number c.args.sets.now c.args.found.row _ (Some c.in_ok-copy.copy) c.table_of-table.result.now c.in_ok-new.new _ c.table_of-table.ensures.table c.in_ok-new.ensures c.scope_of-scope.ensures (ap (λ (v : List Value). Some v) c.in_ok-copy.ensures)
     (c.in_ok-refusal.ensures.answer tables rows others s c.table_of-table.ensures.table tested))
+    c.args.found.at c.requires.at
     (rw (← c.table_of-table.ensures.table, ← c.in_ok-new.ensures) c.in_ok-changes-in-None.ensures)

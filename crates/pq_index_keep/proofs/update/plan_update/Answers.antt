@@ -1,12 +1,14 @@
 use Rattle.std.proofs.Common.{◌≡◌, ◌∙◌, ap, sym, subst}
 use Rattle.pq_base.specs.declared.refusal.Refusal.TheVariants.{NoRow}
 use Rattle.pq_schema.specs.declared.table.Table.{Table}
+use Rattle.pq_content.specs.Tables.{row_at}
 use Rattle.pq_content.proofs.Values.{kinds_from_fit}
 use Rattle.pq_index_keep.specs.Effects.{no_row}
 use Rattle.pq_index_keep.specs.Promises.{Plans}
 use Rattle.pq_index_keep.specs.declared.plan.Planned.{Planned}
 use Rattle.pq_index_keep.specs.declared.plan.Planned.TheVariants.{Refused}
 use Rattle.pq_index_keep.specs.declared.write.Write.TheVariants.{Update}
+use Rattle.pq_index_keep.proofs.Deleting.{none_read}
 use Rattle.pq_index_keep.proofs.Updating.{update_absent}
 use Rattle.pq_index_keep.proofs.update.plan_update.Goals as goal
 
@@ -18,4 +20,4 @@ returns-in-Ok-clause-answer g c = λ rows others s.
     let tables = c.args.catalog.now.tables in
     let refused : c.in-Ok.refused ≡ Refused (no_row tables c.args.number) = c.in-Ok.ensures ∙ ap (λ (table : Table). Refused (NoRow table.name)) c.table_of.ensures.table in
     subst (λ (p : Planned). Plans tables rows others (Update c.args.number c.args.key.now c.args.sets.now) p) (sym refused)
-    (update_absent tables rows others c.args.number c.args.key.now c.args.sets.now (sym c.in-Ok-None.field-0-is ∙ c.in-Ok-None.ensures.answer rows others s))
+    (update_absent tables rows others c.args.number c.args.key.now c.args.sets.now (none_read c.in-Ok-None.field-0 (row_at tables rows c.args.number c.args.key.now) c.in-Ok-None.field-0-is (c.in-Ok-None.ensures.answer rows others s)))
