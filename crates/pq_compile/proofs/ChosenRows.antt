@@ -1,5 +1,5 @@
 -- What known queries are compiled to, and why they are refused, by computation.
-use Rattle.std.proofs.Common.{◌≡◌, [], ◌∷◌, replicate, Some, None, Ok, Err, refl}
+use Rattle.std.proofs.Common.{◌≡◌, [], ◌∷◌, map, replicate, Some, None, Ok, Err, refl}
 use lib.Count.{ones}
 use Rattle.pq_base.specs.declared.value.Value.TheVariants as value
 use Rattle.pq_base.specs.declared.value.Dir.TheVariants.{Desc}
@@ -8,6 +8,8 @@ use Rattle.pq_base.specs.declared.refusal.Refusal.TheVariants as refusal
 use Rattle.pq_schema.specs.declared.table.Table.{Table}
 use Rattle.pq_schema.specs.declared.query.Op.TheVariants as op
 use Rattle.pq_schema.specs.declared.query.Operand.TheVariants as operand
+use Rattle.pq_schema.specs.declared.query.Query.{Query}
+use Rattle.pq_schema.specs.declared.query.Relation.{Relation}
 use Rattle.pq_schema.specs.declared.query.Stop.TheVariants as stop
 use Rattle.pq_schema.specs.Costs.{bound}
 use Rattle.pq_schema.specs.Sequences.{ascending}
@@ -39,10 +41,24 @@ kx_chosen : chosen (k ∷ []) kx ≡ Ok (record {
 unfolding ones
 kx_chosen = refl
 
--- no bound
-city_refused : chosen tables (in_city stop.All) ≡ Err (refusal.NoBound [])
+-- the same query, each relation of which has the number of its table as its alias
+abbrev pub named : Query → Query
+named query = record query { relations = map (λ (r : Relation). record r { alias = r.table ∷ [] }) query.relations }
+
+-- no bound: the alias is that of the first relation without one
+city_refused : chosen tables (named (in_city stop.All)) ≡ Err (refusal.NoBound (1 ∷ []))
 unfolding ones
 city_refused = refl
+
+-- another test than an equality doesn't bound the relation, and no stop is placed there
+not_city_refused : chosen tables (named (record (in_city (stop.Limit 10)) { preds = pred (col 1 1) op.Ne (operand.Const (value.Text [])) ∷ [] })) ≡ Err (refusal.NoBound (1 ∷ []))
+unfolding ones
+not_city_refused = refl
+
+-- the subscriptions of an owner are bounded, their thoughts are not
+home_refused : chosen tables (named (record home { stop = stop.All })) ≡ Err (refusal.NoBound (3 ∷ []))
+unfolding ones
+home_refused = refl
 
 -- a bound of just 50,000 entries, and one that is larger
 chain_accepted : chosen (g 200 ∷ g 249 ∷ []) chain_two ≡ Ok (record { best = record { choice = Whole; bound = bound 201 50000 }; wanted = None })

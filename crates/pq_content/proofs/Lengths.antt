@@ -1,12 +1,11 @@
--- How many changes a write has, and how long the keys of a short row are.
-use Rattle.std.proofs.Common.{◌≡◌, ℕ, zero, suc, ◌+◌, ◌*◌, ◌≤◌, Bool, true, false, cond, List, [], ◌∷◌, ◌++◌, length, replicate, Some, None, refl, sym, ap, subst, arith}
+-- How many changes a write has, and how long the key of a short row's entry is.
+use Rattle.std.proofs.Common.{◌≡◌, ℕ, zero, suc, ◌+◌, ◌*◌, ◌≤◌, Bool, true, false, cond, List, [], ◌∷◌, ◌++◌, length, Some, None, refl, sym, ap, subst, arith}
 use Rattle.std.specs.Prelude.{filter}
 use Rattle.std.specs.List.{AllByRecursion}
 use Rattle.std.proofs.lemmas.List.{length-append, length-map}
 use Rattle.std.proofs.Math.Nat.{suc-mul}
 use Rattle.std.specs.Int.{w16, to_be_bytes}
 use Rattle.pq_base.specs.declared.value.Dir.{Dir}
-use Rattle.pq_base.specs.declared.value.Dir.TheVariants.{Asc}
 use Rattle.pq_base.specs.declared.value.Value.{Value}
 use Rattle.pq_base.specs.declared.value.Value.TheVariants as value
 use Rattle.pq_key_code.specs.KeyCode.{escaped, payload, turned, component, code_of}
@@ -15,8 +14,8 @@ use Rattle.pq_schema.specs.declared.table.Index.{Index}
 use Rattle.pq_schema.specs.declared.table.KeyPart.{KeyPart}
 use Rattle.pq_schema.specs.declared.table.Table.{Table}
 use Rattle.pq_schema.specs.Sequences.{columns_of, index_sequence}
-use Rattle.pq_content.specs.Pairs.{Pair, Change, puts, removals, row_key, entry_pair, entries_from, pairs_of_row, entry_changes, update_changes}
-use Rattle.pq_content.specs.Tables.{value_of, values_at, values_of, dirs_of, key_of, same_values}
+use Rattle.pq_content.specs.Pairs.{Pair, Change, puts, removals, entry_pair, entries_from, pairs_of_row, entry_changes, update_changes}
+use Rattle.pq_content.specs.Tables.{value_of, values_at, values_of, dirs_of, same_values}
 use Rattle.pq_content.proofs.Values.{same_values_decides, values_of-columns_of}
 
 -- ---- the number of changes
@@ -119,14 +118,7 @@ length-code_of n (d ∷ ds) (x ∷ xs) h =
     let rest = length-code_of n ds xs h.1 in
     omega (arith, suc-mul (length xs) (2 * n + 9))
 
--- the keys of a row whose code has at most so many bytes
-pub length-row_key : (n t : ℕ) (table : Table) (row : List Value) → length (row_code row) ≤ n → length (row_key code_of row_code t (key_of table row)) ≤ 2 + length table.key * (2 * n + 9)
-length-row_key n t table row h =
-    let short = length-code_of n (replicate (length (key_of table row)) Asc) (key_of table row) (values_within n row table.key h) in
-    let same : length (key_of table row) ≡ length table.key = length-map table.key (value_of row) in
-    let most : length (code_of (replicate (length (key_of table row)) Asc) (key_of table row)) ≤ length table.key * (2 * n + 9) = subst (λ (k : ℕ). length (code_of (replicate (length (key_of table row)) Asc) (key_of table row)) ≤ k * (2 * n + 9)) same short in
-    omega arith
-
+-- the key of a row's entry, where the row's code has at most so many bytes
 pub length-entry_key : (n t i : ℕ) (sequence : List KeyPart) (row : List Value) → length (row_code row) ≤ n → length (entry_pair code_of row_code t i sequence row).0 ≤ 3 + length sequence * (2 * n + 9)
 length-entry_key n t i sequence row h =
     let xs = values_of sequence row in

@@ -88,16 +88,16 @@ module _ (tables : List Table) (rows : Rows) (others : List Pair) (told : Option
 pub none_read : (found : Option StoredRow) (row : Option (List Value)) → found ≡ None → option_map (λ stored. stored.row) found ≡ row → None ≡ row
 none_read found row none is = ap (option_map (λ (stored : StoredRow). stored.row)) (sym none) ∙ is
 
-pub spoils_explains : (tables : List Table) (t : ℕ) (key : List Value) (before after : World) (error : Broke) → AllOfKinds (key_types (table_at tables t)) key → Spoils (types_of (table_at tables t)) (rowkey t key) before after error → Explains tables before after error
-spoils_explains tables t key before after Failed kinds h = h
-spoils_explains tables t key before after NoMem kinds h = tt
-spoils_explains tables t key before after (Damaged d) kinds h = shown before.told h.there
+pub spoils_explains : (tables : List Table) (t : ℕ) (key : List Value) (before after : World) (error : Broke) → IsTableNumber tables t → AllOfKinds (key_types (table_at tables t)) key → Spoils (types_of (table_at tables t)) (rowkey t key) before after error → Explains tables before after error
+spoils_explains tables t key before after Failed number kinds h = h
+spoils_explains tables t key before after NoMem number kinds h = tt
+spoils_explains tables t key before after (Damaged d) number kinds h = shown before.told h.there
   where
     shown : (told : Option Content) → IfSome told (λ c. get c (rowkey t key) ≡ Some h.code) → IfSome told (Shows tables d)
     shown None there = tt
     shown (Some c) there = record {
       has = ap (get c) h.at ∙ there ∙ sym h.has;
-      spoiled = record { table = t; key = key; code = h.code; kinds = kinds; at = h.at; has = h.has; no_row = h.no_row };
+      spoiled = record { table = t; key = key; code = h.code; number = number; kinds = kinds; at = h.at; has = h.has; no_row = h.no_row };
     }
 
 pub fails_explains : (tables : List Table) (before after : World) (error : Broke) → Fails before after error → Explains tables before after error

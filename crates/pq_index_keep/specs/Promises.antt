@@ -12,7 +12,7 @@ use Rattle.pq_schema.specs.declared.table.Table.{Table}
 use Rattle.pq_schema.specs.Tables.{table_at}
 use Rattle.pq_content.specs.Pairs.{Pair, AreCatalog, pairs, changed}
 use Rattle.pq_content.specs.Standing.{change_of, AreOfRows}
-use Rattle.pq_content.specs.Tables.{Rows, AllOfKinds, types_of, key_types, values_at, Keeps}
+use Rattle.pq_content.specs.Tables.{Rows, AllOfKinds, IsTableNumber, types_of, key_types, values_at, Keeps}
 use Rattle.pq_store.specs.Content.{Content, HasRisen}
 use Rattle.pq_store.specs.Counts.{Counts, Allowed}
 use Rattle.pq_store.specs.declared.damage.Broke.{Broke}
@@ -55,6 +55,7 @@ pub record IsSpoiled (tables : List Table) (damage : Damage) : Type 0 where
   pub table : ℕ
   pub key : List Value
   pub code : List ℕ
+  pub number : IsTableNumber tables table
   pub kinds : AllOfKinds (key_types (table_at tables table)) key
   pub at : damage.key ≡ rowkey table key
   pub has : damage.value ≡ Some code

@@ -185,10 +185,10 @@ fn write_tests(catalog: &Catalog, write: &Write) -> Bound
 
 /// What the write may use at most: its tests, and then the changes of its pairs.
 pub fn write_bound(catalog: &Catalog, write: &Write) -> Bound
-    requires sound { IsSound catalog.now.tables }
     requires write { IsWrite catalog.now.tables write.now }
     ensures { result ≡ write_bound catalog.now.tables write.now }
 {
+    catalog.known();
     let tests = write_tests(catalog, write);
     Bound {
         ops: tests.ops + commit_ops(most_changes(catalog, write)),

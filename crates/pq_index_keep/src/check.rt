@@ -557,11 +557,11 @@ pub fn check_write(
     catalog: &Catalog,
     statement: &Statement,
 ) -> Result<Write, Stopped>
-    requires sound { IsSound catalog.now.tables }
     requires writing { IsWriting statement.now }
     ensures answer { Answers result (checked catalog.now statement.now) }
     ensures write { IfOk result (IsWrite catalog.now.tables) }
 {
+    catalog.known();
     match statement {
         Statement::Insert {
             table,

@@ -24,7 +24,6 @@ pub fn plan_write<S: Store<L>, L: Ledger>(
     allowance: &mut Allowance,
     meter: &mut Meter<L>,
 ) -> Result<Planned, Broke>
-    requires sound { IsSound catalog.now.tables }
     requires write { IsWrite catalog.now.tables write.now }
     requires share { Affords allowance.old (write_bound catalog.now.tables write.now).ops (write_bound catalog.now.tables write.now).entries }
     ensures reads { Reads (world (S.content store.old) (S.faults store.old) allowance.old meter.old) (world (S.content store.new) (S.faults store.new) allowance.new meter.new) (write_tests catalog.now.tables write.now).ops (write_tests catalog.now.tables write.now).entries }
@@ -34,6 +33,7 @@ pub fn plan_write<S: Store<L>, L: Ledger>(
     ensures plan { IfOk result (IsPlan (most_changes catalog.now.tables write.now)) }
     ensures answer { IfOk result (λ planned. (rows : Rows) (others : List Pair) → Settled (S.content store.old) catalog.now.tables rows others → Plans catalog.now.tables rows others write.now planned) }
 {
+    catalog.known();
     match write {
         Write::Insert { table, row } => {
             match plan_insert(alloc, catalog, *table, row, store, allowance, meter) {

@@ -12,7 +12,7 @@ returns-in-Err-clause-cause g c =
     let types : c.items.result.now ≡ types_of (table_at c.args.catalog.now.tables c.args.number) = c.items.ensures ∙ c.in_ok-types.ensures ∙ ap types_of c.table_of-table.ensures.table in
     let before = world (g.S.Store.content c.args.store.now) (g.S.Store.faults c.args.store.now) c.args.allowance.now c.args.meter.now in
     let after = world (g.S.Store.content c.read_at.new.store) (g.S.Store.faults c.read_at.new.store) c.read_at.new.allowance c.read_at.new.meter in
-    spoils_explains c.args.catalog.now.tables c.args.number c.args.key.now before after c.in-Err.error c.requires.kinds (rw (types, c.in_ok-at.ensures) at c.in-Err.ensures.cause)
+    spoils_explains c.args.catalog.now.tables c.args.number c.args.key.now before after c.in-Err.error c.requires.number c.requires.kinds (rw (types, c.in_ok-at.ensures) at c.in-Err.ensures.cause)
 
 pub returns-in-Err-clause-undamaged : goal.returns-in-Err-clause-undamaged
 returns-in-Err-clause-undamaged g c = λ rows others s.

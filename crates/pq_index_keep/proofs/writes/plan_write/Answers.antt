@@ -1,5 +1,6 @@
 use Rattle.pq_index_keep.specs.Bounds.{write_tests}
 use Rattle.pq_index_keep.specs.Promises.{world, Reads}
+use Rattle.pq_index_keep.proofs.FromMade.{valid_writable}
 use Rattle.pq_index_keep.proofs.Leaving.{tests_leave}
 use Rattle.pq_index_keep.proofs.writes.plan_write.Goals as goal
 
@@ -27,3 +28,12 @@ returns-in-Ok-plan_update-clause-left g c =
 
 pub returns-in-Ok-plan_update-clause-plan : goal.returns-in-Ok-plan_update-clause-plan
 returns-in-Ok-plan_update-clause-plan g c = rw c.in-Update.is c.in-Ok-plan_update.ensures.plan
+
+pub plan_insert-requires-clause-sound : goal.plan_insert-requires-clause-sound
+plan_insert-requires-clause-sound g c = valid_writable c.known.ensures
+
+pub plan_update-requires-clause-sound : goal.plan_update-requires-clause-sound
+plan_update-requires-clause-sound g c = valid_writable c.known.ensures
+
+pub plan_delete-requires-clause-sound : goal.plan_delete-requires-clause-sound
+plan_delete-requires-clause-sound g c = valid_writable c.known.ensures

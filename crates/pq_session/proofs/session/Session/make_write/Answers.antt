@@ -2,9 +2,6 @@ use Rattle.std.proofs.lemmas.Result.{err_from_is_err_and}
 use Rattle.pq_session.proofs.Writing.{writable_tables, bound_few, refused_done, changed_done, planning_broke, commit_broke}
 use Rattle.pq_session.proofs.session.Session.make_write.Goals as goal
 
-pub write_bound-bound-requires-clause-sound : goal.write_bound-bound-requires-clause-sound
-write_bound-bound-requires-clause-sound g c = writable_tables c.self.inside.catalog c.self.invariant
-
 pub grant-allowance-requires-clause-ops : goal.grant-allowance-requires-clause-ops
 grant-allowance-requires-clause-ops g c =
     rw c.write_bound-bound.ensures ((bound_few c.self.inside.catalog c.args.write.now c.self.invariant (rw c.self.view_is c.requires)).ops)
@@ -12,9 +9,6 @@ grant-allowance-requires-clause-ops g c =
 pub grant-allowance-requires-clause-entries : goal.grant-allowance-requires-clause-entries
 grant-allowance-requires-clause-entries g c =
     rw c.write_bound-bound.ensures ((bound_few c.self.inside.catalog c.args.write.now c.self.invariant (rw c.self.view_is c.requires)).entries)
-
-pub plan_write-requires-clause-sound : goal.plan_write-requires-clause-sound
-plan_write-requires-clause-sound g c = writable_tables c.self.inside.catalog c.self.invariant
 
 pub returns-in_err-why-clause-step : goal.returns-in_err-why-clause-step
 returns-in_err-why-clause-step g c =

@@ -1,11 +1,8 @@
 use Rattle.pq_index_keep.specs.Checking.{checked}
 use Rattle.pq_session.proofs.Promises.{broken_same, promises_as, unread_done}
-use Rattle.pq_session.proofs.Writing.{writable_tables, written_ok, written_err, refusal_told}
+use Rattle.pq_session.proofs.Writing.{written_ok, written_err, refusal_told}
 use Rattle.pq_session.specs.Step.{effected, written}
 use Rattle.pq_session.proofs.session.Session.write.Goals as goal
-
-pub check_write-requires-clause-sound : goal.check_write-requires-clause-sound
-check_write-requires-clause-sound g c = writable_tables c.self.inside.catalog c.self.invariant
 
 pub returns-in-Err-NoMem-clause-step : goal.returns-in-Err-NoMem-clause-step
 returns-in-Err-NoMem-clause-step g c = broken_same _ _ c.args.self _ _ tt
