@@ -1,5 +1,5 @@
 use Rattle.std.proofs.lemmas.Result.{err_from_is_err_and}
-use Rattle.pq_session.proofs.Writing.{writable_tables, bound_few, refused_done, changed_done, planning_broke, commit_broke}
+use Rattle.pq_session.proofs.Writing.{bound_few, refused_done, changed_done, planning_broke, commit_broke}
 use Rattle.pq_session.proofs.session.Session.make_write.Goals as goal
 
 pub grant-allowance-requires-clause-ops : goal.grant-allowance-requires-clause-ops
