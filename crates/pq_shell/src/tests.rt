@@ -1,4 +1,10 @@
 //! Whole runs: what they write, but for the used numbers, and how they end.
+mod definitions;
+mod refusals;
+mod refused_writes;
+mod stated;
+mod writes;
+
 ghost use Rattle.std.specs.Prelude.{◌≡◌};
 
 use crate::outside::{Failed, Sink, Source};
