@@ -1,6 +1,6 @@
 -- What a definition makes of what a content stands for.
-use Rattle.std.proofs.Common.{lit≤, ◌≡◌, ℕ, ◌+◌, ◌-◌, get_or, ◌<◌, true, List, [], ◌∷◌, ◌++◌, length, Option, Some, None, Result, Ok, Err, refl, sym, ap, ◌∙◌, subst, arith, inl, inr}
-use Rattle.std.specs.Prelude.{IfSome, IfOk, IfErr, OnOk, OnErr}
+use Rattle.std.proofs.Common.{lit≤, ◌≡◌, ℕ, ◌+◌, ◌-◌, get_or, ◌<◌, Bool, true, false, true≢false, List, [], ◌∷◌, ◌++◌, length, Option, Some, None, Result, Ok, Err, refl, sym, ap, ◌∙◌, subst, arith, inl, inr}
+use Rattle.std.specs.Prelude.{is_none, IfSome, IfOk, IfErr, OnOk, OnErr}
 use Rattle.std.proofs.Math.Seq.{get_or-append_seam}
 use Rattle.std.specs.FinMap.{get, insert}
 use Rattle.std.proofs.lemmas.List.{length-append}
@@ -25,6 +25,9 @@ use Rattle.pq_print.specs.declared.report.End.TheVariants.{Done}
 use Rattle.pq_store.specs.Content.{Content}
 use Rattle.pq_store.specs.Counts.{Counts, charged}
 use Rattle.pq_store.specs.declared.damage.Broke.{Broke}
+use Rattle.pq_store.specs.declared.damage.Broke.TheVariants as broke
+use Rattle.pq_session.specs.Evidence.{IsShown, IsPresent, ShowsPresent}
+use Rattle.pq_store.specs.declared.damage.Damage.{Damage}
 use Rattle.pq_schema.specs.Names.{IsTableDef}
 use Rattle.pq_session.specs.Built.{IsBuilt, IsKeyDefinition}
 use Rattle.pq_session.specs.Built.IsBuilt.{then_table, then_query}
@@ -56,7 +59,7 @@ pub record Leads (m : Model) (next : Schema) : Type 0 where
   pub absent : get (content_of m) (last_key next) ≡ None
   pub put : insert (content_of m) (last_key next) (last_value next) ≡ content_of (record m { schema = next })
 
-one_more : (definitions : List Definition) (last : Definition) → length definitions + 1 ≡ length (definitions ++ last ∷ [])
+pub one_more : (definitions : List Definition) (last : Definition) → length definitions + 1 ≡ length (definitions ++ last ∷ [])
 one_more definitions last = omega (arith, length-append definitions (last ∷ []))
 
 pub leads_table : {old : Option Content} (m : Model) (def : TableDef) (table : Table) → Settled old m → IsTableDef def → new_table m.schema def ≡ Ok table → Leads m (with_table m.schema table)
@@ -80,6 +83,22 @@ leads_query m query s key =
       absent = subst (λ n. get (content_of m) (catkey n) ≡ None) more (next_absent m few);
       put = subst (λ n. insert (content_of m) (catkey n) (catalog_value (definition_text (with_query m.schema query None) n)) ≡ content_of (record m { schema = with_query m.schema query None })) more (put_query m query few);
     }
+
+-- a key that is no longer absent has a value
+pub present_of : (old : Option Content) (key : List ℕ) (damage : Damage) (done : Bool) → done ≡ false → damage.key ≡ key → damage.value ≡ None → IfSome old (λ pairs. done ≡ is_none (get pairs key)) → IfSome old (λ pairs. ShowsPresent key pairs (broke.Damaged damage))
+present_of None key damage done not_done at has told = tt
+present_of (Some content) key damage done not_done at has told = by (get content key) refl
+  where
+    by : (o : Option (List ℕ)) → get content key ≡ o → IsPresent key content damage
+    by None none = absurd (true≢false (sym (sym not_done ∙ told ∙ ap is_none none)))
+    by (Some value) there = record { value = value; at = at; has = has; there = there }
+
+-- the next definition's key shows the damage
+present_shown : (old : Option Content) (schema : Schema) (broke : Broke) → IfSome old (λ pairs. ShowsPresent (catkey (length schema.definitions + 1)) pairs broke) → IfSome old (λ content. IsShown schema content broke)
+present_shown None schema broke shows = tt
+present_shown (Some content) schema broke.Failed shows = tt
+present_shown (Some content) schema broke.NoMem shows = tt
+present_shown (Some content) schema (broke.Damaged damage) shows = inr (inr shows)
 
 module _ (number : ℕ) (lines : List Line) (f : Model → Step) (old now : Option Content) (schema next : Schema)
     (leads : (m : Model) → Stands old schema m → Leads m next × (f m ≡ defined m number next lines)) (one : bound 1 0 ≡ bound_over f schema) where
@@ -105,14 +124,16 @@ module _ (number : ℕ) (lines : List Line) (f : Model → Step) (old now : Opti
 
   -- the key is absent, so that no damage is found
   pub define_broken : (before after : Counts) (broke : Broke) → MayPut (last_key next) (last_value next) old now
-      → IfSome old (λ pairs. get pairs (last_key next) ≡ None → IsSound broke) → IsWithin (bound 1 0) before after → Broken f old now schema before after broke
-  define_broken before after broke may sound within = record {
+      → IfSome old (λ pairs. get pairs (last_key next) ≡ None → IsSound broke) → IsWithin (bound 1 0) before after
+      → length schema.definitions + 1 ≡ length next.definitions → IfSome old (λ pairs. ShowsPresent (last_key next) pairs broke) → Broken f old now schema before after broke
+  define_broken before after broke may sound within more shows = record {
     stopped = λ m s. elim (subst (λ o. MayPut (last_key next) (last_value next) o now) s.settled.told may) [
       | inl same ↦ inl (settled_opens (record { valid = s.settled.valid; keeps = s.settled.keeps; told = same }))
       | inr put ↦ inr (settled_opens (subst (λ (x : Step). Settled now x.model) (sym (leads m s).1) (added m s put.1)))
     ];
     sound = λ m s. subst (λ o. IfSome o (λ pairs. get pairs (last_key next) ≡ None → IsSound broke)) s.settled.told sound (leads m s).0.absent;
     within = subst (λ (b : Bound). IsWithin b before after) one within;
+    shown = present_shown old schema broke (subst (λ n. IfSome old (λ pairs. ShowsPresent (catkey n) pairs broke)) (sym more) shows);
   }
 
 -- ---- tables
@@ -144,12 +165,13 @@ IsWritten old now next number lines before after result =
     × IfErr result (λ broke. IfSome old (λ pairs. get pairs (last_key next) ≡ None → IsSound broke))
     × OnOk result (after ≡ charged before 0)
     × IsWithin (bound 1 0) before after
+    × IfErr result (λ broke. IfSome old (λ pairs. ShowsPresent (last_key next) pairs broke))
 
 written_as : (f : Model → Step) (old now : Option Content) (schema next : Schema) (number : ℕ) (lines : List Line) (before after : Counts) (result : Result (Schema × Report) Broke)
-    → ((m : Model) → Stands old schema m → Leads m next × (f m ≡ defined m number next lines)) → bound 1 0 ≡ bound_over f schema → IsWritten old now next number lines before after result → Promises f old now schema before after result
-written_as f old now schema next number lines before after (Ok made) leads one h =
+    → ((m : Model) → Stands old schema m → Leads m next × (f m ≡ defined m number next lines)) → bound 1 0 ≡ bound_over f schema → length schema.definitions + 1 ≡ length next.definitions → IsWritten old now next number lines before after result → Promises f old now schema before after result
+written_as f old now schema next number lines before after (Ok made) leads one more h =
     rw (h.0.0, h.0.1, h.4) (define_done number lines f old now schema next leads one before h.1)
-written_as f old now schema next number lines before after (Err broke) leads one h = define_broken number lines f old now schema next leads one before after broke h.2 h.3 h.5
+written_as f old now schema next number lines before after (Err broke) leads one more h = define_broken number lines f old now schema next leads one before after broke h.2 h.3 h.5 more h.6
 
 pub table_written : (old now : Option Content) (schema session : Schema) (number : ℕ) (def : TableDef) → IsTableDef def → (t : ℕ) (before after : Counts) (result : Result (Schema × Report) Broke)
     → Extends schema def session (Ok t)
@@ -159,15 +181,16 @@ pub table_written : (old now : Option Content) (schema session : Schema) (number
     → IfErr result (λ broke. IfSome old (λ pairs. get pairs (last_key session) ≡ None → IsSound broke))
     → OnOk result (after ≡ charged before 0)
     → IsWithin (bound 1 0) before after
+    → IfErr result (λ broke. IfSome old (λ pairs. ShowsPresent (last_key session) pairs broke))
     → Promises (λ m. created m number def) old now schema before after result
-table_written old now schema session number def is_def t before after result e done put stopped damage meter within =
+table_written old now schema session number def is_def t before after result e done put stopped damage meter within shows =
     let table = e.0 in
     let next = with_table schema table in
-    let all : IsWritten old now session number (table_lines (table_at session.tables t)) before after result = (done, put, stopped, damage, meter, within) in
+    let all : IsWritten old now session number (table_lines (table_at session.tables t)) before after result = (done, put, stopped, damage, meter, within, shows) in
     let there = subst (λ (s : Schema). IsWritten old now s number (table_lines (table_at s.tables t)) before after result) e.2 all in
     let lined = subst (λ (x : Table). IsWritten old now next number (table_lines x) before after result) (last_table schema.tables table t e.3) there in
     written_as (λ m. created m number def) old now schema next number (table_lines table) before after result (leads_created old schema number def table is_def e.1)
-    (ap (λ (x : Step). x.report.bound) (sym (created_by (record { schema = schema; rows = [] }) number schema def refl (Ok table) e.1))) lined
+    (ap (λ (x : Step). x.report.bound) (sym (created_by (record { schema = schema; rows = [] }) number schema def refl (Ok table) e.1))) (one_more schema.definitions (OfTable (length schema.tables + 1) (length table.indexes))) lined
 
 -- ---- queries
 

@@ -1,6 +1,6 @@
 -- Promises of one step as those of another, and of steps that change nothing.
-use Rattle.std.proofs.Common.{◌≡◌, ℕ, ◌⊎◌, List, [], Option, Result, Ok, Err, refl, sym, ap, ◌∙◌, subst, arith, inl, lit≤}
-use Rattle.std.specs.Prelude.{IfOk}
+use Rattle.std.proofs.Common.{◌≡◌, ℕ, ◌⊎◌, List, [], Option, Some, None, Result, Ok, Err, refl, sym, ap, ◌∙◌, subst, arith, inl, lit≤}
+use Rattle.std.specs.Prelude.{IfOk, IfErr, IfSome}
 use Rattle.pq_base.specs.declared.number.Bound.{Bound}
 use Rattle.pq_base.specs.declared.refusal.Refusal.{Refusal}
 use Rattle.pq_base.specs.declared.refusal.Refusal.TheVariants.{NotBuilt}
@@ -10,6 +10,8 @@ use Rattle.pq_print.specs.declared.report.Report.{Report}
 use Rattle.pq_store.specs.Counts.{Counts}
 use Rattle.pq_store.specs.Content.{Content}
 use Rattle.pq_store.specs.declared.damage.Broke.{Broke}
+use Rattle.pq_store.specs.declared.damage.Broke.TheVariants as broke
+use Rattle.pq_session.specs.Evidence.{IsShown}
 use Rattle.pq_session.specs.Model.{Model}
 use Rattle.pq_session.specs.Stands.{Settled, Stands, Opens}
 use Rattle.pq_session.specs.Step.{Step, step, refused_unread, not_built, refusal_report, report_of, showed, performed, bound}
@@ -41,6 +43,7 @@ promises_as f g old now schema before after (Err broke) same p = record {
   stopped = λ m s. subst (λ (x : Step). Opens now m ⊎ Opens now x.model) (same m (sym s.known)) (p.stopped m s);
   sound = p.sound;
   within = subst (λ (x : Step). IsWithin x.report.bound before after) (same (record { schema = schema; rows = [] }) refl) p.within;
+  shown = p.shown;
 }
 
 -- a statement that is refused before any call of the store changes nothing and uses nothing
@@ -62,12 +65,20 @@ pub not_built_done : (f : Model → Step) (number : ℕ) (old : Option Content) 
     → ((m : Model) → m.schema ≡ schema → f m ≡ not_built m number) → Done f old old schema schema counts counts (refusal_report number NotBuilt (bound 0 0))
 not_built_done f number old schema counts same = unread_done f number NotBuilt old schema counts same
 
+-- where no damage is told, nothing has to show it
+pub sound_shown : (old : Option Content) (schema : Schema) (broke : Broke) → IsSound broke → IfSome old (λ content. IsShown schema content broke)
+sound_shown None schema broke sound = tt
+sound_shown (Some content) schema broke.Failed sound = tt
+sound_shown (Some content) schema broke.NoMem sound = tt
+sound_shown (Some content) schema (broke.Damaged damage) sound = absurd sound
+
 -- nothing changed, no call was made and no damage found
 pub broken_same : (f : Model → Step) (old : Option Content) (schema : Schema) (counts : Counts) (broke : Broke) → IsSound broke → Broken f old old schema counts counts broke
 broken_same f old schema counts broke sound = record {
   stopped = λ m s. inl (settled_opens s.settled);
   sound = λ m s. sound;
   within = record { ops = omega arith; entries = omega arith };
+  shown = sound_shown old schema broke sound;
 }
 
 pub done_as : (f g : Model → Step) (old now : Option Content) (schema next : Schema) (before after : Counts) (report : Report)
@@ -76,11 +87,12 @@ done_as f g old now schema next before after report same p = promises_as f g old
 
 -- the same where the content is told to be as it was
 pub broken_kept : (f : Model → Step) (old now : Option Content) (schema : Schema) (before after : Counts) (broke : Broke) → now ≡ old → ((m : Model) → Stands old schema m → IsSound broke) → IsWithin (bound_over f schema) before after
-    → Broken f old now schema before after broke
-broken_kept f old now schema before after broke same sound within = record {
+    → IfSome old (λ content. IsShown schema content broke) → Broken f old now schema before after broke
+broken_kept f old now schema before after broke same sound within shown = record {
   stopped = λ m s. inl (settled_opens (subst (λ o. Settled o m) (sym same) s.settled));
   sound = sound;
   within = within;
+  shown = shown;
 }
 
 -- SHOW tells the definitions and uses nothing
@@ -116,3 +128,8 @@ promised_within number piece old now schema before after (Ok made) p =
     record { ops = omega (arith, p.ops, p.few_ops, ap (λ (b : Bound). b.ops) is); entries = omega (arith, p.entries, p.few_entries, ap (λ (b : Bound). b.entries) is) }
 promised_within number piece old now schema before after (Err broke) p =
     subst (λ (b : Bound). IsWithin b before after) (steps_alike (record { schema = schema; rows = [] }) number 0 piece) p.within
+
+pub promised_shown : (step : Model → Step) (old now : Option Content) (schema : Schema) (before after : Counts) (result : Result (Schema × Report) Broke)
+    → Promises step old now schema before after result → IfErr result (λ broke. IfSome old (λ content. IsShown schema content broke))
+promised_shown step old now schema before after (Ok made) p = tt
+promised_shown step old now schema before after (Err broke) p = p.shown

@@ -1,5 +1,5 @@
 -- What reading the row at a key tells of the answer of a query by its key.
-use Rattle.std.proofs.Common.{lit≤, zero-le, cond, ◌==◌, ◌≡◌, ℕ, suc, ◌+◌, ◌-◌, ◌<◌, ◌≤◌, Bool, true, false, List, [], ◌∷◌, length, map, get_or, Option, Some, None, refl, sym, ap, ◌∙◌, subst, arith}
+use Rattle.std.proofs.Common.{inl, lit≤, zero-le, cond, ◌==◌, ◌≡◌, ℕ, suc, ◌+◌, ◌-◌, ◌<◌, ◌≤◌, Bool, true, false, List, [], ◌∷◌, length, map, get_or, Option, Some, None, refl, sym, ap, ◌∙◌, subst, arith}
 use Rattle.std.specs.Prelude.{option_map, option_to_list, position, All, IfSome, slice_index_or}
 use Rattle.std.specs.List.{AllByRecursion}
 use Rattle.std.specs.FinMap.{get}
@@ -44,6 +44,7 @@ use Rattle.pq_intent.specs.Errors.{IsSound}
 use Rattle.pq_base.specs.declared.number.Bound.{Bound}
 use Rattle.pq_session.specs.Promise.{Done}
 use Rattle.pq_session.specs.Reports.{row_report}
+use Rattle.pq_session.specs.Evidence.{IsShown, ShowsNoRow}
 use Rattle.pq_session.specs.Promise.{IsWithin, bound_over}
 use Rattle.pq_session.specs.Step.{Step, by_key, ran, ran_by, ran_query, not_built}
 use Rattle.pq_session.specs.Reads.{IsRead, IsNoRow, IsQueryNumber, read_counts}
@@ -257,6 +258,29 @@ module _ (n : ℕ) (params : List Value) (t : ℕ) (types : List ColType) (key :
       let typed = subst (λ ts. IsNoRow ts (get (content_of m) key) broke) (types_found m.schema here) told in
       let keyed = subst (λ (q : List ℕ). IsNoRow (types_of (table_at m.schema.tables k.table)) (get (content_of m) q) broke) (key_found m.schema here) typed in
       sound_read m (query_at m.schema n) k params here.fits s.settled.valid s.settled.keeps (content_of m) broke refl keyed
+
+  pub looked_shown : (schema : Schema) (old : Option Content) (error : Broke) → Looked schema → IfSome old (λ pairs. ShowsNoRow types key pairs error) → IfSome old (λ content. IsShown schema content error)
+  looked_shown schema None error l shows = tt
+  looked_shown schema (Some content) Failed l shows = tt
+  looked_shown schema (Some content) NoMem l shows = tt
+  looked_shown schema (Some content) (Damaged damage) l shows =
+      let k = key_of_query schema l in
+      let kinds : AllOfKinds (key_types (table_at schema.tables t)) params =
+      subst (λ x. AllOfKinds (key_types (table_at schema.tables x)) params) (sym (table_found schema l))
+      (kinds_of (key_types (table_at schema.tables k.table)) params (subst (λ (ts : List ColType). AllFit ts params) k.params l.fits)) in
+      inl (record {
+        has = ap (get content) shows.at ∙ shows.there ∙ sym shows.has;
+        spoiled = record {
+          table = t;
+          key = params;
+          code = shows.code;
+          number = table_number schema n t l.valid l.number l.table_is;
+          kinds = kinds;
+          at = shows.at ∙ l.key_is;
+          has = shows.has;
+          no_row = λ row fits. shows.no_row row (subst (λ ts. AllFit ts row) (sym l.types_is) fits);
+        };
+      })
 
   pub looked_first : (schema : Schema) → Looked schema → All (λ (col : ColRef). col.rel ≡ 1) (query_at schema n).select
   looked_first schema l = selects_first schema.tables (query_at schema n) (key_of_query schema l)

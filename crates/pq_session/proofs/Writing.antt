@@ -1,6 +1,6 @@
 -- What a write makes of what a content stands for.
-use Rattle.std.proofs.Common.{◌≡◌, ℕ, List, [], map, Option, Some, Result, Ok, Err, refl, sym, ap, ◌∙◌, subst, arith, inl, inr, ◌⊎◌}
-use Rattle.std.specs.Prelude.{MatchResult}
+use Rattle.std.proofs.Common.{◌≡◌, ℕ, List, [], map, Option, Some, None, Result, Ok, Err, refl, sym, ap, ◌∙◌, subst, arith, inl, inr, ◌⊎◌}
+use Rattle.std.specs.Prelude.{MatchResult, IfSome}
 use Rattle.pq_base.specs.declared.number.Bound.{Bound}
 use Rattle.pq_base.specs.declared.refusal.Refusal.{Refusal}
 use Rattle.pq_base.specs.declared.refusal.Stopped.{Stopped}
@@ -19,7 +19,8 @@ use Rattle.pq_store.specs.Content.{Content}
 use Rattle.pq_store.specs.Counts.{Counts, Allowed, granted, used_of}
 use Rattle.pq_store.specs.declared.damage.Broke.{Broke}
 use Rattle.pq_store.specs.declared.damage.Broke.TheVariants as broke
-use Rattle.pq_intent.specs.Errors.{IsSound}
+use Rattle.pq_intent.specs.Errors.{IsSound, ShowsIntent}
+use Rattle.pq_session.specs.Evidence.{IsShown}
 use Rattle.pq_intent.specs.Settling.{IsSettled, Settles}
 use Rattle.pq_intent.specs.Spending.{Spends}
 use Rattle.pq_text.specs.declared.token.Token.{Token}
@@ -33,7 +34,7 @@ use Rattle.pq_index_keep.specs.Bounds.{write_tests, write_bound}
 use Rattle.pq_index_keep.specs.Checking.{checked, IsWriting}
 use Rattle.pq_index_keep.specs.Effects.{effect}
 use Rattle.pq_index_keep.specs.Promises as keep
-use Rattle.pq_index_keep.specs.Promises.{Plans, MakesRows, Reads, world}
+use Rattle.pq_index_keep.specs.Promises.{Plans, MakesRows, Reads, Explains, world}
 use Rattle.pq_index_keep.specs.Sound as writable
 use Rattle.pq_index_keep.specs.Sound.{IsWrite}
 use Rattle.pq_index_keep.proofs.Few.{IsFew, few_of}
@@ -232,13 +233,30 @@ committed_within most old mid f0 f1 given left allowed before between after ops 
 within_effected : (number : ℕ) (write : Write) (schema : Schema) (most : Bound) (before after : Counts) → most ≡ write_bound schema.tables write → IsWithin most before after → IsWithin (bound_over (λ m. effected m number write) schema) before after
 within_effected number write schema most before after is within = subst (λ (b : Bound). IsWithin b before after) (is ∙ sym (effected_bound number write schema)) within
 
+-- what explains damage shows it
+explained_shown : (old : Option Content) (schema : Schema) (error : Broke) (f0 f1 : ℕ) (given left : Allowed) (before after : Counts) (now : Option Content) → Explains schema.tables (world old f0 given before) (world now f1 left after) error
+    → IfSome old (λ content. IsShown schema content error)
+explained_shown None schema error f0 f1 given left before after now explains = tt
+explained_shown (Some content) schema broke.Failed f0 f1 given left before after now explains = tt
+explained_shown (Some content) schema broke.NoMem f0 f1 given left before after now explains = tt
+explained_shown (Some content) schema (broke.Damaged damage) f0 f1 given left before after now explains = inl explains
+
+-- so does an intent that is there
+intent_shown : (old : Option Content) (schema : Schema) (error : Broke) → IfSome old (λ content. ShowsIntent content error) → IfSome old (λ content. IsShown schema content error)
+intent_shown None schema error shows = tt
+intent_shown (Some content) schema broke.Failed shows = tt
+intent_shown (Some content) schema broke.NoMem shows = tt
+intent_shown (Some content) schema (broke.Damaged damage) shows = inr (inl shows)
+
 pub planning_broke : (number : ℕ) (write : Write) (error : Broke) (old now : Option Content) (schema : Schema) (most : Bound) (f0 f1 : ℕ) (given left : Allowed) (before after : Counts) (ops entries : ℕ)
     → most ≡ write_bound schema.tables write → given ≡ granted most.ops most.entries → Reads (world old f0 given before) (world now f1 left after) ops entries
-    → ((rows : Rows) (others : List Pair) → keep.Settled old schema.tables rows others → keep.IsUndamaged error) → Broken (λ m. effected m number write) old now schema before after error
-planning_broke number write error old now schema most f0 f1 given left before after ops entries is_most is_given reads undamaged = record {
+    → ((rows : Rows) (others : List Pair) → keep.Settled old schema.tables rows others → keep.IsUndamaged error) → Explains schema.tables (world old f0 given before) (world now f1 left after) error
+    → Broken (λ m. effected m number write) old now schema before after error
+planning_broke number write error old now schema most f0 f1 given left before after ops entries is_most is_given reads undamaged explains = record {
   stopped = λ m s. inl (settled_opens (subst (λ o. Settled o m) (sym reads.same) s.settled));
   sound = λ m s. no_damage error (undamaged m.rows (catalog_pairs schema) (settled_rows old schema m s));
   within = within_effected number write schema most before after is_most (planned_within most old now f0 f1 given left before after ops entries is_given reads);
+  shown = explained_shown old schema error f0 f1 given left before after now explains;
 }
 
 stopped_at : (m : Model) (number : ℕ) (write : Write) (changes : List Change) (now : Option Content) → IsBuilt m.schema → Keeps row_code m.schema.tables m.rows
@@ -254,12 +272,13 @@ pub commit_broke : (number : ℕ) (write : Write) (changes : List Change) (error
     → Reads (world old f0 given before) (world mid f1 left between) ops entries → Spends limit left allowed between after
     → ((rows : Rows) (others : List Pair) → keep.Settled old schema.tables rows others → Plans schema.tables rows others write q)
     → ((pairs : Content) → IsSettled mid pairs → Settles now pairs ⊎ Settles now (changed (map change_of changes) pairs))
-    → ((pairs : Content) → IsSettled mid pairs → IsSound error)
+    → ((pairs : Content) → IsSettled mid pairs → IsSound error) → IfSome mid (λ pairs. ShowsIntent pairs error)
     → Broken (λ m. effected m number write) old now schema before after error
-commit_broke number write changes error old mid now schema most f0 f1 given left allowed before between after ops entries limit q is_most is_given is reads spends answer stops sound = record {
+commit_broke number write changes error old mid now schema most f0 f1 given left allowed before between after ops entries limit q is_most is_given is reads spends answer stops sound shows = record {
   stopped = λ m s. stopped_at m number write changes now s.settled.valid s.settled.keeps (made_of schema m old write changes s (planned_as old schema write q changes is answer)) (stops (content_of m) (settled_for old mid schema m reads.same s));
   sound = λ m s. sound (content_of m) (settled_for old mid schema m reads.same s);
   within = within_effected number write schema most before after is_most (committed_within most old mid f0 f1 given left allowed before between after ops entries limit is_given reads spends);
+  shown = intent_shown old schema error (subst (λ (o : Option Content). IfSome o (λ pairs. ShowsIntent pairs error)) reads.same shows);
 }
 
 -- ---- the write that a statement is

@@ -1,5 +1,6 @@
 pub mod Built
 pub mod Calls
+pub mod Evidence
 pub mod Extends
 pub mod KeyParts
 pub mod KeyQuery

@@ -1,5 +1,5 @@
 -- What a call that makes a step promises.
-use Rattle.std.specs.Prelude.{◌≡◌, ◌≤◌, ◌+◌, ◌⊎◌, [], Option, Result, Ok, Err}
+use Rattle.std.specs.Prelude.{◌≡◌, ◌≤◌, ◌+◌, ◌⊎◌, [], Option, Result, Ok, Err, IfSome}
 use Rattle.pq_base.specs.declared.number.Bound.{Bound}
 use Rattle.pq_schema.specs.Schema.{Schema}
 use Rattle.pq_text.specs.declared.piece.Piece.{Piece}
@@ -9,6 +9,7 @@ use Rattle.pq_print.specs.declared.report.Report.{Report}
 use Rattle.pq_store.specs.Counts.{Counts}
 use Rattle.pq_store.specs.Content.{Content}
 use Rattle.pq_store.specs.declared.damage.Broke.{Broke}
+use Rattle.pq_session.specs.Evidence.{IsShown}
 use Rattle.pq_session.specs.Model.{Model}
 use Rattle.pq_session.specs.Stands.{Stands, Opens}
 use Rattle.pq_session.specs.Step.{Step, step}
@@ -49,6 +50,7 @@ pub record Broken (step : Model → Step) (old now : Option Content) (schema : S
   pub stopped : (m : Model) → Stands old schema m → Opens now m ⊎ Opens now (step m).model
   pub sound : (m : Model) → Stands old schema m → IsSound broke
   pub within : IsWithin (bound_over step schema) before after
+  pub shown : IfSome old (λ content. IsShown schema content broke)
 
 abbrev pub Promises : (Model → Step) → Option Content → Option Content → Schema → Counts → Counts → Result (Schema × Report) Broke → Type 0
 Promises step old now schema before after (Ok made) = Done step old now schema made.0 before after made.1

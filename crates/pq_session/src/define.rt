@@ -8,6 +8,7 @@ ghost use Rattle.pq_store.specs.Counts.{charged};
 ghost use Rattle.pq_session.specs.Calls.{PutsNew, MayPut};
 ghost use Rattle.pq_schema.specs.Schema.{with_query};
 ghost use Rattle.pq_session.specs.Built.{IsKeyDefinition};
+ghost use Rattle.pq_session.specs.Evidence.{ShowsPresent};
 ghost use Rattle.pq_session.specs.Extends.{Extends};
 ghost use Rattle.pq_session.specs.KeyQuery.{read_query};
 ghost use Rattle.pq_session.specs.KeySelect.{select_from};
@@ -53,6 +54,14 @@ fn last_pair(alloc: Global, catalog: &Catalog) -> Result<Pair, NoMem>
     })
 }
 
+/// The damage of a key that has a value and had to be absent.
+fn present(key: Bytes) -> Damage
+    ensures key { result.key ≡ key }
+    ensures value { result.value ≡ None }
+{
+    Damage { key, value: None }
+}
+
 /// Writes a pair whose key has to be absent.
 fn put_absent<S: Store<L>, L: Ledger>(
     alloc: Global,
@@ -65,6 +74,7 @@ fn put_absent<S: Store<L>, L: Ledger>(
     ensures damage { IfErr result (λ broke. IfSome (S.content store.old) (λ pairs. value_at_key pairs pair.key ≡ None → IsSound broke)) }
     ensures meter { OnOk result (meter.new ≡ charged meter.old 0) }
     ensures within { IsWithin (bound 1 0) meter.old meter.new }
+    ensures shown { IfErr result (λ broke. IfSome (S.content store.old) (λ pairs. ShowsPresent pair.key pairs broke)) }
     ensures cause { HasBrokeCause (S.faults store.old) (S.faults store.new) result }
 {
     let Pair { key, value } = pair;
@@ -77,7 +87,7 @@ fn put_absent<S: Store<L>, L: Ledger>(
     ) {
         Err(error) => Err(Broke::from(error)),
         Ok(true) => Ok(()),
-        Ok(false) => Err(Broke::Damaged(Damage { key, value: None })),
+        Ok(false) => Err(Broke::Damaged(present(key))),
     }
 }
 
@@ -172,6 +182,7 @@ impl Session {
         ensures damage { IfErr result (λ broke. IfSome (S.content store.old) (λ pairs. value_at_key pairs (last_key self) ≡ None → IsSound broke)) }
         ensures meter { OnOk result (meter.new ≡ charged meter.old 0) }
         ensures within { IsWithin (bound 1 0) meter.old meter.new }
+        ensures shown { IfErr result (λ broke. IfSome (S.content store.old) (λ pairs. ShowsPresent (last_key self) pairs broke)) }
         ensures cause { HasBrokeCause (S.faults store.old) (S.faults store.new) result }
     {
         let report = table_report(alloc, number, self.catalog.table(table))?;

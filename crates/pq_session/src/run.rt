@@ -1,5 +1,5 @@
 //! RUN of a query by its key: one row is read.
-ghost use Rattle.std.specs.Prelude.{◌≡◌, ◌≤◌, ◌<◌, All, [], ◌∷◌, length, map, option_to_list, IfOk, IfErr, IfSome};
+ghost use Rattle.std.specs.Prelude.{◌≡◌, Some, ◌≤◌, ◌<◌, All, [], ◌∷◌, length, map, option_to_list, IfOk, IfErr, IfSome};
 ghost use Rattle.std.specs.FinMap.{get as value_at_key};
 ghost use Rattle.pq_store.specs.Content.{HasBrokeCause};
 ghost use Rattle.pq_plan.specs.Answer.{answer, values_at as cells_at};
@@ -7,6 +7,7 @@ ghost use Rattle.pq_base.specs.Values.{AllFit};
 ghost use Rattle.pq_schema.specs.Relations.{relation_at};
 ghost use Rattle.pq_schema.specs.Schema.{query_at};
 ghost use Rattle.pq_content.specs.Tables.{types_of};
+ghost use Rattle.pq_session.specs.Evidence.{IsShown, ShowsNoRow};
 ghost use Rattle.pq_session.specs.Model.{Model};
 ghost use Rattle.pq_intent.specs.Errors.{IsSound};
 ghost use Rattle.pq_session.specs.Promise.{Promises, IsWithin};
@@ -37,7 +38,10 @@ fn types_of(alloc: Global, table: &Table) -> Result<List<ColType>, NoMem>
     Ok(types)
 }
 
-fn damaged(alloc: Global, key: &[u8], value: Bytes) -> Result<Damage, NoMem> {
+fn damaged(alloc: Global, key: &[u8], value: Bytes) -> Result<Damage, NoMem>
+    ensures key { IfOk result (λ damage. damage.key ≡ key.now) }
+    ensures value { IfOk result (λ damage. damage.value ≡ Some value) }
+{
     let key = Bytes::of_bytes(alloc, key)?;
     Ok(Damage {
         key,
@@ -59,6 +63,7 @@ fn read_row<S: Store<L>, L: Ledger>(
     ensures same { S.content store.new ≡ S.content store.old }
     ensures meter { IfOk result (λ row. meter.new ≡ read_counts row meter.old) }
     ensures within { IsWithin by_key meter.old meter.new }
+    ensures shown { IfErr result (λ broke. IfSome (S.content store.old) (λ pairs. ShowsNoRow types.now key.now pairs broke)) }
     ensures cause { HasBrokeCause (S.faults store.old) (S.faults store.new) result }
 {
     let code = match store.get(alloc, key, meter) {
@@ -148,6 +153,7 @@ impl Session {
         ensures same { S.content store.new ≡ S.content store.old }
         ensures meter { IfOk result (λ row. meter.new ≡ read_counts row meter.old) }
         ensures within { IsWithin by_key meter.old meter.new }
+        ensures shown { IfErr result (λ broke. IfSome (S.content store.old) (λ pairs. IsShown self.now pairs broke)) }
         ensures cause { HasBrokeCause (S.faults store.old) (S.faults store.new) result }
     {
         let found = self.catalog.query(query);

@@ -9,6 +9,7 @@ ghost use Rattle.pq_session.specs.Names.{IsNamed};
 ghost use Rattle.pq_session.specs.Opening.{opening_of, started_of, opened, catalog_in, IsStarted, TellsSchema, NamesPair, NamesFlaw};
 ghost use Rattle.pq_intent.specs.Errors.{IsSound};
 ghost use Rattle.pq_session.specs.Matches.{Matches, IsOpening};
+ghost use Rattle.pq_session.specs.Evidence.{IsShown};
 ghost use Rattle.pq_session.specs.Promise.{Promises, IsRefusal, IsWithin, statement_bound};
 ghost use Rattle.pq_session.specs.Stands.{Stands, Opens};
 ghost use Rattle.pq_session.specs.Step.{bound, report_of, refusal_report, performed, text_step, step};
@@ -242,6 +243,8 @@ impl Session {
         ensures stopped { OnErr result ((m : Tables) → Stands (S.content store.old) self m
             → Opens (S.content store.new) m ⊎ Opens (S.content store.new) (step m number piece.now).model) }
         ensures damage { IfErr result (λ broke. (m : Tables) → Stands (S.content store.old) self m → IsSound broke) }
+        // Damage is told with what shows it in the content that was there.
+        ensures shown { IfErr result (λ broke. IfSome (S.content store.old) (λ content. IsShown self content broke)) }
         ensures cause { HasBrokeCause (S.faults store.old) (S.faults store.new) result }
     {
         self.piece(alloc, number, piece, store, meter)

@@ -20,4 +20,4 @@ pub returns-in-Ok-clause-step : goal.returns-in-Ok-clause-step
 returns-in-Ok-clause-step g c =
     let e = subst (λ (r : Result ℕ Refusal). Extends c.args.self c.args.def c.in_ok-session.session r) c.in-Ok.is c.in_ok-session.ensures in
     let w = c.write_table.ensures in
-    table_written _ _ c.args.self c.in_ok-session.session c.args.number c.args.def c.requires c.in-Ok.table _ _ c.write_table.result e w.done w.put w.stopped w.damage w.meter w.within
+    table_written _ _ c.args.self c.in_ok-session.session c.args.number c.args.def c.requires c.in-Ok.table _ _ c.write_table.result e w.done w.put w.stopped w.damage w.meter w.within w.shown

@@ -14,7 +14,7 @@ use Rattle.pq_content.specs.Tables.{IsTableNumber, types_of}
 use Rattle.pq_plan.specs.Answer.{values_at}
 use Rattle.pq_session.specs.Built.{IsBuilt}
 use Rattle.pq_session.specs.Reads.{IsQueryNumber}
-use Rattle.pq_session.proofs.Runs.{table_number, Looked, looked_answer, looked_sound, looked_first, looked_there}
+use Rattle.pq_session.proofs.Runs.{table_number, Looked, looked_answer, looked_sound, looked_shown, looked_first, looked_there}
 use Rattle.pq_session.proofs.session.Session.look_up.Goals as goal
 
 -- the facts of a look-up, as they come one by one
@@ -72,3 +72,10 @@ returns-clause-answer g c = λ m s.
     looked_answer c.args.query c.args.params.now c.first_table-number.result c.in_ok-types.types c.in_ok-key.key c.args.self.now _ (Some c.in-Some.row) looked
     (rw (← c.items-2.ensures, ← c.items.ensures, ← c.in-Some.is) c.in_ok-row.ensures.read) m s
     ∙ ap (λ (row : List Value). row ∷ []) (sym (c.in_ok-selected-in-Some.ensures ∙ ap (λ cols. values_at (c.in-Some.row ∷ []) cols) (c.items-in-Some.ensures ∙ ap (λ (q : Query). q.select) (c.query-found.ensures ∙ ap (λ (x : Schema). query_at x c.args.query) c.self.view_is))))
+
+pub returns-in_err-row-clause-shown : goal.returns-in_err-row-clause-shown
+returns-in_err-row-clause-shown g c =
+    let p = err_from_is_err_and c.from_residual-in_err-row.result c.from_residual-in_err-row.ensures.1 in
+    let looked : Looked c.args.query c.args.params.now c.first_table-number.result c.in_ok-types.types c.in_ok-key.key c.args.self.now = looked_up (c.self.view_is) c.self.invariant c.requires.number c.requires.fits c.query-found.ensures c.first_table-number.ensures c.table-table.ensures c.in_ok-types.ensures c.in_ok-key.ensures in
+    rw (p.1, p.2) (looked_shown c.args.query c.args.params.now c.first_table-number.result c.in_ok-types.types c.in_ok-key.key c.args.self.now _ _ looked
+    (rw (← c.items-2.ensures, ← c.items.ensures) c.in_err-row.ensures.shown))

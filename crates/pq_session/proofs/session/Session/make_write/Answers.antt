@@ -14,13 +14,13 @@ pub returns-in_err-why-clause-step : goal.returns-in_err-why-clause-step
 returns-in_err-why-clause-step g c =
     let p = err_from_is_err_and c.from_residual.result c.from_residual.ensures.1 in
     rw (p.1, p.2, ← c.self.view_is) (planning_broke c.args.number c.args.write.now c.in_err-why.field-0.0 _ _ c.self.inside.catalog c.write_bound-bound.result _ _ _ _ _ _ _ _
-    c.write_bound-bound.ensures c.grant-allowance.ensures c.in_err-why.ensures.reads c.in_err-why.ensures.undamaged)
+    c.write_bound-bound.ensures c.grant-allowance.ensures c.in_err-why.ensures.reads c.in_err-why.ensures.undamaged c.in_err-why.ensures.cause)
 
 pub returns-in_err-commit-in-Changes-clause-step : goal.returns-in_err-commit-in-Changes-clause-step
 returns-in_err-commit-in-Changes-clause-step g c =
     let p = err_from_is_err_and c.from_residual-in_err-commit-in-Changes.result c.from_residual-in_err-commit-in-Changes.ensures.1 in
     rw (p.1, p.2, ← c.self.view_is) (commit_broke c.args.number c.args.write.now c.in-Changes.changes c.in_err-commit-in-Changes.field-0.0 _ _ _ c.self.inside.catalog c.write_bound-bound.result _ _ _ _ _ _ _ _ _ _ _ _
-    c.write_bound-bound.ensures c.grant-allowance.ensures c.in-Changes.is c.in_ok-why.ensures.reads c.in_err-commit-in-Changes.ensures.spends c.in_ok-why.ensures.answer c.in_err-commit-in-Changes.ensures.stopped c.in_err-commit-in-Changes.ensures.sound)
+    c.write_bound-bound.ensures c.grant-allowance.ensures c.in-Changes.is c.in_ok-why.ensures.reads c.in_err-commit-in-Changes.ensures.spends c.in_ok-why.ensures.answer c.in_err-commit-in-Changes.ensures.stopped c.in_err-commit-in-Changes.ensures.sound c.in_err-commit-in-Changes.ensures.damage)
 
 pub returns-in-Refused-clause-step : goal.returns-in-Refused-clause-step
 returns-in-Refused-clause-step g c =

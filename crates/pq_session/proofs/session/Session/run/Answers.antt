@@ -1,10 +1,11 @@
 use Rattle.std.proofs.Common.{◌≡◌, ◌∙◌, sym, true, false, Some, None}
 use Rattle.std.proofs.lemmas.Result.{err_from_is_err_and}
 use Rattle.pq_base.specs.Values.{all_fit}
+use Rattle.pq_store.specs.declared.damage.Broke.TheVariants.{NoMem}
 use Rattle.pq_schema.specs.Schema.{find_query, query_at}
 use Rattle.pq_session.specs.Step.{ran_query}
 use Rattle.pq_session.proofs.Runs.{found_query, no_such_query, params_refused, params_taken, within_run, run_done}
-use Rattle.pq_session.proofs.Promises.{done_as, not_built_done, broken_kept}
+use Rattle.pq_session.proofs.Promises.{done_as, not_built_done, broken_kept, sound_shown}
 use Rattle.pq_session.proofs.session.Session.run.Goals as goal
 
 pub returns-in_default-clause-step : goal.returns-in_default-clause-step
@@ -42,7 +43,7 @@ returns-in_err-row-clause-step g c =
     let taken : all_fit (query_at c.args.self c.in-Some.query).params c.args.params.now ≡ true =
     rw (← c.self.view_is, ← c.query.ensures, ← c.items-2.ensures, ← c.items.ensures) (sym c.all_fit.ensures.test ∙ c.if-not-all_fit.false) in
     let p = err_from_is_err_and c.from_residual.result c.from_residual.ensures.1 in
-    rw (p.1, p.2) (broken_kept _ _ _ c.args.self _ _ _ c.in_err-row.ensures.same c.in_err-row.ensures.damage (within_run c.args.self c.args.number c.args.name.now c.args.params.now c.in-Some.query found taken _ _ c.in_err-row.ensures.within))
+    rw (p.1, p.2) (broken_kept _ _ _ c.args.self _ _ _ c.in_err-row.ensures.same c.in_err-row.ensures.damage (within_run c.args.self c.args.number c.args.name.now c.args.params.now c.in-Some.query found taken _ _ c.in_err-row.ensures.within) c.in_err-row.ensures.shown)
 
 pub returns-in_err-report-clause-step : goal.returns-in_err-report-clause-step
 returns-in_err-report-clause-step g c =
@@ -50,4 +51,4 @@ returns-in_err-report-clause-step g c =
     let taken : all_fit (query_at c.args.self c.in-Some.query).params c.args.params.now ≡ true =
     rw (← c.self.view_is, ← c.query.ensures, ← c.items-2.ensures, ← c.items.ensures) (sym c.all_fit.ensures.test ∙ c.if-not-all_fit.false) in
     let p = err_from_is_err_and c.from_residual-in_err-report.result c.from_residual-in_err-report.ensures.1 in
-    rw (p.1, p.2) (broken_kept _ _ _ c.args.self _ _ _ c.in_ok-row.ensures.same (λ m s. tt) (within_run c.args.self c.args.number c.args.name.now c.args.params.now c.in-Some.query found taken _ _ c.in_ok-row.ensures.within))
+    rw (p.1, p.2) (broken_kept _ _ _ c.args.self _ _ _ c.in_ok-row.ensures.same (λ m s. tt) (within_run c.args.self c.args.number c.args.name.now c.args.params.now c.in-Some.query found taken _ _ c.in_ok-row.ensures.within) (sound_shown _ c.args.self NoMem tt))
