@@ -1,4 +1,5 @@
 pub mod Ending
+pub mod Flaws
 pub mod Folding
 pub mod Known
 pub mod Parts

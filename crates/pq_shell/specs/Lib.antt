@@ -1,3 +1,4 @@
+pub mod Flaw
 pub mod Fold
 pub mod Items
 pub mod Memory

@@ -1,9 +1,10 @@
 //! The top call: words, a source, a store and a sink; and how the run ended.
-ghost use Rattle.std.specs.Prelude.{◌≡◌, ◌≢◌, ◌⊎◌, ◌↔◌, ◌+◌, ◌^◌, ◌<◌, ◌≤◌, ℕ, [], List, Option, Some, IsTrue, IfOk, IfErr, IsErrOf, length};
+ghost use Rattle.std.specs.Prelude.{◌≡◌, ◌≢◌, ◌⊎◌, ◌↔◌, ◌+◌, ◌^◌, ◌<◌, ◌≤◌, ℕ, [], List, Option, Some, IsTrue, IfOk, IfErr, IfSome, IsErrOf, length};
 ghost use Rattle.std.specs.Io.KnownBytes.{prepend_known};
 ghost use Rattle.pq_store.specs.Content.{HasRisen};
 ghost use Rattle.pq_session.specs.Model.{Model};
 ghost use Rattle.pq_session.specs.Stands.{Opens, Settled, Stands};
+ghost use Rattle.pq_shell.specs.Flaw.{IsFlaw, StopsAtFlaw, EndsAtFlaw};
 ghost use Rattle.pq_shell.specs.Fold.{Opening, StoppedOpening};
 ghost use Rattle.pq_shell.specs.Reading.{script_limit};
 ghost use Rattle.pq_shell.specs.Run.{World, Finished, Broken, Ends, EndsDamaged, Closes, IsPlain, IsRun, status_of};
@@ -41,6 +42,7 @@ fn open<S: Store<L>, O: Sink, L: Ledger>(
 ) -> Result<Session, Stop>
     ensures ok { IfOk result (λ session. Opening (S.content store.old) (Opens (S.content store.old)) (Stands (S.content store.new) session) (O.held sink.old) (O.held sink.new) meter.old meter.new) }
     ensures err { IfErr result (λ stop. StoppedOpening (S.content store.old) stop (Opens (S.content store.old)) (Opens (S.content store.new)) (O.held sink.old) (O.held sink.new)) }
+    ensures flawed { IfSome (S.content store.old) (λ pairs. (key : List ℕ) → IsFlaw pairs key → StopsAtFlaw key result (O.held sink.old) (O.held sink.new)) }
     ensures causes { Causes (S.faults store.old) (S.faults store.new) (O.faults sink.old) (O.faults sink.new) result }
 {
     let started = match Session::start(alloc, store, meter) {
@@ -108,6 +110,7 @@ fn run_script<S: Store<L>, I: Source, O: Sink, L: Ledger>(
     ensures err { IfErr result (λ stop. Broken stop
         (record { left = I.left source.old; content = S.content store.old; held = O.held sink.old; counts = meter.old })
         (record { left = I.left source.new; content = S.content store.new; held = O.held sink.new; counts = meter.new })) }
+    ensures flawed { IfSome (S.content store.old) (λ pairs. (key : List ℕ) → IsFlaw pairs key → StopsAtFlaw key result (O.held sink.old) (O.held sink.new)) }
     ensures causes { Causes (S.faults store.old) (S.faults store.new) (O.faults sink.old) (O.faults sink.new) result }
     ensures taken { (taken : List ℕ) × (I.left source.old ≡ prepend_known taken (I.left source.new)) × (length taken ≤ script_limit + 1) }
     ensures later { I.faults source.old ≤ I.faults source.new }
@@ -174,6 +177,7 @@ fn run<S: Store<L>, I: Source, O: Sink, L: Ledger>(
     ensures ends { Ends result
         (record { left = I.left source.old; content = S.content store.old; held = O.held sink.old; counts = meter.old })
         (record { left = I.left source.new; content = S.content store.new; held = O.held sink.new; counts = meter.new }) }
+    ensures flawed { IfSome (S.content store.old) (λ pairs. (key : List ℕ) → IsFlaw pairs key → EndsAtFlaw key result (O.held sink.old) (O.held sink.new)) }
     ensures ran { result ≢ Status.Usage }
     ensures read_fault { result ≡ Status.ReadFault → HasRisen (I.faults source.old) (I.faults source.new) }
     ensures write_fault { result ≡ Status.WriteFault → HasRisen (O.faults sink.old) (O.faults sink.new) }
@@ -200,6 +204,8 @@ pub fn run_piql<S: Store<L>, I: Source, O: Sink, L: Ledger>(
     ensures ends { Ends result
         (record { left = I.left source.old; content = S.content store.old; held = O.held sink.old; counts = meter.old })
         (record { left = I.left source.new; content = S.content store.new; held = O.held sink.new; counts = meter.new }) }
+    // Over a content that stands for nothing the run ends with the line of its first flaw, or as a call fails.
+    ensures flawed { IsRun words.now → IfSome (S.content store.old) (λ pairs. (key : List ℕ) → IsFlaw pairs key → EndsAtFlaw key result (O.held sink.old) (O.held sink.new)) }
     ensures usage { result ≡ Status.Usage ↔ ¬ IsRun words.now }
     ensures read_fault { result ≡ Status.ReadFault → HasRisen (I.faults source.old) (I.faults source.new) }
     ensures write_fault { result ≡ Status.WriteFault → HasRisen (O.faults sink.old) (O.faults sink.new) }

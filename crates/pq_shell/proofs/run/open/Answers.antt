@@ -1,6 +1,7 @@
 use Rattle.std.proofs.lemmas.Result.{err_from_is_err_and}
 use Rattle.pq_session.specs.Opening.{opening_of}
 use Rattle.pq_shell.proofs.Folding.{Opening-broke, Opening-writing}
+use Rattle.pq_shell.proofs.Flaws.{broke_at_flaw, told_at_flaw}
 use Rattle.pq_shell.proofs.run.open.Goals as goal
 
 pub returns-in-Err-clause-err : goal.returns-in-Err-clause-err
@@ -11,3 +12,12 @@ pub returns-in_err-write_opening-clause-err : goal.returns-in_err-write_opening-
 returns-in_err-write_opening-clause-err g c =
     let p = err_from_is_err_and c.from_residual.result c.from_residual.ensures.1 in
     rw (p.1, p.2) (Opening-writing _ _ _ _ _ _ (opening_of c.in-Ok.started) c.in-Ok.ensures.opened c.in-Ok.ensures.kept c.in_err-write_opening.ensures.err)
+
+pub returns-in-Err-clause-flawed : goal.returns-in-Err-clause-flawed
+returns-in-Err-clause-flawed g c = rw c.of.ensures (broke_at_flaw _ c.in-Err.broke _ c.in-Err.ensures.flaw)
+
+pub returns-in_err-write_opening-clause-flawed : goal.returns-in_err-write_opening-clause-flawed
+returns-in_err-write_opening-clause-flawed g c = told_at_flaw _ _ _ c.in-Ok.ensures.told
+
+pub returns-clause-flawed : goal.returns-clause-flawed
+returns-clause-flawed g c = told_at_flaw _ _ _ c.in-Ok.ensures.told
