@@ -1,4 +1,4 @@
--- Runs over a content that stands for nothing.
+-- Runs over a content whose intent or catalog is flawed.
 use Rattle.std.specs.Prelude.{◌≡◌, ℕ, List, Option, Some, Result, Ok, Err}
 use Rattle.std.specs.Io.KnownBytes.{append_known}
 use Rattle.pq_store.specs.Content.{Content}

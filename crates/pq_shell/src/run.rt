@@ -204,7 +204,8 @@ pub fn run_piql<S: Store<L>, I: Source, O: Sink, L: Ledger>(
     ensures ends { Ends result
         (record { left = I.left source.old; content = S.content store.old; held = O.held sink.old; counts = meter.old })
         (record { left = I.left source.new; content = S.content store.new; held = O.held sink.new; counts = meter.new }) }
-    // Over a content that stands for nothing the run ends with the line of its first flaw, or as a call fails.
+    // Where the intent or the catalog of a told content is flawed, the line of the first flaw is all that is written; or a
+    // call fails, or there is no memory.
     ensures flawed { IsRun words.now → IfSome (S.content store.old) (λ pairs. (key : List ℕ) → IsFlaw pairs key → EndsAtFlaw key result (O.held sink.old) (O.held sink.new)) }
     ensures usage { result ≡ Status.Usage ↔ ¬ IsRun words.now }
     ensures read_fault { result ≡ Status.ReadFault → HasRisen (I.faults source.old) (I.faults source.new) }
