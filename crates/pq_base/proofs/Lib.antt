@@ -1,1 +1,5 @@
+pub mod Members
+pub mod Sets
+pub mod Sorts
 pub mod WordOrder
+pub mod Shuffles

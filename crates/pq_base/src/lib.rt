@@ -5,9 +5,12 @@
 #![tactic(auto)]
 
 mod col_set;
+pub mod count_word;
+pub mod laws;
 mod list;
 mod number;
 mod refusal;
+pub mod refusal_place;
 mod text;
 mod value;
 mod word_table;
@@ -18,7 +21,7 @@ pub use number::{Bound, Choice, Used};
 pub use refusal::{Refusal, Stopped};
 pub use text::PText;
 pub use value::{
-    ColType, Dir, Row, Value, all_fit, cmp_positions, cmp_values, fits, known_types, known_value,
-    known_values,
+    ColType, DataKind, Dir, Row, Value, all_fit, cmp_positions, cmp_values, fits, known_types,
+    known_value, known_values,
 };
 pub use word_table::{WordTable, count_words, keyword_table, refusal_numbers};

@@ -1,6 +1,6 @@
 //! Values, rows and their order.
 ghost use Rattle.std.specs.Prelude.{◌≡◌, ◌↔◌, IfOk, IsTrue, All};
-ghost use Rattle.pq_base.specs.Values.{IsValue, IsType, SameKind, AreAlike, FitsType, AllFit, fits_type, all_fit};
+ghost use Rattle.pq_base.specs.Values.{IsValue, IsType, kind_of, kind_of_type, is_kind, SameKind, AreAlike, FitsType, AllFit, fits_type, all_fit};
 ghost use Rattle.pq_base.specs.Order.{value_cmp, position_cmp};
 
 use crate::list::{List, NoMem};
@@ -28,6 +28,14 @@ pub enum ColType {
     Text(u16),
 }
 
+/// The kind of a value, or of the values of a type.
+#[derive(Debug, Clone, Copy, PartialEq, Eq)]
+pub enum DataKind {
+    Int,
+    Bool,
+    Text,
+}
+
 /// The direction of an order by one column.
 #[derive(Debug, Clone, Copy, PartialEq, Eq)]
 pub enum Dir {
@@ -35,7 +43,44 @@ pub enum Dir {
     Desc,
 }
 
+impl DataKind {
+    /// Whether both are one kind.
+    pub fn is(self, other: DataKind) -> bool
+        ensures { result ≡ is_kind self other }
+    {
+        match self {
+            DataKind::Int => matches!(other, DataKind::Int),
+            DataKind::Bool => matches!(other, DataKind::Bool),
+            DataKind::Text => matches!(other, DataKind::Text),
+        }
+    }
+}
+
+impl ColType {
+    /// The kind of its values.
+    pub fn kind(self) -> DataKind
+        ensures { result ≡ kind_of_type self }
+    {
+        match self {
+            ColType::Int => DataKind::Int,
+            ColType::Bool => DataKind::Bool,
+            ColType::Text(_) => DataKind::Text,
+        }
+    }
+}
+
 impl Value {
+    /// The kind of the value.
+    pub fn kind(&self) -> DataKind
+        ensures { result ≡ kind_of self.now }
+    {
+        match self {
+            Value::Int(_) => DataKind::Int,
+            Value::Bool(_) => DataKind::Bool,
+            Value::Text(_) => DataKind::Text,
+        }
+    }
+
     /// Another value equal to this one.
     pub fn copy(&self, alloc: Global) -> Result<Value, NoMem>
         ensures { IfOk result (λ copy. copy ≡ self.now) }
@@ -66,14 +111,19 @@ pub fn fits(value: &Value, ty: ColType) -> bool
     ensures exact { IsTrue result ↔ FitsType ty value.now }
     ensures test { result ≡ fits_type ty value.now }
 {
-    match (value, ty) {
-        (Value::Int(number), ColType::Int) => {
-            let _number = *number;
-            true
-        }
-        (Value::Bool(_), ColType::Bool) => true,
-        (Value::Text(text), ColType::Text(most)) => text.bytes().len() <= most as usize,
-        _ => false,
+    match ty {
+        ColType::Int => match value {
+            Value::Int(number) => {
+                let _number = *number;
+                true
+            }
+            Value::Bool(_) | Value::Text(_) => false,
+        },
+        ColType::Bool => matches!(value, Value::Bool(_)),
+        ColType::Text(most) => match value {
+            Value::Text(text) => text.bytes().len() <= most as usize,
+            Value::Int(_) | Value::Bool(_) => false,
+        },
     }
 }
 

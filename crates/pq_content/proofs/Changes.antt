@@ -3,7 +3,8 @@ use Rattle.std.proofs.Common.{◌≡◌, ℕ, zero, suc, Bool, true, false, cond
 use Rattle.std.specs.Ordering.{eq_by_cmp}
 use Rattle.std.specs.Cmp.Lexicographic.{nat_list_cmp_total}
 use Rattle.std.specs.FinMap.{get, same_map, get-insert, get-remove, slice_cmp-IsAntisymmetric, nat_cmp-IsAntisymmetric, IsAntisymmetric}
-use Rattle.pq_content.specs.Pairs.{key_cmp, Content, Change, written, changed}
+use Rattle.pq_content.specs.Pairs.{Change, changed}
+use Rattle.pq_store.specs.Content.{key_cmp, Content, written}
 
 pub bytes_apart : IsAntisymmetric key_cmp
 bytes_apart = slice_cmp-IsAntisymmetric nat_cmp-IsAntisymmetric

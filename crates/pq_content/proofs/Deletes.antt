@@ -7,19 +7,19 @@ use Rattle.std.specs.FinMap.{find, get-from_entries}
 use Rattle.std.proofs.lemmas.Bool.{false≢true, and_from, and_parts, not-false, eq-eqb, eqb-true}
 use Rattle.std.proofs.lemmas.List.Elements.{All-weaker, All-from_recursion}
 use Rattle.std.proofs.lemmas.Option.{same_Some}
-use Rattle.pq_base.specs.declared.value.Dir.{Dir}
 use Rattle.pq_base.specs.declared.value.Value.{Value}
 use Rattle.pq_base.specs.Values.{AllFit}
 use Rattle.pq_schema.specs.declared.table.Table.{Table}
 use Rattle.pq_schema.specs.Tables.{table_at}
-use Rattle.pq_content.specs.Codes.{KeyLaws}
-use Rattle.pq_content.specs.Pairs.{key_cmp, Pair, AreCatalog, changed, removals, pairs_of_row, row_pairs, pairs}
+use Rattle.pq_content.specs.Pairs.{Pair, AreBeside, changed, removals, pairs_of_row, row_pairs, content_pairs}
+use Rattle.pq_store.specs.Content.{key_cmp}
 use Rattle.pq_content.specs.Tables.{Rows, rows_of, types_of, key_of, agrees, has_key, row_at, rows_without, AreApart, Keeps}
 use Rattle.pq_content.proofs.Changes.{same_content, get-changed}
 use Rattle.pq_content.proofs.Find.{find-or_else, or_else, find_none_in, find_kept_in, find_rest}
 use Rattle.pq_content.proofs.Gets.{EachFits}
-use Rattle.pq_content.proofs.Keeping.{each_weaker, row_found}
-use Rattle.pq_content.proofs.Owners.{pairs_share, catalog_apart}
+use Rattle.pq_content.proofs.Keeping.{row_found}
+use Rattle.pq_base.proofs.Members.{each_weaker}
+use Rattle.pq_content.proofs.Owners.{pairs_share, beside_apart}
 use Rattle.pq_content.proofs.Values.{same_values_decides}
 use Rattle.pq_content.proofs.Writes.{after-removals}
 
@@ -50,48 +50,47 @@ own_key tables t row e h =
     let key : key_of (table_at tables t) e.1 ≡ key_of (table_at tables t) row = ap (λ (n : ℕ). key_of (table_at tables n) e.1) (sym h.0) ∙ h.1 in
     and_from _ _ (eq-eqb e.0 t h.0) ((same_values_decides (key_of (table_at tables t) e.1) (key_of (table_at tables t) row)).1 key)
 
-module _ (key_code : List Dir → List Value → List ℕ) (row_code : List Value → List ℕ) (laws : KeyLaws key_code) where
-  -- a row with another key has no pair at a key of the row's pairs
-  apart_from : (tables : List Table) (t : ℕ) (row : List Value) (e : ℕ × List Value) (q v : List ℕ) → AllFit (types_of (table_at tables t)) row → AllFit (types_of (table_at tables e.0)) e.1 → find key_cmp q (pairs_of_row key_code row_code t (table_at tables t) row) ≡ Some v → not (has_key tables t (key_of (table_at tables t) row) e) ≡ true → find key_cmp q (pairs_of_row key_code row_code e.0 (table_at tables e.0) e.1) ≡ None
-  apart_from tables t row e q v fits fits' found passes =
-      let theirs = find key_cmp q (pairs_of_row key_code row_code e.0 (table_at tables e.0) e.1) in
-      elim theirs as (λ o. theirs ≡ o → o ≡ None) [
-        | None ↦ λ _. refl
-        | Some w ↦ λ is. absurd (false≢true (sym (ap not (own_key tables t row e (pairs_share key_code row_code laws e.0 t (table_at tables e.0) (table_at tables t) e.1 row q w v (ap (table_at tables)) fits' fits is found))) ∙ passes))
-      ] refl
+-- a row with another key has no pair at a key of the row's pairs
+apart_from : (tables : List Table) (t : ℕ) (row : List Value) (e : ℕ × List Value) (q v : List ℕ) → AllFit (types_of (table_at tables t)) row → AllFit (types_of (table_at tables e.0)) e.1 → find key_cmp q (pairs_of_row t (table_at tables t) row) ≡ Some v → not (has_key tables t (key_of (table_at tables t) row) e) ≡ true → find key_cmp q (pairs_of_row e.0 (table_at tables e.0) e.1) ≡ None
+apart_from tables t row e q v fits fits' found passes =
+    let theirs = find key_cmp q (pairs_of_row e.0 (table_at tables e.0) e.1) in
+    elim theirs as (λ o. theirs ≡ o → o ≡ None) [
+      | None ↦ λ _. refl
+      | Some w ↦ λ is. absurd (false≢true (sym (ap not (own_key tables t row e (pairs_share e.0 t (table_at tables e.0) (table_at tables t) e.1 row q w v (ap (table_at tables)) fits' fits is found))) ∙ passes))
+    ] refl
 
-  -- the removals of a row's pair and its entries remove the row
-  pub delete_only : (tables : List Table) (rows : Rows) (others : List Pair) (t : ℕ) (row : List Value) → IsOnly tables rows t row → EachFits tables rows → AllFit (types_of (table_at tables t)) row → AreCatalog others → changed (removals (pairs_of_row key_code row_code t (table_at tables t) row)) (pairs key_code row_code tables rows others) ≡ pairs key_code row_code tables (rows_without tables t (key_of (table_at tables t) row) rows) others
-  unfolding pairs
-  delete_only tables rows others t row only each fits catalog =
-      let key = key_of (table_at tables t) row in
-      let old = pairs_of_row key_code row_code t (table_at tables t) row in
-      let f = λ (e : ℕ × List Value). pairs_of_row key_code row_code e.0 (table_at tables e.0) e.1 in
-      let p = λ (e : ℕ × List Value). not (has_key tables t key e) in
-      let kept = filter p rows in
-      let own : All (λ (e : ℕ × List Value). has_key tables t key e ≡ true → e ≡ (t, row)) rows = All-from_recursion (λ (e : ℕ × List Value). has_key tables t key e ≡ true → e ≡ (t, row)) rows only in
-      let all_fit : All (λ (e : ℕ × List Value). AllFit (types_of (table_at tables e.0)) e.1) rows = All-from_recursion (λ (e : ℕ × List Value). AllFit (types_of (table_at tables e.0)) e.1) rows each in
-      let at_key = λ (q : List ℕ) (o : Option (List ℕ)) (is : find key_cmp q old ≡ o). elim o as (λ o. find key_cmp q old ≡ o → cond (is_some o) None (find key_cmp q (flat_map f rows ++ others)) ≡ find key_cmp q (flat_map f kept ++ others)) [
-        | None ↦ λ none.
-            find-or_else key_cmp q (flat_map f rows) others
-            ∙ ap (λ (r : Option (List ℕ)). or_else r (find key_cmp q others)) (sym (find_kept_in key_cmp f p q rows (All-weaker (λ (e : ℕ × List Value). has_key tables t key e ≡ true → e ≡ (t, row)) (λ (e : ℕ × List Value). p e ≡ false → find key_cmp q (f e) ≡ None) (λ e mine dropped. ap (λ (x : ℕ × List Value). find key_cmp q (f x)) (mine (not-false (has_key tables t key e) dropped)) ∙ none) rows own)))
-            ∙ sym (find-or_else key_cmp q (flat_map f kept) others)
-        | Some v ↦ λ found.
-            sym (find_rest key_cmp q (flat_map f kept) others (find_none_in key_cmp f p q rows (All-weaker (λ (e : ℕ × List Value). AllFit (types_of (table_at tables e.0)) e.1) (λ (e : ℕ × List Value). p e ≡ true → find key_cmp q (f e) ≡ None) (λ e fits' passes. apart_from tables t row e q v fits fits' found passes) rows all_fit))
-            ∙ catalog_apart key_code row_code others t (table_at tables t) row q v catalog found)
-      ] is in
-      same_content _ _ (λ q.
-      get-changed (removals old) (pairs key_code row_code tables rows others) q
-      ∙ after-removals old q _
-      ∙ ap (λ (o : Option (List ℕ)). cond (is_some (find key_cmp q old)) None o) (get-from_entries nat_list_cmp_total (row_pairs key_code row_code tables rows ++ others) q)
-      ∙ at_key q (find key_cmp q old) refl
-      ∙ sym (get-from_entries nat_list_cmp_total (row_pairs key_code row_code tables kept ++ others) q))
+-- the removals of a row's pair and its entries remove the row
+pub delete_only : (tables : List Table) (rows : Rows) (others : List Pair) (t : ℕ) (row : List Value) → IsOnly tables rows t row → EachFits tables rows → AllFit (types_of (table_at tables t)) row → AreBeside others → changed (removals (pairs_of_row t (table_at tables t) row)) (content_pairs tables rows others) ≡ content_pairs tables (rows_without tables t (key_of (table_at tables t) row) rows) others
+unfolding content_pairs
+delete_only tables rows others t row only each fits beside =
+    let key = key_of (table_at tables t) row in
+    let old = pairs_of_row t (table_at tables t) row in
+    let f = λ (e : ℕ × List Value). pairs_of_row e.0 (table_at tables e.0) e.1 in
+    let p = λ (e : ℕ × List Value). not (has_key tables t key e) in
+    let kept = filter p rows in
+    let own : All (λ (e : ℕ × List Value). has_key tables t key e ≡ true → e ≡ (t, row)) rows = All-from_recursion (λ (e : ℕ × List Value). has_key tables t key e ≡ true → e ≡ (t, row)) rows only in
+    let all_fit : All (λ (e : ℕ × List Value). AllFit (types_of (table_at tables e.0)) e.1) rows = All-from_recursion (λ (e : ℕ × List Value). AllFit (types_of (table_at tables e.0)) e.1) rows each in
+    let at_key = λ (q : List ℕ) (o : Option (List ℕ)) (is : find key_cmp q old ≡ o). elim o as (λ o. find key_cmp q old ≡ o → cond (is_some o) None (find key_cmp q (flat_map f rows ++ others)) ≡ find key_cmp q (flat_map f kept ++ others)) [
+      | None ↦ λ none.
+          find-or_else key_cmp q (flat_map f rows) others
+          ∙ ap (λ (r : Option (List ℕ)). or_else r (find key_cmp q others)) (sym (find_kept_in key_cmp f p q rows (All-weaker (λ (e : ℕ × List Value). has_key tables t key e ≡ true → e ≡ (t, row)) (λ (e : ℕ × List Value). p e ≡ false → find key_cmp q (f e) ≡ None) (λ e mine dropped. ap (λ (x : ℕ × List Value). find key_cmp q (f x)) (mine (not-false (has_key tables t key e) dropped)) ∙ none) rows own)))
+          ∙ sym (find-or_else key_cmp q (flat_map f kept) others)
+      | Some v ↦ λ found.
+          sym (find_rest key_cmp q (flat_map f kept) others (find_none_in key_cmp f p q rows (All-weaker (λ (e : ℕ × List Value). AllFit (types_of (table_at tables e.0)) e.1) (λ (e : ℕ × List Value). p e ≡ true → find key_cmp q (f e) ≡ None) (λ e fits' passes. apart_from tables t row e q v fits fits' found passes) rows all_fit))
+          ∙ beside_apart others t (table_at tables t) row q v beside found)
+    ] is in
+    same_content _ _ (λ q.
+    get-changed (removals old) (content_pairs tables rows others) q
+    ∙ after-removals old q _
+    ∙ ap (λ (o : Option (List ℕ)). cond (is_some (find key_cmp q old)) None o) (get-from_entries nat_list_cmp_total (row_pairs tables rows ++ others) q)
+    ∙ at_key q (find key_cmp q old) refl
+    ∙ sym (get-from_entries nat_list_cmp_total (row_pairs tables kept ++ others) q))
 
-  -- a row that is found by its key
-  pub delete_row : (tables : List Table) (rows : Rows) (others : List Pair) (t : ℕ) (key row : List Value) → Keeps row_code tables rows → AreCatalog others → row_at tables rows t key ≡ Some row → changed (removals (pairs_of_row key_code row_code t (table_at tables t) row)) (pairs key_code row_code tables rows others) ≡ pairs key_code row_code tables (rows_without tables t key rows) others
-  delete_row tables rows others t key row keeps catalog found =
-      let of_row = row_found row_code tables rows t key row keeps found in
-      let own = key_of (table_at tables t) row in
-      let here : row_at tables rows t own ≡ Some row = ap (row_at tables rows t) of_row.key_is ∙ found in
-      delete_only tables rows others t row (only_row tables rows t row keeps.apart here) keeps.fit of_row.fits catalog
-      ∙ ap (λ (k : List Value). pairs key_code row_code tables (rows_without tables t k rows) others) of_row.key_is
+-- a row that is found by its key
+pub delete_row : (tables : List Table) (rows : Rows) (others : List Pair) (t : ℕ) (key row : List Value) → Keeps tables rows → AreBeside others → row_at tables rows t key ≡ Some row → changed (removals (pairs_of_row t (table_at tables t) row)) (content_pairs tables rows others) ≡ content_pairs tables (rows_without tables t key rows) others
+delete_row tables rows others t key row keeps beside found =
+    let of_row = row_found tables rows t key row keeps found in
+    let own = key_of (table_at tables t) row in
+    let here : row_at tables rows t own ≡ Some row = ap (row_at tables rows t) of_row.key_is ∙ found in
+    delete_only tables rows others t row (only_row tables rows t row keeps.apart here) keeps.fit of_row.fits beside
+    ∙ ap (λ (k : List Value). content_pairs tables (rows_without tables t k rows) others) of_row.key_is

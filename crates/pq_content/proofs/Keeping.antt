@@ -12,16 +12,9 @@ use Rattle.pq_schema.specs.declared.table.Foreign.{Foreign}
 use Rattle.pq_schema.specs.declared.table.Limit.{Limit}
 use Rattle.pq_schema.specs.declared.table.Table.{Table}
 use Rattle.pq_schema.specs.Tables.{table_at}
-use Rattle.pq_content.specs.Tables.{Rows, rows_of, types_of, key_of, values_at, agrees, has_key, row_at, group_of, IsTableNumber, AreApart, IsWithin, HasParent, HasRoom, IsFound, Keeps}
+use Rattle.pq_content.specs.Tables.{Rows, rows_of, types_of, key_of, cells, agrees, has_key, row_at, group_of, IsTableNumber, AreApart, IsWithin, HasParent, HasRoom, IsFound, Keeps, stored_code}
 use Rattle.pq_content.proofs.Values.{same_from_test}
-
-pub each_weaker : {X : Type 0} (P Q : X → Type 0) → ((x : X) → P x → Q x) → (xs : List X) → AllByRecursion P xs → AllByRecursion Q xs
-each_weaker P Q f [] h = tt
-each_weaker P Q f (x ∷ xs) h = (f x h.0, each_weaker P Q f xs h.1)
-
-pub each_both : {X : Type 0} (P Q R : X → Type 0) → ((x : X) → P x → Q x → R x) → (xs : List X) → AllByRecursion P xs → AllByRecursion Q xs → AllByRecursion R xs
-each_both P Q R f [] g h = tt
-each_both P Q R f (x ∷ xs) g h = (f x g.0 h.0, each_both P Q R f xs g.1 h.1)
+use Rattle.pq_base.proofs.Members.{each_weaker, each_both}
 
 -- ---- the row with a key
 
@@ -107,11 +100,11 @@ number_of_found tables rows t key known some =
       | Some row ↦ λ is _. (found_among (λ (e : ℕ × List Value). IsTableNumber tables e.0) tables rows t key row known is).0
     ] refl some
 
-pub row_found : (row_code : List Value → List ℕ) (tables : List Table) (rows : Rows) (t : ℕ) (key row : List Value) → Keeps row_code tables rows → row_at tables rows t key ≡ Some row → IsFound row_code tables rows t key row
-row_found row_code tables rows t key row keeps found =
+pub row_found : (tables : List Table) (rows : Rows) (t : ℕ) (key row : List Value) → Keeps tables rows → row_at tables rows t key ≡ Some row → IsFound tables rows t key row
+row_found tables rows t key row keeps found =
     let known = found_among (λ (e : ℕ × List Value). IsTableNumber tables e.0) tables rows t key row keeps.known found in
     let fits = found_among (λ (e : ℕ × List Value). AllFit (types_of (table_at tables e.0)) e.1) tables rows t key row keeps.fit found in
-    let short = found_among (λ (e : ℕ × List Value). length (row_code e.1) ≤ 4096) tables rows t key row keeps.short found in
+    let short = found_among (λ (e : ℕ × List Value). length (stored_code (table_at tables e.0) e.1) ≤ 4096) tables rows t key row keeps.short found in
     record { there = known.1.there; number = known.0; fits = fits.0; key_is = known.1.key_is; short = short.0 }
 
 -- ---- one more row
@@ -133,9 +126,9 @@ within_still rows t u row limit room within values =
       | true ↦ λ is. elim (p row) as (λ c. p row ≡ c → length (cond c (row ∷ group) group) ≤ limit.n) [
         | true ↦ λ agree.
             let number : t ≡ u = eqb-true t u is in
-            let same : values_at limit.cols row ≡ values = same_from_test (values_at limit.cols row) values agree in
-            let less : length (group_of t limit.cols (values_at limit.cols row) rows) < limit.n = room number in
-            let here : length group < limit.n = subst (λ (v : List Value). length (group_of u limit.cols v rows) < limit.n) same (subst (λ (n : ℕ). length (group_of n limit.cols (values_at limit.cols row) rows) < limit.n) number less) in
+            let same : cells limit.cols row ≡ values = same_from_test (cells limit.cols row) values agree in
+            let less : length (group_of t limit.cols (cells limit.cols row) rows) < limit.n = room number in
+            let here : length group < limit.n = subst (λ (v : List Value). length (group_of u limit.cols v rows) < limit.n) same (subst (λ (n : ℕ). length (group_of n limit.cols (cells limit.cols row) rows) < limit.n) number less) in
             omega arith
         | false ↦ λ _. within values
       ] refl
@@ -143,27 +136,29 @@ within_still rows t u row limit room within values =
     ] refl
 
 -- a row that fits, is short, has a new key, has room in its groups and has its parents
-pub keeps_insert : (row_code : List Value → List ℕ) (tables : List Table) (rows : Rows) (t : ℕ) (row : List Value) → Keeps row_code tables rows → IsTableNumber tables t → AllFit (types_of (table_at tables t)) row → length (row_code row) ≤ 4096 → row_at tables rows t (key_of (table_at tables t) row) ≡ None → AllByRecursion (HasRoom t rows row) (table_at tables t).limits → AllByRecursion (HasParent tables rows row) (table_at tables t).foreign → Keeps row_code tables ((t, row) ∷ rows)
-keeps_insert row_code tables rows t row keeps number fits short none room parents =
+pub keeps_insert : (tables : List Table) (rows : Rows) (t : ℕ) (row : List Value) → Keeps tables rows → IsTableNumber tables t → AllFit (types_of (table_at tables t)) row → length (stored_code (table_at tables t) row) ≤ 4096 → row_at tables rows t (key_of (table_at tables t) row) ≡ None → AllByRecursion (HasRoom t rows row) (table_at tables t).limits → AllByRecursion (HasParent tables rows row) (table_at tables t).foreign → Keeps tables ((t, row) ∷ rows)
+keeps_insert tables rows t row keeps number fits short none room parents =
     let now : Rows = (t, row) ∷ rows in
     let parents_still : (r : List Value) (fs : List Foreign) → AllByRecursion (HasParent tables rows r) fs → AllByRecursion (HasParent tables now r) fs =
-    λ r fs h. each_weaker (HasParent tables rows r) (HasParent tables now r) (λ f there. found_still tables rows (t, row) f.table (values_at f.cols r) there) fs h in
+    λ r fs h. each_weaker (HasParent tables rows r) (HasParent tables now r) (λ f there. found_still tables rows (t, row) f.table (cells f.cols r) there) fs h in
     record {
-      known = (number, keeps.known);
-      fit = (fits, keeps.fit);
+      schema = record {
+        known = (number, keeps.known);
+        fit = (fits, keeps.fit);
+        apart = (none_has_key tables rows t (key_of (table_at tables t) row) none, keeps.apart);
+        limits = λ u is. elim (t == u) as (λ b. (t == u) ≡ b → AllByRecursion (IsWithin u now) (table_at tables u).limits) [
+          | true ↦ λ same.
+              let one : t ≡ u = eqb-true t u same in
+              each_both (HasRoom t rows row) (IsWithin u rows) (IsWithin u now) (λ limit free within. within_still rows t u row limit (λ _. free) within) (table_at tables u).limits (subst (λ (n : ℕ). AllByRecursion (HasRoom t rows row) (table_at tables n).limits) one room) (keeps.limits u is)
+          | false ↦ λ other.
+              each_weaker (IsWithin u rows) (IsWithin u now) (λ limit within. within_still rows t u row limit (λ one. absurd (false≢true (sym other ∙ subst (λ (n : ℕ). (t == n) ≡ true) one (eq-eqb t t refl)))) within) (table_at tables u).limits (keeps.limits u is)
+        ] refl;
+        foreign = (parents_still row (table_at tables t).foreign parents, each_weaker (λ (e : ℕ × List Value). AllByRecursion (HasParent tables rows e.1) (table_at tables e.0).foreign) (λ (e : ℕ × List Value). AllByRecursion (HasParent tables now e.1) (table_at tables e.0).foreign) (λ e h. parents_still e.1 (table_at tables e.0).foreign h) rows keeps.foreign);
+      };
       short = (short, keeps.short);
-      apart = (none_has_key tables rows t (key_of (table_at tables t) row) none, keeps.apart);
-      limits = λ u is. elim (t == u) as (λ b. (t == u) ≡ b → AllByRecursion (IsWithin u now) (table_at tables u).limits) [
-        | true ↦ λ same.
-            let one : t ≡ u = eqb-true t u same in
-            each_both (HasRoom t rows row) (IsWithin u rows) (IsWithin u now) (λ limit free within. within_still rows t u row limit (λ _. free) within) (table_at tables u).limits (subst (λ (n : ℕ). AllByRecursion (HasRoom t rows row) (table_at tables n).limits) one room) (keeps.limits u is)
-        | false ↦ λ other.
-            each_weaker (IsWithin u rows) (IsWithin u now) (λ limit within. within_still rows t u row limit (λ one. absurd (false≢true (sym other ∙ subst (λ (n : ℕ). (t == n) ≡ true) one (eq-eqb t t refl)))) within) (table_at tables u).limits (keeps.limits u is)
-      ] refl;
-      foreign = (parents_still row (table_at tables t).foreign parents, each_weaker (λ (e : ℕ × List Value). AllByRecursion (HasParent tables rows e.1) (table_at tables e.0).foreign) (λ (e : ℕ × List Value). AllByRecursion (HasParent tables now e.1) (table_at tables e.0).foreign) (λ e h. parents_still e.1 (table_at tables e.0).foreign h) rows keeps.foreign);
     }
 
 -- into a table with no limits and no foreign keys
-pub keeps_plain_insert : (row_code : List Value → List ℕ) (tables : List Table) (rows : Rows) (t : ℕ) (row : List Value) → Keeps row_code tables rows → IsTableNumber tables t → AllFit (types_of (table_at tables t)) row → length (row_code row) ≤ 4096 → row_at tables rows t (key_of (table_at tables t) row) ≡ None → (table_at tables t).limits ≡ [] → (table_at tables t).foreign ≡ [] → Keeps row_code tables ((t, row) ∷ rows)
-keeps_plain_insert row_code tables rows t row keeps number fits short none limits foreign =
-    keeps_insert row_code tables rows t row keeps number fits short none (subst (AllByRecursion (HasRoom t rows row)) (sym limits) tt) (subst (AllByRecursion (HasParent tables rows row)) (sym foreign) tt)
+pub keeps_plain_insert : (tables : List Table) (rows : Rows) (t : ℕ) (row : List Value) → Keeps tables rows → IsTableNumber tables t → AllFit (types_of (table_at tables t)) row → length (stored_code (table_at tables t) row) ≤ 4096 → row_at tables rows t (key_of (table_at tables t) row) ≡ None → (table_at tables t).limits ≡ [] → (table_at tables t).foreign ≡ [] → Keeps tables ((t, row) ∷ rows)
+keeps_plain_insert tables rows t row keeps number fits short none limits foreign =
+    keeps_insert tables rows t row keeps number fits short none (subst (AllByRecursion (HasRoom t rows row)) (sym limits) tt) (subst (AllByRecursion (HasParent tables rows row)) (sym foreign) tt)

@@ -10,9 +10,10 @@ use Rattle.pq_schema.specs.declared.table.Foreign.{Foreign}
 use Rattle.pq_schema.specs.declared.table.Limit.{Limit}
 use Rattle.pq_schema.specs.declared.table.Table.{Table}
 use Rattle.pq_schema.specs.Tables.{table_at}
-use Rattle.pq_content.specs.Tables.{Rows, rows_of, types_of, key_of, values_at, agrees, same_values, has_key, row_at, rows_without, group_of, IsTableNumber, AreApart, IsWithin, HasParent, HasRoom, MayChange, MayName, IsUnreferenced, Keeps}
-use Rattle.pq_content.proofs.Keeping.{each_weaker, each_both, none_has_key, found_still, within_still, row_found}
-use Rattle.pq_content.proofs.Members.{In, in_from_contains, each_in, each_by_in, in_filter, each_filter, fewer_kept, one_less_kept, find-filter, in_from_find}
+use Rattle.pq_content.specs.Tables.{Rows, rows_of, types_of, key_of, cells, agrees, same_values, has_key, row_at, rows_without, group_of, IsTableNumber, AreApart, IsWithin, HasParent, HasRoom, MayChange, MayRefer, IsUnreferenced, Keeps, stored_code}
+use Rattle.pq_content.proofs.Keeping.{none_has_key, found_still, within_still, row_found}
+use Rattle.pq_base.proofs.Members.{in_from_contains, each_in, each_by_in, in_filter, each_filter, fewer_kept, one_less_kept, find-filter, in_from_find, each_weaker, each_both}
+use Rattle.pq_base.specs.Members.{In}
 use Rattle.pq_content.proofs.Values.{same_from_test, same_values_itself}
 
 -- the rows of a table that are left
@@ -71,18 +72,18 @@ row_at-without tables rows t u key k other =
         ] refl other
 
 -- a row is in the group of its own values
-in_group : (rows : Rows) (e : ℕ × List Value) (cols : List ℕ) → In e rows → group_of e.0 cols (values_at cols e.1) rows ≡ [] → ⊥
+in_group : (rows : Rows) (e : ℕ × List Value) (cols : List ℕ) → In e rows → group_of e.0 cols (cells cols e.1) rows ≡ [] → ⊥
 in_group [] e cols i none = i
 in_group (f ∷ es) e cols (inl same) none =
-    let Q = λ (x : ℕ × List Value). group_of x.0 cols (values_at cols x.1) (f ∷ es) ≡ [] in
+    let Q = λ (x : ℕ × List Value). group_of x.0 cols (cells cols x.1) (f ∷ es) ≡ [] in
     let here : Q f = subst Q (sym same) none in
-    let own : group_of f.0 cols (values_at cols f.1) (f ∷ es) ≡ f.1 ∷ group_of f.0 cols (values_at cols f.1) es =
-    ap (λ b. filter (agrees cols (values_at cols f.1)) (cond b (f.1 ∷ rows_of f.0 es) (rows_of f.0 es))) (eq-eqb f.0 f.0 refl)
-    ∙ ap (λ b. cond b (f.1 ∷ group_of f.0 cols (values_at cols f.1) es) (group_of f.0 cols (values_at cols f.1) es)) (same_values_itself (values_at cols f.1)) in
-    let both : f.1 ∷ group_of f.0 cols (values_at cols f.1) es ≡ [] = sym own ∙ here in
+    let own : group_of f.0 cols (cells cols f.1) (f ∷ es) ≡ f.1 ∷ group_of f.0 cols (cells cols f.1) es =
+    ap (λ b. filter (agrees cols (cells cols f.1)) (cond b (f.1 ∷ rows_of f.0 es) (rows_of f.0 es))) (eq-eqb f.0 f.0 refl)
+    ∙ ap (λ b. cond b (f.1 ∷ group_of f.0 cols (cells cols f.1) es) (group_of f.0 cols (cells cols f.1) es)) (same_values_itself (cells cols f.1)) in
+    let both : f.1 ∷ group_of f.0 cols (cells cols f.1) es ≡ [] = sym own ∙ here in
     cc
 in_group (f ∷ es) e cols (inr later) none =
-    let p = agrees cols (values_at cols e.1) in
+    let p = agrees cols (cells cols e.1) in
     elim (f.0 == e.0) as (λ b. filter p (cond b (f.1 ∷ rows_of e.0 es) (rows_of e.0 es)) ≡ [] → ⊥) [
       | true ↦ λ none. elim (p f.1) as (λ c. cond c (f.1 ∷ filter p (rows_of e.0 es)) (filter p (rows_of e.0 es)) ≡ [] → ⊥) [
         | true ↦ λ none. absurd cc
@@ -92,12 +93,12 @@ in_group (f ∷ es) e cols (inr later) none =
     ] none
 
 -- a row that no row names may go
-pub keeps_delete : (row_code : List Value → List ℕ) (tables : List Table) (rows : Rows) (t : ℕ) (key : List Value) → Keeps row_code tables rows → IsUnreferenced tables rows t key → Keeps row_code tables (rows_without tables t key rows)
-keeps_delete row_code tables rows t key keeps free =
+pub keeps_delete : (tables : List Table) (rows : Rows) (t : ℕ) (key : List Value) → Keeps tables rows → IsUnreferenced tables rows t key → Keeps tables (rows_without tables t key rows)
+keeps_delete tables rows t key keeps free =
     let p = λ (e : ℕ × List Value). not (has_key tables t key e) in
     let left : Rows = rows_without tables t key rows in
     let parent = λ (e : ℕ × List Value) (i : In e rows) (f : Foreign) (j : In f (table_at tables e.0).foreign) (there : HasParent tables rows e.1 f).
-    let k = values_at f.cols e.1 in
+    let k = cells f.cols e.1 in
     elim ((f.table == t) && same_values k key) as (λ b. ((f.table == t) && same_values k key) ≡ b → HasParent tables left e.1 f) [
       | true ↦ λ is.
           let parts = and_parts (f.table == t) (same_values k key) is in
@@ -106,14 +107,16 @@ keeps_delete row_code tables rows t key keeps free =
       | false ↦ λ other. subst (λ (o : Option (List Value)). IsSome o) (sym (row_at-without tables rows t f.table key k other)) there
     ] refl in
     record {
-      known = each_filter p _ rows keeps.known;
-      fit = each_filter p _ rows keeps.fit;
+      schema = record {
+        known = each_filter p _ rows keeps.known;
+        fit = each_filter p _ rows keeps.fit;
+        apart = AreApart-filter tables p rows keeps.apart;
+        limits = λ u is. each_weaker (IsWithin u rows) (IsWithin u left) (λ limit within. within_without tables rows t u key limit within) (table_at tables u).limits (keeps.limits u is);
+        foreign = each_by_in (λ (e : ℕ × List Value). AllByRecursion (HasParent tables left e.1) (table_at tables e.0).foreign) left (λ e i.
+            let there : In e rows = (in_filter p e rows i).0 in
+            each_by_in (HasParent tables left e.1) (table_at tables e.0).foreign (λ f j. parent e there f j (each_in (HasParent tables rows e.1) (table_at tables e.0).foreign (each_in (λ (x : ℕ × List Value). AllByRecursion (HasParent tables rows x.1) (table_at tables x.0).foreign) rows keeps.foreign e there) f j)));
+      };
       short = each_filter p _ rows keeps.short;
-      apart = AreApart-filter tables p rows keeps.apart;
-      limits = λ u is. each_weaker (IsWithin u rows) (IsWithin u left) (λ limit within. within_without tables rows t u key limit within) (table_at tables u).limits (keeps.limits u is);
-      foreign = each_by_in (λ (e : ℕ × List Value). AllByRecursion (HasParent tables left e.1) (table_at tables e.0).foreign) left (λ e i.
-          let there : In e rows = in_filter p rows e i in
-          each_by_in (HasParent tables left e.1) (table_at tables e.0).foreign (λ f j. parent e there f j (each_in (HasParent tables rows e.1) (table_at tables e.0).foreign (each_in (λ (x : ℕ × List Value). AllByRecursion (HasParent tables rows x.1) (table_at tables x.0).foreign) rows keeps.foreign e there) f j)));
     }
 
 -- ---- an update
@@ -144,48 +147,50 @@ room_left : (tables : List Table) (rows : Rows) (t : ℕ) (old new : List Value)
 room_left tables rows t old new limit there within (inl same) =
     let key = key_of (table_at tables t) old in
     let p = λ (row : List Value). not ((t == t) && agrees (table_at tables t).key key row) in
-    let q = agrees limit.cols (values_at limit.cols new) in
-    let keeps : q old ≡ true = ap (λ (v : List Value). same_values v (values_at limit.cols new)) same ∙ same_values_itself (values_at limit.cols new) in
+    let q = agrees limit.cols (cells limit.cols new) in
+    let keeps : q old ≡ true = ap (λ (v : List Value). same_values v (cells limit.cols new)) same ∙ same_values_itself (cells limit.cols new) in
     let drops : p old ≡ false = ap (λ b. not (b && same_values key key)) (eq-eqb t t refl) ∙ ap not (same_values_itself key) in
     let less = one_less_kept p q (rows_of t rows) old there keeps drops in
-    let left : length (group_of t limit.cols (values_at limit.cols new) (rows_without tables t key rows)) ≡ length (filter q (filter p (rows_of t rows))) = ap (λ (l : List (List Value)). length (filter q l)) (rows_of-without tables rows t t key) in
-    let most = within (values_at limit.cols new) in
+    let left : length (group_of t limit.cols (cells limit.cols new) (rows_without tables t key rows)) ≡ length (filter q (filter p (rows_of t rows))) = ap (λ (l : List (List Value)). length (filter q l)) (rows_of-without tables rows t t key) in
+    let most = within (cells limit.cols new) in
     omega arith
 room_left tables rows t old new limit there within (inr room) =
-    let less = group_without tables rows t t (key_of (table_at tables t) old) limit.cols (values_at limit.cols new) in
+    let less = group_without tables rows t t (key_of (table_at tables t) old) limit.cols (cells limit.cols new) in
     omega arith
 
 -- a new row that fits, is short and has the old row's key, and whose changes have room and parents
-pub keeps_update : (row_code : List Value → List ℕ) (tables : List Table) (rows : Rows) (t : ℕ) (old new : List Value) → Keeps row_code tables rows → row_at tables rows t (key_of (table_at tables t) old) ≡ Some old → key_of (table_at tables t) old ≡ key_of (table_at tables t) new → AllFit (types_of (table_at tables t)) new → length (row_code new) ≤ 4096 → AllByRecursion (MayChange t rows old new) (table_at tables t).limits → AllByRecursion (MayName tables rows old new) (table_at tables t).foreign → Keeps row_code tables ((t, new) ∷ rows_without tables t (key_of (table_at tables t) old) rows)
-keeps_update row_code tables rows t old new keeps found same fits short changes names =
+pub keeps_update : (tables : List Table) (rows : Rows) (t : ℕ) (old new : List Value) → Keeps tables rows → row_at tables rows t (key_of (table_at tables t) old) ≡ Some old → key_of (table_at tables t) old ≡ key_of (table_at tables t) new → AllFit (types_of (table_at tables t)) new → length (stored_code (table_at tables t) new) ≤ 4096 → AllByRecursion (MayChange t rows old new) (table_at tables t).limits → AllByRecursion (MayRefer tables rows old new) (table_at tables t).foreign → Keeps tables ((t, new) ∷ rows_without tables t (key_of (table_at tables t) old) rows)
+keeps_update tables rows t old new keeps found same fits short changes names =
     let key = key_of (table_at tables t) old in
     let p = λ (e : ℕ × List Value). not (has_key tables t key e) in
     let left : Rows = rows_without tables t key rows in
     let now : Rows = (t, new) ∷ left in
-    let of_old = row_found row_code tables rows t key old keeps found in
+    let of_old = row_found tables rows t key old keeps found in
     let in_rows : In (t, old) rows = in_from_contains rows (t, old) of_old.there in
     let in_table : In old (rows_of t rows) = in_from_find (agrees (table_at tables t).key key) (rows_of t rows) old found in
     let parents : (e : ℕ × List Value) → In e rows → AllByRecursion (HasParent tables rows e.1) (table_at tables e.0).foreign = λ e i. each_in (λ (x : ℕ × List Value). AllByRecursion (HasParent tables rows x.1) (table_at tables x.0).foreign) rows keeps.foreign e i in
-    let still = λ (row : List Value) (f : Foreign) (there : HasParent tables rows row f). replaced_found tables rows t f.table key new (values_at f.cols row) (sym same) there in
-    let named : (f : Foreign) → HasParent tables rows old f → MayName tables rows old new f → HasParent tables now new f = λ f own may. elim may [
+    let still = λ (row : List Value) (f : Foreign) (there : HasParent tables rows row f). replaced_found tables rows t f.table key new (cells f.cols row) (sym same) there in
+    let named : (f : Foreign) → HasParent tables rows old f → MayRefer tables rows old new f → HasParent tables now new f = λ f own may. elim may [
       | inl stays ↦ still new f (subst (λ (v : List Value). IsSome (row_at tables rows f.table v)) stays own)
       | inr there ↦ still new f there
     ] in
     record {
-      known = (of_old.number, each_filter p _ rows keeps.known);
-      fit = (fits, each_filter p _ rows keeps.fit);
+      schema = record {
+        known = (of_old.number, each_filter p _ rows keeps.known);
+        fit = (fits, each_filter p _ rows keeps.fit);
+        apart = (
+          none_has_key tables left t (key_of (table_at tables t) new) (ap (row_at tables left t) (sym same) ∙ gone key),
+          AreApart-filter tables p rows keeps.apart,
+        );
+        limits = λ u is. each_by_in (IsWithin u now) (table_at tables u).limits (λ limit i.
+            let within : IsWithin u rows limit = each_in (IsWithin u rows) (table_at tables u).limits (keeps.limits u is) limit i in
+            within_still left t u new limit (λ number. room_left tables rows t old new limit in_table (subst (λ (n : ℕ). IsWithin n rows limit) (sym number) within) (each_in (MayChange t rows old new) (table_at tables t).limits changes limit (subst (λ (n : ℕ). In limit (table_at tables n).limits) (sym number) i))) (within_without tables rows t u key limit within));
+        foreign = (
+          each_both (HasParent tables rows old) (MayRefer tables rows old new) (HasParent tables now new) named (table_at tables t).foreign (parents (t, old) in_rows) names,
+          each_by_in (λ (e : ℕ × List Value). AllByRecursion (HasParent tables now e.1) (table_at tables e.0).foreign) left (λ e i. each_weaker (HasParent tables rows e.1) (HasParent tables now e.1) (λ f there. still e.1 f there) (table_at tables e.0).foreign (parents e ((in_filter p e rows i).0))),
+        );
+      };
       short = (short, each_filter p _ rows keeps.short);
-      apart = (
-        none_has_key tables left t (key_of (table_at tables t) new) (ap (row_at tables left t) (sym same) ∙ gone key),
-        AreApart-filter tables p rows keeps.apart,
-      );
-      limits = λ u is. each_by_in (IsWithin u now) (table_at tables u).limits (λ limit i.
-          let within : IsWithin u rows limit = each_in (IsWithin u rows) (table_at tables u).limits (keeps.limits u is) limit i in
-          within_still left t u new limit (λ number. room_left tables rows t old new limit in_table (subst (λ (n : ℕ). IsWithin n rows limit) (sym number) within) (each_in (MayChange t rows old new) (table_at tables t).limits changes limit (subst (λ (n : ℕ). In limit (table_at tables n).limits) (sym number) i))) (within_without tables rows t u key limit within));
-      foreign = (
-        each_both (HasParent tables rows old) (MayName tables rows old new) (HasParent tables now new) named (table_at tables t).foreign (parents (t, old) in_rows) names,
-        each_by_in (λ (e : ℕ × List Value). AllByRecursion (HasParent tables now e.1) (table_at tables e.0).foreign) left (λ e i. each_weaker (HasParent tables rows e.1) (HasParent tables now e.1) (λ f there. still e.1 f there) (table_at tables e.0).foreign (parents e (in_filter p rows e i))),
-      );
     }
   where
     gone : (key : List Value) → row_at tables (rows_without tables t key rows) t key ≡ None

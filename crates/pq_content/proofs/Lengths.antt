@@ -9,13 +9,13 @@ use Rattle.pq_base.specs.declared.value.Dir.{Dir}
 use Rattle.pq_base.specs.declared.value.Value.{Value}
 use Rattle.pq_base.specs.declared.value.Value.TheVariants as value
 use Rattle.pq_key_code.specs.KeyCode.{escaped, payload, turned, component, code_of}
-use Rattle.pq_row_code.specs.RowCode.{field, fields, row_code}
+use Rattle.pq_row_code.specs.RowCode.{field, fields}
 use Rattle.pq_schema.specs.declared.table.Index.{Index}
 use Rattle.pq_schema.specs.declared.table.KeyPart.{KeyPart}
 use Rattle.pq_schema.specs.declared.table.Table.{Table}
 use Rattle.pq_schema.specs.Sequences.{columns_of, index_sequence}
 use Rattle.pq_content.specs.Pairs.{Pair, Change, puts, removals, entry_pair, entries_from, pairs_of_row, entry_changes, update_changes}
-use Rattle.pq_content.specs.Tables.{value_of, values_at, values_of, dirs_of, same_values}
+use Rattle.pq_content.specs.Tables.{value_of, cells, values_of, dirs_of, same_values, stored_code}
 use Rattle.pq_content.proofs.Values.{same_values_decides, values_of-columns_of}
 
 -- ---- the number of changes
@@ -28,34 +28,33 @@ pub length-removals : (ps : List Pair) → length (removals ps) ≡ length ps
 length-removals [] = refl
 length-removals (p ∷ ps) = ap suc (length-removals ps)
 
-module _ (key_code : List Dir → List Value → List ℕ) (row_code : List Value → List ℕ) where
-  length-entries_from : (t i : ℕ) (table : Table) (indexes : List Index) (row : List Value) → length (entries_from key_code row_code t i table indexes row) ≡ length indexes
-  length-entries_from t i table [] row = refl
-  length-entries_from t i table (index ∷ indexes) row = ap suc (length-entries_from t (i + 1) table indexes row)
+length-entries_from : (t i : ℕ) (table : Table) (indexes : List Index) (row : List Value) → length (entries_from t i table indexes row) ≡ length indexes
+length-entries_from t i table [] row = refl
+length-entries_from t i table (index ∷ indexes) row = ap suc (length-entries_from t (i + 1) table indexes row)
 
-  -- a row has a pair of its own and one for each index
-  pub length-pairs_of_row : (t : ℕ) (table : Table) (row : List Value) → length (pairs_of_row key_code row_code t table row) ≡ suc (length table.indexes)
-  length-pairs_of_row t table row = ap suc (length-entries_from t 1 table table.indexes row)
+-- a row has a pair of its own and one for each index
+pub length-pairs_of_row : (t : ℕ) (table : Table) (row : List Value) → length (pairs_of_row t table row) ≡ suc (length table.indexes)
+length-pairs_of_row t table row = ap suc (length-entries_from t 1 table table.indexes row)
 
-  -- two for each index whose sequence may have other values
-  length-entry_changes : (may_change : Index → Bool) (t i : ℕ) (table : Table) (indexes : List Index) (old new : List Value) → ((index : Index) → may_change index ≡ false → values_of (index_sequence table index) old ≡ values_of (index_sequence table index) new) → length (entry_changes key_code row_code t i table indexes old new) ≤ 2 * length (filter may_change indexes)
-  length-entry_changes may_change t i table [] old new stays = omega arith
-  length-entry_changes may_change t i table (index ∷ indexes) old new stays =
-      let sequence = index_sequence table index in
-      let rest = length-entry_changes may_change t (i + 1) table indexes old new stays in
-      let two : List Change = ((entry_pair key_code row_code t i sequence old).0, None) ∷ ((entry_pair key_code row_code t i sequence new).0, Some []) ∷ [] in
-      let more = entry_changes key_code row_code t (i + 1) table indexes old new in
-      elim (may_change index) as (λ b. may_change index ≡ b → length (cond (same_values (values_of sequence old) (values_of sequence new)) [] two ++ more) ≤ 2 * length (cond b (index ∷ filter may_change indexes) (filter may_change indexes))) [
-        | true ↦ λ _. elim (same_values (values_of sequence old) (values_of sequence new)) as (λ c. length (cond c [] two ++ more) ≤ 2 * suc (length (filter may_change indexes))) [ true ↦ omega arith | false ↦ omega arith ]
-        | false ↦ λ is.
-            let same : same_values (values_of sequence old) (values_of sequence new) ≡ true = (same_values_decides (values_of sequence old) (values_of sequence new)).1 (stays index is) in
-            subst (λ c. length (cond c [] two ++ more) ≤ 2 * length (filter may_change indexes)) (sym same) rest
-      ] refl
+-- two for each index whose sequence may have other values
+length-entry_changes : (may_change : Index → Bool) (t i : ℕ) (table : Table) (indexes : List Index) (old new : List Value) → ((index : Index) → may_change index ≡ false → values_of (index_sequence table index) old ≡ values_of (index_sequence table index) new) → length (entry_changes t i table indexes old new) ≤ 2 * length (filter may_change indexes)
+length-entry_changes may_change t i table [] old new stays = omega arith
+length-entry_changes may_change t i table (index ∷ indexes) old new stays =
+    let sequence = index_sequence table index in
+    let rest = length-entry_changes may_change t (i + 1) table indexes old new stays in
+    let two : List Change = ((entry_pair t i sequence old).0, None) ∷ ((entry_pair t i sequence new).0, Some []) ∷ [] in
+    let more = entry_changes t (i + 1) table indexes old new in
+    elim (may_change index) as (λ b. may_change index ≡ b → length (cond (same_values (values_of sequence old) (values_of sequence new)) [] two ++ more) ≤ 2 * length (cond b (index ∷ filter may_change indexes) (filter may_change indexes))) [
+      | true ↦ λ _. elim (same_values (values_of sequence old) (values_of sequence new)) as (λ c. length (cond c [] two ++ more) ≤ 2 * suc (length (filter may_change indexes))) [ true ↦ omega arith | false ↦ omega arith ]
+      | false ↦ λ is.
+          let same : same_values (values_of sequence old) (values_of sequence new) ≡ true = (same_values_decides (values_of sequence old) (values_of sequence new)).1 (stays index is) in
+          subst (λ c. length (cond c [] two ++ more) ≤ 2 * length (filter may_change indexes)) (sym same) rest
+    ] refl
 
-  pub length-update_changes : (may_change : Index → Bool) (t : ℕ) (table : Table) (old new : List Value) → ((index : Index) → may_change index ≡ false → values_of (index_sequence table index) old ≡ values_of (index_sequence table index) new) → length (update_changes key_code row_code t table old new) ≤ 1 + 2 * length (filter may_change table.indexes)
-  length-update_changes may_change t table old new stays =
-      let rest = length-entry_changes may_change t 1 table table.indexes old new stays in
-      omega arith
+pub length-update_changes : (may_change : Index → Bool) (t : ℕ) (table : Table) (old new : List Value) → ((index : Index) → may_change index ≡ false → values_of (index_sequence table index) old ≡ values_of (index_sequence table index) new) → length (update_changes t table old new) ≤ 1 + 2 * length (filter may_change table.indexes)
+length-update_changes may_change t table old new stays =
+    let rest = length-entry_changes may_change t 1 table table.indexes old new stays in
+    omega arith
 
 -- ---- the length of keys
 
@@ -82,10 +81,10 @@ value_within n (x ∷ row) zero h = h.0
 value_within n (x ∷ row) (suc col) h = value_within n row col h.1
 
 -- each value of a short row is short
-pub values_within : (n : ℕ) (row : List Value) (cols : List ℕ) → length (row_code row) ≤ n → AllByRecursion (IsWithinLength n) (values_at cols row)
-values_within n row cols h = each cols (within_fields n row (omega arith))
+pub values_within : (n : ℕ) (table : Table) (row : List Value) (cols : List ℕ) → length (stored_code table row) ≤ n → AllByRecursion (IsWithinLength n) (cells cols row)
+values_within n table row cols h = each cols (within_fields n row (omega arith))
   where
-    each : (cols : List ℕ) → AllByRecursion (IsWithinLength n) row → AllByRecursion (IsWithinLength n) (values_at cols row)
+    each : (cols : List ℕ) → AllByRecursion (IsWithinLength n) row → AllByRecursion (IsWithinLength n) (cells cols row)
     each [] short = tt
     each (col ∷ cols) short = (value_within n row col short, each cols short)
 
@@ -119,10 +118,10 @@ length-code_of n (d ∷ ds) (x ∷ xs) h =
     omega (arith, suc-mul (length xs) (2 * n + 9))
 
 -- the key of a row's entry, where the row's code has at most so many bytes
-pub length-entry_key : (n t i : ℕ) (sequence : List KeyPart) (row : List Value) → length (row_code row) ≤ n → length (entry_pair code_of row_code t i sequence row).0 ≤ 3 + length sequence * (2 * n + 9)
-length-entry_key n t i sequence row h =
+pub length-entry_key : (n t i : ℕ) (table : Table) (sequence : List KeyPart) (row : List Value) → length (stored_code table row) ≤ n → length (entry_pair t i sequence row).0 ≤ 3 + length sequence * (2 * n + 9)
+length-entry_key n t i table sequence row h =
     let xs = values_of sequence row in
-    let within : AllByRecursion (IsWithinLength n) xs = subst (AllByRecursion (IsWithinLength n)) (sym (values_of-columns_of sequence row)) (values_within n row (columns_of sequence) h) in
+    let within : AllByRecursion (IsWithinLength n) xs = subst (AllByRecursion (IsWithinLength n)) (sym (values_of-columns_of sequence row)) (values_within n table row (columns_of sequence) h) in
     let short = length-code_of n (dirs_of sequence) xs within in
     let same : length xs ≡ length sequence = length-map sequence (λ (part : KeyPart). value_of row part.col) in
     let most : length (code_of (dirs_of sequence) xs) ≤ length sequence * (2 * n + 9) = subst (λ (k : ℕ). length (code_of (dirs_of sequence) xs) ≤ k * (2 * n + 9)) same short in

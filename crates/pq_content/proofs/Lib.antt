@@ -1,3 +1,4 @@
+pub mod Beside
 pub mod Building
 pub mod Changes
 pub mod Codes
@@ -9,7 +10,6 @@ pub mod Keeping
 pub mod KeepingWrites
 pub mod Keys
 pub mod Lengths
-pub mod Members
 pub mod MoreTables
 pub mod Others
 pub mod Owners
@@ -21,7 +21,6 @@ pub mod Scans
 pub mod Sequence
 pub mod Settling
 pub mod Shapes
-pub mod Sorts
 pub mod TableRows
 pub mod Unique
 pub mod Updates

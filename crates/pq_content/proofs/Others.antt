@@ -1,84 +1,83 @@
 -- The pairs of a content that are no row's: those of the catalog, and the intent's.
-use Rattle.std.proofs.Common.{◌≡◌, ℕ, ◌+◌, true, cond, List, [], ◌∷◌, ◌++◌, None, refl, sym, ap, ◌∙◌, append_assoc}
+use Rattle.std.proofs.Common.{◌≡◌, ℕ, ◌+◌, true, cond, List, [], ◌∷◌, ◌++◌, None, refl, sym, ap, ◌∙◌, append_assoc, false}
 use Rattle.std.specs.Cmp.Lexicographic.{nat_list_cmp_total}
 use Rattle.std.specs.FinMap.{find, get, insert, empty, entries, from_entries, from_entries_push, get-from_entries, is_sorted}
 use Rattle.std.specs.FinMap.Entries.{where_key}
 use Rattle.std.proofs.lemmas.Bool.{eqb-true, false≢true}
 use Rattle.std.proofs.lemmas.List.Elements.{filter-append}
-use Rattle.pq_base.specs.declared.value.Dir.{Dir}
 use Rattle.pq_base.specs.declared.value.Value.{Value}
 use Rattle.pq_schema.specs.declared.table.Index.{Index}
 use Rattle.pq_schema.specs.declared.table.Table.{Table}
 use Rattle.pq_schema.specs.Tables.{table_at}
-use Rattle.pq_content.specs.Pairs.{key_cmp, Pair, is_in_space, AreCatalog, pairs_within, entries_from, pairs_of_row, row_pairs, pairs}
+use Rattle.pq_content.specs.Pairs.{Pair, is_in_space, AreCatalog, entries_from, pairs_of_row, row_pairs, content_pairs, is_of_rows}
+use Rattle.pq_store.specs.Content.{key_cmp, pairs_within}
 use Rattle.pq_content.specs.Tables.{Rows}
 use Rattle.pq_content.proofs.Changes.{bytes_apart}
 use Rattle.pq_content.proofs.Find.{find_rest}
-use Rattle.pq_content.proofs.Keys.{one_space, not_in_rows, not_in_catalog}
+use Rattle.pq_content.proofs.Keys.{not_in_rows, not_in_catalog}
 use Rattle.pq_content.proofs.Ranges.{where_from, where-flat_map, flat_map-nil, entries-rising, in_range}
 
-module _ (key_code : List Dir → List Value → List ℕ) (row_code : List Value → List ℕ) where
-  find_other : (tables : List Table) (rows : Rows) (others : List Pair) (q : List ℕ) → is_in_space 1 q ≡ true → find key_cmp q (row_pairs key_code row_code tables rows ++ others) ≡ find key_cmp q others
-  find_other tables rows others q there = find_rest key_cmp q (row_pairs key_code row_code tables rows) others (not_in_rows key_code row_code tables rows q (one_space 1 2 q refl there) (one_space 1 3 q refl there))
+find_other : (tables : List Table) (rows : Rows) (others : List Pair) (q : List ℕ) → is_of_rows q ≡ false → find key_cmp q (row_pairs tables rows ++ others) ≡ find key_cmp q others
+find_other tables rows others q there = find_rest key_cmp q (row_pairs tables rows) others (not_in_rows tables rows q there)
 
-  -- a key of the catalog's space is looked up among the catalog's pairs
-  pub get_other : (tables : List Table) (rows : Rows) (others : List Pair) (q : List ℕ) → is_in_space 1 q ≡ true → get (pairs key_code row_code tables rows others) q ≡ find key_cmp q others
-  unfolding pairs
-  get_other tables rows others q there = get-from_entries nat_list_cmp_total (row_pairs key_code row_code tables rows ++ others) q ∙ find_other tables rows others q there
+-- a key that is of neither rows nor entries is looked up among the other pairs
+pub get_other : (tables : List Table) (rows : Rows) (others : List Pair) (q : List ℕ) → is_of_rows q ≡ false → get (content_pairs tables rows others) q ≡ find key_cmp q others
+unfolding content_pairs
+get_other tables rows others q there = get-from_entries nat_list_cmp_total (row_pairs tables rows ++ others) q ∙ find_other tables rows others q there
 
-  -- a pair of the catalog's space is put behind the others
-  pub insert_other : (tables : List Table) (rows : Rows) (others : List Pair) (k v : List ℕ) → is_in_space 1 k ≡ true → find key_cmp k others ≡ None → insert (pairs key_code row_code tables rows others) k v ≡ pairs key_code row_code tables rows (others ++ (k, v) ∷ [])
-  unfolding pairs
-  insert_other tables rows others k v there none =
-      let front = row_pairs key_code row_code tables rows in
-      sym (from_entries_push nat_list_cmp_total bytes_apart (front ++ others) k v (find_other tables rows others k there ∙ none))
-      ∙ ap (from_entries {R = key_cmp}) (append_assoc front others ((k, v) ∷ []))
+-- a new pair with such a key is put behind the others
+pub insert_other : (tables : List Table) (rows : Rows) (others : List Pair) (k v : List ℕ) → is_of_rows k ≡ false → find key_cmp k others ≡ None → insert (content_pairs tables rows others) k v ≡ content_pairs tables rows (others ++ (k, v) ∷ [])
+unfolding content_pairs
+insert_other tables rows others k v there none =
+    let front = row_pairs tables rows in
+    sym (from_entries_push nat_list_cmp_total bytes_apart (front ++ others) k v (find_other tables rows others k there ∙ none))
+    ∙ ap (from_entries {R = key_cmp}) (append_assoc front others ((k, v) ∷ []))
 
-  -- no intent is there
-  pub no_intent : (tables : List Table) (rows : Rows) (others : List Pair) → AreCatalog others → get (pairs key_code row_code tables rows others) (4 ∷ []) ≡ None
-  unfolding pairs
-  no_intent tables rows others catalog =
-      get-from_entries nat_list_cmp_total (row_pairs key_code row_code tables rows ++ others) (4 ∷ [])
-      ∙ find_rest key_cmp (4 ∷ []) (row_pairs key_code row_code tables rows) others (not_in_rows key_code row_code tables rows (4 ∷ []) refl refl)
-      ∙ not_in_catalog others (4 ∷ []) catalog refl
+-- no intent is there
+pub no_intent : (tables : List Table) (rows : Rows) (others : List Pair) → AreCatalog others → get (content_pairs tables rows others) (4 ∷ []) ≡ None
+unfolding content_pairs
+no_intent tables rows others catalog =
+    get-from_entries nat_list_cmp_total (row_pairs tables rows ++ others) (4 ∷ [])
+    ∙ find_rest key_cmp (4 ∷ []) (row_pairs tables rows) others (not_in_rows tables rows (4 ∷ []) refl)
+    ∙ not_in_catalog others (4 ∷ []) catalog refl
 
-  -- ---- the range of the catalog's space
-  entries_outside : (t i : ℕ) (table : Table) (indexes : List Index) (row : List Value) → where_key key_cmp (in_range (1 ∷ []) (2 ∷ [])) (entries_from key_code row_code t i table indexes row) ≡ []
-  entries_outside t i table [] row = refl
-  entries_outside t i table (index ∷ indexes) row = entries_outside t (i + 1) table indexes row
+-- ---- the range of the catalog's space
+entries_outside : (t i : ℕ) (table : Table) (indexes : List Index) (row : List Value) → where_key key_cmp (in_range (1 ∷ []) (2 ∷ [])) (entries_from t i table indexes row) ≡ []
+entries_outside t i table [] row = refl
+entries_outside t i table (index ∷ indexes) row = entries_outside t (i + 1) table indexes row
 
-  rows_outside : (tables : List Table) (rows : Rows) → where_key key_cmp (in_range (1 ∷ []) (2 ∷ [])) (row_pairs key_code row_code tables rows) ≡ []
-  rows_outside tables rows =
-      where-flat_map (in_range (1 ∷ []) (2 ∷ [])) (λ (e : ℕ × List Value). pairs_of_row key_code row_code e.0 (table_at tables e.0) e.1) rows
-      ∙ flat_map-nil (λ (e : ℕ × List Value). where_key key_cmp (in_range (1 ∷ []) (2 ∷ [])) (pairs_of_row key_code row_code e.0 (table_at tables e.0) e.1)) (λ e. entries_outside e.0 1 (table_at tables e.0) (table_at tables e.0).indexes e.1) rows
+rows_outside : (tables : List Table) (rows : Rows) → where_key key_cmp (in_range (1 ∷ []) (2 ∷ [])) (row_pairs tables rows) ≡ []
+rows_outside tables rows =
+    where-flat_map (in_range (1 ∷ []) (2 ∷ [])) (λ (e : ℕ × List Value). pairs_of_row e.0 (table_at tables e.0) e.1) rows
+    ∙ flat_map-nil (λ (e : ℕ × List Value). where_key key_cmp (in_range (1 ∷ []) (2 ∷ [])) (pairs_of_row e.0 (table_at tables e.0) e.1)) (λ e. entries_outside e.0 1 (table_at tables e.0) (table_at tables e.0).indexes e.1) rows
 
-  catalog_inside : (others : List Pair) → AreCatalog others → where_key key_cmp (in_range (1 ∷ []) (2 ∷ [])) others ≡ others
-  catalog_inside [] h = refl
-  catalog_inside (e ∷ es) h =
-      ap (λ b. cond b (e ∷ where_key key_cmp (in_range (1 ∷ []) (2 ∷ [])) es) (where_key key_cmp (in_range (1 ∷ []) (2 ∷ [])) es)) (inside e.0 h.0)
-      ∙ ap (λ (l : List Pair). e ∷ l) (catalog_inside es h.1)
-    where
-      inside : (k : List ℕ) → is_in_space 1 k ≡ true → in_range (1 ∷ []) (2 ∷ []) k ≡ true
-      inside [] h = absurd (false≢true h)
-      inside (b ∷ bs) h = ap (λ (x : ℕ). in_range (1 ∷ []) (2 ∷ []) (x ∷ bs)) (eqb-true b 1 h) ∙ first bs
-        where
-          first : (bs : List ℕ) → in_range (1 ∷ []) (2 ∷ []) (1 ∷ bs) ≡ true
-          first [] = refl
-          first (b ∷ bs) = refl
+catalog_inside : (others : List Pair) → AreCatalog others → where_key key_cmp (in_range (1 ∷ []) (2 ∷ [])) others ≡ others
+catalog_inside [] h = refl
+catalog_inside (e ∷ es) h =
+    ap (λ b. cond b (e ∷ where_key key_cmp (in_range (1 ∷ []) (2 ∷ [])) es) (where_key key_cmp (in_range (1 ∷ []) (2 ∷ [])) es)) (inside e.0 h.0)
+    ∙ ap (λ (l : List Pair). e ∷ l) (catalog_inside es h.1)
+  where
+    inside : (k : List ℕ) → is_in_space 1 k ≡ true → in_range (1 ∷ []) (2 ∷ []) k ≡ true
+    inside [] h = absurd (false≢true h)
+    inside (b ∷ bs) h = ap (λ (x : ℕ). in_range (1 ∷ []) (2 ∷ []) (x ∷ bs)) (eqb-true b 1 h) ∙ first bs
+      where
+        first : (bs : List ℕ) → in_range (1 ∷ []) (2 ∷ []) (1 ∷ bs) ≡ true
+        first [] = refl
+        first (b ∷ bs) = refl
 
-  pub catalog_range : (tables : List Table) (rows : Rows) (others : List Pair) → AreCatalog others → pairs_within (pairs key_code row_code tables rows others) (1 ∷ []) (2 ∷ []) ≡ entries (from_entries {R = key_cmp} others)
-  unfolding pairs
-  catalog_range tables rows others catalog =
-      let f = in_range (1 ∷ []) (2 ∷ []) in
-      let front = row_pairs key_code row_code tables rows in
-      where_from f (front ++ others)
-      ∙ ap (λ (l : List Pair). entries (from_entries {R = key_cmp} l)) (filter-append (λ (x : Pair). f x.0) front others ∙ (λ i. rows_outside tables rows i ++ catalog_inside others catalog i))
+pub catalog_range : (tables : List Table) (rows : Rows) (others : List Pair) → AreCatalog others → pairs_within (content_pairs tables rows others) (1 ∷ []) (2 ∷ []) ≡ entries (from_entries {R = key_cmp} others)
+unfolding content_pairs
+catalog_range tables rows others catalog =
+    let f = in_range (1 ∷ []) (2 ∷ []) in
+    let front = row_pairs tables rows in
+    where_from f (front ++ others)
+    ∙ ap (λ (l : List Pair). entries (from_entries {R = key_cmp} l)) (filter-append (λ (x : Pair). f x.0) front others ∙ (λ i. rows_outside tables rows i ++ catalog_inside others catalog i))
 
-  -- where the catalog's keys rise, the range has its pairs in order
-  pub rising_catalog_range : (tables : List Table) (rows : Rows) (others : List Pair) → AreCatalog others → is_sorted key_cmp others ≡ true → pairs_within (pairs key_code row_code tables rows others) (1 ∷ []) (2 ∷ []) ≡ others
-  rising_catalog_range tables rows others catalog rising = catalog_range tables rows others catalog ∙ entries-rising others rising
+-- where the catalog's keys rise, the range has its pairs in order
+pub rising_catalog_range : (tables : List Table) (rows : Rows) (others : List Pair) → AreCatalog others → is_sorted key_cmp others ≡ true → pairs_within (content_pairs tables rows others) (1 ∷ []) (2 ∷ []) ≡ others
+rising_catalog_range tables rows others catalog rising = catalog_range tables rows others catalog ∙ entries-rising others rising
 
-  -- with no rows and no catalog there is nothing
-  pub no_pairs : pairs key_code row_code [] [] [] ≡ empty {R = key_cmp}
-  unfolding pairs
-  no_pairs = refl
+-- with no rows and no catalog there is nothing
+pub no_pairs : content_pairs [] [] [] ≡ empty {R = key_cmp}
+unfolding content_pairs
+no_pairs = refl

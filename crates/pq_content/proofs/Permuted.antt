@@ -1,44 +1,28 @@
 -- The order of the rows plays no part.
-use Rattle.std.proofs.Common.{◌≡◌, ℕ, true, false, cond, ◌==◌, inl, inr, List, [], ◌∷◌, ◌++◌, Option, Some, None, flat_map, IsPermutation, refl, sym, ap, ◌∙◌}
+use Rattle.std.proofs.Common.{◌≡◌, ℕ, true, false, ◌==◌, inl, inr, List, [], ◌∷◌, ◌++◌, Option, Some, None, flat_map, IsPermutation, refl, sym, ap, ◌∙◌}
 use Rattle.std.specs.List.{AllByRecursion}
 use Rattle.std.specs.Cmp.Lexicographic.{nat_list_cmp_total}
 use Rattle.std.specs.FinMap.{find, get-from_entries}
 use Rattle.std.proofs.lemmas.Option.{none-some}
 use Rattle.std.proofs.lemmas.Bool.{false≢true, eq-eqb, and_from}
-use Rattle.std.proofs.lemmas.List.Sorted.{IsPermutation-refl, IsPermutation-sym, IsPermutation-trans, IsPermutation-cons, IsPermutation-middle, Contains-permutation}
-use Rattle.std.specs.declared.cmp.Ordering.{Ordering}
-use Rattle.std.specs.Ordering.{is_gt}
-use Rattle.pq_base.specs.declared.value.Dir.{Dir}
+use Rattle.std.proofs.lemmas.List.Sorted.{IsPermutation-sym, Contains-permutation}
 use Rattle.pq_base.specs.declared.value.Value.{Value}
 use Rattle.pq_base.specs.Values.{AllFit}
 use Rattle.pq_schema.specs.declared.table.Table.{Table}
 use Rattle.pq_schema.specs.Tables.{table_at}
-use Rattle.pq_content.specs.Codes.{KeyLaws}
-use Rattle.pq_content.specs.Pairs.{key_cmp, Pair, pairs_of_row, row_pairs, pairs}
-use Rattle.pq_content.specs.Sorting.{placed, sort_by}
+use Rattle.pq_content.specs.Pairs.{Pair, pairs_of_row, row_pairs, content_pairs}
+use Rattle.pq_store.specs.Content.{key_cmp}
 use Rattle.pq_content.specs.Tables.{Rows, types_of, key_of, same_values, agrees, has_key, AreApart}
 use Rattle.pq_content.proofs.Changes.{same_content}
 use Rattle.pq_content.proofs.Find.{find-or_else, or_else}
 use Rattle.pq_content.proofs.Gets.{EachFits}
-use Rattle.pq_content.proofs.Members.{In, in_from_contains, contained, each_in}
+use Rattle.pq_base.proofs.Members.{in_from_contains, contained, each_in}
+use Rattle.pq_base.specs.Members.{In}
 use Rattle.pq_content.proofs.Owners.{pairs_share}
 use Rattle.pq_content.proofs.Values.{same_values_itself}
 
 pub in_permuted : {X : Type 0} (v : X) (xs ys : List X) → IsPermutation xs ys → In v xs → In v ys
 in_permuted v xs ys h i = in_from_contains ys v (Contains-permutation xs ys v h (contained v xs i))
-
--- a sort only moves elements
-module _ {K X : Type 0} (R : K → K → Ordering) (key : X → K) where
-  IsPermutation-placed : (x : X) (xs : List X) → IsPermutation (x ∷ xs) (placed R key x xs)
-  IsPermutation-placed x [] = IsPermutation-refl (x ∷ [])
-  IsPermutation-placed x (y ∷ ys) = elim (is_gt (R (key x) (key y))) as (λ b. IsPermutation (x ∷ y ∷ ys) (cond b (y ∷ placed R key x ys) (x ∷ y ∷ ys))) [
-    | true ↦ IsPermutation-trans (x ∷ y ∷ ys) (y ∷ x ∷ ys) (y ∷ placed R key x ys) (IsPermutation-middle (x ∷ []) y ys) (IsPermutation-cons y (x ∷ ys) (placed R key x ys) (IsPermutation-placed x ys))
-    | false ↦ IsPermutation-refl (x ∷ y ∷ ys)
-  ]
-
-  pub IsPermutation-sort_by : (xs : List X) → IsPermutation xs (sort_by R key xs)
-  IsPermutation-sort_by [] = IsPermutation-refl []
-  IsPermutation-sort_by (x ∷ xs) = IsPermutation-trans (x ∷ xs) (x ∷ sort_by R key xs) (placed R key x (sort_by R key xs)) (IsPermutation-cons x xs (sort_by R key xs) (IsPermutation-sort_by xs)) (IsPermutation-placed x (sort_by R key xs))
 
 -- a later row has another key
 clash : (tables : List Table) (g : ℕ × List Value) (rows : Rows) → AllByRecursion (λ h. has_key tables g.0 (key_of (table_at tables g.0) g.1) h ≡ false) rows → (f : ℕ × List Value) → In f rows → g.0 ≡ f.0 → key_of (table_at tables g.0) g.1 ≡ key_of (table_at tables f.0) f.1 → ⊥
@@ -78,37 +62,36 @@ module _ {E V : Type 0} (g : E → List (List ℕ × V)) where
         | Some w ↦ λ _ none. none-some w (sym none)
       ] refl (sym (find-or_else key_cmp q (g f) (flat_map g es)) ∙ none)
 
-module _ (key_code : List Dir → List Value → List ℕ) (row_code : List Value → List ℕ) (laws : KeyLaws key_code) where
-  same_found : (tables : List Table) (es fs : Rows) → EachFits tables es → AreApart tables es → ((e : ℕ × List Value) → In e es → In e fs) → ((e : ℕ × List Value) → In e fs → In e es) → (q : List ℕ) → find key_cmp q (row_pairs key_code row_code tables es) ≡ find key_cmp q (row_pairs key_code row_code tables fs)
-  same_found tables es fs fits apart there back q =
-      let g = λ (e : ℕ × List Value). pairs_of_row key_code row_code e.0 (table_at tables e.0) e.1 in
-      let l = find key_cmp q (flat_map g es) in
-      let r = find key_cmp q (flat_map g fs) in
-      let fit : (e : ℕ × List Value) → In e es → AllFit (types_of (table_at tables e.0)) e.1 = λ e i. each_in (λ (x : ℕ × List Value). AllFit (types_of (table_at tables x.0)) x.1) es fits e i in
-      elim l as (λ a. l ≡ a → a ≡ r) [
-        | None ↦ λ none. elim r as (λ b. r ≡ b → None ≡ b) [
-          | None ↦ λ _. refl
-          | Some w ↦ λ is. let f = found_piece g q w fs is in absurd (piece_found g q w es f.0 (back f.0 f.1) f.2 none)
-        ] refl
-        | Some v ↦ λ is.
-            let e = found_piece g q v es is in
-            elim r as (λ b. r ≡ b → Some v ≡ b) [
-              | None ↦ λ none. absurd (piece_found g q v fs e.0 (there e.0 e.1) e.2 none)
-              | Some w ↦ λ found.
-                  let f = found_piece g q w fs found in
-                  let share = pairs_share key_code row_code laws e.0.0 f.0.0 (table_at tables e.0.0) (table_at tables f.0.0) e.0.1 f.0.1 q v w (ap (table_at tables)) (fit e.0 e.1) (fit f.0 (back f.0 f.1)) e.2 f.2 in
-                  sym e.2 ∙ ap (λ (x : ℕ × List Value). find key_cmp q (g x)) (one_row tables es apart e.0 f.0 e.1 (back f.0 f.1) share.0 share.1) ∙ f.2
-            ] refl
+same_found : (tables : List Table) (es fs : Rows) → EachFits tables es → AreApart tables es → ((e : ℕ × List Value) → In e es → In e fs) → ((e : ℕ × List Value) → In e fs → In e es) → (q : List ℕ) → find key_cmp q (row_pairs tables es) ≡ find key_cmp q (row_pairs tables fs)
+same_found tables es fs fits apart there back q =
+    let g = λ (e : ℕ × List Value). pairs_of_row e.0 (table_at tables e.0) e.1 in
+    let l = find key_cmp q (flat_map g es) in
+    let r = find key_cmp q (flat_map g fs) in
+    let fit : (e : ℕ × List Value) → In e es → AllFit (types_of (table_at tables e.0)) e.1 = λ e i. each_in (λ (x : ℕ × List Value). AllFit (types_of (table_at tables x.0)) x.1) es fits e i in
+    elim l as (λ a. l ≡ a → a ≡ r) [
+      | None ↦ λ none. elim r as (λ b. r ≡ b → None ≡ b) [
+        | None ↦ λ _. refl
+        | Some w ↦ λ is. let f = found_piece g q w fs is in absurd (piece_found g q w es f.0 (back f.0 f.1) f.2 none)
       ] refl
+      | Some v ↦ λ is.
+          let e = found_piece g q v es is in
+          elim r as (λ b. r ≡ b → Some v ≡ b) [
+            | None ↦ λ none. absurd (piece_found g q v fs e.0 (there e.0 e.1) e.2 none)
+            | Some w ↦ λ found.
+                let f = found_piece g q w fs found in
+                let share = pairs_share e.0.0 f.0.0 (table_at tables e.0.0) (table_at tables f.0.0) e.0.1 f.0.1 q v w (ap (table_at tables)) (fit e.0 e.1) (fit f.0 (back f.0 f.1)) e.2 f.2 in
+                sym e.2 ∙ ap (λ (x : ℕ × List Value). find key_cmp q (g x)) (one_row tables es apart e.0 f.0 e.1 (back f.0 f.1) share.0 share.1) ∙ f.2
+          ] refl
+    ] refl
 
-  -- rows in another order make the same content
-  pub pairs-IsPermutation : (tables : List Table) (es fs : Rows) (others : List Pair) → EachFits tables es → AreApart tables es → IsPermutation es fs → pairs key_code row_code tables es others ≡ pairs key_code row_code tables fs others
-  unfolding pairs
-  pairs-IsPermutation tables es fs others fits apart p =
-      let front = λ (rows : Rows). row_pairs key_code row_code tables rows in
-      same_content _ _ (λ q.
-      get-from_entries nat_list_cmp_total (front es ++ others) q
-      ∙ find-or_else key_cmp q (front es) others
-      ∙ ap (λ (o : Option (List ℕ)). or_else o (find key_cmp q others)) (same_found tables es fs fits apart (λ e i. in_permuted e es fs p i) (λ e i. in_permuted e fs es (IsPermutation-sym es fs p) i) q)
-      ∙ sym (find-or_else key_cmp q (front fs) others)
-      ∙ sym (get-from_entries nat_list_cmp_total (front fs ++ others) q))
+-- rows in another order make the same content
+pub pairs-IsPermutation : (tables : List Table) (es fs : Rows) (others : List Pair) → EachFits tables es → AreApart tables es → IsPermutation es fs → content_pairs tables es others ≡ content_pairs tables fs others
+unfolding content_pairs
+pairs-IsPermutation tables es fs others fits apart p =
+    let front = λ (rows : Rows). row_pairs tables rows in
+    same_content _ _ (λ q.
+    get-from_entries nat_list_cmp_total (front es ++ others) q
+    ∙ find-or_else key_cmp q (front es) others
+    ∙ ap (λ (o : Option (List ℕ)). or_else o (find key_cmp q others)) (same_found tables es fs fits apart (λ e i. in_permuted e es fs p i) (λ e i. in_permuted e fs es (IsPermutation-sym es fs p) i) q)
+    ∙ sym (find-or_else key_cmp q (front fs) others)
+    ∙ sym (get-from_entries nat_list_cmp_total (front fs ++ others) q))

@@ -16,12 +16,13 @@ use Rattle.pq_key_code.specs.KeyOrder.{common_cmp}
 use Rattle.pq_schema.specs.declared.table.KeyPart.{KeyPart}
 use Rattle.pq_schema.specs.declared.table.Table.{Table}
 use Rattle.pq_schema.specs.Sequences.{columns_of}
-use Rattle.pq_content.specs.Codes.{KeyLaws}
-use Rattle.pq_content.specs.Tables.{Rows, AllOfKinds, rows_of, types_of, types_at, value_of, values_at, values_of, dirs_of, same_values, agrees, group_of}
+use Rattle.pq_content.specs.Tables.{Rows, AllOfKinds, rows_of, types_of, types_at, value_of, cells, values_of, dirs_of, same_values, agrees, group_of}
 use Rattle.pq_content.proofs.Ranges.{in_range}
 use Rattle.pq_content.proofs.Sequence.{agree_by_set}
 use Rattle.pq_content.proofs.TableRows.{AreRows, sequence_kinds, long_enough}
 use Rattle.pq_content.proofs.Values.{both_ways, same_values_decides, same_from_test, AreValues_from_kinds, SameKinds_from_kinds, same_values_sym, values_of-columns_of}
+use Rattle.pq_key_code.specs.KeyCode.{code_of}
+use Rattle.pq_key_code.proofs.Order.{range_lem}
 
 is_eq_directed : (d : Dir) (r : Ordering) → is_eq (directed d r) ≡ is_eq r
 is_eq_directed Asc r = refl
@@ -54,21 +55,21 @@ SameKinds_from_prefix (t ∷ ts) (p ∷ ps) (x ∷ xs) f g =
     let here : SameKinds (p ∷ []) (x ∷ []) = SameKinds_from_kinds (t ∷ []) (p ∷ []) (x ∷ []) (f.0, tt) (g.0, tt) in
     (here.0, SameKinds_from_prefix ts ps xs f.1 g.1)
 
-module _ (key_code : List Dir → List Value → List ℕ) (laws : KeyLaws key_code) (table : Table) (sequence : List KeyPart) where
+module _ (table : Table) (sequence : List KeyPart) where
   -- a row's code is in the range of a prefix exactly where the row has these values at the sequence's first columns
-  pub in_prefix : (ps row : List Value) → AllOfKinds (take (length ps) (types_at table (columns_of sequence))) ps → length ps ≤ length sequence → AllFit (types_of table) row → in_range (key_code (dirs_of sequence) ps) (key_code (dirs_of sequence) ps ++ 32 ∷ []) (key_code (dirs_of sequence) (values_of sequence row)) ≡ agrees (take (length ps) (columns_of sequence)) ps row
+  pub in_prefix : (ps row : List Value) → AllOfKinds (take (length ps) (types_at table (columns_of sequence))) ps → length ps ≤ length sequence → AllFit (types_of table) row → in_range (code_of (dirs_of sequence) ps) (code_of (dirs_of sequence) ps ++ 32 ∷ []) (code_of (dirs_of sequence) (values_of sequence row)) ≡ agrees (take (length ps) (columns_of sequence)) ps row
   in_prefix ps row kinds short fits =
       let ts = types_at table (columns_of sequence) in
       let xs = values_of sequence row in
-      let own = sequence_kinds key_code laws table sequence row fits in
+      let own = sequence_kinds table sequence row fits in
       let long : length ps ≤ length xs = omega (arith, length-map sequence (λ (part : KeyPart). value_of row part.col)) in
-      let first : take (length ps) xs ≡ values_at (take (length ps) (columns_of sequence)) row = ap (take (length ps)) (values_of-columns_of sequence row) ∙ take-map (value_of row) (length ps) (columns_of sequence) in
-      laws.range (dirs_of sequence) ps xs (AreValues_from_kinds (take (length ps) ts) ps kinds) (AreValues_from_kinds ts xs own) (SameKinds_from_prefix ts ps xs kinds own) long (long_enough key_code laws table sequence row)
-      ∙ common_same (dirs_of sequence) ps xs long (long_enough key_code laws table sequence row)
+      let first : take (length ps) xs ≡ cells (take (length ps) (columns_of sequence)) row = ap (take (length ps)) (values_of-columns_of sequence row) ∙ take-map (value_of row) (length ps) (columns_of sequence) in
+      range_lem (dirs_of sequence) ps xs (AreValues_from_kinds (take (length ps) ts) ps kinds) (AreValues_from_kinds ts xs own) (SameKinds_from_prefix ts ps xs kinds own) long (long_enough table sequence row)
+      ∙ common_same (dirs_of sequence) ps xs long (long_enough table sequence row)
       ∙ ap (same_values ps) first
-      ∙ same_values_sym ps (values_at (take (length ps) (columns_of sequence)) row)
+      ∙ same_values_sym ps (cells (take (length ps) (columns_of sequence)) row)
 
-  pub within_prefix : (ps : List Value) (rows : List (List Value)) → AllOfKinds (take (length ps) (types_at table (columns_of sequence))) ps → length ps ≤ length sequence → AreRows table rows → filter (λ row. in_range (key_code (dirs_of sequence) ps) (key_code (dirs_of sequence) ps ++ 32 ∷ []) (key_code (dirs_of sequence) (values_of sequence row))) rows ≡ filter (agrees (take (length ps) (columns_of sequence)) ps) rows
+  pub within_prefix : (ps : List Value) (rows : List (List Value)) → AllOfKinds (take (length ps) (types_at table (columns_of sequence))) ps → length ps ≤ length sequence → AreRows table rows → filter (λ row. in_range (code_of (dirs_of sequence) ps) (code_of (dirs_of sequence) ps ++ 32 ∷ []) (code_of (dirs_of sequence) (values_of sequence row))) rows ≡ filter (agrees (take (length ps) (columns_of sequence)) ps) rows
   within_prefix ps [] kinds short h = refl
   within_prefix ps (row ∷ rows) kinds short h =
       λ i. cond (in_prefix ps row kinds short h.0 i) (row ∷ within_prefix ps rows kinds short h.2 i) (within_prefix ps rows kinds short h.2 i)
@@ -78,7 +79,7 @@ pub group_by_set : (t : ℕ) (xs ys : List ℕ) (assign : ℕ → Value) (rows :
 group_by_set t xs ys assign rows same = each (rows_of t rows)
   where
     turned : (xs ys : List ℕ) (row : List Value) → set_of xs ≡ set_of ys → agrees xs (map assign xs) row ≡ true → agrees ys (map assign ys) row ≡ true
-    turned xs ys row same h = (same_values_decides (values_at ys row) (map assign ys)).1 (agree_by_set xs ys (value_of row) assign same (same_from_test (values_at xs row) (map assign xs) h))
+    turned xs ys row same h = (same_values_decides (cells ys row) (map assign ys)).1 (agree_by_set xs ys (value_of row) assign same (same_from_test (cells xs row) (map assign xs) h))
 
     each : (rs : List (List Value)) → filter (agrees xs (map assign xs)) rs ≡ filter (agrees ys (map assign ys)) rs
     each [] = refl

@@ -9,7 +9,8 @@ use Rattle.std.specs.Cmp.Lexicographic.{nat_list_cmp_total}
 use Rattle.std.specs.FinMap.{find, get-entries, from_entries, get-from_entries, entries, entries_sorted}
 use Rattle.std.specs.FinMap.Entries.{where_key, find-where_key, is_sorted, is_sorted-where_key, same_entries}
 use Rattle.std.proofs.lemmas.List.Elements.{filter-append}
-use Rattle.pq_content.specs.Pairs.{key_cmp, Pair}
+use Rattle.pq_content.specs.Pairs.{Pair}
+use Rattle.pq_store.specs.Content.{key_cmp}
 use Rattle.pq_content.proofs.Changes.{bytes_apart}
 
 alike : (f : List ℕ → Bool) (q x : List ℕ) → key_cmp q x ≡ Equal → f x ≡ f q

@@ -8,26 +8,27 @@ use Rattle.std.proofs.lemmas.Bool.{false≢true}
 use Rattle.pq_row_code.specs.declared.changes.Change.{Change as Coded}
 use Rattle.pq_row_code.specs.Changes.{changes_code, AreChanges}
 use Rattle.pq_row_code.proofs.ChangeLists.{changes_code_injective}
-use Rattle.pq_base.specs.declared.value.Dir.{Dir}
 use Rattle.pq_base.specs.declared.value.Value.{Value}
 use Rattle.pq_schema.specs.declared.table.Index.{Index}
 use Rattle.pq_schema.specs.declared.table.Table.{Table}
 use Rattle.pq_schema.specs.Sequences.{index_sequence}
-use Rattle.pq_content.specs.Pairs.{key_cmp, Content, Pair, Change, changed, puts, removals, is_in_space, entry_pair, entries_from, pairs_of_row, entry_changes, update_changes}
+use Rattle.pq_content.specs.Pairs.{Pair, Change, changed, puts, removals, entry_pair, entries_from, pairs_of_row, entry_changes, update_changes, is_of_rows}
+use Rattle.pq_store.specs.Content.{key_cmp, Content}
 use Rattle.pq_content.specs.Tables.{same_values, values_of}
-use Rattle.pq_content.specs.Standing.{intent_key, change_of, AreOfRows, IsIntent, SettlesTo}
+use Rattle.pq_content.specs.Standing.{change_of, AreIntended, IsIntent, SettlesTo, may_intend, AreOfRows}
+use Rattle.pq_key_code.specs.KeyCode.{intent_key}
 use Rattle.pq_content.proofs.Changes.{same_content, after, get-changed, touches, after_untouched, changed_again, untouched_before}
 use Rattle.pq_content.proofs.Keys.{key_itself, same_key}
 
 -- ---- the intent's key among changes of other keys
 
--- no change of rows or entries is of the intent's key
-pub rows_no_intent : (cs : List Change) → AreOfRows cs → touches cs intent_key ≡ false
-rows_no_intent [] h = refl
-rows_no_intent (c ∷ cs) h =
+-- no change that an intent may hold is of the intent's key
+pub no_intent_change : (cs : List Change) → AreIntended cs → touches cs intent_key ≡ false
+no_intent_change [] h = refl
+no_intent_change (c ∷ cs) h =
     elim (eq_by_cmp key_cmp intent_key c.0) as (λ b. eq_by_cmp key_cmp intent_key c.0 ≡ b → (b || touches cs intent_key) ≡ false) [
-      | true ↦ λ is. absurd (false≢true (ap (λ (k : List ℕ). is_in_space 2 k || is_in_space 3 k) (same_key intent_key c.0 is) ∙ h.0))
-      | false ↦ λ _. rows_no_intent cs h.1
+      | true ↦ λ is. absurd (false≢true (ap may_intend (same_key intent_key c.0 is) ∙ h.0))
+      | false ↦ λ _. no_intent_change cs h.1
     ] refl
 
 get-without_intent : (c : Content) (v : List ℕ) (q : List ℕ) → get c intent_key ≡ None → get (remove (insert c intent_key v) intent_key) q ≡ get c q
@@ -60,15 +61,15 @@ get-intent cs c other = get-changed cs c intent_key ∙ after_untouched cs inten
 -- ---- a commit
 
 -- from the write of the intent on, the content settles to the changed one, whichever changes are made
-pub settles_partway : (c : Content) (cs : List Coded) (n : ℕ) → get c intent_key ≡ None → AreChanges cs → AreOfRows (map change_of cs) → SettlesTo (changed (take n (map change_of cs)) (insert c intent_key (changes_code cs))) (changed (map change_of cs) c)
+pub settles_partway : (c : Content) (cs : List Coded) (n : ℕ) → get c intent_key ≡ None → AreChanges cs → AreIntended (map change_of cs) → SettlesTo (changed (take n (map change_of cs)) (insert c intent_key (changes_code cs))) (changed (map change_of cs) c)
 unfolding SettlesTo
-settles_partway c cs n none coded of_rows =
+settles_partway c cs n none coded intended =
     let all = map change_of cs in
     let v = changes_code cs in
     let start = insert c intent_key v in
     let now = changed (take n all) start in
     let goal = changed all c in
-    let other : touches all intent_key ≡ false = rows_no_intent all of_rows in
+    let other : touches all intent_key ≡ false = no_intent_change all intended in
     let early : touches (take n all) intent_key ≡ false = untouched_before n all intent_key other in
     let found : get now intent_key ≡ Some v =
     get-intent (take n all) start early
@@ -78,15 +79,15 @@ settles_partway c cs n none coded of_rows =
     ap (changed all) (sym (intent_removed c v none))
     ∙ sym (changed-remove all start other)
     ∙ ap (λ (x : Content). remove x intent_key) (sym (changed_again n all start)) in
-    subst (λ (o : Option (List ℕ)). MatchOption o (goal ≡ now) (IsIntent now goal)) (sym found) (record { changes = cs; code = refl; coded = coded; of_rows = of_rows; makes = makes })
+    subst (λ (o : Option (List ℕ)). MatchOption o (goal ≡ now) (IsIntent now goal)) (sym found) (record { changes = cs; code = refl; coded = coded; intended = intended; makes = makes })
 
 -- and after the removal of the intent it is the changed one
-pub settled_at_last : (c : Content) (cs : List Change) (v : List ℕ) → get c intent_key ≡ None → AreOfRows cs → remove (changed cs (insert c intent_key v)) intent_key ≡ changed cs c
-settled_at_last c cs v none of_rows = changed-remove cs (insert c intent_key v) (rows_no_intent cs of_rows) ∙ ap (changed cs) (intent_removed c v none)
+pub settled_at_last : (c : Content) (cs : List Change) (v : List ℕ) → get c intent_key ≡ None → AreIntended cs → remove (changed cs (insert c intent_key v)) intent_key ≡ changed cs c
+settled_at_last c cs v none intended = changed-remove cs (insert c intent_key v) (no_intent_change cs intended) ∙ ap (changed cs) (intent_removed c v none)
 
 -- no intent is there after it
-pub no_intent_after : (c : Content) (cs : List Change) → get c intent_key ≡ None → AreOfRows cs → get (changed cs c) intent_key ≡ None
-no_intent_after c cs none of_rows = get-intent cs c (rows_no_intent cs of_rows) ∙ none
+pub no_intent_after : (c : Content) (cs : List Change) → get c intent_key ≡ None → AreIntended cs → get (changed cs c) intent_key ≡ None
+no_intent_after c cs none intended = get-intent cs c (no_intent_change cs intended) ∙ none
 
 -- ---- an opening
 
@@ -96,9 +97,9 @@ unfolding SettlesTo
 settles_again c p v n intent found =
     let all = map change_of intent.changes in
     let now = changed (take n all) c in
-    let other : touches all intent_key ≡ false = rows_no_intent all intent.of_rows in
+    let other : touches all intent_key ≡ false = no_intent_change all intent.intended in
     let still : get now intent_key ≡ Some v = get-intent (take n all) c (untouched_before n all intent_key other) ∙ found in
-    subst (λ (o : Option (List ℕ)). MatchOption o (p ≡ now) (IsIntent now p)) (sym still) (record { changes = intent.changes; code = intent.code; coded = intent.coded; of_rows = intent.of_rows; makes = intent.makes ∙ ap (λ (x : Content). remove x intent_key) (sym (changed_again n all c)) })
+    subst (λ (o : Option (List ℕ)). MatchOption o (p ≡ now) (IsIntent now p)) (sym still) (record { changes = intent.changes; code = intent.code; coded = intent.coded; intended = intent.intended; makes = intent.makes ∙ ap (λ (x : Content). remove x intent_key) (sym (changed_again n all c)) })
 
 -- an intent's value tells its changes
 pub one_intent : (c p : Content) (v : List ℕ) (intent : IsIntent c p v) (cs : List Coded) → AreChanges cs → v ≡ changes_code cs → p ≡ remove (changed (map change_of cs) c) intent_key
@@ -132,40 +133,44 @@ intent_found c p v found h = subst (λ (o : Option (List ℕ)). MatchOption o (p
 
 -- the key of each pair of a row is of rows or entries
 abbrev IsRowKey : List ℕ → Type 0
-IsRowKey key = (is_in_space 2 key || is_in_space 3 key) ≡ true
+IsRowKey key = is_of_rows key ≡ true
 
-module _ (key_code : List Dir → List Value → List ℕ) (row_code : List Value → List ℕ) where
-  entries_of_rows : (t i : ℕ) (table : Table) (indexes : List Index) (row : List Value) → AllByRecursion (λ (pair : Pair). IsRowKey pair.0) (entries_from key_code row_code t i table indexes row)
-  entries_of_rows t i table [] row = tt
-  entries_of_rows t i table (index ∷ indexes) row = (refl, entries_of_rows t (i + 1) table indexes row)
+-- what a write may change, an intent may hold
+pub rows_intended : (cs : List Change) → AreOfRows cs → AreIntended cs
+rows_intended [] h = tt
+rows_intended (c ∷ cs) h = (h.0, rows_intended cs h.1)
 
-  pairs_of_rows : (t : ℕ) (table : Table) (row : List Value) → AllByRecursion (λ (pair : Pair). IsRowKey pair.0) (pairs_of_row key_code row_code t table row)
-  pairs_of_rows t table row = (refl, entries_of_rows t 1 table table.indexes row)
+entries_of_rows : (t i : ℕ) (table : Table) (indexes : List Index) (row : List Value) → AllByRecursion (λ (pair : Pair). IsRowKey pair.0) (entries_from t i table indexes row)
+entries_of_rows t i table [] row = tt
+entries_of_rows t i table (index ∷ indexes) row = (refl, entries_of_rows t (i + 1) table indexes row)
 
-  puts_of : (ps : List Pair) → AllByRecursion (λ (pair : Pair). IsRowKey pair.0) ps → AreOfRows (puts ps)
-  puts_of [] h = tt
-  puts_of (p ∷ ps) h = (h.0, puts_of ps h.1)
+pairs_of_rows : (t : ℕ) (table : Table) (row : List Value) → AllByRecursion (λ (pair : Pair). IsRowKey pair.0) (pairs_of_row t table row)
+pairs_of_rows t table row = (refl, entries_of_rows t 1 table table.indexes row)
 
-  removals_of : (ps : List Pair) → AllByRecursion (λ (pair : Pair). IsRowKey pair.0) ps → AreOfRows (removals ps)
-  removals_of [] h = tt
-  removals_of (p ∷ ps) h = (h.0, removals_of ps h.1)
+puts_of : (ps : List Pair) → AllByRecursion (λ (pair : Pair). IsRowKey pair.0) ps → AreOfRows (puts ps)
+puts_of [] h = tt
+puts_of (p ∷ ps) h = (h.0, puts_of ps h.1)
 
-  -- the changes of an insert, of a delete and of an update
-  pub inserts_of_rows : (t : ℕ) (table : Table) (row : List Value) → AreOfRows (puts (pairs_of_row key_code row_code t table row))
-  inserts_of_rows t table row = puts_of (pairs_of_row key_code row_code t table row) (pairs_of_rows t table row)
+removals_of : (ps : List Pair) → AllByRecursion (λ (pair : Pair). IsRowKey pair.0) ps → AreOfRows (removals ps)
+removals_of [] h = tt
+removals_of (p ∷ ps) h = (h.0, removals_of ps h.1)
 
-  pub deletes_of_rows : (t : ℕ) (table : Table) (row : List Value) → AreOfRows (removals (pairs_of_row key_code row_code t table row))
-  deletes_of_rows t table row = removals_of (pairs_of_row key_code row_code t table row) (pairs_of_rows t table row)
+-- the changes of an insert, of a delete and of an update
+pub inserts_of_rows : (t : ℕ) (table : Table) (row : List Value) → AreOfRows (puts (pairs_of_row t table row))
+inserts_of_rows t table row = puts_of (pairs_of_row t table row) (pairs_of_rows t table row)
 
-  entry_changes_of_rows : (t i : ℕ) (table : Table) (indexes : List Index) (old new : List Value) → AreOfRows (entry_changes key_code row_code t i table indexes old new)
-  entry_changes_of_rows t i table [] old new = tt
-  entry_changes_of_rows t i table (index ∷ indexes) old new =
-      let sequence = index_sequence table index in
-      let rest = entry_changes_of_rows t (i + 1) table indexes old new in
-      elim (same_values (values_of sequence old) (values_of sequence new)) as (λ b. AreOfRows (cond b [] (((entry_pair key_code row_code t i sequence old).0, None) ∷ ((entry_pair key_code row_code t i sequence new).0, Some []) ∷ []) ++ entry_changes key_code row_code t (i + 1) table indexes old new)) [
-        | true ↦ rest
-        | false ↦ (refl, (refl, rest))
-      ]
+pub deletes_of_rows : (t : ℕ) (table : Table) (row : List Value) → AreOfRows (removals (pairs_of_row t table row))
+deletes_of_rows t table row = removals_of (pairs_of_row t table row) (pairs_of_rows t table row)
 
-  pub updates_of_rows : (t : ℕ) (table : Table) (old new : List Value) → AreOfRows (update_changes key_code row_code t table old new)
-  updates_of_rows t table old new = (refl, entry_changes_of_rows t 1 table table.indexes old new)
+entry_changes_of_rows : (t i : ℕ) (table : Table) (indexes : List Index) (old new : List Value) → AreOfRows (entry_changes t i table indexes old new)
+entry_changes_of_rows t i table [] old new = tt
+entry_changes_of_rows t i table (index ∷ indexes) old new =
+    let sequence = index_sequence table index in
+    let rest = entry_changes_of_rows t (i + 1) table indexes old new in
+    elim (same_values (values_of sequence old) (values_of sequence new)) as (λ b. AreOfRows (cond b [] (((entry_pair t i sequence old).0, None) ∷ ((entry_pair t i sequence new).0, Some []) ∷ []) ++ entry_changes t (i + 1) table indexes old new)) [
+      | true ↦ rest
+      | false ↦ (refl, (refl, rest))
+    ]
+
+pub updates_of_rows : (t : ℕ) (table : Table) (old new : List Value) → AreOfRows (update_changes t table old new)
+updates_of_rows t table old new = (refl, entry_changes_of_rows t 1 table table.indexes old new)

@@ -8,8 +8,9 @@ use Rattle.pq_base.specs.Values.{AllFit}
 use Rattle.pq_schema.specs.declared.table.Column.{Column}
 use Rattle.pq_schema.specs.declared.table.Table.{Table}
 use Rattle.pq_schema.specs.Tables.{table_at}
-use Rattle.pq_content.specs.Tables.{Rows, rows_of, types_of, values_at, agrees, row_at, IsTableNumber, AreApart, IsWithin, HasParent, Keeps}
-use Rattle.pq_content.proofs.Keeping.{each_weaker}
+use Rattle.pq_content.specs.Tables.{Rows, rows_of, types_of, cells, agrees, row_at, IsTableNumber, AreApart, IsWithin, HasParent, Keeps, stored_code}
+use Rattle.pq_base.proofs.Members.{each_weaker}
+use Rattle.pq_content.proofs.Codes.{same_columns_code}
 
 pub record SameShape (a b : Table) : Type 0 where
   pub key : a.key ≡ b.key
@@ -35,15 +36,17 @@ module _ (tables tables' : List Table) (same : SameShapes tables tables') where
   apart-shape [] h = tt
   apart-shape (e ∷ es) h =
       let cols : (table_at tables e.0).key ≡ (table_at tables' e.0).key = (same.each e.0).key in
-      (subst (λ (k : List ℕ). AllByRecursion (λ (f : ℕ × List Value). ((f.0 == e.0) && agrees k (values_at k e.1) f.1) ≡ false) es) cols h.0, apart-shape es h.1)
+      (subst (λ (k : List ℕ). AllByRecursion (λ (f : ℕ × List Value). ((f.0 == e.0) && agrees k (cells k e.1) f.1) ≡ false) es) cols h.0, apart-shape es h.1)
 
-  pub keeps-shape : (row_code : List Value → List ℕ) (rows : Rows) → Keeps row_code tables rows → Keeps row_code tables' rows
-  keeps-shape row_code rows keeps = record {
-    known = each_weaker (λ (e : ℕ × List Value). IsTableNumber tables e.0) (λ (e : ℕ × List Value). IsTableNumber tables' e.0) (λ e is. number-shape e.0 is) rows keeps.known;
-    fit = each_weaker (λ (e : ℕ × List Value). AllFit (types_of (table_at tables e.0)) e.1) (λ (e : ℕ × List Value). AllFit (types_of (table_at tables' e.0)) e.1) (λ e fits. subst (λ (cs : List Column). AllFit (map (λ (c : Column). c.ty) cs) e.1) (same.each e.0).columns fits) rows keeps.fit;
-    short = keeps.short;
-    apart = apart-shape rows keeps.apart;
-    limits = λ t is. subst (AllByRecursion (IsWithin t rows)) (same.each t).limits (keeps.limits t (number-back t is));
-    foreign = each_weaker (λ (e : ℕ × List Value). AllByRecursion (HasParent tables rows e.1) (table_at tables e.0).foreign) (λ (e : ℕ × List Value). AllByRecursion (HasParent tables' rows e.1) (table_at tables' e.0).foreign) (λ e parents.
-        subst (AllByRecursion (HasParent tables' rows e.1)) (same.each e.0).foreign (each_weaker (HasParent tables rows e.1) (HasParent tables' rows e.1) (λ f there. subst (λ (o : Option (List Value)). IsSome o) (row_at-shape rows f.table (values_at f.cols e.1)) there) (table_at tables e.0).foreign parents)) rows keeps.foreign;
+  pub keeps-shape : (rows : Rows) → Keeps tables rows → Keeps tables' rows
+  keeps-shape rows keeps = record {
+    schema = record {
+      known = each_weaker (λ (e : ℕ × List Value). IsTableNumber tables e.0) (λ (e : ℕ × List Value). IsTableNumber tables' e.0) (λ e is. number-shape e.0 is) rows keeps.known;
+      fit = each_weaker (λ (e : ℕ × List Value). AllFit (types_of (table_at tables e.0)) e.1) (λ (e : ℕ × List Value). AllFit (types_of (table_at tables' e.0)) e.1) (λ e fits. subst (λ (cs : List Column). AllFit (map (λ (c : Column). c.ty) cs) e.1) (same.each e.0).columns fits) rows keeps.fit;
+      apart = apart-shape rows keeps.apart;
+      limits = λ t is. subst (AllByRecursion (IsWithin t rows)) (same.each t).limits (keeps.limits t (number-back t is));
+      foreign = each_weaker (λ (e : ℕ × List Value). AllByRecursion (HasParent tables rows e.1) (table_at tables e.0).foreign) (λ (e : ℕ × List Value). AllByRecursion (HasParent tables' rows e.1) (table_at tables' e.0).foreign) (λ e parents.
+          subst (AllByRecursion (HasParent tables' rows e.1)) (same.each e.0).foreign (each_weaker (HasParent tables rows e.1) (HasParent tables' rows e.1) (λ f there. subst (λ (o : Option (List Value)). IsSome o) (row_at-shape rows f.table (cells f.cols e.1)) there) (table_at tables e.0).foreign parents)) rows keeps.foreign;
+    };
+    short = each_weaker (λ (e : ℕ × List Value). length (stored_code (table_at tables e.0) e.1) ≤ 4096) (λ (e : ℕ × List Value). length (stored_code (table_at tables' e.0) e.1) ≤ 4096) (λ e short. subst (λ (code : List ℕ). length code ≤ 4096) (same_columns_code (table_at tables e.0) (table_at tables' e.0) e.1 (same.each e.0).columns) short) rows keeps.short;
   }

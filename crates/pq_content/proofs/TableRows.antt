@@ -15,14 +15,15 @@ use Rattle.pq_schema.specs.declared.table.KeyPart.{KeyPart}
 use Rattle.pq_schema.specs.declared.table.Table.{Table}
 use Rattle.pq_schema.specs.Sequences.{ascending, columns_of, primary_sequence, index_sequence}
 use Rattle.pq_schema.specs.Tables.{table_at}
-use Rattle.pq_content.specs.Codes.{KeyLaws}
-use Rattle.pq_content.specs.Pairs.{key_cmp}
+use Rattle.pq_store.specs.Content.{key_cmp}
 use Rattle.pq_content.specs.Tables.{Rows, AllOfKinds, rows_of, types_of, types_at, value_of, key_of, agrees, has_key, values_of, dirs_of, AreApart}
 use Rattle.pq_content.proofs.Gets.{EachFits}
 use Rattle.pq_content.proofs.Keys.{same_key, sequences_apart}
-use Rattle.pq_content.proofs.Members.{each_filter}
+use Rattle.pq_base.proofs.Members.{each_filter}
 use Rattle.pq_content.proofs.Sequence.{key_from_sequence}
 use Rattle.pq_content.proofs.Values.{kinds_from_fit, sequence_fits, same_values_decides, AreValues_from_kinds, SameKinds_from_kinds}
+use Rattle.pq_key_code.specs.KeyCode.{code_of}
+use Rattle.pq_key_code.proofs.Order.{codes_cmp}
 
 abbrev pub AreRows : Table → List (List Value) → Type 0
 AreRows table [] = Unit {0}
@@ -75,7 +76,7 @@ pub index_determines : (table : Table) (index : Index) → Determines table (ind
 unfolding Determines
 index_determines table index row other e = key_from_sequence table index row other e
 
-module _ (key_code : List Dir → List Value → List ℕ) (laws : KeyLaws key_code) (table : Table) (sequence : List KeyPart) where
+module _ (table : Table) (sequence : List KeyPart) where
   pub sequence_kinds : (row : List Value) → AllFit (types_of table) row → AllOfKinds (types_at table (columns_of sequence)) (values_of sequence row)
   sequence_kinds row fits = kinds_from_fit (types_at table (columns_of sequence)) (values_of sequence row) (sequence_fits table sequence row fits)
 
@@ -83,22 +84,22 @@ module _ (key_code : List Dir → List Value → List ℕ) (laws : KeyLaws key_c
   long_enough row = omega (arith, length-map sequence (λ (part : KeyPart). part.dir), length-map sequence (λ (part : KeyPart). value_of row part.col))
 
   -- the bytes of two rows' codes are in the order of their values
-  pub code_order : (row other : List Value) → AllFit (types_of table) row → AllFit (types_of table) other → key_cmp (key_code (dirs_of sequence) (values_of sequence row)) (key_code (dirs_of sequence) (values_of sequence other)) ≡ position_cmp (dirs_of sequence) (values_of sequence row) (values_of sequence other)
+  pub code_order : (row other : List Value) → AllFit (types_of table) row → AllFit (types_of table) other → key_cmp (code_of (dirs_of sequence) (values_of sequence row)) (code_of (dirs_of sequence) (values_of sequence other)) ≡ position_cmp (dirs_of sequence) (values_of sequence row) (values_of sequence other)
   code_order row other f g =
       let ts = types_at table (columns_of sequence) in
       let xs = values_of sequence row in
       let ys = values_of sequence other in
-      laws.order (dirs_of sequence) xs ys (AreValues_from_kinds ts xs (sequence_kinds row f)) (AreValues_from_kinds ts ys (sequence_kinds other g)) (SameKinds_from_kinds ts xs ys (sequence_kinds row f) (sequence_kinds other g)) (long_enough row) (long_enough other)
+      codes_cmp (dirs_of sequence) xs ys (AreValues_from_kinds ts xs (sequence_kinds row f)) (AreValues_from_kinds ts ys (sequence_kinds other g)) (SameKinds_from_kinds ts xs ys (sequence_kinds row f) (sequence_kinds other g)) (long_enough row) (long_enough other)
 
   -- two rows with different keys have different codes
-  pub code_apart : (row other : List Value) → Determines table sequence → AllFit (types_of table) row → AllFit (types_of table) other → agrees table.key (key_of table row) other ≡ false → eq_by_cmp key_cmp (key_code (dirs_of sequence) (values_of sequence row)) (key_code (dirs_of sequence) (values_of sequence other)) ≡ false
+  pub code_apart : (row other : List Value) → Determines table sequence → AllFit (types_of table) row → AllFit (types_of table) other → agrees table.key (key_of table row) other ≡ false → eq_by_cmp key_cmp (code_of (dirs_of sequence) (values_of sequence row)) (code_of (dirs_of sequence) (values_of sequence other)) ≡ false
   unfolding Determines
   code_apart row other determines f g apart =
-      let a = key_code (dirs_of sequence) (values_of sequence row) in
-      let b = key_code (dirs_of sequence) (values_of sequence other) in
+      let a = code_of (dirs_of sequence) (values_of sequence row) in
+      let b = code_of (dirs_of sequence) (values_of sequence other) in
       elim (eq_by_cmp key_cmp a b) as (λ c. eq_by_cmp key_cmp a b ≡ c → c ≡ false) [
         | true ↦ λ is.
-            let same : values_of sequence row ≡ values_of sequence other = sequences_apart key_code (λ _. []) laws (types_at table (columns_of sequence)) (dirs_of sequence) (values_of sequence row) (values_of sequence other) (sequence_kinds row f) (sequence_kinds other g) (long_enough row) (same_key a b is) in
+            let same : values_of sequence row ≡ values_of sequence other = sequences_apart (types_at table (columns_of sequence)) (dirs_of sequence) (values_of sequence row) (values_of sequence other) (sequence_kinds row f) (sequence_kinds other g) (long_enough row) (same_key a b is) in
             sym ((same_values_decides (key_of table other) (key_of table row)).1 (sym (determines row other same))) ∙ apart
         | false ↦ λ _. refl
       ] refl

@@ -16,7 +16,7 @@ use Rattle.pq_base.specs.Values.{IsValue, AreValues, SameKind, SameKinds, FitsTy
 use Rattle.pq_schema.specs.declared.table.KeyPart.{KeyPart}
 use Rattle.pq_schema.specs.declared.table.Table.{Table}
 use Rattle.pq_schema.specs.Sequences.{columns_of}
-use Rattle.pq_content.specs.Tables.{IsOfKind, AllOfKinds, same_value, same_values, value_of, values_at, values_of, key_of, types_of, types_at, key_types}
+use Rattle.pq_content.specs.Tables.{IsOfKind, AllOfKinds, same_value, same_values, value_of, cells, values_of, key_of, types_of, types_at, key_types}
 
 -- ---- equality by test
 
@@ -146,7 +146,7 @@ fits_at (t ∷ ts) (x ∷ xs) zero h = h.0
 fits_at (t ∷ ts) (x ∷ xs) (suc col) h = fits_at ts xs col h.1
 
 -- a row's values at some columns fit their types
-pub fit_at : (table : Table) (cols : List ℕ) (row : List Value) → AllFit (types_of table) row → AllFit (types_at table cols) (values_at cols row)
+pub fit_at : (table : Table) (cols : List ℕ) (row : List Value) → AllFit (types_of table) row → AllFit (types_at table cols) (cells cols row)
 fit_at table [] row h = tt
 fit_at table (col ∷ cols) row h = (fits_at (types_of table) row col h, fit_at table cols row h)
 
@@ -157,7 +157,7 @@ pub key_fits : (table : Table) (row : List Value) → AllFit (types_of table) ro
 key_fits table row h = fit_at table table.key row h
 
 -- the values of a sequence are those at its columns
-pub values_of-columns_of : (parts : List KeyPart) (row : List Value) → values_of parts row ≡ values_at (columns_of parts) row
+pub values_of-columns_of : (parts : List KeyPart) (row : List Value) → values_of parts row ≡ cells (columns_of parts) row
 values_of-columns_of [] row = refl
 values_of-columns_of (part ∷ parts) row = ap (λ (xs : List Value). value_of row part.col ∷ xs) (values_of-columns_of parts row)
 

@@ -6,6 +6,6 @@
 mod laws;
 
 pub use laws::{
-    build_laws, catalog_laws, delete_laws, insert_laws, intent_laws, range_laws, read_laws,
-    standing_laws, table_laws, update_laws,
+    beside_laws, build_laws, catalog_laws, delete_laws, insert_laws, intent_laws, range_laws,
+    read_laws, standing_laws, table_laws, update_laws,
 };

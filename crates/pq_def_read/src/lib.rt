@@ -12,6 +12,3 @@ mod statement;
 
 pub use reading::read_statement;
 pub use statement::{Assign, Statement};
-
-#[cfg(test)]
-mod tests;

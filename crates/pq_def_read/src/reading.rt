@@ -70,7 +70,7 @@ fn key(alloc: Global, c: &mut Cursor) -> Result<List<Assign>, ReadError>
 }
 
 fn option_cols(alloc: Global, c: &mut Cursor) -> Result<Option<List<PText>>, ReadError>
-    ensures { Gives (λ x. (x, c.new)) result (option_at (is_mark 40) cols_at c.old) }
+    ensures { Gives (λ x. (x, c.new)) result (option_at (is_mark OPEN) cols_at c.old) }
 {
     if c.is_mark(OPEN) {
         let names = cols(alloc, c)?;

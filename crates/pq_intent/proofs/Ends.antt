@@ -4,19 +4,20 @@ use Rattle.std.specs.Prelude.{MatchOption, Bool, false, is_none, IfSome}
 use Rattle.std.proofs.lemmas.Bool.{false≢true}
 use Rattle.pq_store.specs.declared.store.Guard.TheVariants.{Absent}
 use Rattle.pq_store.specs.declared.damage.Broke.TheVariants.{Damaged}
-use Rattle.pq_store.specs.Content.{admits}
-use Rattle.pq_intent.specs.Errors.{ShowsIntent}
+use Rattle.pq_store.specs.Content.{admits, Content}
+use Rattle.pq_store.specs.Breaks.{IsPresent}
 use Rattle.std.proofs.lemmas.Option.{same_Some, none-some}
 use Rattle.std.specs.Cmp.Lexicographic.{nat_list_cmp_total}
 use Rattle.std.specs.FinMap.{get, insert, remove, get-remove}
 use Rattle.pq_row_code.specs.declared.changes.Change.{Change as Coded}
 use Rattle.pq_row_code.specs.Changes.{changes_code, AreChanges}
-use Rattle.pq_content.specs.Pairs.{Content, Change, changed}
-use Rattle.pq_content.specs.Standing.{intent_key, change_of, AreOfRows, IsIntent, SettlesTo}
+use Rattle.pq_content.specs.Pairs.{Change, changed}
+use Rattle.pq_content.specs.Standing.{change_of, AreIntended, IsIntent, SettlesTo}
+use Rattle.pq_key_code.specs.KeyCode.{intent_key}
 use Rattle.pq_content.proofs.Keys.{key_itself}
 use Rattle.pq_content.proofs.Settling.{settles_partway, settled_at_last, settles_again, settles_once, settles_to_itself, settled_is_itself, intent_found, no_intent_after}
 use Rattle.pq_intent.specs.Changing.{after, IsPartway, MayChange}
-use Rattle.pq_intent.specs.Settling.{IsIntentOf, IsNoIntent, IsSettled, Settles, IsMade}
+use Rattle.pq_intent.specs.Settling.{IsIntentOf, IsNoIntent, IsSettled, Settles, LeavesSettled}
 use Rattle.pq_intent.proofs.Steps.{after-append, take_split}
 
 -- the changes of an intent, and its removal
@@ -53,46 +54,46 @@ through cs start goal new partway last none p =
 
 -- ---- a commit
 
-module _ (c : Content) (cs : List Coded) (none : get c intent_key ≡ None) (coded : AreChanges cs) (rows : AreOfRows (map change_of cs)) where
+module _ (c : Content) (cs : List Coded) (none : get c intent_key ≡ None) (coded : AreChanges cs) (intended : AreIntended (map change_of cs)) where
   pub commit_started : (new : Option Content) (v : List ℕ) → v ≡ changes_code cs → (new ≡ Some c) ⊎ (new ≡ Some (insert c intent_key v)) → Settles new c ⊎ Settles new (changed (map change_of cs) c)
   commit_started new v code (inl same) = inl (settles_itself new c same none)
-  commit_started new v code (inr made) = inr (record { pairs = insert c intent_key (changes_code cs); told = made ∙ ap (λ (w : List ℕ). Some (insert c intent_key w)) code; settles = settles_partway c cs 0 none coded rows })
+  commit_started new v code (inr made) = inr (record { pairs = insert c intent_key (changes_code cs); told = made ∙ ap (λ (w : List ℕ). Some (insert c intent_key w)) code; settles = settles_partway c cs 0 none coded intended })
 
   pub commit_stopped : (mid new : Option Content) (v : List ℕ) → v ≡ changes_code cs → mid ≡ Some (insert c intent_key v) → IsPartway (with_removal cs) mid new → Settles new c ⊎ Settles new (changed (map change_of cs) c)
   commit_stopped mid new v code is p =
       let start = insert c intent_key (changes_code cs) in
-      inr (through cs start (changed (map change_of cs) c) new (λ n. settles_partway c cs n none coded rows) (settled_at_last c (map change_of cs) (changes_code cs) none rows) (no_intent_after c (map change_of cs) none rows)
+      inr (through cs start (changed (map change_of cs) c) new (λ n. settles_partway c cs n none coded intended) (settled_at_last c (map change_of cs) (changes_code cs) none intended) (no_intent_after c (map change_of cs) none intended)
       (subst (λ (o : Option Content). IsPartway (with_removal cs) o new) (is ∙ ap (λ (w : List ℕ). Some (insert c intent_key w)) code) p))
 
   pub commit_made : (mid new : Option Content) (v : List ℕ) → mid ≡ Some (insert c intent_key v) → new ≡ after (with_removal cs) mid → new ≡ Some (changed (map change_of cs) c)
-  commit_made mid new v is made = made ∙ ap (after (with_removal cs)) is ∙ after_removal cs (insert c intent_key v) ∙ ap Some (settled_at_last c (map change_of cs) v none rows)
+  commit_made mid new v is made = made ∙ ap (after (with_removal cs)) is ∙ after_removal cs (insert c intent_key v) ∙ ap Some (settled_at_last c (map change_of cs) v none intended)
 
 -- the intent's key is there already
 some_of : (o : Option (List ℕ)) → is_none o ≡ false → (v : List ℕ) × (o ≡ Some v)
 some_of None h = absurd (false≢true (sym h))
 some_of (Some v) h = (v, refl)
 
-pub there_already : (old : Option Content) (key k : List ℕ) (done : Bool) → key ≡ intent_key → k ≡ key → done ≡ false → IfSome old (λ pairs. done ≡ admits Absent (get pairs k)) → IfSome old (λ pairs. ShowsIntent pairs (Damaged (record { key = key; value = None })))
+pub there_already : (old : Option Content) (key k : List ℕ) (done : Bool) → key ≡ intent_key → k ≡ key → done ≡ false → IfSome old (λ pairs. done ≡ admits Absent (get pairs k)) → IfSome old (λ pairs. IsPresent intent_key pairs (record { key = key; value = None }))
 there_already None key k done is same refused answer = tt
 there_already (Some c) key k done is same refused answer =
     let v = some_of (get c intent_key) (ap (λ (q : List ℕ). is_none (get c q)) (sym (same ∙ is)) ∙ sym answer ∙ refused) in
-    (v.0, is, refl, v.1)
+    record { value = v.0; at = is; has = refl; there = v.1 }
 
 -- one change is made or not
-pub one_stopped : (c : Content) (x : Coded) (old new : Option Content) → IsSettled old c → AreOfRows (map change_of (x ∷ [])) → MayChange (change_of x) old new → Settles new c ⊎ Settles new (changed (map change_of (x ∷ [])) c)
-one_stopped c x old new s rows (inl same) = inl (settles_itself new c (same ∙ s.told) s.no_intent)
-one_stopped c x old new s rows (inr made) = inr (settles_itself new (changed (map change_of (x ∷ [])) c) (made ∙ ap (after (change_of x ∷ [])) s.told) (no_intent_after c (map change_of (x ∷ [])) s.no_intent rows))
+pub one_stopped : (c : Content) (x : Coded) (old new : Option Content) → IsSettled old c → AreIntended (map change_of (x ∷ [])) → MayChange (change_of x) old new → Settles new c ⊎ Settles new (changed (map change_of (x ∷ [])) c)
+one_stopped c x old new s intended (inl same) = inl (settles_itself new c (same ∙ s.told) s.no_intent)
+one_stopped c x old new s intended (inr made) = inr (settles_itself new (changed (map change_of (x ∷ [])) c) (made ∙ ap (after (change_of x ∷ [])) s.told) (no_intent_after c (map change_of (x ∷ [])) s.no_intent intended))
 
 single : (cs : List Coded) (x : Coded) → 1 ≤ length cs → length cs < 2 → x ≡ get_or cs 0 x → cs ≡ x ∷ []
 single [] x some few is = absurd (omega arith)
 single (y ∷ []) x some few is = ap (λ (z : Coded). z ∷ []) (sym is)
 single (y ∷ z ∷ cs) x some few is = absurd (omega arith)
 
-pub single_stopped : (cs items : List Coded) (x : Coded) (old new : Option Content) → items ≡ cs → 1 ≤ length items → length items < 2 → x ≡ get_or items 0 x → AreOfRows (map change_of cs) → MayChange (change_of x) old new
+pub single_stopped : (cs items : List Coded) (x : Coded) (old new : Option Content) → items ≡ cs → 1 ≤ length items → length items < 2 → x ≡ get_or items 0 x → AreIntended (map change_of cs) → MayChange (change_of x) old new
     → (c : Content) → IsSettled old c → Settles new c ⊎ Settles new (changed (map change_of cs) c)
-single_stopped cs items x old new same some few at rows may c s =
+single_stopped cs items x old new same some few at intended may c s =
     let is : cs ≡ x ∷ [] = sym same ∙ single items x some few at in
-    subst (λ (l : List Coded). Settles new c ⊎ Settles new (changed (map change_of l) c)) (sym is) (one_stopped c x old new s (subst (λ (l : List Coded). AreOfRows (map change_of l)) is rows) may)
+    subst (λ (l : List Coded). Settles new c ⊎ Settles new (changed (map change_of l) c)) (sym is) (one_stopped c x old new s (subst (λ (l : List Coded). AreIntended (map change_of l)) is intended) may)
 
 -- ---- a settling
 
@@ -101,13 +102,13 @@ get_removed c = get-remove nat_list_cmp_total c intent_key intent_key ∙ ap (λ
 
 module _ (c : Content) (value : List ℕ) (cs : List Coded) (found : get c intent_key ≡ Some value) (intent : IsIntentOf cs value) where
   is_intent : IsIntent c (remove (changed (map change_of cs) c) intent_key) value
-  is_intent = record { changes = cs; code = sym intent.code; coded = intent.coded; of_rows = intent.of_rows; makes = refl }
+  is_intent = record { changes = cs; code = sym intent.code; coded = intent.coded; intended = intent.intended; makes = refl }
 
   settles_made : SettlesTo c (remove (changed (map change_of cs) c) intent_key)
   unfolding SettlesTo
   settles_made = subst (λ (o : Option (List ℕ)). MatchOption o (remove (changed (map change_of cs) c) intent_key ≡ c) (IsIntent c (remove (changed (map change_of cs) c) intent_key))) (sym found) is_intent
 
-  pub settle_made : (old new : Option Content) → old ≡ Some c → new ≡ after (with_removal cs) old → IsMade c new
+  pub settle_made : (old new : Option Content) → old ≡ Some c → new ≡ after (with_removal cs) old → LeavesSettled c new
   settle_made old new told made = record {
     settled = remove (changed (map change_of cs) c) intent_key;
     settles = settles_made;
@@ -124,13 +125,13 @@ module _ (c : Content) (value : List ℕ) (cs : List Coded) (found : get c inten
       (subst (λ (o : Option Content). IsPartway (with_removal cs) o new) told p))
 
 -- what is there after a settling is what the content settled to
-pub made_settled : (c settled : Content) (old new : Option Content) → old ≡ Some c → IsMade c new → Settles old settled → IsSettled new settled
+pub made_settled : (c settled : Content) (old new : Option Content) → old ≡ Some c → LeavesSettled c new → Settles old settled → IsSettled new settled
 made_settled c settled old new told made s =
     let same : s.pairs ≡ c = same_Some _ _ (sym s.told ∙ told) in
     subst (IsSettled new) (settles_once c made.settled settled made.settles (subst (λ (d : Content). SettlesTo d settled) same s.settles)) made.stands
 
 -- a content without an intent is settled
-pub nothing_made : (c : Content) (new : Option Content) → get c intent_key ≡ None → new ≡ Some c → IsMade c new
+pub nothing_made : (c : Content) (new : Option Content) → get c intent_key ≡ None → new ≡ Some c → LeavesSettled c new
 nothing_made c new none told = record { settled = c; settles = settles_to_itself c none; stands = record { told = told; no_intent = none } }
 
 -- a content with a value that is no intent settles to nothing
@@ -138,7 +139,7 @@ pub no_settling : (c settled : Content) (value : List ℕ) (old : Option Content
 no_settling c settled value old told found never s =
     let same : s.pairs ≡ c = same_Some _ _ (sym s.told ∙ told) in
     let intent = intent_found c settled value found (subst (λ (d : Content). SettlesTo d settled) same s.settles) in
-    never intent.changes (record { code = sym intent.code; coded = intent.coded; of_rows = intent.of_rows })
+    never intent.changes (record { code = sym intent.code; coded = intent.coded; intended = intent.intended })
 
 -- ---- as a settling finds it
 
@@ -149,11 +150,11 @@ pub record IsRead (old : Option Content) (found : Option (List ℕ)) : Type 0 wh
 pub is_read : (old : Option Content) (found : Option (List ℕ)) (k key : List ℕ) → k ≡ key → key ≡ intent_key → IfSome old (λ pairs. found ≡ get pairs k) → IsRead old found
 is_read old found k key same is answer = record { answer = subst (λ (q : List ℕ). IfSome old (λ pairs. found ≡ get pairs q)) (same ∙ is) answer }
 
-pub none_made : (old new : Option Content) (found : Option (List ℕ)) → IsRead old found → found ≡ None → new ≡ old → IfSome old (λ pairs. IsMade pairs new)
+pub none_made : (old new : Option Content) (found : Option (List ℕ)) → IsRead old found → found ≡ None → new ≡ old → IfSome old (λ pairs. LeavesSettled pairs new)
 none_made None new found read none same = tt
 none_made (Some c) new found read none same = nothing_made c new (sym read.answer ∙ none) same
 
-pub is_made : (old new : Option Content) → IfSome old (λ pairs. IsMade pairs new) → (settled : Content) → Settles old settled → IsSettled new settled
+pub is_made : (old new : Option Content) → IfSome old (λ pairs. LeavesSettled pairs new) → (settled : Content) → Settles old settled → IsSettled new settled
 is_made None new made settled s = absurd (none-some s.pairs s.told)
 is_made (Some c) new made settled s = made_settled c settled (Some c) new refl made s
 
@@ -161,7 +162,7 @@ pub never_settles : (old : Option Content) (found : Option (List ℕ)) (value : 
 never_settles None found value read some never settled s = absurd (none-some s.pairs s.told)
 never_settles (Some c) found value read some never settled s = no_settling c settled value (Some c) refl (sym read.answer ∙ some) never s
 
-pub changes_made : (old mid new : Option Content) (found : Option (List ℕ)) (value : List ℕ) (cs : List Coded) → IsRead old found → found ≡ Some value → IsIntentOf cs value → mid ≡ old → new ≡ after (with_removal cs) mid → IfSome old (λ pairs. IsMade pairs new)
+pub changes_made : (old mid new : Option Content) (found : Option (List ℕ)) (value : List ℕ) (cs : List Coded) → IsRead old found → found ≡ Some value → IsIntentOf cs value → mid ≡ old → new ≡ after (with_removal cs) mid → IfSome old (λ pairs. LeavesSettled pairs new)
 changes_made None mid new found value cs read some intent same made = tt
 changes_made (Some c) mid new found value cs read some intent same made = settle_made c value cs (sym read.answer ∙ some) intent mid new same made
 

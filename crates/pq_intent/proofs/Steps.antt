@@ -3,7 +3,8 @@ use Rattle.std.proofs.Common.{◌≡◌, ℕ, zero, suc, ◌+◌, ◌<◌, List,
 use Rattle.std.specs.Prelude.{Result, Ok, Err, OnErr}
 use Rattle.std.specs.Option.{option_map}
 use Rattle.pq_row_code.specs.declared.changes.Change.{Change as Coded}
-use Rattle.pq_content.specs.Pairs.{Content, Change, written, changed}
+use Rattle.pq_content.specs.Pairs.{Change, changed}
+use Rattle.pq_store.specs.Content.{Content, written}
 use Rattle.pq_content.specs.Standing.{change_of}
 use Rattle.pq_intent.specs.Changing.{after, IsPartway, MayChange}
 

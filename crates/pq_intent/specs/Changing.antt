@@ -1,7 +1,8 @@
 -- What calls that make changes leave of a content, at whichever of them they stop.
 use Rattle.std.specs.Prelude.{◌≡◌, ◌⊎◌, ℕ, List, take, Option}
 use Rattle.std.specs.Option.{option_map}
-use Rattle.pq_content.specs.Pairs.{Content, Change, written, changed}
+use Rattle.pq_content.specs.Pairs.{Change, changed}
+use Rattle.pq_store.specs.Content.{Content, written}
 
 -- the content after the changes, where it is told
 abbrev pub after : List Change → Option Content → Option Content

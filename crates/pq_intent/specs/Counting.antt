@@ -2,8 +2,8 @@
 use Rattle.std.specs.Prelude.{◌≡◌, ℕ, ◌+◌, List, length, Option, MatchOption}
 use Rattle.std.specs.FinMap.{get}
 use Rattle.pq_row_code.specs.declared.changes.Change.{Change as Coded}
-use Rattle.pq_content.specs.Pairs.{Content}
-use Rattle.pq_content.specs.Standing.{intent_key}
+use Rattle.pq_store.specs.Content.{Content}
+use Rattle.pq_key_code.specs.KeyCode.{intent_key}
 use Rattle.pq_intent.specs.Settling.{IsIntentOf}
 use Rattle.pq_intent.specs.declared.settles.Settled.{Settled}
 

@@ -1,20 +1,17 @@
 -- Contents with an intent, and without one.
-use Rattle.std.specs.Prelude.{◌≡◌, ℕ, Bool, ◌||◌, List, map, Option, Some, None}
+use Rattle.std.specs.Prelude.{◌≡◌, ℕ, List, map, Option, Some, None}
 use Rattle.std.specs.FinMap.{get}
 use Rattle.pq_row_code.specs.declared.changes.Change.{Change as Coded}
 use Rattle.pq_row_code.specs.Changes.{changes_code, AreChanges}
-use Rattle.pq_content.specs.Pairs.{Content, is_in_space}
-use Rattle.pq_content.specs.Standing.{intent_key, change_of, AreOfRows, SettlesTo}
+use Rattle.pq_store.specs.Content.{Content}
+use Rattle.pq_content.specs.Standing.{change_of, AreIntended, SettlesTo}
+use Rattle.pq_key_code.specs.KeyCode.{intent_key}
 
--- whether a key is of a row or of an entry
-abbrev pub is_of_rows : List ℕ → Bool
-is_of_rows key = is_in_space 2 key || is_in_space 3 key
-
--- changes of rows and entries alone, whose code is this value
+-- changes that an intent may hold, whose code is this value
 pub record IsIntentOf (changes : List Coded) (value : List ℕ) : Type 0 where
   pub code : changes_code changes ≡ value
   pub coded : AreChanges changes
-  pub of_rows : AreOfRows (map change_of changes)
+  pub intended : AreIntended (map change_of changes)
 
 -- no such changes have this code
 abbrev pub IsNoIntent : List ℕ → Type 0
@@ -39,7 +36,7 @@ pub record HasIntent (content : Option Content) : Type 0 where
   pub found : get pairs intent_key ≡ Some value
 
 -- what a content settles to is there after a settling
-pub record IsMade (pairs : Content) (new : Option Content) : Type 0 where
+pub record LeavesSettled (pairs : Content) (new : Option Content) : Type 0 where
   pub settled : Content
   pub settles : SettlesTo pairs settled
   pub stands : IsSettled new settled

@@ -2,10 +2,11 @@
 ghost use Rattle.std.specs.Prelude.{◌≡◌, ◌≤◌, ◌<◌, ◌+◌, ◌⊎◌, None, Some, length, map, IfOk, IfErr, IfSome, IsErr, OnOk, OnErr};
 ghost use Rattle.std.specs.FinMap.{insert};
 ghost use Rattle.pq_row_code.specs.Changes.{changes_code, AreChanges};
-ghost use Rattle.pq_content.specs.Pairs.{Content, changed};
-ghost use Rattle.pq_content.specs.Standing.{intent_key, change_of, AreOfRows};
-ghost use Rattle.pq_store.specs.Content.{HasBrokeCause};
-ghost use Rattle.pq_intent.specs.Errors.{IsSound, ShowsIntent};
+ghost use Rattle.pq_content.specs.Pairs.{changed};
+ghost use Rattle.pq_content.specs.Standing.{change_of, AreIntended};
+ghost use Rattle.pq_key_code.specs.KeyCode.{intent_key};
+ghost use Rattle.pq_store.specs.Content.{HasBrokeCause, Content};
+ghost use Rattle.pq_store.specs.Breaks.{IfDamaged, IsPresent, IsUndamaged};
 ghost use Rattle.pq_intent.specs.Settling.{IsSettled, Settles, HasIntent};
 ghost use Rattle.pq_intent.specs.Spending.{Spends, write_ops};
 
@@ -33,7 +34,7 @@ fn put_intent<S: Store<L>, L: Ledger>(
     ensures stopped { OnErr result ((pairs : Content) → IsSettled (S.content store.old) pairs
         → (S.content store.new ≡ Some pairs) ⊎ (S.content store.new ≡ Some (insert pairs intent_key code.now))) }
     ensures taken { HasIntent (S.content store.old) → IsErr result × (S.content store.new ≡ S.content store.old) }
-    ensures damage { IfErr result (λ broke. IfSome (S.content store.old) (λ pairs. ShowsIntent pairs broke)) }
+    ensures damage { IfErr result (λ broke. IfSome (S.content store.old) (λ pairs. IfDamaged (IsPresent intent_key pairs) broke)) }
     ensures spends { Spends 1 allowance.old allowance.new meter.old meter.new }
     ensures cause { HasBrokeCause (S.faults store.old) (S.faults store.new) result }
 {
@@ -54,13 +55,13 @@ fn commit_by_intent<S: Store<L>, L: Ledger>(
     meter: &mut Meter<L>,
 ) -> Result<(), Broke>
     requires coded { AreChanges changes.now }
-    requires rows { AreOfRows (map change_of changes.now) }
+    requires intended { AreIntended (map change_of changes.now) }
     requires left { length changes.now + 2 ≤ allowance.old.left.ops }
     ensures made { OnOk result ((pairs : Content) → IsSettled (S.content store.old) pairs → S.content store.new ≡ Some (changed (map change_of changes.now) pairs)) }
     ensures stopped { OnErr result ((pairs : Content) → IsSettled (S.content store.old) pairs
         → Settles (S.content store.new) pairs ⊎ Settles (S.content store.new) (changed (map change_of changes.now) pairs)) }
     ensures taken { HasIntent (S.content store.old) → IsErr result × (S.content store.new ≡ S.content store.old) }
-    ensures damage { IfErr result (λ broke. IfSome (S.content store.old) (λ pairs. ShowsIntent pairs broke)) }
+    ensures damage { IfErr result (λ broke. IfSome (S.content store.old) (λ pairs. IfDamaged (IsPresent intent_key pairs) broke)) }
     ensures spends { Spends (length changes.now + 2) allowance.old allowance.new meter.old meter.new }
     ensures cause { HasBrokeCause (S.faults store.old) (S.faults store.new) result }
 {
@@ -70,7 +71,7 @@ fn commit_by_intent<S: Store<L>, L: Ledger>(
     finish(alloc, key.items(), changes.items(), store, allowance, meter)
 }
 
-/// Makes the changes of rows and entries whole. A single change is one write. More of them are first
+/// Makes changes whole, each of which an intent may hold. A single change is one write. More of them are first
 /// written as the intent, from which the rest is made at the next opening where this call is stopped.
 /// An intent that is there already is damage, and nothing is changed. Entries are never spent.
 pub fn commit<S: Store<L>, L: Ledger>(
@@ -82,15 +83,15 @@ pub fn commit<S: Store<L>, L: Ledger>(
 ) -> Result<(), Broke>
     requires some { 1 ≤ length changes }
     requires coded { AreChanges changes }
-    requires rows { AreOfRows (map change_of changes) }
+    requires intended { AreIntended (map change_of changes) }
     requires left { write_ops (length changes) ≤ allowance.old.left.ops }
     ensures made { OnOk result ((pairs : Content) → IsSettled (S.content store.old) pairs → S.content store.new ≡ Some (changed (map change_of changes) pairs)) }
     // Whichever call was the last one, the content settles to the old one or to the changed one.
     ensures stopped { OnErr result ((pairs : Content) → IsSettled (S.content store.old) pairs
         → Settles (S.content store.new) pairs ⊎ Settles (S.content store.new) (changed (map change_of changes) pairs)) }
-    ensures sound { IfErr result (λ broke. (pairs : Content) → IsSettled (S.content store.old) pairs → IsSound broke) }
+    ensures sound { IfErr result (λ broke. (pairs : Content) → IsSettled (S.content store.old) pairs → IsUndamaged broke) }
     ensures taken { 2 ≤ length changes → HasIntent (S.content store.old) → IsErr result × (S.content store.new ≡ S.content store.old) }
-    ensures damage { IfErr result (λ broke. IfSome (S.content store.old) (λ pairs. ShowsIntent pairs broke)) }
+    ensures damage { IfErr result (λ broke. IfSome (S.content store.old) (λ pairs. IfDamaged (IsPresent intent_key pairs) broke)) }
     // Over every store, told or not, and also on an error.
     ensures spends { Spends (write_ops (length changes)) allowance.old allowance.new meter.old meter.new }
     ensures cause { HasBrokeCause (S.faults store.old) (S.faults store.new) result }

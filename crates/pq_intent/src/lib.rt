@@ -7,8 +7,6 @@
 mod commits;
 mod intent;
 mod settles;
-#[cfg(test)]
-mod tests;
 mod write;
 
 pub use commits::commit;

@@ -1,13 +1,14 @@
 //! Settling: the changes of an intent that was left are made, and it is removed.
 ghost use Rattle.std.specs.Prelude.{◌≡◌, ◌⊎◌, ◌+◌, ◌<◌, ◌^◌, ◌++◌, ◌∷◌, [], None, Some, length, map, IfOk, IfErr, IfSome, OnOk, OnErr};
 ghost use Rattle.pq_row_code.specs.declared.changes.Change.{Change as Coded};
-ghost use Rattle.pq_content.specs.Pairs.{Content};
-ghost use Rattle.pq_content.specs.Standing.{intent_key, change_of};
-ghost use Rattle.pq_store.specs.Content.{HasBrokeCause};
+ghost use Rattle.pq_content.specs.Standing.{change_of};
+ghost use Rattle.pq_key_code.specs.KeyCode.{intent_key};
+ghost use Rattle.pq_store.specs.Content.{HasBrokeCause, Content};
 ghost use Rattle.pq_intent.specs.Changing.{after, IsPartway};
 ghost use Rattle.pq_intent.specs.Counting.{nothing_settled, settled_changes, Counts, CountsIntent, HasNumbers};
-ghost use Rattle.pq_intent.specs.Errors.{IsSound, ShowsNoIntent};
-ghost use Rattle.pq_intent.specs.Settling.{IsIntentOf, IsNoIntent, IsSettled, Settles, IsMade};
+ghost use Rattle.pq_store.specs.Breaks.{IsUndamaged};
+ghost use Rattle.pq_intent.specs.Errors.{ShowsNoIntent};
+ghost use Rattle.pq_intent.specs.Settling.{IsIntentOf, IsNoIntent, IsSettled, Settles, LeavesSettled};
 
 use crate::intent::intent_of;
 use crate::write::finish;
@@ -45,7 +46,7 @@ fn settle_changes<S: Store<L>, L: Ledger>(
     requires { length changes.now < 2 ^ 16 }
     ensures made { OnOk result (S.content store.new ≡ after (map change_of changes.now ++ (key.now, None) ∷ []) (S.content store.old)) }
     ensures stopped { OnErr result (IsPartway (map change_of changes.now ++ (key.now, None) ∷ []) (S.content store.old) (S.content store.new)) }
-    ensures sound { IfErr result IsSound }
+    ensures sound { IfErr result IsUndamaged }
     ensures counts { IfOk result (λ settled. settled ≡ settled_changes (length changes.now)) }
     ensures ops { IfOk result (λ settled. meter.new.ops + 1 ≡ meter.old.ops + settled.used.ops) }
     ensures entries { OnOk result (meter.new.entries ≡ meter.old.entries) }
@@ -74,13 +75,13 @@ pub fn settle<S: Store<L>, L: Ledger>(
     // What the content settled to is there, with no intent.
     ensures made { OnOk result ((settled : Content) → Settles (S.content store.old) settled → IsSettled (S.content store.new) settled) }
     // Over a told content there is such a one.
-    ensures settles { OnOk result (IfSome (S.content store.old) (λ pairs. IsMade pairs (S.content store.new))) }
+    ensures settles { OnOk result (IfSome (S.content store.old) (λ pairs. LeavesSettled pairs (S.content store.new))) }
     ensures stopped { OnErr result ((settled : Content) → Settles (S.content store.old) settled → Settles (S.content store.new) settled) }
-    ensures sound { IfErr result (λ broke. (settled : Content) → Settles (S.content store.old) settled → IsSound broke) }
-    // Damage is a value at the intent's key that is no code of changes of rows and entries alone.
+    ensures sound { IfErr result (λ broke. (settled : Content) → Settles (S.content store.old) settled → IsUndamaged broke) }
+    // Damage is a value at the intent's key that is no code of changes that an intent may hold.
     // Nothing is changed then.
     ensures damage { IfErr result (λ broke. IfSome (S.content store.old) (λ pairs. ShowsNoIntent pairs broke)) }
-    ensures kept { IfErr result (λ broke. IsSound broke ⊎ (S.content store.new ≡ S.content store.old)) }
+    ensures kept { IfErr result (λ broke. IsUndamaged broke ⊎ (S.content store.new ≡ S.content store.old)) }
     ensures counts { IfOk result (λ settled. IfSome (S.content store.old) (λ pairs. Counts pairs settled)) }
     // Over every store, told or not.
     ensures numbers { IfOk result HasNumbers }

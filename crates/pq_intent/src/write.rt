@@ -1,11 +1,10 @@
 //! Writes that are paid from an allowance, and the changes of a list one after the other.
 ghost use Rattle.std.specs.Prelude.{◌≡◌, ◌≤◌, ◌+◌, ◌++◌, ◌∷◌, [], None, length, map, OnOk, OnErr, IfErr};
 ghost use Rattle.std.specs.Option.{option_map, option_copied};
-ghost use Rattle.pq_content.specs.Pairs.{written};
 ghost use Rattle.pq_content.specs.Standing.{change_of};
-ghost use Rattle.pq_store.specs.Content.{HasBrokeCause};
+ghost use Rattle.pq_store.specs.Content.{HasBrokeCause, written};
 ghost use Rattle.pq_intent.specs.Changing.{after, IsPartway, MayChange};
-ghost use Rattle.pq_intent.specs.Errors.{IsSound};
+ghost use Rattle.pq_store.specs.Breaks.{IsUndamaged};
 ghost use Rattle.pq_intent.specs.Spending.{Spends};
 
 use pq_row_code::Change;
@@ -25,7 +24,7 @@ pub fn put<S: Store<L>, L: Ledger>(
     requires { 1 ≤ allowance.old.left.ops }
     ensures made { OnOk result (S.content store.new ≡ option_map (written key.now (option_copied new.entry)) (S.content store.old)) }
     ensures stopped { OnErr result (MayChange (key.now, option_copied new.entry) (S.content store.old) (S.content store.new)) }
-    ensures sound { IfErr result IsSound }
+    ensures sound { IfErr result IsUndamaged }
     ensures spends { Spends 1 allowance.old allowance.new meter.old meter.new }
     ensures one { meter.new.ops ≡ meter.old.ops + 1 }
     ensures cause { HasBrokeCause (S.faults store.old) (S.faults store.new) result }
@@ -48,7 +47,7 @@ pub fn write_change<S: Store<L>, L: Ledger>(
     requires { 1 ≤ allowance.old.left.ops }
     ensures made { OnOk result (S.content store.new ≡ option_map (written change.now.key change.now.new) (S.content store.old)) }
     ensures stopped { OnErr result (MayChange (change_of change.now) (S.content store.old) (S.content store.new)) }
-    ensures sound { IfErr result IsSound }
+    ensures sound { IfErr result IsUndamaged }
     ensures spends { Spends 1 allowance.old allowance.new meter.old meter.new }
     ensures one { meter.new.ops ≡ meter.old.ops + 1 }
     ensures cause { HasBrokeCause (S.faults store.old) (S.faults store.new) result }
@@ -71,7 +70,7 @@ pub fn write_changes<S: Store<L>, L: Ledger>(
     requires { length changes.now ≤ allowance.old.left.ops }
     ensures made { OnOk result (S.content store.new ≡ after (map change_of changes.now) (S.content store.old)) }
     ensures stopped { OnErr result (IsPartway (map change_of changes.now) (S.content store.old) (S.content store.new)) }
-    ensures sound { IfErr result IsSound }
+    ensures sound { IfErr result IsUndamaged }
     ensures spends { Spends (length changes.now) allowance.old allowance.new meter.old meter.new }
     ensures each { OnOk result (meter.new.ops ≡ meter.old.ops + length changes.now) }
     ensures cause { HasBrokeCause (S.faults store.old) (S.faults store.new) result }
@@ -94,7 +93,7 @@ pub fn finish<S: Store<L>, L: Ledger>(
     requires { length changes.now + 1 ≤ allowance.old.left.ops }
     ensures made { OnOk result (S.content store.new ≡ after (map change_of changes.now ++ (key.now, None) ∷ []) (S.content store.old)) }
     ensures stopped { OnErr result (IsPartway (map change_of changes.now ++ (key.now, None) ∷ []) (S.content store.old) (S.content store.new)) }
-    ensures sound { IfErr result IsSound }
+    ensures sound { IfErr result IsUndamaged }
     ensures spends { Spends (length changes.now + 1) allowance.old allowance.new meter.old meter.new }
     ensures each { OnOk result (meter.new.ops ≡ meter.old.ops + (length changes.now + 1)) }
     ensures cause { HasBrokeCause (S.faults store.old) (S.faults store.new) result }

@@ -4,4 +4,3 @@ pub mod Order
 pub mod Loop
 pub mod Reading
 pub mod StoreKeys
-pub mod KeyRanges

@@ -165,9 +165,6 @@ escaped_plain : (b : ℕ) (t : List ℕ) → b ≢ 0 → escaped (b ∷ t) ≡ b
 escaped_plain zero t ne = absurd (ne refl)
 escaped_plain (suc b) t ne = refl
 
-pair_is : {A B : Type 0} (x y : A × B) → Some x ≡ Some y → x ≡ y
-pair_is x y e = same_Some x y e
-
 text_takes : (d : Dir) (bs t rest : List ℕ) → IsBytes bs → text_at d bs ≡ Some (t, rest) → Takes bs (map (turned d) (payload (values.Text t))) rest
 unfolding text_at
 text_takes d [] t rest f e = none_some _ e

@@ -54,17 +54,17 @@ abbrev pub past_code : List ℕ → List ℕ
 past_code code = code ++ 32 ∷ []
 
 -- the key of a definition: space 01 and the number in two bytes
-abbrev pub catkey : ℕ → List ℕ
-catkey number = 1 ∷ to_be_bytes w16 number
+abbrev pub catalog_key : ℕ → List ℕ
+catalog_key number = 1 ∷ to_be_bytes w16 number
 
 -- the key of a row: space 02, the table's number, and the code of the primary key
-abbrev pub rowkey : ℕ → List Value → List ℕ
-rowkey table key = 2 ∷ table ∷ code_of (replicate (length key) Asc) key
+abbrev pub row_key : ℕ → List Value → List ℕ
+row_key table key = 2 ∷ table ∷ code_of (replicate (length key) Asc) key
 
 -- the key of an index entry: space 03, the table's and the index's number, and the code of the sequence
-abbrev pub entrykey : ℕ → ℕ → List Dir → List Value → List ℕ
-entrykey table index dirs row = 3 ∷ table ∷ index ∷ code_of dirs row
+abbrev pub entry_key : ℕ → ℕ → List Dir → List Value → List ℕ
+entry_key table index dirs row = 3 ∷ table ∷ index ∷ code_of dirs row
 
 -- the key of the intent
-abbrev pub intentkey : List ℕ
-intentkey = 4 ∷ []
+abbrev pub intent_key : List ℕ
+intent_key = 4 ∷ []

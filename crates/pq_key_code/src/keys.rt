@@ -1,7 +1,7 @@
 //! The keys of the store.
 ghost use Rattle.std.specs.Prelude.{◌≡◌, ◌++◌, length, replicate, OnOk, IfOk};
 ghost use Rattle.pq_base.specs.declared.value.Dir.TheVariants.{Asc};
-ghost use Rattle.pq_key_code.specs.KeyCode.{code_of, past_code, rowkey, entrykey, catkey, intentkey};
+ghost use Rattle.pq_key_code.specs.KeyCode.{code_of, past_code, row_key, entry_key, catalog_key, intent_key};
 
 use crate::encode::{put_code, put_component};
 use pq_base::{Bytes, Dir, NoMem, Row};
@@ -28,7 +28,7 @@ fn put_ascending(alloc: Global, out: &mut Bytes, row: &Row) -> Result<(), NoMem>
 
 /// The key of the row with this primary key: space 02, the table's number, and the key's code.
 pub fn row_key(alloc: Global, table: u8, key: &Row) -> Result<Bytes, NoMem>
-    ensures { IfOk result (λ bytes. bytes ≡ rowkey table key.now) }
+    ensures { IfOk result (λ bytes. bytes ≡ row_key table key.now) }
 {
     let mut bytes = Bytes::of_bytes(alloc, &[0x02, table])?;
     put_ascending(alloc, &mut bytes, key)?;
@@ -45,7 +45,7 @@ pub fn entry_key(
     dirs: &[Dir],
 ) -> Result<Bytes, NoMem>
     requires { length values.now ≡ length dirs.now }
-    ensures { IfOk result (λ bytes. bytes ≡ entrykey table index dirs.now values.now) }
+    ensures { IfOk result (λ bytes. bytes ≡ entry_key table index dirs.now values.now) }
 {
     let mut bytes = Bytes::of_bytes(alloc, &[0x03, table, index])?;
     put_code(alloc, &mut bytes, values.items(), dirs)?;
@@ -54,7 +54,7 @@ pub fn entry_key(
 
 /// The key of a definition: space 01 and its number in two bytes, the higher first.
 pub fn catalog_key(alloc: Global, number: u16) -> Result<Bytes, NoMem>
-    ensures { IfOk result (λ bytes. bytes ≡ catkey number) }
+    ensures { IfOk result (λ bytes. bytes ≡ catalog_key number) }
 {
     let [high, low] = number.to_be_bytes();
     Bytes::of_bytes(alloc, &[0x01, high, low])
@@ -62,7 +62,7 @@ pub fn catalog_key(alloc: Global, number: u16) -> Result<Bytes, NoMem>
 
 /// The key of the intent: space 04 alone.
 pub fn intent_key(alloc: Global) -> Result<Bytes, NoMem>
-    ensures { IfOk result (λ bytes. bytes ≡ intentkey) }
+    ensures { IfOk result (λ bytes. bytes ≡ intent_key) }
 {
     Bytes::of_bytes(alloc, &[0x04])
 }

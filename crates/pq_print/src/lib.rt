@@ -21,6 +21,3 @@ pub use query::print_query;
 pub use report::{End, IndexCol, Line, Opened, Report};
 pub use table::print_table;
 pub use value::print_row;
-
-#[cfg(test)]
-mod tests;

@@ -1,17 +1,17 @@
 //! Refusals as text: the number, and then the fields.
-ghost use Rattle.std.specs.Prelude.{◌≡◌, ◌<◌, ◌++◌, [], OnOk, string_bytes, slice_index_or};
+ghost use Rattle.std.specs.Prelude.{◌≡◌, ◌<◌, ◌++◌, [], length, OnOk, string_bytes, slice_index_or};
 ghost use Rattle.pq_base.specs.Words.{refusals, counts};
 ghost use Rattle.pq_print.specs.Refusals.{field, refusal_number, refusal_fields, refusal_text};
 
 use crate::number::put_number;
 use crate::part::as_str;
 use itoa::Integer;
-use pq_base::{PText, Refusal, count_words, refusal_numbers};
+use pq_base::{PText, Refusal, count_word, count_words, refusal_numbers, refusal_place};
 use std::alloc::AllocError;
 
 /// The refusal's number, by its place from 0.
 fn number_at(place: usize) -> &'static str
-    requires { place < 28 }
+    requires { place < length refusals }
     ensures { result.now ≡ slice_index_or refusals place [] }
 {
     refusal_numbers().word(place)
@@ -21,7 +21,7 @@ fn number_at(place: usize) -> &'static str
 fn count_word(place: u8) -> &'static str
     ensures { result.now ≡ slice_index_or counts place [] }
 {
-    if place < 15 {
+    if (place as usize) < count_word::WORDS {
         return count_words().word(place as usize);
     }
     ""
@@ -31,34 +31,34 @@ fn number_of(refusal: &Refusal) -> &'static str
     ensures { result.now ≡ refusal_number refusal.now }
 {
     match refusal {
-        Refusal::NotUtf8 => number_at(0),
-        Refusal::Unfinished => number_at(1),
-        Refusal::StatementLong => number_at(2),
-        Refusal::Syntax { .. } => number_at(3),
-        Refusal::NameTaken { .. } => number_at(4),
-        Refusal::NoTable { .. } => number_at(5),
-        Refusal::NoColumn { .. } => number_at(6),
-        Refusal::Repeated { .. } => number_at(7),
-        Refusal::ForeignShape { .. } => number_at(8),
-        Refusal::Count { .. } => number_at(9),
-        Refusal::TooManyRows { .. } => number_at(10),
-        Refusal::Alias { .. } => number_at(11),
-        Refusal::OperandKind { .. } => number_at(12),
-        Refusal::Params => number_at(13),
-        Refusal::NoBound { .. } => number_at(14),
-        Refusal::BoundLarge { .. } => number_at(15),
-        Refusal::NoQuery { .. } => number_at(16),
-        Refusal::ParamValue { .. } => number_at(17),
-        Refusal::Cursor => number_at(18),
-        Refusal::NotPaged => number_at(19),
-        Refusal::ValueKind { .. } => number_at(20),
-        Refusal::WrongColumns { .. } => number_at(21),
-        Refusal::DuplicateKey { .. } => number_at(22),
-        Refusal::NoRow { .. } => number_at(23),
-        Refusal::NoParent { .. } => number_at(24),
-        Refusal::Referenced { .. } => number_at(25),
-        Refusal::Cardinality { .. } => number_at(26),
-        Refusal::RowLong { .. } => number_at(27),
+        Refusal::NotUtf8 => number_at(refusal_place::NOT_UTF8),
+        Refusal::Unfinished => number_at(refusal_place::UNFINISHED),
+        Refusal::StatementLong => number_at(refusal_place::STATEMENT_LONG),
+        Refusal::Syntax { .. } => number_at(refusal_place::SYNTAX),
+        Refusal::NameTaken { .. } => number_at(refusal_place::NAME_TAKEN),
+        Refusal::NoTable { .. } => number_at(refusal_place::NO_TABLE),
+        Refusal::NoColumn { .. } => number_at(refusal_place::NO_COLUMN),
+        Refusal::Repeated { .. } => number_at(refusal_place::REPEATED),
+        Refusal::ForeignShape { .. } => number_at(refusal_place::FOREIGN_SHAPE),
+        Refusal::Count { .. } => number_at(refusal_place::COUNT),
+        Refusal::TooManyRows { .. } => number_at(refusal_place::TOO_MANY_ROWS),
+        Refusal::Alias { .. } => number_at(refusal_place::ALIAS),
+        Refusal::OperandKind { .. } => number_at(refusal_place::OPERAND_KIND),
+        Refusal::Params => number_at(refusal_place::PARAMS),
+        Refusal::NoBound { .. } => number_at(refusal_place::NO_BOUND),
+        Refusal::BoundLarge { .. } => number_at(refusal_place::BOUND_LARGE),
+        Refusal::NoQuery { .. } => number_at(refusal_place::NO_QUERY),
+        Refusal::ParamValue { .. } => number_at(refusal_place::PARAM_VALUE),
+        Refusal::Cursor => number_at(refusal_place::CURSOR),
+        Refusal::NotPaged => number_at(refusal_place::NOT_PAGED),
+        Refusal::ValueKind { .. } => number_at(refusal_place::VALUE_KIND),
+        Refusal::WrongColumns { .. } => number_at(refusal_place::WRONG_COLUMNS),
+        Refusal::DuplicateKey { .. } => number_at(refusal_place::DUPLICATE_KEY),
+        Refusal::NoRow { .. } => number_at(refusal_place::NO_ROW),
+        Refusal::NoParent { .. } => number_at(refusal_place::NO_PARENT),
+        Refusal::Referenced { .. } => number_at(refusal_place::REFERENCED),
+        Refusal::Cardinality { .. } => number_at(refusal_place::CARDINALITY),
+        Refusal::RowLong { .. } => number_at(refusal_place::ROW_LONG),
         Refusal::NotBuilt => "E100",
     }
 }

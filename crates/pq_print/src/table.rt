@@ -40,93 +40,98 @@ impl Part<()> for Column {
     }
 }
 
-/// A column of the table, by its place.
-impl Part<Table> for u8 {
-    ghost text = { λ table col. column_name table.columns col };
+/// Columns that have places, among the tables that foreign keys may name.
+#[derive(Clone, Copy)]
+struct Home<'a> {
+    tables: &'a [Table],
+    columns: &'a [Column],
+}
 
-    fn put(&self, table: &Table, out: &mut String) -> Result<(), AllocError> {
-        out.push_str(column_name(table.columns.items(), *self))
+/// One of the columns, by its place.
+impl<'a> Part<Home<'a>> for u8 {
+    ghost text = { λ home col. column_name home.columns.now col };
+
+    fn put(&self, home: &Home<'a>, out: &mut String) -> Result<(), AllocError> {
+        out.push_str(column_name(home.columns, *self))
     }
 }
 
 #[tactic(auto, unfolding(crate::specs::Canonical::columns_text))]
-fn put_columns(table: &Table, cols: &[u8], out: &mut String) -> Result<(), AllocError>
-    ensures { OnOk result (string_bytes out.new ≡ string_bytes out.old ++ columns_text table.now cols.now) }
+fn put_columns(home: &Home<'_>, cols: &[u8], out: &mut String) -> Result<(), AllocError>
+    ensures { OnOk result (string_bytes out.new ≡ string_bytes out.old ++ columns_text home.now.columns.now cols.now) }
 {
     out.push_str("(")?;
-    put_separated(cols, table, ", ", out)?;
+    put_separated(cols, home, ", ", out)?;
     out.push_str(")")
 }
 
 #[tactic(auto, unfolding(crate::specs::Canonical::limit_text))]
-fn put_limit(table: &Table, limit: &Limit, out: &mut String) -> Result<(), AllocError>
-    ensures { OnOk result (string_bytes out.new ≡ string_bytes out.old ++ limit_text table.now limit.now) }
+fn put_limit(home: &Home<'_>, limit: &Limit, out: &mut String) -> Result<(), AllocError>
+    ensures { OnOk result (string_bytes out.new ≡ string_bytes out.old ++ limit_text home.now.columns.now limit.now) }
 {
     out.push_str("CARDINALITY LIMIT ")?;
     put_number(out, limit.n)?;
     out.push_str(" ")?;
-    put_columns(table, limit.cols.items(), out)
+    put_columns(home, limit.cols.items(), out)
 }
 
-impl Part<Table> for Limit {
-    ghost text = { λ table limit. limit_text table limit };
+impl<'a> Part<Home<'a>> for Limit {
+    ghost text = { λ home limit. limit_text home.columns.now limit };
 
-    fn put(&self, table: &Table, out: &mut String) -> Result<(), AllocError> {
-        put_limit(table, self, out)
+    fn put(&self, home: &Home<'a>, out: &mut String) -> Result<(), AllocError> {
+        put_limit(home, self, out)
     }
 }
 
-/// A table among those that its foreign keys may name.
-#[derive(Clone, Copy)]
-struct Home<'a> {
-    tables: &'a [Table],
-    table: &'a Table,
-}
-
 #[tactic(auto, unfolding(crate::specs::Canonical::foreign_text))]
-fn put_foreign(
-    tables: &[Table],
-    table: &Table,
-    foreign: &Foreign,
-    out: &mut String,
-) -> Result<(), AllocError>
-    ensures { OnOk result (string_bytes out.new ≡ string_bytes out.old ++ foreign_text tables.now table.now foreign.now) }
+fn put_foreign(home: &Home<'_>, foreign: &Foreign, out: &mut String) -> Result<(), AllocError>
+    ensures { OnOk result (string_bytes out.new ≡ string_bytes out.old ++ foreign_text home.now.tables.now home.now.columns.now foreign.now) }
 {
     out.push_str("FOREIGN KEY ")?;
-    put_columns(table, foreign.cols.items(), out)?;
+    put_columns(home, foreign.cols.items(), out)?;
     out.push_str(" REFERENCES ")?;
-    out.push_str(table_name(tables, foreign.table))
+    out.push_str(table_name(home.tables, foreign.table))
 }
 
 impl<'a> Part<Home<'a>> for Foreign {
-    ghost text = { λ home foreign. foreign_text home.tables.now home.table.now foreign };
+    ghost text = { λ home foreign. foreign_text home.tables.now home.columns.now foreign };
 
     fn put(&self, home: &Home<'a>, out: &mut String) -> Result<(), AllocError> {
-        put_foreign(home.tables, home.table, self, out)
+        put_foreign(home, self, out)
     }
 }
 
 #[tactic(auto, unfolding(crate::specs::Canonical::items_text))]
-fn put_items(tables: &[Table], table: &Table, out: &mut String) -> Result<(), AllocError>
-    ensures { OnOk result (string_bytes out.new ≡ string_bytes out.old ++ items_text tables.now table.now) }
+fn put_items(
+    tables: &[Table],
+    table: &Table,
+    columns: &[Column],
+    out: &mut String,
+) -> Result<(), AllocError>
+    ensures { OnOk result (string_bytes out.new ≡ string_bytes out.old ++ items_text tables.now (record table.now { columns = columns.now })) }
 {
-    put_separated(table.columns.items(), &(), ", ", out)?;
+    let home = Home { tables, columns };
+    put_separated(columns, &(), ", ", out)?;
     out.push_str(", PRIMARY KEY ")?;
-    put_columns(table, table.key.items(), out)?;
-    put_each(table.limits.items(), table, ", ", out)?;
-    let home = Home { tables, table };
+    put_columns(&home, table.key.items(), out)?;
+    put_each(table.limits.items(), &home, ", ", out)?;
     put_each(table.foreign.items(), &home, ", ", out)
 }
 
-/// Puts the table's text behind what is there.
+/// Puts the text of the table with these columns in place of its own behind what is there.
 #[tactic(auto, unfolding(crate::specs::Canonical::table_text))]
-pub fn put_table(tables: &[Table], table: &Table, out: &mut String) -> Result<(), AllocError>
-    ensures { OnOk result (string_bytes out.new ≡ string_bytes out.old ++ table_text tables.now table.now) }
+pub fn put_table(
+    tables: &[Table],
+    table: &Table,
+    columns: &[Column],
+    out: &mut String,
+) -> Result<(), AllocError>
+    ensures { OnOk result (string_bytes out.new ≡ string_bytes out.old ++ table_text tables.now (record table.now { columns = columns.now })) }
 {
     out.push_str("CREATE TABLE ")?;
     out.push_str(as_str(&table.name))?;
     out.push_str(" (")?;
-    put_items(tables, table, out)?;
+    put_items(tables, table, columns, out)?;
     out.push_str(");")
 }
 
@@ -135,6 +140,6 @@ pub fn print_table(alloc: Global, tables: &[Table], table: &Table) -> Result<Byt
     ensures { IfOk result (λ text. text ≡ table_text tables.now table.now) }
 {
     let mut text = String::new(alloc);
-    put_table(tables, table, &mut text)?;
+    put_table(tables, table, table.columns.items(), &mut text)?;
     Ok(List::from_vec(text.into_bytes()))
 }

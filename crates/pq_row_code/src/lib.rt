@@ -11,6 +11,3 @@ mod encode;
 pub use changes::{Change, decode_changes, encode_changes};
 pub use decode::decode_row;
 pub use encode::{encode_row, row_code_len};
-
-#[cfg(test)]
-mod tests;

@@ -10,6 +10,7 @@ use Rattle.std.proofs.lemmas.List.Elements.{All-nil, All-cons, All-append, All-m
 use Rattle.std.proofs.lemmas.List.Quantifiers.{position-Some}
 use Rattle.pq_base.specs.Answers.{or_else}
 use Rattle.pq_base.specs.Columns.{set_of}
+use Rattle.pq_base.specs.declared.count_word.TheConstants as count_word
 use Rattle.pq_base.specs.declared.refusal.Refusal.{Refusal}
 use Rattle.pq_base.specs.declared.refusal.Refusal.TheVariants as refusal
 use Rattle.pq_base.specs.declared.value.ColType.{ColType}
@@ -117,8 +118,8 @@ module _ (columns : List ColumnDef) where
 
   key_made : (key : List (List ℕ)) → key_refusal columns key ≡ None → AreKeyColumns (length columns) (places_of columns key)
   key_made key none =
-      let parts = neither (names_refusal columns key) (refused_if (is_outside (length key) 4) (refusal.Count 5)) none in
-      key_columns key parts.0 (not_refused (is_outside (length key) 4) (refusal.Count 5) parts.1)
+      let parts = neither (names_refusal columns key) (refused_if (is_outside (length key) 4) (refusal.Count count_word.KEY)) none in
+      key_columns key parts.0 (not_refused (is_outside (length key) 4) (refusal.Count count_word.KEY) parts.1)
 
   -- ---- limits
 
@@ -132,13 +133,13 @@ module _ (columns : List ColumnDef) where
 
   limit_made : (limit : LimitDef) → limit_refusal columns limit ≡ None → IsMadeLimit (length columns) (limit_of_def columns limit)
   limit_made limit none =
-      let size = refused_if (not (is_some (cardinality limit.n))) (refusal.Count 0) in
-      let count = refused_if (is_outside (length limit.cols) 4) (refusal.Count 6) in
+      let size = refused_if (not (is_some (cardinality limit.n))) (refusal.Count count_word.CARDINALITY) in
+      let count = refused_if (is_outside (length limit.cols) 4) (refusal.Count count_word.LIMIT_COLUMNS) in
       let first = neither (names_refusal columns limit.cols) (or_else count size) none in
       let second = neither count size first.1 in
-      let n = cardinality_made limit.n (not-false (is_some (cardinality limit.n)) (not_refused (not (is_some (cardinality limit.n))) (refusal.Count 0) second.1)) in
+      let n = cardinality_made limit.n (not-false (is_some (cardinality limit.n)) (not_refused (not (is_some (cardinality limit.n))) (refusal.Count count_word.CARDINALITY) second.1)) in
       record {
-        cols = key_columns limit.cols first.0 (not_refused (is_outside (length limit.cols) 4) (refusal.Count 6) second.0);
+        cols = key_columns limit.cols first.0 (not_refused (is_outside (length limit.cols) 4) (refusal.Count count_word.LIMIT_COLUMNS) second.0);
         from_one = n.0;
         most = n.1;
       }
@@ -224,12 +225,12 @@ all_groups P table limits foreign =
 pub definition_room : (schema : Schema) (name : List ℕ) → definition_refusal schema name ≡ None → length schema.definitions < 256
 definition_room schema name none =
     let full = nat_le 256 (length schema.definitions) in
-    leb-false 256 (length schema.definitions) (not_refused full (refusal.Count 2) (neither (refused_if full (refusal.Count 2)) (refused_if (is_taken schema name) (refusal.NameTaken name)) none).0)
+    leb-false 256 (length schema.definitions) (not_refused full (refusal.Count count_word.DEFINITIONS) (neither (refused_if full (refusal.Count count_word.DEFINITIONS)) (refused_if (is_taken schema name) (refusal.NameTaken name)) none).0)
 
 -- its name is that of no other
 pub definition_free : (schema : Schema) (name : List ℕ) → definition_refusal schema name ≡ None → is_taken schema name ≡ false
 definition_free schema name none =
-    not_refused (is_taken schema name) (refusal.NameTaken name) (neither (refused_if (nat_le 256 (length schema.definitions)) (refusal.Count 2)) (refused_if (is_taken schema name) (refusal.NameTaken name)) none).1
+    not_refused (is_taken schema name) (refusal.NameTaken name) (neither (refused_if (nat_le 256 (length schema.definitions)) (refusal.Count count_word.DEFINITIONS)) (refused_if (is_taken schema name) (refusal.NameTaken name)) none).1
 
 module _ (schema : Schema) (def : TableDef) (none : table_refusal schema def ≡ None) where
   first : (name_refusal schema def.name ≡ None) × (or_else (counts_refusal def) (or_else (columns_refusal def.columns) (groups_refusal schema def)) ≡ None)
@@ -241,23 +242,23 @@ module _ (schema : Schema) (def : TableDef) (none : table_refusal schema def ≡
   third : (columns_refusal def.columns ≡ None) × (groups_refusal schema def ≡ None)
   third = neither (columns_refusal def.columns) (groups_refusal schema def) second.1
 
-  name_parts : (definition_refusal schema def.name ≡ None) × (refused_if (nat_le 64 (length schema.tables)) (refusal.Count 13) ≡ None)
-  name_parts = neither (definition_refusal schema def.name) (refused_if (nat_le 64 (length schema.tables)) (refusal.Count 13)) first.0
+  name_parts : (definition_refusal schema def.name ≡ None) × (refused_if (nat_le 64 (length schema.tables)) (refusal.Count count_word.TABLES) ≡ None)
+  name_parts = neither (definition_refusal schema def.name) (refused_if (nat_le 64 (length schema.tables)) (refusal.Count count_word.TABLES)) first.0
 
   pub room : length schema.definitions < 256
   room = definition_room schema def.name name_parts.0
 
   pub table_room : length schema.tables < 64
-  table_room = leb-false 64 (length schema.tables) (not_refused (nat_le 64 (length schema.tables)) (refusal.Count 13) name_parts.1)
+  table_room = leb-false 64 (length schema.tables) (not_refused (nat_le 64 (length schema.tables)) (refusal.Count count_word.TABLES) name_parts.1)
 
   counts_parts : (is_outside (length def.columns) 32 ≡ false) × ((nat_lt 4 (length def.limits) ≡ false) × (nat_lt 4 (length def.foreign) ≡ false))
   counts_parts =
-      let limits = refused_if (nat_lt 4 (length def.limits)) (refusal.Count 7) in
-      let foreign = refused_if (nat_lt 4 (length def.foreign)) (refusal.Count 3) in
-      let one = neither (refused_if (is_outside (length def.columns) 32) (refusal.Count 1)) (or_else limits foreign) second.0 in
+      let limits = refused_if (nat_lt 4 (length def.limits)) (refusal.Count count_word.LIMITS) in
+      let foreign = refused_if (nat_lt 4 (length def.foreign)) (refusal.Count count_word.FOREIGN) in
+      let one = neither (refused_if (is_outside (length def.columns) 32) (refusal.Count count_word.COLUMNS)) (or_else limits foreign) second.0 in
       let two = neither limits foreign one.1 in (
-        not_refused (is_outside (length def.columns) 32) (refusal.Count 1) one.0,
-        (not_refused (nat_lt 4 (length def.limits)) (refusal.Count 7) two.0, not_refused (nat_lt 4 (length def.foreign)) (refusal.Count 3) two.1),
+        not_refused (is_outside (length def.columns) 32) (refusal.Count count_word.COLUMNS) one.0,
+        (not_refused (nat_lt 4 (length def.limits)) (refusal.Count count_word.LIMITS) two.0, not_refused (nat_lt 4 (length def.foreign)) (refusal.Count count_word.FOREIGN) two.1),
       )
 
   pub few_columns : (1 ≤ length def.columns) × (length def.columns ≤ 32)
@@ -272,8 +273,8 @@ module _ (schema : Schema) (def : TableDef) (none : table_refusal schema def ≡
   types : list_all has_type def.columns ≡ true
   types =
       let names = option_map repeated (first_repeated (map (λ (column : ColumnDef). column.name) def.columns)) in
-      let one = neither (refused_if (not (list_all has_type def.columns)) (refusal.Count 14)) names third.0 in
-      not-false (list_all has_type def.columns) (not_refused (not (list_all has_type def.columns)) (refusal.Count 14) one.0)
+      let one = neither (refused_if (not (list_all has_type def.columns)) (refusal.Count count_word.TEXT)) names third.0 in
+      not-false (list_all has_type def.columns) (not_refused (not (list_all has_type def.columns)) (refusal.Count count_word.TEXT) one.0)
 
   groups_parts : (key_refusal def.columns def.key ≡ None) × ((limits_refusal def.columns def.limits ≡ None) × (foreigns_refusal schema def.columns 1 def.foreign ≡ None))
   groups_parts =
@@ -394,9 +395,9 @@ pub made_is : (schema : Schema) (def : TableDef) (table : Table) → new_table s
 unfolding new_table
 made_is schema def table made = (accepted (table_refusal schema def) (table_of_def schema def) table made).1
 
-pub made_few : (schema : Schema) (def : TableDef) (table : Table) → new_table schema def ≡ Ok table → length table.indexes ≤ 16
-made_few schema def table made =
-    subst (λ (t : Table). length t.indexes ≤ 16) (made_is schema def table made) (is_made schema def (made_none schema def table made)).few_indexes
+pub made_by_def : (schema : Schema) (def : TableDef) (table : Table) → new_table schema def ≡ Ok table → IsMade schema.tables (length schema.tables + 1) table
+made_by_def schema def table made =
+    subst (IsMade schema.tables (length schema.tables + 1)) (made_is schema def table made) (is_made schema def (made_none schema def table made))
 
 pub made_free : (schema : Schema) (def : TableDef) (table : Table) → new_table schema def ≡ Ok table → is_taken schema table.name ≡ false
 made_free schema def table made =

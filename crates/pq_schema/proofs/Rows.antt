@@ -22,7 +22,7 @@ use Rattle.pq_schema.specs.declared.query.Query.{Query}
 use Rattle.pq_schema.specs.declared.query.Stop.{Stop as StopWord}
 use Rattle.pq_schema.specs.declared.query.Stop.TheVariants as stop
 use Rattle.pq_schema.specs.Sequences.{ascending, with_groups, serving, new_index, index_sequence}
-use Rattle.pq_schema.specs.Tables.{limit_of}
+use Rattle.pq_schema.specs.Tables.{limit_place}
 use Rattle.pq_schema.specs.Relations.{fixed, order_rest, position_columns, is_total}
 use Rattle.pq_schema.specs.Costs.{bound}
 use Rattle.pq_schema.specs.Candidates.{Candidate, candidates, least}
@@ -250,10 +250,10 @@ unfolding ones
 kb = refl
 
 -- two limits with one least n: the one that the primary sequence begins with, else the first
-taken_primary : limit_of (made (any_column ∷ any_column ∷ any_column ∷ []) (0 ∷ 1 ∷ []) (limit 5 (2 ∷ []) ∷ limit 5 (0 ∷ []) ∷ limit 7 (0 ∷ []) ∷ []) []) 5 ≡ Some 1
+taken_primary : limit_place (made (any_column ∷ any_column ∷ any_column ∷ []) (0 ∷ 1 ∷ []) (limit 5 (2 ∷ []) ∷ limit 5 (0 ∷ []) ∷ limit 7 (0 ∷ []) ∷ []) []) 5 ≡ Some 1
 unfolding ones
 taken_primary = refl
 
-taken_first : limit_of (made (any_column ∷ any_column ∷ any_column ∷ []) (0 ∷ 1 ∷ []) (limit 7 (2 ∷ []) ∷ limit 5 (2 ∷ []) ∷ limit 5 (1 ∷ []) ∷ []) []) 6 ≡ Some 1
+taken_first : limit_place (made (any_column ∷ any_column ∷ any_column ∷ []) (0 ∷ 1 ∷ []) (limit 7 (2 ∷ []) ∷ limit 5 (2 ∷ []) ∷ limit 5 (1 ∷ []) ∷ []) []) 6 ≡ Some 1
 unfolding ones
 taken_first = refl

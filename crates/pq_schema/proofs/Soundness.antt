@@ -20,7 +20,8 @@ use Rattle.pq_schema.specs.Relations.{relation_at, no_relation}
 use Rattle.pq_schema.specs.Resolved.{IsRelation, IsColumnOf, IsOperand, IsPredicate, IsResolved}
 use Rattle.pq_schema.specs.Schema.{Schema}
 use Rattle.pq_schema.specs.Sound.{IsTable, IsLinked, IsForeign, IsNamedSide, IsNamedPred, IsQuery, AreColumns, AreParts, IsMade, IsMadeLimit, IsMadeForeign, AreMade}
-use Rattle.pq_schema.specs.Tables.{no_table, table_at, type_at, types_at, same_kind, same_kinds}
+use Rattle.pq_base.specs.Values.{same_kind}
+use Rattle.pq_schema.specs.Tables.{no_table, table_at, type_at, types_at, same_kinds}
 use Rattle.pq_schema.specs.Valid.{IsValid}
 use Rattle.pq_schema.proofs.Valid.{valid_made}
 

@@ -37,7 +37,7 @@ use Rattle.pq_schema.specs.Tables.{no_table, table_at, types_at, same_kinds}
 use Rattle.pq_schema.specs.Valid.{IsValid, IsSound}
 use Rattle.pq_schema.specs.Valid.IsValid.{empty, then_table, then_query}
 use Rattle.pq_schema.specs.Wanted.{is_large, index_at, index_of, too_many_indexes, Chosen, with_index, chosen_of, no_bound, IsWanted}
-use Rattle.pq_schema.proofs.Accepted.{accepted, definition_room, table_room, room, is_made, made_none, made_is}
+use Rattle.pq_schema.proofs.Accepted.{accepted, definition_room, table_room, room, made_none, made_by_def}
 use Rattle.pq_schema.proofs.Groups.{index_keeps, inside_more}
 
 -- ---- answers
@@ -322,7 +322,7 @@ length_with_wanted tables (Some new) = length-set tables (new.table - 1) (with_n
 pub valid_made : {s : Schema} → IsValid s → AreMade s.tables
 valid_made empty = λ number one there. absurd (omega arith)
 valid_made (then_table s def table v d made) =
-    tables_with s.tables table (valid_made v) (subst (IsMade s.tables (length s.tables + 1)) (made_is s def table made) (is_made s def (made_none s def table made)))
+    tables_with s.tables table (valid_made v) (made_by_def s def table made)
 valid_made (then_query s query wanted v d) = made_with_wanted s.tables query wanted (valid_made v) d.resolved d.chosen
 
 pub valid_small : {s : Schema} → IsValid s → IsSmall s
@@ -332,7 +332,7 @@ valid_small (then_table s def table v d made) =
     let tables = table_room s def none in
     let definitions = room s def none in
     let one = length-append s.tables (table ∷ []) in
-    let two = length-append s.definitions (OfTable (length s.tables + 1) (length table.indexes) ∷ []) in
+    let two = length-append s.definitions (OfTable (length s.tables + 1) (length table.columns) (length table.indexes) ∷ []) in
     record { tables = omega (arith, one, tables); definitions = omega (arith, two, definitions) }
 valid_small (then_query s query wanted v d) =
     let before = valid_small v in
@@ -347,13 +347,6 @@ valid_sound v = record { small = valid_small v; valid = v }
 
 pub empty_sound : IsSound empty_schema
 empty_sound = valid_sound empty
-
--- the fields are those of a sound schema
-pub sound_as : (s : Schema) (tables : List Table) (definitions : List Definition) → tables ≡ s.tables → definitions ≡ s.definitions → IsSound s → IsSound (record { tables = tables; definitions = definitions })
-sound_as s tables definitions e f sound =
-    let next : Schema = record { tables = tables; definitions = definitions } in
-    let same : s ≡ next = λ i. record { tables = sym e i; definitions = sym f i } in
-    subst IsSound same sound
 
 -- the foreign keys of a table in order
 pub few_foreign_at : (tables : List Table) (i : ℕ) (d : Table) → AreMade tables → i < length tables → length (get_or tables i d).foreign ≤ 4

@@ -12,7 +12,7 @@ use Rattle.pq_schema.specs.declared.query.Stop.{Stop as StopWord}
 use Rattle.pq_schema.specs.declared.query.Stop.TheVariants as stop
 use Rattle.pq_schema.specs.Costs.{Reached, start, bound, plus, limit_cost, read_each, read_stop, is_less}
 use Rattle.pq_schema.specs.Sequences.{primary_sequence, serves}
-use Rattle.pq_schema.specs.Tables.{is_lookup, data_bound, limit_of, is_primary}
+use Rattle.pq_schema.specs.Tables.{is_lookup, data_bound, limit_place, is_primary}
 use Rattle.pq_schema.specs.Relations.{table_of, fixed, is_total, order_rest, range_on}
 
 abbrev pub no_limit : Limit
@@ -22,7 +22,7 @@ no_limit = record { n = 0; cols = [] }
 abbrev pub read_cost : Table → ℕ → Bound
 read_cost table set =
     if is_lookup table set then bound 1 1
-    else option_map_or (λ place. let limit = slice_index_or table.limits place no_limit in limit_cost (is_primary table limit) limit.n) (limit_of table set) (bound 0 0)
+    else option_map_or (λ place. let limit = slice_index_or table.limits place no_limit in limit_cost (is_primary table limit) limit.n) (limit_place table set) (bound 0 0)
 
 abbrev pub bound_at : List Table → Query → ℕ → Option ℕ
 bound_at tables query rel = data_bound (table_of tables query rel) (fixed query rel)

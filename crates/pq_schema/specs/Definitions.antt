@@ -3,6 +3,7 @@ use Rattle.std.specs.Prelude.{◌≡◌, ℕ, ℤ, pos, negsuc, ◌+◌, Bool, t
 use Rattle.std.specs.Str.{bytes_eq}
 use Rattle.std.specs.List.{list_any, list_all}
 use Rattle.pq_base.specs.Answers.{or_else}
+use Rattle.pq_base.specs.declared.count_word.TheConstants as count_word
 use Rattle.pq_base.specs.declared.refusal.Refusal.{Refusal}
 use Rattle.pq_base.specs.declared.refusal.Refusal.TheVariants as refusal
 use Rattle.pq_base.specs.declared.value.ColType.{ColType}
@@ -85,25 +86,25 @@ is_outside count most = nat_lt count 1 || nat_lt most count
 -- definitions, and the name
 abbrev pub definition_refusal : Schema → List ℕ → Option Refusal
 definition_refusal schema name =
-    or_else (refused_if (nat_le 256 (length schema.definitions)) (refusal.Count 2))
+    or_else (refused_if (nat_le 256 (length schema.definitions)) (refusal.Count count_word.DEFINITIONS))
     (refused_if (is_taken schema name) (refusal.NameTaken name))
 
 -- definitions, the name, tables
 abbrev pub name_refusal : Schema → List ℕ → Option Refusal
 name_refusal schema name =
-    or_else (definition_refusal schema name) (refused_if (nat_le 64 (length schema.tables)) (refusal.Count 13))
+    or_else (definition_refusal schema name) (refused_if (nat_le 64 (length schema.tables)) (refusal.Count count_word.TABLES))
 
 -- columns, limits, foreign
 abbrev pub counts_refusal : TableDef → Option Refusal
 counts_refusal def =
-    or_else (refused_if (is_outside (length def.columns) 32) (refusal.Count 1))
-    (or_else (refused_if (nat_lt 4 (length def.limits)) (refusal.Count 7))
-    (refused_if (nat_lt 4 (length def.foreign)) (refusal.Count 3)))
+    or_else (refused_if (is_outside (length def.columns) 32) (refusal.Count count_word.COLUMNS))
+    (or_else (refused_if (nat_lt 4 (length def.limits)) (refusal.Count count_word.LIMITS))
+    (refused_if (nat_lt 4 (length def.foreign)) (refusal.Count count_word.FOREIGN)))
 
 -- text, column names
 abbrev pub columns_refusal : List ColumnDef → Option Refusal
 columns_refusal columns =
-    or_else (refused_if (not (list_all has_type columns)) (refusal.Count 14))
+    or_else (refused_if (not (list_all has_type columns)) (refusal.Count count_word.TEXT))
     (option_map repeated (first_repeated (map (λ column. column.name) columns)))
 
 -- an unknown name, and a repeated one
@@ -113,14 +114,14 @@ names_refusal columns names =
 
 -- the key's names, and their number
 abbrev pub key_refusal : List ColumnDef → List (List ℕ) → Option Refusal
-key_refusal columns key = or_else (names_refusal columns key) (refused_if (is_outside (length key) 4) (refusal.Count 5))
+key_refusal columns key = or_else (names_refusal columns key) (refused_if (is_outside (length key) 4) (refusal.Count count_word.KEY))
 
 -- the names of a limit, their number, and its n
 abbrev pub limit_refusal : List ColumnDef → LimitDef → Option Refusal
 limit_refusal columns limit =
     or_else (names_refusal columns limit.cols)
-    (or_else (refused_if (is_outside (length limit.cols) 4) (refusal.Count 6))
-    (refused_if (not (is_some (cardinality limit.n))) (refusal.Count 0)))
+    (or_else (refused_if (is_outside (length limit.cols) 4) (refusal.Count count_word.LIMIT_COLUMNS))
+    (refused_if (not (is_some (cardinality limit.n))) (refusal.Count count_word.CARDINALITY)))
 
 abbrev pub limits_refusal : List ColumnDef → List LimitDef → Option Refusal
 limits_refusal columns [] = None

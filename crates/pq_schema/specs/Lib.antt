@@ -1,10 +1,12 @@
 pub mod Candidates
 pub mod Costs
 pub mod Definitions
-pub mod Named
+pub mod Keys
+pub mod Numbered
 pub mod Names
 pub mod Relations
 pub mod Resolved
+pub mod Rows
 pub mod Schema
 pub mod Sequences
 pub mod Sound

@@ -38,12 +38,19 @@ belongs_to pred = later pred.left.rel pred.right
 
 abbrev pub is_equality : Op → Bool
 is_equality op.Eq = true
-is_equality _ = false
+is_equality op.Ne = false
+is_equality op.Lt = false
+is_equality op.Le = false
+is_equality op.Gt = false
+is_equality op.Ge = false
 
 abbrev pub is_range : Op → Bool
 is_range op.Eq = false
 is_range op.Ne = false
-is_range _ = true
+is_range op.Lt = true
+is_range op.Le = true
+is_range op.Gt = true
+is_range op.Ge = true
 
 -- a constant, a parameter or a column of an earlier relation
 abbrev pub is_before : ℕ → Operand → Bool

@@ -14,7 +14,8 @@ use Rattle.pq_schema.specs.declared.query.Pred.{Pred}
 use Rattle.pq_schema.specs.declared.query.Relation.{Relation}
 use Rattle.pq_schema.specs.declared.query.Query.{Query}
 use Rattle.pq_schema.specs.Names.{IsName}
-use Rattle.pq_schema.specs.Tables.{type_at, same_kind}
+use Rattle.pq_base.specs.Values.{same_kind}
+use Rattle.pq_schema.specs.Tables.{type_at}
 use Rattle.pq_schema.specs.Relations.{table_of}
 use Rattle.pq_schema.specs.Candidates.{stop_size}
 

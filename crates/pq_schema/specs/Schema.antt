@@ -23,7 +23,7 @@ empty_schema = record { tables = []; definitions = [] }
 
 -- a definition by its kind
 abbrev pub def_of : Definition → Def
-def_of (OfTable table made) = def.Table table made
+def_of (OfTable table columns made) = def.Table table made
 def_of (OfQuery query made) = def.Query made
 
 -- what stands at a number that no query has
@@ -31,15 +31,15 @@ abbrev pub no_query : Query
 no_query = record { name = []; relations = []; select = []; preds = []; order = []; stop = All; params = [] }
 
 abbrev pub query_of : Definition → Query
-query_of (OfTable table made) = no_query
+query_of (OfTable table columns made) = no_query
 query_of (OfQuery query made) = query
 
 abbrev pub IsQueryDefinition : Definition → Type 0
-IsQueryDefinition (OfTable table made) = ⊥
+IsQueryDefinition (OfTable table columns made) = ⊥
 IsQueryDefinition (OfQuery query made) = Unit {0}
 
 abbrev pub no_definition : Definition
-no_definition = OfTable 0 0
+no_definition = OfTable 0 0 0
 
 -- the definition of this number, from 1
 abbrev pub definition_at : Schema → ℕ → Definition
@@ -50,7 +50,7 @@ query_at schema number = query_of (definition_at schema number)
 
 -- a query of this name
 abbrev pub is_query : List ℕ → Definition → Bool
-is_query name (OfTable table made) = false
+is_query name (OfTable table columns made) = false
 is_query name (OfQuery query made) = bytes_eq query.name name
 
 abbrev pub is_table : List ℕ → Table → Bool
@@ -88,7 +88,7 @@ pub record IsSmall (schema : Schema) : Type 0 where
 abbrev pub with_table : Schema → Table → Schema
 with_table schema table = record {
   tables = schema.tables ++ table ∷ [];
-  definitions = schema.definitions ++ OfTable (length schema.tables + 1) (length table.indexes) ∷ [];
+  definitions = schema.definitions ++ OfTable (length schema.tables + 1) (length table.columns) (length table.indexes) ∷ [];
 }
 
 -- one more index behind the others

@@ -4,6 +4,7 @@ use Rattle.std.specs.Option.{option_map_or}
 use Rattle.pq_base.specs.Columns.{is_within, set_of}
 use Rattle.pq_base.specs.declared.value.ColType.{ColType}
 use Rattle.pq_base.specs.declared.value.ColType.TheVariants as type
+use Rattle.pq_base.specs.Values.{same_kind}
 use Rattle.pq_schema.specs.declared.table.Column.{Column}
 use Rattle.pq_schema.specs.declared.table.Foreign.{Foreign}
 use Rattle.pq_schema.specs.declared.table.Referring.{Referring}
@@ -55,12 +56,12 @@ first_limit table fixed n =
     (position (is_least n fixed) table.limits)
 
 -- the limit taken, by its place from 0
-abbrev pub limit_of : Table → ℕ → Option ℕ
-limit_of table fixed = if is_lookup table fixed then None else option_and_then (first_limit table fixed) (least_limit table fixed)
+abbrev pub limit_place : Table → ℕ → Option ℕ
+limit_place table fixed = if is_lookup table fixed then None else option_and_then (first_limit table fixed) (least_limit table fixed)
 
 -- and by its number from 1
-abbrev pub limit_number : Table → ℕ → Option ℕ
-limit_number table fixed = option_map (λ place. place + 1) (limit_of table fixed)
+abbrev pub limit_of : Table → ℕ → Option ℕ
+limit_of table fixed = option_map (λ place. place + 1) (limit_place table fixed)
 
 -- the type of a column
 abbrev pub type_at : List Column → ℕ → ColType
@@ -68,13 +69,6 @@ type_at columns col = slice_index_or (map (λ column. column.ty) columns) col ty
 
 abbrev pub types_at : List Column → List ℕ → List ColType
 types_at columns cols = map (type_at columns) cols
-
--- both are of numbers, both of truth values or both of texts, of any length
-abbrev pub same_kind : ColType → ColType → Bool
-same_kind type.Int type.Int = true
-same_kind type.Bool type.Bool = true
-same_kind (type.Text n) (type.Text m) = true
-same_kind _ _ = false
 
 -- as many types as types, of the same kinds place by place
 abbrev pub same_kinds : List ColType → List ColType → Bool

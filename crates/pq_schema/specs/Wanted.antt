@@ -4,6 +4,7 @@ use Rattle.std.specs.List.{range_with_len}
 use Rattle.pq_base.specs.declared.number.Bound.{Bound}
 use Rattle.pq_base.specs.declared.number.Choice.{Choice}
 use Rattle.pq_base.specs.declared.number.Choice.TheVariants.{Whole, Stop}
+use Rattle.pq_base.specs.declared.count_word.TheConstants as count_word
 use Rattle.pq_base.specs.declared.refusal.Refusal.{Refusal}
 use Rattle.pq_base.specs.declared.refusal.Refusal.TheVariants as refusal
 use Rattle.pq_schema.specs.declared.table.Table.{Table}
@@ -27,7 +28,7 @@ is_large bound = nat_lt 50000 bound.ops || nat_lt 50000 bound.entries
 
 -- the table would have a seventeenth index
 abbrev pub too_many_indexes : Refusal
-too_many_indexes = refusal.Count 4
+too_many_indexes = refusal.Count count_word.INDEXES
 
 -- the index that a stop at the relation wants: none where a sequence serves
 abbrev pub index_at : List Table → Query → ℕ → Result (Option NewIndex) Refusal

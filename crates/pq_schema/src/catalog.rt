@@ -1,6 +1,6 @@
 //! The definitions of a schema in order: tables by their numbers from 1, definitions likewise.
-ghost use Rattle.std.specs.Prelude.{◌≡◌, ◌≤◌, ◌<◌, ◌++◌, ◌∷◌, [], length, map, option_map, position, false, string_bytes, Some, None, IfOk, IfSome, OnOk, OnErr};
-ghost use Rattle.pq_schema.specs.Schema.{empty_schema, definition_at, def_of, find_table, find_query, is_table, is_query, is_taken, IsQueryDefinition, query_at, query_of, number_of, with_table, with_query, with_wanted, made_of};
+ghost use Rattle.std.specs.Prelude.{◌≡◌, ◌≤◌, ◌<◌, ◌++◌, ◌∷◌, [], length, option_map, false, string_bytes, vec_capacity, Some, None, IfOk, IfSome, OnOk, OnErr};
+ghost use Rattle.pq_schema.specs.Schema.{empty_schema, definition_at, def_of, find_table, find_query, is_taken, IsQueryDefinition, query_at, query_of, with_table, with_query, with_wanted, made_of};
 ghost use Rattle.indexmap.specs.IndexMap.{get_by_text, spare};
 ghost use Rattle.pq_schema.specs.Tables.{table_at, referring, foreign_to};
 ghost use Rattle.pq_schema.specs.Valid.{IsValid, IsDefined};
@@ -17,21 +17,25 @@ use std::marker::Model;
 #[derive(Debug, Drop)]
 pub struct Catalog {
     tables: Vec<Table>,
-    /// The definitions by the names that they define.
-    definitions: IndexMap<String, Definition>,
+    definitions: Vec<Definition>,
+    /// The numbers of the tables by their names.
+    table_numbers: IndexMap<String, u8>,
+    /// The numbers of the queries among the definitions, by their names.
+    query_numbers: IndexMap<String, u16>,
 }
 
 impl Model for Catalog {
-    ghost use Rattle.indexmap.specs.IndexMap.{values};
-    ghost use Rattle.pq_schema.specs.Named.{AreNamed};
+    ghost use Rattle.pq_schema.specs.Numbered.{AreNumbered};
     ghost use Rattle.pq_schema.specs.Schema.{Schema};
     ghost use Rattle.pq_schema.specs.Valid.{IsSound};
 
     ghost Value = { Schema };
 
-    ghost view = { λ c. record { tables = c.tables.items; definitions = values c.definitions } };
+    ghost view = { λ c. record { tables = c.tables.items; definitions = c.definitions.items } };
 
-    ghost invariant = { λ c. IsSound (record { tables = c.tables.items; definitions = values c.definitions }) × AreNamed c.tables.items c.definitions.entries };
+    ghost invariant = { λ c.
+        let schema : Schema = record { tables = c.tables.items; definitions = c.definitions.items } in
+        IsSound schema × AreNumbered schema c.table_numbers.entries c.query_numbers.entries };
 }
 
 impl Definition {
@@ -50,7 +54,7 @@ impl Definition {
         ensures { result ≡ def_of self.now }
     {
         match self {
-            Definition::OfTable { table, made } => Def::Table {
+            Definition::OfTable { table, made, .. } => Def::Table {
                 table: *table,
                 made: *made,
             },
@@ -71,26 +75,24 @@ fn made_by(wanted: &Option<NewIndex>) -> Option<Made>
     }
 }
 
-/// Puts a table behind the others. After `NoMem` nothing is changed.
-fn put_table(tables: &mut Vec<Table>, table: Table) -> Result<(), NoMem>
-    ensures ok { OnOk result (tables.new.items ≡ tables.old.items ++ table ∷ []) }
-    ensures err { OnErr result (tables.new.items ≡ tables.old.items) }
+/// Puts an item behind the others, where there is room for it.
+fn put_last<T: Drop>(items: &mut Vec<T>, item: T)
+    requires { length items.old.items < vec_capacity items.old }
+    ensures { items.new.items ≡ items.old.items ++ item ∷ [] }
 {
-    tables.push(table)?;
-    Ok(())
+    match items.push(item) {
+        Ok(()) => {}
+        Err(_) => unreachable!(),
+    }
 }
 
-/// Puts a definition behind the others, by a name that none of them has.
-fn put_definition(
-    definitions: &mut IndexMap<String, Definition>,
-    name: String,
-    definition: Definition,
-)
-    requires room { 0 < spare definitions.old }
-    requires free { get_by_text definitions.old (string_bytes name) ≡ None }
-    ensures { definitions.new.entries ≡ definitions.old.entries ++ (name, definition) ∷ [] }
+/// Puts a number under a name that has none, where there is room for it.
+fn put_number<N: Drop>(numbers: &mut IndexMap<String, N>, name: String, number: N)
+    requires room { 0 < spare numbers.old }
+    requires free { get_by_text numbers.old (string_bytes name) ≡ None }
+    ensures { numbers.new.entries ≡ numbers.old.entries ++ (name, number) ∷ [] }
 {
-    match definitions.insert(name, definition) {
+    match numbers.insert(name, number) {
         Ok(_) => {}
         Err(_) => unreachable!(),
     }
@@ -152,7 +154,9 @@ impl Catalog {
     {
         Catalog {
             tables: Vec::new(alloc),
-            definitions: IndexMap::new(alloc),
+            definitions: Vec::new(alloc),
+            table_numbers: IndexMap::new(alloc),
+            query_numbers: IndexMap::new(alloc),
         }
     }
 
@@ -168,10 +172,9 @@ impl Catalog {
         ensures found { result ≡ find_table self.now name.now }
         ensures there { IfSome result (λ number. (1 ≤ number) × (number ≤ length self.now.tables)) }
     {
-        match self.definitions.get(name.as_str()) {
+        match self.table_numbers.get(name.as_str()) {
             None => None,
-            Some(Definition::OfQuery { .. }) => None,
-            Some(Definition::OfTable { table, .. }) => Some(*table),
+            Some(number) => Some(*number),
         }
     }
 
@@ -179,10 +182,9 @@ impl Catalog {
     pub fn find_query(&self, name: &PText) -> Option<u16>
         ensures { result ≡ find_query self.now name.now }
     {
-        match self.definitions.get_full(name.as_str()) {
+        match self.query_numbers.get(name.as_str()) {
             None => None,
-            Some((_, _, Definition::OfTable { .. })) => None,
-            Some((place, _, Definition::OfQuery { .. })) => Some(place as u16 + 1),
+            Some(number) => Some(*number),
         }
     }
 
@@ -190,7 +192,7 @@ impl Catalog {
     pub fn is_taken(&self, name: &PText) -> bool
         ensures { result ≡ is_taken self.now name.now }
     {
-        self.definitions.contains_key(name.as_str())
+        self.find_table(name).is_some() || self.find_query(name).is_some()
     }
 
     /// The table of this number, from 1.
@@ -217,7 +219,7 @@ impl Catalog {
         requires there { number ≤ length self.now.definitions }
         ensures { result.now ≡ definition_at self.now number }
     {
-        &self.definitions[number as usize - 1]
+        &self.definitions.as_slice()[number as usize - 1]
     }
 
     /// The query of this definition's number, from 1.
@@ -234,20 +236,24 @@ impl Catalog {
     pub(crate) fn push_table(&mut self, alloc: Global, table: Table) -> Result<(), NoMem>
         requires next { IsValid (with_table self.old table) }
         requires free { is_taken self.old table.name ≡ false }
+        requires columns { length table.columns ≤ 32 }
         requires indexes { length table.indexes ≤ 16 }
         ensures ok { OnOk result (self.new ≡ with_table self.old table) }
         ensures err { OnErr result (self.new ≡ self.old) }
     {
         let name = String::from_str(alloc, table.name.as_str())?;
         let number = self.tables.len() as u8 + 1;
-        let made = table.indexes.items().len() as u8;
         let definition = Definition::OfTable {
             table: number,
-            made,
+            columns: table.columns.items().len() as u8,
+            made: table.indexes.items().len() as u8,
         };
+        self.tables.reserve(1)?;
         self.definitions.reserve(1)?;
-        put_table(&mut self.tables, table)?;
-        put_definition(&mut self.definitions, name, definition);
+        self.table_numbers.reserve(1)?;
+        put_last(&mut self.tables, table);
+        put_last(&mut self.definitions, definition);
+        put_number(&mut self.table_numbers, name, number);
         Ok(())
     }
 
@@ -265,14 +271,13 @@ impl Catalog {
         ensures err { OnErr result (self.new ≡ self.old) }
     {
         let name = String::from_str(alloc, query.name.as_str())?;
+        let number = self.definitions.len() as u16 + 1;
         let made = made_by(&wanted);
         self.definitions.reserve(1)?;
+        self.query_numbers.reserve(1)?;
         put_wanted(alloc, &mut self.tables, wanted)?;
-        put_definition(
-            &mut self.definitions,
-            name,
-            Definition::OfQuery { query, made },
-        );
+        put_last(&mut self.definitions, Definition::OfQuery { query, made });
+        put_number(&mut self.query_numbers, name, number);
         Ok(())
     }
 

@@ -10,8 +10,6 @@ mod new_table;
 mod query;
 mod sequences;
 mod table;
-#[cfg(test)]
-mod tests;
 
 pub use catalog::Catalog;
 pub use definition::{ColumnDef, ForeignDef, LimitDef, TableDef};
@@ -24,5 +22,5 @@ pub use sequences::{
 };
 pub use table::{
     Access, Column, Foreign, Index, KeyPart, KeyParts, Limit, NewIndex, Referring, Table,
-    find_column,
+    find_column, same_kind, type_at,
 };

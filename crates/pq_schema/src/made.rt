@@ -20,8 +20,9 @@ pub enum Def {
 /// A definition of a schema.
 #[derive(Debug, Drop)]
 pub enum Definition {
-    /// The table of this number, whose CREATE TABLE made its first indexes, so many.
-    OfTable { table: u8, made: u8 },
+    /// The table of this number, whose CREATE TABLE gave its first columns and made its first indexes,
+    /// so many of each.
+    OfTable { table: u8, columns: u8, made: u8 },
     /// A query, with the index that its PREPARE made.
     OfQuery { query: Query, made: Option<Made> },
 }

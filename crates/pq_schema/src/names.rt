@@ -1,6 +1,6 @@
 //! Names in small letters, and whether the words of a definition are names and kinds.
 
-ghost use Rattle.std.specs.Prelude.{◌≡◌, All, IsTrue};
+ghost use Rattle.std.specs.Prelude.{◌≡◌, ◌↔◌, All, IsTrue};
 ghost use Rattle.std.specs.List.{list_all};
 ghost use Rattle.pq_schema.specs.Names.{is_letter, is_digit, is_name_byte, is_word, is_keyword, is_name, IsName, IsKind, IsColumnDef, IsLimitDef, IsForeignDef, IsTableDef};
 
@@ -59,19 +59,14 @@ pub fn is_name(name: &PText) -> bool
 }
 
 fn are_names(names: &[PText]) -> bool
-    ensures { IsTrue result → All IsName names.now }
+    ensures { IsTrue result ↔ All IsName names.now }
 {
-    for name in names {
-        if !is_name(name) {
-            return false;
-        }
-    }
-    true
+    names.iter().all(|name| is_name(name))
 }
 
 impl ColumnDef {
     fn has_kind(&self) -> bool
-        ensures { IsTrue result → IsKind self.now.kind self.now.size }
+        ensures { IsTrue result ↔ IsKind self.now.kind self.now.size }
     {
         let kind = self.kind.bytes();
         if kind == b"TEXT".as_slice() {
@@ -81,57 +76,50 @@ impl ColumnDef {
     }
 
     fn is_spelt(&self) -> bool
-        ensures { IsTrue result → IsColumnDef self.now }
+        ensures { IsTrue result ↔ IsColumnDef self.now }
     {
         is_name(&self.name) && self.has_kind()
     }
 }
 
-fn columns_spelt(columns: &[ColumnDef]) -> bool
-    ensures { IsTrue result → All IsColumnDef columns.now }
-{
-    for column in columns {
-        if !column.is_spelt() {
-            return false;
-        }
+impl LimitDef {
+    fn is_spelt(&self) -> bool
+        ensures { IsTrue result ↔ IsLimitDef self.now }
+    {
+        are_names(self.cols.items())
     }
-    true
-}
-
-fn limits_spelt(limits: &[LimitDef]) -> bool
-    ensures { IsTrue result → All IsLimitDef limits.now }
-{
-    for limit in limits {
-        if !are_names(limit.cols.items()) {
-            return false;
-        }
-    }
-    true
 }
 
 impl ForeignDef {
     fn is_spelt(&self) -> bool
-        ensures { IsTrue result → IsForeignDef self.now }
+        ensures { IsTrue result ↔ IsForeignDef self.now }
     {
         is_name(&self.table) && are_names(self.cols.items())
     }
 }
 
-fn foreign_spelt(foreign: &[ForeignDef]) -> bool
-    ensures { IsTrue result → All IsForeignDef foreign.now }
+fn columns_spelt(columns: &[ColumnDef]) -> bool
+    ensures { IsTrue result ↔ All IsColumnDef columns.now }
 {
-    for item in foreign {
-        if !item.is_spelt() {
-            return false;
-        }
-    }
-    true
+    columns.iter().all(|column| column.is_spelt())
+}
+
+fn limits_spelt(limits: &[LimitDef]) -> bool
+    ensures { IsTrue result ↔ All IsLimitDef limits.now }
+{
+    limits.iter().all(|limit| limit.is_spelt())
+}
+
+fn foreign_spelt(foreign: &[ForeignDef]) -> bool
+    ensures { IsTrue result ↔ All IsForeignDef foreign.now }
+{
+    foreign.iter().all(|item| item.is_spelt())
 }
 
 impl TableDef {
     /// Whether a statement may spell the definition: its names are names, and its kinds are kinds.
     pub fn is_spelt(&self) -> bool
-        ensures { IsTrue result → IsTableDef self.now }
+        ensures { IsTrue result ↔ IsTableDef self.now }
     {
         is_name(&self.name)
             && columns_spelt(self.columns.items())

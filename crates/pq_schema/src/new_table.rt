@@ -9,15 +9,15 @@ ghost use Rattle.pq_schema.specs.Resolved.{IsResolved};
 ghost use Rattle.pq_schema.specs.Schema.{find_table};
 ghost use Rattle.pq_schema.specs.Sequences.{ascending, groups, with_group, with_groups};
 ghost use Rattle.pq_schema.specs.Sound.{IsTable, IsBare, AreColumns};
-ghost use Rattle.pq_schema.specs.Tables.{type_at, types_at, same_kind, same_kinds};
+ghost use Rattle.pq_schema.specs.Tables.{type_at, types_at, same_kinds};
 ghost use Rattle.pq_schema.specs.Wanted.{IsWanted};
 
 use crate::catalog::Catalog;
 use crate::definition::{ColumnDef, ForeignDef, LimitDef, TableDef};
 use crate::query::Query;
 use crate::sequences::group_access;
-use crate::table::{Column, Foreign, Index, KeyPart, Limit, NewIndex, Table};
-use pq_base::{ColSet, ColType, Dir, List, NoMem, PText, Refusal, Stopped};
+use crate::table::{Column, Foreign, Index, KeyPart, Limit, NewIndex, Table, same_kind, type_at};
+use pq_base::{ColSet, ColType, Dir, List, NoMem, PText, Refusal, Stopped, count_word};
 use std::alloc::Global;
 
 /// The greatest number of tables.
@@ -25,25 +25,6 @@ pub const TABLES: usize = 64;
 
 /// The greatest number of definitions, tables and queries together.
 pub const DEFINITIONS: usize = 256;
-
-// The places of words in `count_words`.
-const CARDINALITY: u8 = 0;
-
-const COLUMNS: u8 = 1;
-
-const DEFINITIONS_WORD: u8 = 2;
-
-const FOREIGN: u8 = 3;
-
-const KEY: u8 = 5;
-
-const LIMIT_COLUMNS: u8 = 6;
-
-const LIMITS: u8 = 7;
-
-const TABLES_WORD: u8 = 13;
-
-const TEXT: u8 = 14;
 
 fn counted(word: u8) -> Stopped
     ensures { result ≡ Stopped.Refused (Refusal.Count word) }
@@ -165,17 +146,6 @@ fn is_outside(count: usize, most: usize) -> bool
     count < 1 || most < count
 }
 
-fn same_kind(a: ColType, b: ColType) -> bool
-    ensures { result ≡ same_kind a b }
-{
-    match (a, b) {
-        (ColType::Int, ColType::Int) => true,
-        (ColType::Bool, ColType::Bool) => true,
-        (ColType::Text(_), ColType::Text(_)) => true,
-        _ => false,
-    }
-}
-
 /// The type of the column of this name.
 fn named_type(columns: &[ColumnDef], name: &PText) -> ColType
     ensures { result ≡ type_at (map column_of columns.now) (place_of columns.now name.now) }
@@ -183,16 +153,6 @@ fn named_type(columns: &[ColumnDef], name: &PText) -> ColType
     match columns.get(place_of(columns, name)) {
         None => ColType::Bool,
         Some(column) => column.ty().unwrap_or(ColType::Int),
-    }
-}
-
-/// The type of the column at a place.
-fn type_at(columns: &[Column], col: u8) -> ColType
-    ensures { result ≡ type_at columns.now col }
-{
-    match columns.get(col as usize) {
-        None => ColType::Bool,
-        Some(column) => column.ty,
     }
 }
 
@@ -216,7 +176,7 @@ impl Catalog {
         ensures { Passes result (definition_refusal self.now name.now) }
     {
         if usize::from(self.defs()) >= DEFINITIONS {
-            return Err(counted(DEFINITIONS_WORD));
+            return Err(counted(count_word::DEFINITIONS));
         }
         if self.is_taken(name) {
             let name = name.copy(alloc)?;
@@ -231,7 +191,7 @@ impl Catalog {
     {
         self.check_definition(alloc, name)?;
         if self.tables().len() >= TABLES {
-            return Err(counted(TABLES_WORD));
+            return Err(counted(count_word::TABLES));
         }
         Ok(())
     }
@@ -242,13 +202,13 @@ fn check_counts(def: &TableDef) -> Result<(), Stopped>
     ensures { Passes result (counts_refusal def.now) }
 {
     if is_outside(def.columns.items().len(), 32) {
-        return Err(counted(COLUMNS));
+        return Err(counted(count_word::COLUMNS));
     }
     if 4 < def.limits.items().len() {
-        return Err(counted(LIMITS));
+        return Err(counted(count_word::LIMITS));
     }
     if 4 < def.foreign.items().len() {
-        return Err(counted(FOREIGN));
+        return Err(counted(count_word::FOREIGN));
     }
     Ok(())
 }
@@ -257,7 +217,7 @@ fn check_columns(alloc: Global, columns: &[ColumnDef]) -> Result<(), Stopped>
     ensures { Passes result (columns_refusal columns.now) }
 {
     if !have_types(columns) {
-        return Err(counted(TEXT));
+        return Err(counted(count_word::TEXT));
     }
     let names = names_of(alloc, columns)?;
     match first_repeated(names.items()) {
@@ -289,7 +249,7 @@ fn check_key(alloc: Global, columns: &[ColumnDef], key: &[PText]) -> Result<(), 
 {
     check_names(alloc, columns, key)?;
     if is_outside(key.len(), 4) {
-        return Err(counted(KEY));
+        return Err(counted(count_word::KEY));
     }
     Ok(())
 }
@@ -299,10 +259,10 @@ fn check_limit(alloc: Global, columns: &[ColumnDef], limit: &LimitDef) -> Result
 {
     check_names(alloc, columns, limit.cols.items())?;
     if is_outside(limit.cols.items().len(), 4) {
-        return Err(counted(LIMIT_COLUMNS));
+        return Err(counted(count_word::LIMIT_COLUMNS));
     }
     if cardinality(limit.n).is_none() {
-        return Err(counted(CARDINALITY));
+        return Err(counted(count_word::CARDINALITY));
     }
     Ok(())
 }

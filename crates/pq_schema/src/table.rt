@@ -2,6 +2,8 @@
 
 ghost use Rattle.std.specs.Prelude.{◌≡◌};
 ghost use Rattle.pq_schema.specs.Schema.{find_column};
+ghost use Rattle.pq_base.specs.Values.{same_kind};
+ghost use Rattle.pq_schema.specs.Tables.{type_at};
 
 use pq_base::{ColType, Dir, List, PText};
 use smallvec::SmallVec;
@@ -70,6 +72,23 @@ pub fn find_column(columns: &[Column], name: &PText) -> Option<usize>
     columns
         .iter()
         .position(|column| column.name.bytes() == name.bytes())
+}
+
+/// The type of the column at a place; BOOL at a place that no column has.
+pub fn type_at(columns: &[Column], col: u8) -> ColType
+    ensures { result ≡ type_at columns.now col }
+{
+    match columns.get(col as usize) {
+        None => ColType::Bool,
+        Some(column) => column.ty,
+    }
+}
+
+/// Whether both are numbers, both truth values or both texts, of any length.
+pub fn same_kind(a: ColType, b: ColType) -> bool
+    ensures { result ≡ same_kind a b }
+{
+    a.kind().is(b.kind())
 }
 
 /// A sequence of a table: that of its key, or of a secondary index by its number, from 1.

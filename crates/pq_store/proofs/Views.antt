@@ -1,16 +1,14 @@
--- What an edit of the list of pairs does to the content that it stands for.
-use Rattle.std.proofs.Common.{◌≡◌, zero, suc, ◌∷◌, ◌+◌, min, ◌-◌, ◌≤◌, get_or, take, drop, set, length-drop, ℕ, Bool, true, false, not, cond, List, [], length, IsTrue, Option, Some, None, refl, sym, ap, subst, ◌∙◌, arith, filter}
+-- What an edit of a list of pairs does to the content that it stands for.
+use Rattle.std.proofs.Common.{◌≡◌, zero, suc, ◌∷◌, take, ℕ, Bool, true, false, not, cond, List, [], length, IsTrue, Option, None, refl, sym, ap, subst, ◌∙◌, arith, filter}
 use Rattle.std.specs.Prelude.{T}
 use Rattle.std.specs.Ordering.{eq_by_cmp}
 use Rattle.std.proofs.lemmas.Cmp.{nat_list_cmp_total, eq_by_cmp_equiv}
 use Rattle.std.specs.FinMap as map
 use Rattle.std.specs.FinMap.Entries.{find-where_key, is_sorted-put, is_sorted-where_key}
 use Rattle.pq_store.specs.Content.{key_cmp, is_rising, Content, is_within, pairs_within, IsPartOf}
-use Rattle.std.specs.List.{insert, remove, slice_range}
-use Rattle.std.proofs.lemmas.List.{length-take, get_or_default}
+use Rattle.std.proofs.lemmas.List.{length-take}
 use Rattle.std.proofs.lemmas.List.Elements.{filter_passes, All-take}
-use Rattle.pq_store.specs.Places.{place_of, HasKeyAt, IsFoundAt, IsGapAt}
-use Rattle.pq_store.proofs.Places.{is_below_all, first_below, rest_rises, Pairs, is_other, same_key, find_present, find_absent, put_present, put_absent, others_present, others_absent, within_is, place_le}
+use Rattle.pq_store.proofs.Places.{is_below_all, first_below, rest_rises, Pairs, is_other, same_key}
 
 holds : (b : Bool) → IsTrue b → T b
 holds b h = subst T (sym h) tt
@@ -59,84 +57,6 @@ seen_others key old new up is = map.same_map nat_list_cmp_total same_key _ _ (λ
 
 pub seen_within : (low high : List ℕ) (pairs : Pairs) → IsTrue (is_rising pairs) → pairs_within (seen pairs) low high ≡ filter (is_within low high) pairs
 seen_within low high pairs up = ap (filter (is_within low high)) (seen_entries pairs up)
-
-module _ (pairs : Pairs) (up : IsTrue (is_rising pairs)) (key : List ℕ) (at : ℕ) (found : IsFoundAt pairs key at) where
-  has : HasKeyAt pairs (place_of key pairs) key
-  has = subst (λ i. HasKeyAt pairs i key) found.is_place (found.in_range, found.has_key)
-
-  pub get_found : map.get (seen pairs) key ≡ Some (get_or pairs at ([], [])).1
-  get_found = seen_get pairs key up ∙ find_present key pairs has ∙ ap (λ i. Some (get_or pairs i ([], [])).1) (sym found.is_place)
-
-  -- the value there is new
-  put_is : (value : List ℕ) → map.put key_cmp key value pairs ≡ set pairs at (key, value)
-  put_is value = put_present key value pairs has ∙ ap (λ i. set pairs i (key, value)) (sym found.is_place)
-
-  pub rising_set : (value : List ℕ) → IsTrue (is_rising (set pairs at (key, value)))
-  rising_set value = rising_put key value pairs _ up (put_is value)
-
-  pub seen_set : (value : List ℕ) → seen (set pairs at (key, value)) ≡ map.insert (seen pairs) key value
-  seen_set value = seen_put key value pairs _ up (put_is value)
-
-  -- the pair that a program reads there has the key
-  key_there : (pair : List ℕ × List ℕ) → pair ≡ get_or pairs at pair → pair.0 ≡ key
-  key_there pair is = ap (λ p. p.0) (is ∙ get_or_default pairs at pair ([], []) found.in_range) ∙ found.has_key
-
-  pub rising_over : (pair : List ℕ × List ℕ) → pair ≡ get_or pairs at pair → (value : List ℕ) → IsTrue (is_rising (set pairs at (pair.0, value)))
-  rising_over pair is value = rw (key_there pair is) (rising_set value)
-
-  pub seen_over : (pair : List ℕ × List ℕ) → pair ≡ get_or pairs at pair → (value : List ℕ) → seen (set pairs at (pair.0, value)) ≡ map.insert (seen pairs) key value
-  seen_over pair is value = rw (key_there pair is) (seen_set value)
-
-  removed_is : filter (is_other key) pairs ≡ remove pairs at
-  removed_is = others_present key pairs up has ∙ ap (remove pairs) (sym found.is_place)
-
-  pub rising_removed : IsTrue (is_rising (remove pairs at))
-  rising_removed = rising_others key pairs _ up removed_is
-
-  pub seen_removed : seen (remove pairs at) ≡ map.remove (seen pairs) key
-  seen_removed = seen_others key pairs _ up removed_is
-
-module _ (pairs : Pairs) (up : IsTrue (is_rising pairs)) (key : List ℕ) (at : ℕ) (gap : IsGapAt pairs key at) where
-  none : map.find key_cmp key pairs ≡ None
-  none = find_absent key pairs up (subst (λ i. ¬ HasKeyAt pairs i key) gap.is_place gap.other)
-
-  pub get_gap : map.get (seen pairs) key ≡ None
-  get_gap = seen_get pairs key up ∙ none
-
-  inserted_is : (value : List ℕ) → map.put key_cmp key value pairs ≡ insert pairs at (key, value)
-  inserted_is value = put_absent key value pairs none ∙ ap (λ i. insert pairs i (key, value)) (sym gap.is_place)
-
-  pub rising_inserted : (value : List ℕ) → IsTrue (is_rising (insert pairs at (key, value)))
-  rising_inserted value = rising_put key value pairs _ up (inserted_is value)
-
-  pub seen_inserted : (value : List ℕ) → seen (insert pairs at (key, value)) ≡ map.insert (seen pairs) key value
-  seen_inserted value = seen_put key value pairs _ up (inserted_is value)
-
-  pub seen_same : seen pairs ≡ map.remove (seen pairs) key
-  seen_same = seen_others key pairs pairs up (others_absent key pairs none)
-
-pub gap_within : (pairs : Pairs) (key : List ℕ) (at : ℕ) → IsGapAt pairs key at → at ≤ length pairs
-gap_within pairs key at gap = rw gap.is_place (place_le key pairs)
-
--- a range stands between two places
-pub seen_part : (pairs : Pairs) → IsTrue (is_rising pairs) → (low high : List ℕ) → pairs_within (seen pairs) low high ≡ take (place_of high pairs - place_of low pairs) (drop (place_of low pairs) pairs)
-seen_part pairs up low high = seen_within low high pairs up ∙ within_is low high pairs up
-
-pub seen_part_length : (pairs : Pairs) → IsTrue (is_rising pairs) → (low high : List ℕ) → length (pairs_within (seen pairs) low high) ≡ place_of high pairs - place_of low pairs
-seen_part_length pairs up low high = rw (seen_part pairs up low high) (simp (length-take, length-drop) (omega (arith, place_le low pairs, place_le high pairs)))
-
-take_take_min : (limit m : ℕ) (l : Pairs) → take limit (take m l) ≡ take (min m limit) l
-take_take_min zero m l = let e : min m 0 ≡ 0 = omega arith in rw e refl
-take_take_min (suc limit) zero l = let e : min 0 (suc limit) ≡ 0 = omega arith in rw e refl
-take_take_min (suc limit) (suc m) [] = let e : min (suc m) (suc limit) ≡ suc (min m limit) = omega arith in rw e refl
-take_take_min (suc limit) (suc m) (x ∷ l) = let e : min (suc m) (suc limit) ≡ suc (min m limit) = omega arith in rw e (ap (λ l. x ∷ l) (take_take_min limit m l))
-
--- the pairs that a range answers are a slice
-pub seen_slice : (pairs : Pairs) → IsTrue (is_rising pairs) → (low high : List ℕ) (limit from to n : ℕ) → from ≡ place_of low pairs → to ≡ place_of high pairs → n ≡ min (to - from) limit
-    → slice_range pairs from (from + n) ≡ take limit (pairs_within (seen pairs) low high)
-seen_slice pairs up low high limit from to n f t m =
-    let e : from + n - from ≡ n = omega arith in
-    rw (seen_part pairs up low high, ← f, ← t, e, m) (sym (take_take_min limit (to - from) (drop from pairs)))
 
 below_take : (key : List ℕ) (n : ℕ) (pairs : Pairs) → IsTrue (is_below_all key pairs) → IsTrue (is_below_all key (take n pairs))
 below_take key zero pairs below = refl

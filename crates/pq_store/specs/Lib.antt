@@ -1,6 +1,6 @@
 pub mod Counts
 pub mod Content
-pub mod Places
+pub mod Held
 pub mod NotPairs
 pub mod Faults
 pub mod Breaks

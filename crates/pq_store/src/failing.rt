@@ -46,7 +46,7 @@ impl Model for FailingStore {
 
 impl FailingStore {
     /// The store with the content of `inner`, before its first call.
-    pub fn new(inner: MemStore, fails: List<Fail>) -> FailingStore
+    pub fn new(_alloc: Global, inner: MemStore, fails: List<Fail>) -> FailingStore
         ensures held { result.held ≡ inner }
         ensures calls { result.calls ≡ 0 }
         ensures faults { result.faults ≡ 0 }
@@ -147,6 +147,7 @@ impl<L: Ledger> Store<L> for FailingStore {
 
     fn count(
         &mut self,
+        alloc: Global,
         low: &[u8],
         high: &[u8],
         cap: u32,
@@ -162,7 +163,7 @@ impl<L: Ledger> Store<L> for FailingStore {
                 meter.charge(0);
                 Err(StoreErr::Failed)
             }
-            None => self.inner.count(low, high, cap, meter),
+            None => self.inner.count(alloc, low, high, cap, meter),
         }
     }
 

@@ -11,8 +11,6 @@ mod failing;
 mod mem;
 mod meter;
 mod store;
-#[cfg(test)]
-mod tests;
 
 pub use allowance::Allowance;
 pub use damage::{Broke, Damage};

@@ -1,37 +1,41 @@
-//! A store in memory: a vector in the order of its keys, seen as its content.
-ghost use Rattle.std.specs.Prelude.{◌≡◌, ◌≤◌, ◌<◌, ◌↔◌, ℕ, IsTrue, IfOk, IfErr, IsOk, OnOk, OnErr, map, take, length, vec_len};
+//! A store in memory: an ordered map from keys to values, seen as its content.
+ghost use Rattle.std.specs.Prelude.{◌≡◌, ◌↔◌, IsTrue, IfOk, IfErr, IsOk, OnOk, OnErr, map, take, length, min, if◌then◌else◌};
 ghost use Rattle.std.specs.FinMap.{empty, entries, get as value_at, insert, remove};
+ghost use Rattle.std.specs.Ordering.{eq_by_cmp, is_lt};
 ghost use Rattle.pq_store.specs.Content.{is_rising, entry, pairs_within, key_cmp, admits};
-ghost use Rattle.std.specs.Ordering.{eq_by_cmp};
+ghost use Rattle.pq_store.specs.Held.{held_pairs};
 ghost use Rattle.pq_store.specs.NotPairs.{GivesBack};
-ghost use Rattle.pq_store.specs.Places.{place_of, IsFoundAt, IsGapAt};
 
 use crate::meter::Meter;
 use crate::store::{Guard, Pair, Store, StoreErr};
 use pq_base::{Bytes, List, NoMem};
 use std::alloc::Global;
+use std::collections::{BTreeMap, btree_map};
 use std::marker::Model;
+use std::ops::Range;
 use std::sync::ledger::Ledger;
 
-/// A store in memory, which tells its content and never fails. A look-up takes logarithmically many
-/// comparisons, and so does a write behind the last key.
+/// A store in memory, which tells its content and never fails. A look-up and a write take
+/// logarithmically many comparisons in the number of pairs, a range and a count besides as many steps
+/// as they answer entries.
 #[derive(Drop)]
 pub struct MemStore {
-    held: Vec<(Bytes, Bytes)>,
+    held: BTreeMap<Vec<u8>, Bytes>,
 }
 
 impl Model for MemStore {
     ghost use Rattle.std.specs.Prelude.{IsTrue};
     ghost use Rattle.std.specs.FinMap.{from_sorted};
     ghost use Rattle.pq_store.specs.Content.{Content, content_code, is_rising};
+    ghost use Rattle.pq_store.specs.Held.{held_pairs};
 
     ghost Value = { Content };
 
     ghost coded = { content_code };
 
-    ghost view = { λ a. from_sorted a.held.items };
+    ghost view = { λ a. from_sorted (held_pairs a.held.entries) };
 
-    ghost invariant = { λ a. IsTrue (is_rising a.held.items) };
+    ghost invariant = { λ a. IsTrue (is_rising (held_pairs a.held.entries)) };
 }
 
 /// Why pairs make no store.
@@ -49,7 +53,7 @@ impl MemStore {
         ensures { result ≡ empty }
     {
         MemStore {
-            held: Vec::new(alloc),
+            held: BTreeMap::new(alloc),
         }
     }
 
@@ -58,7 +62,11 @@ impl MemStore {
     pub fn pairs(&self, alloc: Global) -> Result<List<Pair>, NoMem>
         ensures { IfOk result (λ pairs. map entry pairs ≡ entries self.now) }
     {
-        copy_pairs(alloc, &self.held)
+        let mut pairs = List::new(alloc);
+        for (key, value) in &self.held {
+            pairs.push(alloc, copy_of(alloc, key, value)?)?;
+        }
+        Ok(pairs)
     }
 
     /// The store of these pairs. They are given back exactly where their keys don't strictly rise.
@@ -71,90 +79,103 @@ impl MemStore {
         if !rises(pairs.items()) {
             return Err(NotPairs::Unordered(pairs));
         }
-        match take_pairs(alloc, pairs) {
+        match held_of(alloc, pairs) {
             Ok(held) => Ok(MemStore { held }),
             Err(_) => Err(NotPairs::NoMem),
         }
     }
 
-    #[tactic(auto, using(crate::proofs::Views::get_found, crate::proofs::Views::get_gap))]
+    #[tactic(auto, using(crate::proofs::Held::get_held))]
     fn find(&self, alloc: Global, key: &[u8]) -> Result<Option<Bytes>, NoMem>
         ensures { IfOk result (λ found. found ≡ value_at self.now key.now) }
     {
-        match lookup(&self.held, key) {
-            Ok(at) => Ok(Some(Bytes::of_bytes(alloc, self.held[at].1.items())?)),
-            Err(_) => Ok(None),
+        match self.held.get(key) {
+            Some(value) => Ok(Some(Bytes::of_bytes(alloc, value.items())?)),
+            None => Ok(None),
         }
     }
 
     fn part(&self, alloc: Global, low: &[u8], high: &[u8], limit: u32) -> Result<List<Pair>, NoMem>
         ensures { IfOk result (λ found. map entry found ≡ take limit (pairs_within self.now low.now high.now)) }
     {
-        let from = place(&self.held, low);
-        let to = place(&self.held, high);
-        let n = to.saturating_sub(from).min(limit as usize);
-        copy_pairs(alloc, &self.held[from..from + n])
+        let bounds = bounds_of(alloc, low, high)?;
+        copy_first(alloc, self.held.range(bounds), limit)
     }
 
-    #[tactic(auto, using(crate::proofs::Views::seen_part_length))]
-    fn number(&self, low: &[u8], high: &[u8]) -> usize
-        ensures { result ≡ length (pairs_within self.now low.now high.now) }
+    fn number(&self, alloc: Global, low: &[u8], high: &[u8], cap: u32) -> Result<u32, NoMem>
+        ensures { IfOk result (λ n. n ≡ min cap (length (pairs_within self.now low.now high.now))) }
     {
-        place(&self.held, high).saturating_sub(place(&self.held, low))
+        let bounds = bounds_of(alloc, low, high)?;
+        Ok(self.held.range(bounds).take(cap as usize).count() as u32)
     }
 
-    #[tactic(auto, using(crate::proofs::Views::get_found, crate::proofs::Views::get_gap))]
+    #[tactic(auto, using(crate::proofs::Held::get_held))]
     fn admits(&self, key: &[u8], guard: Guard) -> bool
         ensures { result ≡ admits guard.entry (value_at self.now key.now) }
     {
-        match (guard, lookup(&self.held, key)) {
-            (Guard::Any, _) => true,
-            (Guard::Absent, Ok(_)) => false,
-            (Guard::Absent, Err(_)) => true,
-            (Guard::Is(value), Ok(at)) => are_same(self.held[at].1.items(), value),
-            (Guard::Is(_), Err(_)) => false,
+        match guard {
+            Guard::Any => true,
+            Guard::Absent => self.held.get(key).is_none(),
+            Guard::Is(value) => match self.held.get(key) {
+                Some(held) => are_same(held.items(), value),
+                None => false,
+            },
         }
     }
 
-    #[tactic(auto, using(crate::proofs::Views::rising_over, crate::proofs::Views::seen_over, crate::proofs::Views::rising_inserted, crate::proofs::Views::seen_inserted))]
     fn set(&mut self, alloc: Global, key: &[u8], value: &[u8]) -> Result<(), NoMem>
         ensures ok { OnOk result (self.new ≡ insert self.old key.now value.now) }
         ensures err { OnErr result (self.new ≡ self.old) }
     {
+        let key = Vec::from_slice(alloc, key)?;
         let value = Bytes::of_bytes(alloc, value)?;
-        match lookup(&self.held, key) {
-            Ok(at) => {
-                self.held[at].1 = value;
-                Ok(())
-            }
-            Err(at) => {
-                let key = Bytes::of_bytes(alloc, key)?;
-                self.held.insert(at, (key, value))?;
-                Ok(())
-            }
-        }
+        self.held.insert(key, value)?;
+        Ok(())
     }
 
-    #[tactic(auto, using(crate::proofs::Views::rising_removed, crate::proofs::Views::seen_removed, crate::proofs::Views::seen_same))]
     fn remove(&mut self, key: &[u8])
         ensures { self.new ≡ remove self.old key.now }
     {
-        if let Ok(at) = lookup(&self.held, key) {
-            let _ = self.held.remove(at);
-        }
+        let _ = self.held.remove(key);
     }
 }
 
-fn copy_pairs(alloc: Global, pairs: &[(Bytes, Bytes)]) -> Result<List<Pair>, NoMem>
-    ensures { IfOk result (λ copy. map entry copy ≡ pairs.now) }
+// The bounds of a range from a low key up to a high one. Where that is below the low one, they are both the low one.
+fn bounds_of(alloc: Global, low: &[u8], high: &[u8]) -> Result<Range<Vec<u8>>, NoMem>
+    ensures start { IfOk result (λ bounds. bounds.start.items ≡ low.now) }
+    ensures end { IfOk result (λ bounds. bounds.end.items ≡ (if is_lt (key_cmp low.now high.now) then high.now else low.now)) }
 {
-    let mut copy = List::new(alloc);
-    for (key, value) in pairs {
-        let key = Bytes::of_bytes(alloc, key.items())?;
-        let value = Bytes::of_bytes(alloc, value.items())?;
-        copy.push(alloc, Pair { key, value })?;
+    let start = Vec::from_slice(alloc, low)?;
+    let end = if low.cmp(high).is_lt() {
+        Vec::from_slice(alloc, high)?
+    } else {
+        Vec::from_slice(alloc, low)?
+    };
+    Ok(start..end)
+}
+
+// Copies of the first pairs of a range, or of all where there are fewer.
+fn copy_first(
+    alloc: Global,
+    range: btree_map::Range<'_, Vec<u8>, Bytes>,
+    limit: u32,
+) -> Result<List<Pair>, NoMem>
+    ensures { IfOk result (λ copies. map entry copies ≡ take limit (held_pairs range.entry)) }
+{
+    let mut copies = List::new(alloc);
+    for (key, value) in range.take(limit as usize) {
+        copies.push(alloc, copy_of(alloc, key, value)?)?;
     }
-    Ok(copy)
+    Ok(copies)
+}
+
+// A pair of copies.
+fn copy_of(alloc: Global, key: &Vec<u8>, value: &Bytes) -> Result<Pair, NoMem>
+    ensures { IfOk result (λ pair. entry pair ≡ (key.now.items, value.now)) }
+{
+    let key = Bytes::of_bytes(alloc, key.as_slice())?;
+    let value = Bytes::of_bytes(alloc, value.items())?;
+    Ok(Pair { key, value })
 }
 
 // Whether the keys strictly rise.
@@ -174,42 +195,16 @@ fn rises(pairs: &[Pair]) -> bool
     true
 }
 
-fn take_pairs(alloc: Global, pairs: List<Pair>) -> Result<Vec<(Bytes, Bytes)>, NoMem>
-    ensures { IfOk result (λ held. held.items ≡ map entry pairs) }
+// The map of pairs whose keys strictly rise.
+fn held_of(alloc: Global, pairs: List<Pair>) -> Result<BTreeMap<Vec<u8>, Bytes>, NoMem>
+    requires { IsTrue (is_rising (map entry pairs)) }
+    ensures { IfOk result (λ held. held_pairs held.entries ≡ map entry pairs) }
 {
-    let mut held = Vec::new(alloc);
+    let mut held = BTreeMap::new(alloc);
     for Pair { key, value } in pairs.into_vec() {
-        held.push((key, value))?;
+        held.insert(key.into_vec(), value)?;
     }
     Ok(held)
-}
-
-// How many of the pairs have smaller keys.
-fn place(held: &Vec<(Bytes, Bytes)>, key: &[u8]) -> usize
-    requires { IsTrue (is_rising held.now.items) }
-    ensures place { result ≡ place_of key.now held.now.items }
-    ensures within { result ≤ length held.now.items }
-{
-    held.as_slice()
-        .partition_point(|pair| pair.0.items().cmp(key).is_lt())
-}
-
-// Where the key is, or where it would go.
-fn lookup(held: &Vec<(Bytes, Bytes)>, key: &[u8]) -> Result<usize, usize>
-    requires { IsTrue (is_rising held.now.items) }
-    ensures found { IfOk result (IsFoundAt held.now.items key.now) }
-    ensures gap { IfErr result (IsGapAt held.now.items key.now) }
-    ensures within { IfErr result (λ at. at ≤ vec_len held.now) }
-{
-    let at = place(held, key);
-    if at >= held.len() {
-        return Err(at);
-    }
-    if held[at].0.items() == key {
-        Ok(at)
-    } else {
-        Err(at)
-    }
 }
 
 fn are_same(a: &[u8], b: &[u8]) -> bool
@@ -269,14 +264,22 @@ impl<L: Ledger> Store<L> for MemStore {
 
     fn count(
         &mut self,
+        alloc: Global,
         low: &[u8],
         high: &[u8],
         cap: u32,
         meter: &mut Meter<L>,
     ) -> Result<u32, StoreErr> {
-        let n = self.number(low, high).min(cap as usize) as u32;
-        meter.charge(n);
-        Ok(n)
+        match self.number(alloc, low, high, cap) {
+            Ok(n) => {
+                meter.charge(n);
+                Ok(n)
+            }
+            Err(_) => {
+                meter.charge(0);
+                Err(StoreErr::NoMem)
+            }
+        }
     }
 
     fn write(

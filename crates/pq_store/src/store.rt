@@ -86,6 +86,7 @@ pub trait Store<L: Ledger> {
     /// The lesser of `cap` and the number of pairs with `low <= key < high`; as many entries.
     fn count(
         &mut self,
+        alloc: Global,
         low: &[u8],
         high: &[u8],
         cap: u32,

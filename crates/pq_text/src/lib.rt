@@ -19,6 +19,3 @@ pub use scan::tokens;
 pub use script::{CutScript, cut_script};
 pub use splitter::Splitter;
 pub use token::{Kind, Token};
-
-#[cfg(test)]
-mod tests;

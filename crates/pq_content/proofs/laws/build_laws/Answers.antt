@@ -1,23 +1,21 @@
-use Rattle.pq_key_code.specs.KeyCode.{code_of}
-use Rattle.pq_row_code.specs.RowCode.{row_code}
 use Rattle.pq_content.proofs.Building.{keeps-index, none_filled, get_entry, part_written, all_filled, get_part}
-use Rattle.pq_content.proofs.Members.{in_from_contains, contained}
+use Rattle.pq_base.proofs.Members.{in_from_contains, contained}
 use Rattle.pq_content.proofs.laws.build_laws.Goals as goal
 
 pub returns-clause-keeps : goal.returns-clause-keeps
-returns-clause-keeps c = keeps-index row_code
+returns-clause-keeps c tables rows new = keeps-index tables rows new.table new.index
 
 pub returns-clause-none : goal.returns-clause-none
-returns-clause-none c tables rows others t index is keeps = none_filled code_of row_code tables t index is rows others keeps.known
+returns-clause-none c tables rows others new is keeps = none_filled tables new.table new.index is rows others keeps.known
 
 pub returns-clause-entry : goal.returns-clause-entry
-returns-clause-entry c tables rows others t place index row there = get_entry code_of row_code tables rows others t place index row (in_from_contains rows (t, row) there)
+returns-clause-entry c tables rows others t place index row there = get_entry tables rows others t place index row (in_from_contains rows (t, row) there)
 
 pub returns-clause-write : goal.returns-clause-write
 returns-clause-write c = part_written
 
 pub returns-clause-all : goal.returns-clause-all
-returns-clause-all c tables rows others t index content is catalog part filled = all_filled code_of row_code tables t index is rows others content catalog part (λ row there. filled row (contained (t, row) rows there))
+returns-clause-all c tables rows others new content is beside part filled = all_filled tables new.table new.index is rows others content beside part (λ row there. filled row (contained (new.table, row) rows there))
 
 pub returns-clause-get : goal.returns-clause-get
 returns-clause-get c = get_part

@@ -1,6 +1,3 @@
-use Rattle.pq_key_code.specs.KeyCode.{code_of}
-use Rattle.pq_row_code.specs.RowCode.{row_code}
-use Rattle.pq_content.proofs.Codes.{key_laws}
 use Rattle.pq_content.proofs.Permuted.{pairs-IsPermutation}
 use Rattle.pq_content.proofs.Unique.{rising_catalog, one_table}
 use Rattle.pq_content.proofs.laws.standing_laws.Goals as goal
@@ -12,4 +9,4 @@ pub returns-clause-rows : goal.returns-clause-rows
 returns-clause-rows c = one_table
 
 pub returns-clause-order : goal.returns-clause-order
-returns-clause-order c tables rows others catalog keeps = pairs-IsPermutation code_of row_code key_laws tables rows others catalog keeps.fit keeps.apart
+returns-clause-order c tables rows others catalog keeps = pairs-IsPermutation tables rows others catalog keeps.fit keeps.apart

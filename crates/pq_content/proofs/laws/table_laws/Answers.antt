@@ -1,5 +1,3 @@
-use Rattle.pq_key_code.specs.KeyCode.{code_of}
-use Rattle.pq_row_code.specs.RowCode.{row_code}
 use Rattle.pq_content.proofs.MoreTables.{row_at-more, row_pairs-more, keeps-more}
 use Rattle.pq_content.proofs.laws.table_laws.Goals as goal
 
@@ -7,7 +5,7 @@ pub returns-clause-found : goal.returns-clause-found
 returns-clause-found c = row_at-more
 
 pub returns-clause-pairs : goal.returns-clause-pairs
-returns-clause-pairs c tables table rows keeps = row_pairs-more code_of row_code tables table rows keeps.known
+returns-clause-pairs c tables table rows keeps = row_pairs-more tables table rows keeps.known
 
 pub returns-clause-keeps : goal.returns-clause-keeps
-returns-clause-keeps c = keeps-more row_code
+returns-clause-keeps c = keeps-more

@@ -4,4 +4,4 @@ use Rattle.pq_intent.proofs.commits.commit.Goals as goal
 
 pub returns-in-len1-clause-stopped : goal.returns-in-len1-clause-stopped
 returns-in-len1-clause-stopped g c =
-    on_err_weaker c.write_change.result (λ may pairs s. single_stopped c.args.changes c.items.result.now c.change-item.result _ _ c.items.ensures c.in-len1.len_at_least c.in-len1.len_below c.change-item.is c.requires.rows may pairs s) c.write_change.ensures.stopped
+    on_err_weaker c.write_change.result (λ may pairs s. single_stopped c.args.changes c.items.result.now c.change-item.result _ _ c.items.ensures c.in-len1.len_at_least c.in-len1.len_below c.change-item.is c.requires.intended may pairs s) c.write_change.ensures.stopped

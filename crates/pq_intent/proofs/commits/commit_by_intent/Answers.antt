@@ -17,17 +17,17 @@ returns-in_err-code-clause-stopped g c = on_err_holds c.from_residual-in_err-cod
 pub returns-in_err-key-2-clause-stopped : goal.returns-in_err-key-2-clause-stopped
 returns-in_err-key-2-clause-stopped g c =
     let code : c.items.result.now ≡ changes_code c.args.changes.now = c.items.ensures ∙ c.in_ok-code.ensures in
-    on_err_holds c.from_residual-in_err-key-2.result (λ pairs s. commit_started pairs c.args.changes.now s.no_intent c.requires.coded c.requires.rows (g.S.Store.content c.put_intent.new.store) c.items.result.now code (c.in_err-key-2.ensures.stopped pairs s))
+    on_err_holds c.from_residual-in_err-key-2.result (λ pairs s. commit_started pairs c.args.changes.now s.no_intent c.requires.coded c.requires.intended (g.S.Store.content c.put_intent.new.store) c.items.result.now code (c.in_err-key-2.ensures.stopped pairs s))
 
 pub returns-clause-made : goal.returns-clause-made
 returns-clause-made g c =
     let steps : map change_of c.items-3.result.now ++ (c.items-2.result.now, None) ∷ [] ≡ with_removal c.args.changes.now = steps_are c.items-3.result.now c.args.changes.now c.items-2.result.now c.items-3.ensures (c.items-2.ensures ∙ c.in_ok-key-2.ensures.back) in
-    on_ok_weaker c.finish.result (λ made pairs s. commit_made pairs c.args.changes.now s.no_intent c.requires.coded c.requires.rows (g.S.Store.content c.put_intent.new.store) (g.S.Store.content c.finish.new.store) c.items.result.now (c.in_ok-key-2.ensures.put pairs s)
+    on_ok_weaker c.finish.result (λ made pairs s. commit_made pairs c.args.changes.now s.no_intent c.requires.coded c.requires.intended (g.S.Store.content c.put_intent.new.store) (g.S.Store.content c.finish.new.store) c.items.result.now (c.in_ok-key-2.ensures.put pairs s)
     (made ∙ ap (λ (l : List Change). after l (g.S.Store.content c.put_intent.new.store)) steps)) c.finish.ensures.made
 
 pub returns-clause-stopped : goal.returns-clause-stopped
 returns-clause-stopped g c =
     let code : c.items.result.now ≡ changes_code c.args.changes.now = c.items.ensures ∙ c.in_ok-code.ensures in
     let steps : map change_of c.items-3.result.now ++ (c.items-2.result.now, None) ∷ [] ≡ with_removal c.args.changes.now = steps_are c.items-3.result.now c.args.changes.now c.items-2.result.now c.items-3.ensures (c.items-2.ensures ∙ c.in_ok-key-2.ensures.back) in
-    on_err_weaker c.finish.result (λ partway pairs s. commit_stopped pairs c.args.changes.now s.no_intent c.requires.coded c.requires.rows (g.S.Store.content c.put_intent.new.store) (g.S.Store.content c.finish.new.store) c.items.result.now code (c.in_ok-key-2.ensures.put pairs s)
+    on_err_weaker c.finish.result (λ partway pairs s. commit_stopped pairs c.args.changes.now s.no_intent c.requires.coded c.requires.intended (g.S.Store.content c.put_intent.new.store) (g.S.Store.content c.finish.new.store) c.items.result.now code (c.in_ok-key-2.ensures.put pairs s)
     (subst (λ (l : List Change). IsPartway l (g.S.Store.content c.put_intent.new.store) (g.S.Store.content c.finish.new.store)) steps partway)) c.finish.ensures.stopped

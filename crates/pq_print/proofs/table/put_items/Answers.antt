@@ -7,10 +7,13 @@ use Rattle.pq_print.proofs.table.put_items.Goals as goal
 pub returns : goal.returns
 unfolding items_text
 returns c =
+    let tables = c.args.tables.now in
+    let columns = c.args.columns.now in
+    let table = c.args.table.now in
     joined_5 (string_bytes c.args.out.now) (string_bytes c.put_separated.new.out) (string_bytes c.push_str.new.self)
     (string_bytes c.put_columns.new.out) (string_bytes c.put_each.new.out) (string_bytes c.put_each-2.new.out)
-    (separated (codes ", ") column_text c.args.table.now.columns) (codes ", PRIMARY KEY ") (columns_text c.args.table.now c.args.table.now.key)
-    (each_after (codes ", ") (limit_text c.args.table.now) c.args.table.now.limits)
-    (each_after (codes ", ") (foreign_text c.args.tables.now c.args.table.now) c.args.table.now.foreign)
+    (separated (codes ", ") column_text columns) (codes ", PRIMARY KEY ") (columns_text columns table.key)
+    (each_after (codes ", ") (limit_text columns) table.limits)
+    (each_after (codes ", ") (foreign_text tables columns) table.foreign)
     c.put_each-2.result
     (search rules) c.in_ok-push_str.ensures.bytes (search rules) (search rules) (search rules)

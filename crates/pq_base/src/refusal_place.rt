@@ -1,0 +1,85 @@
+//! The refusals, each by the place of its number in `refusal_numbers` (docs/FORMATS.md, "Refusals").
+
+/// E101.
+pub const NOT_UTF8: usize = 0;
+
+/// E102.
+pub const UNFINISHED: usize = 1;
+
+/// E103.
+pub const STATEMENT_LONG: usize = 2;
+
+/// E104.
+pub const SYNTAX: usize = 3;
+
+/// E201.
+pub const NAME_TAKEN: usize = 4;
+
+/// E202.
+pub const NO_TABLE: usize = 5;
+
+/// E203.
+pub const NO_COLUMN: usize = 6;
+
+/// E204.
+pub const REPEATED: usize = 7;
+
+/// E205.
+pub const FOREIGN_SHAPE: usize = 8;
+
+/// E206.
+pub const COUNT: usize = 9;
+
+/// E207.
+pub const TOO_MANY_ROWS: usize = 10;
+
+/// E301.
+pub const ALIAS: usize = 11;
+
+/// E302.
+pub const OPERAND_KIND: usize = 12;
+
+/// E303.
+pub const PARAMS: usize = 13;
+
+/// E304.
+pub const NO_BOUND: usize = 14;
+
+/// E305.
+pub const BOUND_LARGE: usize = 15;
+
+/// E401.
+pub const NO_QUERY: usize = 16;
+
+/// E402.
+pub const PARAM_VALUE: usize = 17;
+
+/// E403.
+pub const CURSOR: usize = 18;
+
+/// E404.
+pub const NOT_PAGED: usize = 19;
+
+/// E501.
+pub const VALUE_KIND: usize = 20;
+
+/// E502.
+pub const WRONG_COLUMNS: usize = 21;
+
+/// E503.
+pub const DUPLICATE_KEY: usize = 22;
+
+/// E504.
+pub const NO_ROW: usize = 23;
+
+/// E505.
+pub const NO_PARENT: usize = 24;
+
+/// E506.
+pub const REFERENCED: usize = 25;
+
+/// E507.
+pub const CARDINALITY: usize = 26;
+
+/// E508.
+pub const ROW_LONG: usize = 27;

@@ -1,0 +1,21 @@
+-- What a call sees of a store that it calls by an allowance, and what it makes of that.
+use Rattle.std.specs.Prelude.{◌≡◌, ℕ, Option}
+use Rattle.pq_store.specs.Content.{Content}
+use Rattle.pq_store.specs.declared.damage.Broke.{Broke}
+use Rattle.pq_store.specs.declared.damage.Damage.{Damage}
+use Rattle.pq_calls.specs.declared.calls.Calls.{Calls}
+use Rattle.pq_calls.specs.World.{World, world, Reads, Explains}
+
+abbrev pub seen : {S L : Type 0} → (S → Option Content) → (S → ℕ) → Calls S L → World
+seen content faults calls = world (content calls.store.now) (faults calls.store.now) calls.allowance.now calls.meter.now
+
+-- it is the same store, allowance and meter, and at most so much was read
+pub record Uses {S L : Type 0} (content : S → Option Content) (faults : S → ℕ) (before after : Calls S L) (ops entries : ℕ) : Type 0 where
+  pub same_store : after.store.ghost_name ≡ before.store.ghost_name
+  pub same_allowance : after.allowance.ghost_name ≡ before.allowance.ghost_name
+  pub same_meter : after.meter.ghost_name ≡ before.meter.ghost_name
+  pub reads : Reads (seen content faults before) (seen content faults after) ops entries
+
+-- why a call gives up
+abbrev pub Fails : (Option Content → Damage → Type 0) → {S L : Type 0} → (S → Option Content) → (S → ℕ) → Calls S L → Calls S L → Broke → Type 0
+Fails shows content faults before after error = Explains shows (seen content faults before) (seen content faults after) error

@@ -1,0 +1,87 @@
+-- What shows that a content is damaged: a key, and the value that a call answered for it.
+use Rattle.std.specs.Prelude.{◌≡◌, ◌≢◌, ℕ, ◌<◌, List, [], ◌++◌, length, Option, Some, None, IfSome}
+use Rattle.std.specs.FinMap.{get}
+use Rattle.pq_base.specs.declared.value.ColType.{ColType}
+use Rattle.pq_base.specs.declared.value.Value.{Value}
+use Rattle.pq_base.specs.Values.{AllFit}
+use Rattle.pq_key_code.specs.KeyCode.{row_key, catalog_key, intent_key, past_code}
+use Rattle.pq_row_code.specs.RowCode.{row_code}
+use Rattle.pq_schema.specs.declared.table.Access.{Access}
+use Rattle.pq_schema.specs.declared.table.Access.TheVariants.{Secondary}
+use Rattle.pq_schema.specs.declared.table.Table.{Table}
+use Rattle.pq_schema.specs.Keys.{AllOfKinds, key_types}
+use Rattle.pq_schema.specs.Rows.{IsTableNumber, types_of}
+use Rattle.pq_schema.specs.Sequences.{IsAccess}
+use Rattle.pq_schema.specs.Tables.{table_at}
+use Rattle.pq_store.specs.Breaks.{IsPresent}
+use Rattle.pq_store.specs.Content.{Content, pairs_within}
+use Rattle.pq_store.specs.declared.damage.Damage.{Damage}
+use Rattle.pq_calls.specs.Keys.{sequence_key, sequence_types, named_key}
+
+-- no value, and no row; or a row that fits and has the value as its code
+abbrev pub IsRead : List ColType → Option (List ℕ) → Option (List Value) → Type 0
+IsRead types None None = Unit {0}
+IsRead types None (Some row) = ⊥
+IsRead types (Some code) None = ⊥
+IsRead types (Some code) (Some row) = AllFit types row × (row_code row ≡ code)
+
+-- the value at this key is the code of no row that fits
+pub record IsNoRowAt (types : List ColType) (key : List ℕ) (told : Option Content) (damage : Damage) : Type 0 where
+  pub code : List ℕ
+  pub at : damage.key ≡ key
+  pub has : damage.value ≡ Some code
+  pub no_row : (row : List Value) → AllFit types row → row_code row ≢ code
+  pub there : IfSome told (λ content. get content key ≡ Some code)
+
+-- the value at the key of a row is the code of no row of its table
+pub record IsNoRow (tables : List Table) (content : Content) (damage : Damage) : Type 0 where
+  pub table : ℕ
+  pub key : List Value
+  pub number : IsTableNumber tables table
+  pub kinds : AllOfKinds (key_types (table_at tables table)) key
+  pub shown : IsNoRowAt (types_of (table_at tables table)) (row_key table key) (Some content) damage
+
+-- the row that an entry names is not there
+pub record IsMissingRow (tables : List Table) (content : Content) (damage : Damage) : Type 0 where
+  pub table : ℕ
+  pub index : ℕ
+  pub values : List Value
+  pub entry : List ℕ
+  pub number : IsTableNumber tables table
+  pub access : IsAccess (table_at tables table) (Secondary index)
+  pub fits : AllFit (sequence_types (table_at tables table) (Secondary index)) values
+  pub there : get content (sequence_key table (table_at tables table) (Secondary index) values) ≡ Some entry
+  pub at : damage.key ≡ row_key table (named_key (table_at tables table) (Secondary index) values)
+  pub has : damage.value ≡ None
+  pub absent : get content damage.key ≡ None
+
+-- a key among those of a table's rows, or of an index's entries, is the code of no values that fit
+pub record IsNoKey (tables : List Table) (content : Content) (damage : Damage) : Type 0 where
+  pub table : ℕ
+  pub access : Access
+  pub rest : List ℕ
+  pub value : List ℕ
+  pub number : IsTableNumber tables table
+  pub is_access : IsAccess (table_at tables table) access
+  pub at : damage.key ≡ sequence_key table (table_at tables table) access [] ++ rest
+  pub has : damage.value ≡ Some value
+  pub there : get content damage.key ≡ Some value
+  pub no_values : (values : List Value) → AllFit (sequence_types (table_at tables table) access) values
+      → sequence_key table (table_at tables table) access values ≢ damage.key
+
+-- the key of a definition whose index is being filled, for a table of too many rows
+pub record IsTooMany (tables : List Table) (definition : ℕ) (content : Content) (damage : Damage) : Type 0 where
+  pub table : ℕ
+  pub number : IsTableNumber tables table
+  pub at : damage.key ≡ catalog_key definition
+  pub has : damage.value ≡ None
+  pub many : 1000000 < length (pairs_within content (row_key table []) (past_code (row_key table [])))
+
+-- all that shows damage in a content of these tables, while the definition of a number is made
+pub data Shows (tables : List Table) (definition : ℕ) (content : Content) (damage : Damage) : Type 0 where
+  no_row : IsNoRow tables content damage → Shows tables definition content damage
+  missing_row : IsMissingRow tables content damage → Shows tables definition content damage
+  no_key : IsNoKey tables content damage → Shows tables definition content damage
+  intent_there : IsPresent intent_key content damage → Shows tables definition content damage
+  definition_there : IsPresent (catalog_key definition) content damage → Shows tables definition content damage
+  too_many : IsTooMany tables definition content damage → Shows tables definition content damage

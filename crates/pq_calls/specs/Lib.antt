@@ -1,0 +1,4 @@
+pub mod Calls
+pub mod Evidence
+pub mod Keys
+pub mod World

@@ -1,0 +1,99 @@
+//! Rows by their keys.
+ghost use Rattle.std.specs.Prelude.{◌≡◌, is_some, option_map, IfOk, IfErr, IfSome};
+ghost use Rattle.std.specs.FinMap.{get as value_at};
+ghost use Rattle.pq_base.specs.Values.{AllFit};
+ghost use Rattle.pq_key_code.specs.KeyCode.{row_key};
+ghost use Rattle.pq_schema.specs.Rows.{types_of};
+ghost use Rattle.pq_calls.specs.Calls.{Uses, Fails};
+ghost use Rattle.pq_calls.specs.Evidence.{IsRead, IsNoRowAt};
+ghost use Rattle.pq_calls.specs.World.{Affords, no_damage};
+
+use crate::calls::Calls;
+use pq_base::{Bytes, ColType, List, NoMem, Row};
+use pq_key_code::row_key;
+use pq_row_code::decode_row;
+use pq_schema::Table;
+use pq_store::{Broke, Damage, Store};
+use std::alloc::Global;
+use std::sync::ledger::Ledger;
+
+/// A row that is there, and its key in the store.
+#[derive(Debug, Drop)]
+pub struct StoredRow {
+    pub at: Bytes,
+    pub row: Row,
+}
+
+/// The types of the columns.
+pub fn types_of(alloc: Global, table: &Table) -> Result<List<ColType>, NoMem>
+    ensures { IfOk result (λ types. types ≡ types_of table.now) }
+{
+    let mut types = List::new(alloc);
+    for column in table.columns.items() {
+        types.push(alloc, column.ty)?;
+    }
+    Ok(types)
+}
+
+impl<'a, S: Store<L>, L: Ledger> Calls<'a, S, L> {
+    /// Whether the table of this number has a row with this key.
+    pub fn has_row(&mut self, alloc: Global, number: u8, key: &Row) -> Result<bool, Broke>
+        requires share { Affords self.old.allowance.now 1 1 }
+        ensures uses { Uses S.content S.faults self.old self.new 1 1 }
+        ensures cause { IfErr result (Fails no_damage S.content S.faults self.old self.new) }
+        ensures answer { IfOk result (λ there. IfSome (S.content self.old.store.now) (λ c.
+            there ≡ is_some (value_at c (row_key number key.now)))) }
+    {
+        let at = row_key(alloc, number, key)?;
+        self.has_value(alloc, at.items())
+    }
+
+    /// The row at a key of the store, which has to fit the types.
+    fn row_at(
+        &mut self,
+        alloc: Global,
+        at: Bytes,
+        types: &[ColType],
+    ) -> Result<Option<StoredRow>, Broke>
+        requires share { Affords self.old.allowance.now 1 1 }
+        ensures uses { Uses S.content S.faults self.old self.new 1 1 }
+        ensures cause { IfErr result (Fails (IsNoRowAt types.now at) S.content S.faults self.old self.new) }
+        ensures read { IfOk result (λ found. IfSome (S.content self.old.store.now) (λ c.
+            IsRead types.now (value_at c at) (option_map (λ stored. stored.row) found))) }
+        ensures at { IfOk result (λ found. IfSome found (λ stored. stored.at ≡ at)) }
+        ensures fits { IfOk result (λ found. IfSome found (λ stored. AllFit types.now stored.row)) }
+    {
+        let Some(code) = self.get(alloc, at.items())? else {
+            return Ok(None);
+        };
+        match decode_row(alloc, code.items(), types)? {
+            Some(row) => Ok(Some(StoredRow { at, row })),
+            None => Err(Broke::Damaged(Damage {
+                key: at,
+                value: Some(code),
+            })),
+        }
+    }
+
+    /// The row of the table with this key, and its key in the store. A value that is the code of no
+    /// row of the table is damage.
+    pub fn row(
+        &mut self,
+        alloc: Global,
+        number: u8,
+        table: &Table,
+        key: &Row,
+    ) -> Result<Option<StoredRow>, Broke>
+        requires share { Affords self.old.allowance.now 1 1 }
+        ensures uses { Uses S.content S.faults self.old self.new 1 1 }
+        ensures cause { IfErr result (Fails (IsNoRowAt (types_of table.now) (row_key number key.now)) S.content S.faults self.old self.new) }
+        ensures read { IfOk result (λ found. IfSome (S.content self.old.store.now) (λ c.
+            IsRead (types_of table.now) (value_at c (row_key number key.now)) (option_map (λ stored. stored.row) found))) }
+        ensures at { IfOk result (λ found. IfSome found (λ stored. stored.at ≡ row_key number key.now)) }
+        ensures fits { IfOk result (λ found. IfSome found (λ stored. AllFit (types_of table.now) stored.row)) }
+    {
+        let types = types_of(alloc, table)?;
+        let at = row_key(alloc, number, key)?;
+        self.row_at(alloc, at, types.items())
+    }
+}

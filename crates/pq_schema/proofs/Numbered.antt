@@ -1,0 +1,164 @@
+-- Numbers found by name, as more definitions come.
+use Rattle.std.proofs.Common.{◌≡◌, ℕ, suc, ◌+◌, ◌-◌, ◌<◌, ◌≤◌, Bool, true, false, cond, if◌then◌else◌, not, ◌||◌, List, [], ◌∷◌, ◌++◌, length, set, get_or, position, Option, Some, None, is_some, option_map, refl, sym, ap, ◌∙◌, subst, true≢false, arith}
+use Rattle.std.specs.Prelude.{nat_lt, IfSome}
+use Rattle.std.proofs.lemmas.List.{length-set}
+use Rattle.std.proofs.lemmas.List.Folds.{position_or_len-set}
+use Rattle.std.proofs.lemmas.List.Quantifiers.{position-Some}
+use Rattle.std.specs.List.{position_or_len}
+use Rattle.std.specs.Str.{bytes_eq}
+use Rattle.std.specs.String.{string_bytes}
+use Rattle.std.specs.Map.{lookup}
+use Rattle.std.specs.declared.string.String.{String}
+use Rattle.std.proofs.lemmas.Slice.Eq.{bytes_eq-Decides}
+use Rattle.pq_schema.specs.declared.made.Definition.{Definition}
+use Rattle.pq_schema.specs.declared.made.Definition.TheVariants.{OfTable, OfQuery}
+use Rattle.pq_schema.specs.declared.made.Made.{Made}
+use Rattle.pq_schema.specs.declared.query.Query.{Query}
+use Rattle.pq_schema.specs.declared.table.NewIndex.{NewIndex}
+use Rattle.pq_schema.specs.declared.table.Table.{Table}
+use Rattle.pq_schema.specs.Numbered.{text_is, AreNumbered}
+use Rattle.pq_schema.specs.Schema.{Schema, empty_schema, find_table, find_query, is_table, is_query, is_taken, number_of, with_table, with_query, with_wanted, with_new_index, made_of}
+use Rattle.pq_schema.specs.Tables.{no_table, table_at}
+use Rattle.pq_schema.specs.Valid.{IsSound}
+
+-- ---- the first place, by recursion
+
+abbrev place : {X : Type 0} → (X → Bool) → List X → Option ℕ
+place p [] = None
+place p (x ∷ xs) = if p x then Some 0 else option_map suc (place p xs)
+
+mapped : (n len : ℕ) → cond (nat_lt (1 + n) (suc len)) (Some (1 + n)) None ≡ option_map suc (cond (nat_lt n len) (Some n) None)
+mapped n len = grind (arith)
+
+place_is : {X : Type 0} (p : X → Bool) (xs : List X) → position p xs ≡ place p xs
+place_is p [] = refl
+place_is p (x ∷ xs) = by (p x) (place_is p xs)
+  where
+    by : (b : Bool) → position p xs ≡ place p xs → cond (nat_lt (cond (not b) (1 + position_or_len p xs) 0) (length (x ∷ xs))) (Some (cond (not b) (1 + position_or_len p xs) 0)) None ≡ (if b then Some 0 else option_map suc (place p xs))
+    by true rest = grind (arith)
+    by false rest = mapped (position_or_len p xs) (length xs) ∙ ap (option_map suc) rest
+
+-- the first answer, or else the second
+abbrev first_of : {A : Type 0} → Option A → Option A → Option A
+first_of (Some a) other = Some a
+first_of None other = other
+
+place_last : {X : Type 0} (p : X → Bool) (xs : List X) (x : X) → place p (xs ++ x ∷ []) ≡ first_of (place p xs) (if p x then Some (length xs) else None)
+place_last p [] x = refl
+place_last p (y ∷ ys) x = by (p y) (p x) (place p ys) (place_last p ys x)
+  where
+    by : (b c : Bool) (r : Option ℕ) → place p (ys ++ x ∷ []) ≡ first_of r (if c then Some (length ys) else None)
+        → (if b then Some 0 else option_map suc (place p (ys ++ x ∷ []))) ≡ first_of (if b then Some 0 else option_map suc r) (if c then Some (suc (length ys)) else None)
+    by true c r e = refl
+    by false c (Some i) e = ap (option_map suc) e
+    by false true None e = ap (option_map suc) e
+    by false false None e = ap (option_map suc) e
+
+position_last : {X : Type 0} (p : X → Bool) (xs : List X) (x : X) → position p (xs ++ x ∷ []) ≡ first_of (position p xs) (if p x then Some (length xs) else None)
+position_last p xs x = place_is p (xs ++ x ∷ []) ∙ place_last p xs x ∙ ap (λ r. first_of r (if p x then Some (length xs) else None)) (sym (place_is p xs))
+
+lookup_last : {K X : Type 0} (t : K → Bool) (es : List (K × X)) (e : K × X) → lookup t (es ++ e ∷ []) ≡ first_of (lookup t es) (if t e.0 then Some e.1 else None)
+lookup_last t [] e = refl
+lookup_last t (f ∷ es) e = by (t f.0) (lookup_last t es e)
+  where
+    by : (b : Bool) → lookup t (es ++ e ∷ []) ≡ first_of (lookup t es) (if t e.0 then Some e.1 else None) → cond b (Some f.1) (lookup t (es ++ e ∷ [])) ≡ first_of (cond b (Some f.1) (lookup t es)) (if t e.0 then Some e.1 else None)
+    by true rest = refl
+    by false rest = rest
+
+-- ---- one more
+
+module _ {X K : Type 0} (p : X → Bool) (t : K → Bool) (xs : List X) (x : X) (entries : List (K × ℕ)) (key : K) where
+  -- the last one gets the next number, under its key
+  numbers_more : option_map number_of (position p xs) ≡ lookup t entries → p x ≡ t key → option_map number_of (position p (xs ++ x ∷ [])) ≡ lookup t (entries ++ (key, number_of (length xs)) ∷ [])
+  numbers_more law same =
+      ap (option_map number_of) (position_last p xs x)
+      ∙ by (position p xs) (p x)
+      ∙ (λ i. first_of (law i) (if same i then Some (number_of (length xs)) else None))
+      ∙ sym (lookup_last t entries (key, number_of (length xs)))
+    where
+      by : (i : Option ℕ) (b : Bool) → option_map number_of (first_of i (if b then Some (length xs) else None)) ≡ first_of (option_map number_of i) (if b then Some (number_of (length xs)) else None)
+      by (Some i) b = refl
+      by None true = refl
+      by None false = refl
+
+-- one that the test leaves out changes nothing
+numbers_same : {X : Type 0} (p : X → Bool) (xs : List X) (x : X) → p x ≡ false → option_map number_of (position p (xs ++ x ∷ [])) ≡ option_map number_of (position p xs)
+numbers_same p xs x off =
+    ap (option_map number_of) (position_last p xs x ∙ ap (λ b. first_of (position p xs) (if b then Some (length xs) else None)) off ∙ alone (position p xs))
+  where
+    alone : (i : Option ℕ) → first_of i None ≡ i
+    alone (Some i) = refl
+    alone None = refl
+
+-- ---- names
+
+same_name : (a b : List ℕ) → bytes_eq a b ≡ true → a ≡ b
+same_name a b is = (bytes_eq-Decides a b).0 is
+
+turned : (a b : List ℕ) → bytes_eq a b ≡ bytes_eq b a
+turned a b = by (bytes_eq a b) (bytes_eq b a) refl refl
+  where
+    by : (x y : Bool) → bytes_eq a b ≡ x → bytes_eq b a ≡ y → x ≡ y
+    by true true e f = refl
+    by false false e f = refl
+    by true false e f = absurd (true≢false (sym ((bytes_eq-Decides b a).1 (sym (same_name a b e))) ∙ f))
+    by false true e f = absurd (true≢false (sym ((bytes_eq-Decides a b).1 (sym (same_name b a f))) ∙ e))
+
+-- ---- the steps
+
+position_set : {X : Type 0} (p : X → Bool) (xs : List X) (i : ℕ) (x d : X) → p x ≡ p (get_or xs i d) → position p (set xs i x) ≡ position p xs
+position_set p xs i x d same = λ j. cond (nat_lt (position_or_len-set p xs i x d same j) (length-set xs i x j)) (Some (position_or_len-set p xs i x d same j)) None
+
+-- an index more leaves the tables' names
+pub wanted_places : (tables : List Table) (wanted : Option NewIndex) (name : List ℕ) → position (is_table name) (with_wanted tables wanted) ≡ position (is_table name) tables
+wanted_places tables None name = refl
+wanted_places tables (Some new) name = position_set (is_table name) tables (new.table - 1) (with_new_index (table_at tables new.table) new.index) no_table refl
+
+-- the parts of a catalog are those of a sound schema, with its numbers
+pub catalog_as : {A : Type 0} (s : Schema) (tables : List Table) (definitions : List Definition) (tns tns' qns qns' : List (String A × ℕ)) → tables ≡ s.tables → definitions ≡ s.definitions → tns ≡ tns' → qns ≡ qns' → IsSound s → AreNumbered s tns' qns'
+    → IsSound (record { tables = tables; definitions = definitions }) × AreNumbered (record { tables = tables; definitions = definitions }) tns qns
+catalog_as s tables definitions tns tns' qns qns' e f g h sound numbered =
+    let next : Schema = record { tables = tables; definitions = definitions } in
+    let same : s ≡ next = λ i. record { tables = sym e i; definitions = sym f i } in (
+      subst IsSound same sound,
+      subst (λ (x : Schema). AreNumbered x tns qns) same (subst (λ xs. AreNumbered s xs qns) (sym g) (subst (AreNumbered s tns') (sym h) numbered)),
+    )
+
+pub none_numbered : {A : Type 0} → AreNumbered {A = A} empty_schema [] []
+none_numbered = record { table = λ name. refl; query = λ name. refl }
+
+module _ {A : Type 0} (schema : Schema) (tables queries : List (String A × ℕ)) (numbered : AreNumbered schema tables queries) where
+  named_of : (key : String A) (defined name : List ℕ) → string_bytes key ≡ defined → bytes_eq defined name ≡ text_is name key
+  named_of key defined name keyed = turned defined name ∙ ap (bytes_eq name) (sym keyed)
+
+  pub table_numbered : (key : String A) (table : Table) → string_bytes key ≡ table.name → AreNumbered (with_table schema table) (tables ++ (key, length schema.tables + 1) ∷ []) queries
+  table_numbered key table keyed = record {
+    table = λ name. numbers_more (is_table name) (text_is name) schema.tables table tables key (numbered.table name) (named_of key table.name name keyed);
+    query = λ name. numbers_same (is_query name) schema.definitions (OfTable (length schema.tables + 1) (length table.columns) (length table.indexes)) refl ∙ numbered.query name;
+  }
+
+  pub query_numbered : (key : String A) (query : Query) (wanted : Option NewIndex) → string_bytes key ≡ query.name → AreNumbered (with_query schema query wanted) tables (queries ++ (key, length schema.definitions + 1) ∷ [])
+  query_numbered key query wanted keyed = record {
+    table = λ name. ap (option_map number_of) (wanted_places schema.tables wanted name) ∙ numbered.table name;
+    query = λ name. numbers_more (is_query name) (text_is name) schema.definitions (OfQuery query (option_map made_of wanted)) queries key (numbered.query name) (named_of key query.name name keyed);
+  }
+
+  -- a name that is not taken has no number
+  neither : (o p : Option ℕ) → (is_some o || is_some p) ≡ false → (o ≡ None) × (p ≡ None)
+  neither None None free = (refl, refl)
+  neither None (Some n) free = absurd (true≢false free)
+  neither (Some n) p free = absurd (true≢false free)
+
+  pub no_table_number : (name : List ℕ) → is_taken schema name ≡ false → lookup (text_is name) tables ≡ None
+  no_table_number name free = sym (numbered.table name) ∙ (neither (find_table schema name) (find_query schema name) free).0
+
+  pub no_query_number : (name : List ℕ) → is_taken schema name ≡ false → lookup (text_is name) queries ≡ None
+  no_query_number name free = sym (numbered.query name) ∙ (neither (find_table schema name) (find_query schema name) free).1
+
+-- the number of a table that is found is one of theirs
+pub table_there : (schema : Schema) (name : List ℕ) → IfSome (find_table schema name) (λ number. (1 ≤ number) × (number ≤ length schema.tables))
+table_there schema name = by (position (is_table name) schema.tables) refl
+  where
+    by : (r : Option ℕ) → position (is_table name) schema.tables ≡ r → IfSome (option_map number_of r) (λ number. (1 ≤ number) × (number ≤ length schema.tables))
+    by None is = tt
+    by (Some i) is = let within = (position-Some (is_table name) schema.tables i no_table is).0 in (omega arith, omega (arith, within))
