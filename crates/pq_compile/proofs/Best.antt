@@ -6,9 +6,9 @@ use Rattle.pq_schema.specs.declared.table.Table.{Table}
 use Rattle.pq_schema.specs.declared.query.Query.{Query}
 use Rattle.pq_schema.specs.Costs.{is_less}
 use Rattle.pq_schema.specs.Candidates.{Candidate, lesser, least, candidates, whole, bound_at, reached_after, are_bounded}
-use Rattle.pq_plan.specs.Members.{In}
+use Rattle.pq_base.specs.Members.{In}
 use Rattle.pq_plan.specs.Plans.{HasChoice}
-use Rattle.pq_plan.proofs.Members.{map_in, member_at}
+use Rattle.pq_base.proofs.Members.{map_in, member_at}
 use Rattle.pq_plan.proofs.Choices.{Has, cost_of, candidate_has}
 use Rattle.pq_stop_push.specs.Pushes.{Planned, planned, planned_candidates}
 use Rattle.pq_compile.specs.Lowered.{lesser_planned, least_planned}

@@ -4,6 +4,7 @@ use lib.Count.{ones}
 use Rattle.pq_base.specs.declared.value.Value.TheVariants as value
 use Rattle.pq_base.specs.declared.value.Dir.TheVariants.{Desc}
 use Rattle.pq_base.specs.declared.number.Choice.TheVariants.{Whole, Stop}
+use Rattle.pq_base.specs.declared.count_word.TheConstants as count_word
 use Rattle.pq_base.specs.declared.refusal.Refusal.TheVariants as refusal
 use Rattle.pq_schema.specs.declared.table.Table.{Table}
 use Rattle.pq_schema.specs.declared.query.Op.TheVariants as op
@@ -77,6 +78,6 @@ three_refused = refl
 abbrev pub full : Table
 full = record users { indexes = replicate 16 (record { cols = ascending 0 ∷ ascending 1 ∷ [] }) }
 
-full_refused : chosen (full ∷ []) (in_city (stop.Limit 10)) ≡ Err (refusal.Count 4)
+full_refused : chosen (full ∷ []) (in_city (stop.Limit 10)) ≡ Err (refusal.Count count_word.INDEXES)
 unfolding ones
 full_refused = refl

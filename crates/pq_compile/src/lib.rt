@@ -7,8 +7,6 @@
 mod choosing;
 mod compiler;
 mod lowering;
-#[cfg(test)]
-mod tests;
 mod wanting;
 
 pub use compiler::{Compiled, compile};

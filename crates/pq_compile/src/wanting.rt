@@ -8,7 +8,7 @@ ghost use Rattle.pq_plan.specs.Plans.{HasChoice};
 ghost use Rattle.pq_index_pick.specs.Needs.{IsNeed};
 ghost use Rattle.pq_schema.specs.Wanted.{index_at, index_of};
 
-use pq_base::{Choice, Refusal, Stopped};
+use pq_base::{Choice, Refusal, Stopped, count_word};
 use pq_index_pick::{Need, new_index, serving};
 use pq_predicates::{fixed, order_rest, table_number, table_of};
 use pq_schema::{Catalog, NewIndex, Query};
@@ -16,9 +16,6 @@ use std::alloc::Global;
 
 /// The greatest number of indexes of a table.
 const INDEXES: usize = 16;
-
-/// The place of its word in `count_words`.
-const INDEXES_WORD: u8 = 4;
 
 /// What a stop at the relation asks of a sequence.
 pub fn need_at(alloc: Global, query: &Query, p: u8) -> Need
@@ -52,7 +49,9 @@ fn index_at(
     }
     let count = table.indexes.items().len();
     if INDEXES <= count {
-        return Err(Stopped::Refused(Refusal::Count { word: INDEXES_WORD }));
+        return Err(Stopped::Refused(Refusal::Count {
+            word: count_word::INDEXES,
+        }));
     }
     let index = new_index(alloc, table, &need)?;
     Ok(Some(NewIndex {

@@ -1,5 +1,5 @@
 -- What holds of a query over tables that keep the schema.
-use Rattle.std.proofs.Common.{◌≡◌, Some, None, ℕ, zero, suc, ◌-◌, ◌≤◌, true, false, cond, ◌==◌, min, ◌⊎◌, inl, inr, List, [], ◌∷◌, length, get_or, map, filter, slice_get, refl, sym, ap, ◌∙◌, subst, arith}
+use Rattle.std.proofs.Common.{◌≡◌, Some, None, ℕ, zero, suc, ◌-◌, ◌≤◌, true, false, cond, min, ◌⊎◌, inl, inr, List, [], ◌∷◌, length, get_or, map, filter, slice_get, refl, sym, ap, ◌∙◌, subst, arith}
 use Rattle.std.specs.Option.{option_map_or}
 use Rattle.std.specs.Ordering.{eq_by_cmp}
 use Rattle.std.proofs.lemmas.Bool.{ne_eqb, cases_lt}
@@ -15,14 +15,15 @@ use Rattle.pq_schema.specs.Sound.{IsQuery, IsLinked, IsNamedPred, IsNamedSide}
 use Rattle.pq_schema.specs.Tables.{table_at, is_lookup, applies, least_of, least_limit, no_table}
 use Rattle.pq_schema.specs.Relations.{relation_at, no_relation, table_of, later, ties, fixed}
 use Rattle.pq_schema.specs.Candidates.{bound_at}
-use Rattle.pq_plan.specs.Members.{In, Apart}
+use Rattle.pq_base.specs.Members.{In, Apart}
 use Rattle.pq_plan.specs.Answer.{Asked, rows_of, rows_at, compares}
 use Rattle.pq_plan.specs.Kept.{row_cmp, cells, IsNumber, KeepsSchema}
 use Rattle.pq_plan.specs.Meaning.{key_of}
-use Rattle.pq_plan.proofs.Members.{each_in, each_by_in, in_filter, filter_none, all_member, at_in}
-use Rattle.pq_plan.proofs.Sets.{within_members}
+use Rattle.pq_base.proofs.Members.{each_in, each_by_in, in_filter, filter_none, all_member, at_in}
+use Rattle.pq_base.proofs.Sets.{within_members}
 use Rattle.pq_plan.proofs.ValueOrder.{row_total, row_only}
 use Rattle.pq_plan.proofs.Apart.{differs, differing, equal}
+use Rattle.pq_plan.proofs.Kept.{row_numbers, rows_apart, limit_kept}
 use Rattle.pq_plan.proofs.Laws.{IsOf, Limited, Keeps}
 use Rattle.pq_plan.proofs.Fixed.{earlier_row, same_side, tied}
 
@@ -74,18 +75,21 @@ module _ (tables : List Table) (query : Query) (rows : List (ℕ × List Value))
 
   -- no table has number 0
   no_rows : (pairs : List (ℕ × List Value)) → ((pair : ℕ × List Value) → In pair pairs → IsNumber tables pair.0) → rows_of 0 pairs ≡ []
-  no_rows pairs h = ap (map (λ (pair : ℕ × List Value). pair.1)) (filter_none (λ (pair : ℕ × List Value). pair.0 == 0) pairs (each_by_in _ pairs (λ pair here. let low = (h pair here).0 in ne_eqb pair.0 0 (omega arith))))
+  no_rows [] h = refl
+  no_rows (pair ∷ pairs) h =
+      let low = (h pair (inl refl)).0 in
+      ap (λ b. cond b (pair.1 ∷ rows_of 0 pairs) (rows_of 0 pairs)) (ne_eqb pair.0 0 (omega arith)) ∙ no_rows pairs (λ e here. h e (inr here))
 
   -- a relation's table is of the schema, or there is no such relation, and it has no rows
   pub outside : (i : ℕ) → IsNumber tables (relation_at query i).table ⊎ (rows_at asked i ≡ [])
   outside i = elim (cases_lt (i - 1) (length query.relations)) [
     | inl within ↦ inl (all_member (λ (relation : Relation). (1 ≤ relation.table) × (relation.table ≤ length tables)) query.relations sound.relations (relation_at query i) (at_in query.relations (i - 1) no_relation within))
-    | inr past ↦ inr (ap (λ (relation : Relation). rows_of relation.table rows) (past_end query.relations (i - 1) no_relation past) ∙ no_rows rows kept.numbers)
+    | inr past ↦ inr (ap (λ (relation : Relation). rows_of relation.table rows) (past_end query.relations (i - 1) no_relation past) ∙ no_rows rows (row_numbers tables rows kept))
   ]
 
   pub keys : (i : ℕ) → Apart row_cmp (cells (key_of asked i)) (rows_at asked i)
   keys i = elim (outside i) [
-    | inl number ↦ kept.keys (relation_at query i).table number
+    | inl number ↦ rows_apart tables rows kept (relation_at query i).table
     | inr none ↦ subst (Apart row_cmp (cells (key_of asked i))) (sym none) tt
   ]
 
@@ -141,7 +145,7 @@ module _ (tables : List Table) (query : Query) (rows : List (ℕ × List Value))
     where
       few_of_limit : (i : ℕ) (l : Limit) → In l (table_of tables query i).limits → (v : List Value) → length (filter (λ r. eq_by_cmp row_cmp (cells l.cols r) v) (rows_at asked i)) ≤ l.n
       few_of_limit i l here v = elim (outside i) [
-        | inl number ↦ kept.limits (relation_at query i).table number l here v
+        | inl number ↦ limit_kept tables rows kept (relation_at query i).table number l here v
         | inr none ↦ subst (λ (rs : List (List Value)). length (filter (λ r. eq_by_cmp row_cmp (cells l.cols r) v) rs) ≤ l.n) (sym none) (omega arith)
       ]
 

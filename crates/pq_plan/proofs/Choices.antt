@@ -8,9 +8,9 @@ use Rattle.pq_base.specs.declared.number.Choice.TheVariants.{Whole, Stop}
 use Rattle.pq_schema.specs.declared.table.Table.{Table}
 use Rattle.pq_schema.specs.declared.query.Query.{Query}
 use Rattle.pq_schema.specs.Candidates.{Candidate, are_bounded, reached_after, can_stop_at, stop_at, stop_cost, stop_size, whole, candidates}
-use Rattle.pq_plan.specs.Members.{In}
+use Rattle.pq_base.specs.Members.{In}
 use Rattle.pq_plan.specs.Plans.{HasChoice}
-use Rattle.pq_plan.proofs.Members.{in_map, in_either, in_flat_map, in_range}
+use Rattle.pq_base.proofs.Members.{in_map, in_either, in_flat_map, in_range}
 use Rattle.pq_plan.proofs.Orders.{in_from_contained}
 
 -- k and the conditions of a stop candidate

@@ -16,10 +16,10 @@ use Rattle.pq_schema.specs.declared.table.Access.TheVariants.{Primary}
 use Rattle.pq_schema.specs.declared.query.Query.{Query}
 use Rattle.pq_schema.specs.Sound.{IsQuery}
 use Rattle.pq_schema.specs.Sequences.{group_access}
-use Rattle.pq_schema.specs.Tables.{is_lookup, limit_of}
+use Rattle.pq_schema.specs.Tables.{is_lookup, limit_place}
 use Rattle.pq_schema.specs.Relations.{table_of, fixed}
 use Rattle.pq_schema.specs.Candidates.{no_limit, bound_at, are_bounded, stop_size}
-use Rattle.pq_plan.specs.Members.{In, Apart}
+use Rattle.pq_base.specs.Members.{In, Apart}
 use Rattle.pq_plan.specs.Answer.{Asked, rows_at, in_order, first_past, stopped, whole, answered}
 use Rattle.pq_plan.specs.Kept.{row_cmp, cells, KeepsSchema}
 use Rattle.pq_plan.specs.Meaning.{keeps, key_of, read, combo_cmp}
@@ -27,8 +27,8 @@ use Rattle.pq_plan.specs.Nodes.{Node, lookup, limit_range, stop_scan, keep, sort
 use Rattle.pq_plan.specs.Plans.{HasChoice}
 use Rattle.pq_plan.specs.Running.{matching, is_match, ranged}
 use Rattle.pq_plan.specs.Executing.{Gives}
-use Rattle.pq_plan.proofs.Members.{each_in, each_by_in, in_filter, filter_in, in_map, in_flat_map, all_at, range_in}
-use Rattle.pq_plan.proofs.Sets.{within_members}
+use Rattle.pq_base.proofs.Members.{each_in, each_by_in, in_filter, filter_in, in_map, in_flat_map, all_at, range_in}
+use Rattle.pq_base.proofs.Sets.{within_members}
 use Rattle.pq_plan.proofs.ValueOrder.{row_total, combo_total, combo_only}
 use Rattle.pq_plan.proofs.Apart.{apart_both, apart_filter, differs, differing}
 use Rattle.pq_plan.proofs.Orders.{apart_permuted, in_permuted}
@@ -117,7 +117,7 @@ module _ (tables : List Table) (query : Query) (rows : List (ℕ × List Value))
       let table = table_of tables query (suc i) in
       let set = fixed query (suc i) in
       let l = lengths i inputs same in
-      elim (is_lookup table set) as (λ b. is_lookup table set ≡ b → Gives q after inputs (cond b (lookup (suc i) ∷ keep (suc i) ∷ []) (option_map_or (of_limit (suc i)) (limit_of table set) [])) found → SameAs (suc i) found) [
+      elim (is_lookup table set) as (λ b. is_lookup table set ≡ b → Gives q after inputs (cond b (lookup (suc i) ∷ keep (suc i) ∷ []) (option_map_or (of_limit (suc i)) (limit_place table set) [])) found → SameAs (suc i) found) [
         | true ↦ λ is run.
             let e : found ≡ read q (suc i) inputs = run.2.2 ∙ run.2.1 ∙ ap (filter (keeps q (suc i))) run.1 ∙ lookup_filtered q (named tables query rows params sound kept) (suc i) (keys tables query rows params sound kept (suc i)) (tied (suc i) table.key is) inputs l in
             subst (SameAs (suc i)) (sym e) (same_read q d premises i inputs same)
@@ -178,7 +178,7 @@ module _ (tables : List Table) (query : Query) (rows : List (ℕ × List Value))
     run_lookup i a b found run =
         let is = (push.totals (suc i) (omega arith) b).lookup in
         let table = table_of tables query (suc i) in
-        let run' : Gives q after (at i) (lookup (suc i) ∷ keep (suc i) ∷ []) found = subst (λ (b : Bool). Gives q after (at i) (cond b (lookup (suc i) ∷ keep (suc i) ∷ []) (option_map_or (of_limit (suc i)) (limit_of table (fixed query (suc i))) [])) found) is run in
+        let run' : Gives q after (at i) (lookup (suc i) ∷ keep (suc i) ∷ []) found = subst (λ (b : Bool). Gives q after (at i) (cond b (lookup (suc i) ∷ keep (suc i) ∷ []) (option_map_or (of_limit (suc i)) (limit_place table (fixed query (suc i))) [])) found) is run in
         let l = each_by_in _ (at i) (λ c h. ap suc (long q i c (in_stopped q d premises p can.size push after i c h))) in
         run'.2.2 ∙ run'.2.1 ∙ ap (filter (keeps q (suc i))) run'.1
         ∙ lookup_filtered q (named tables query rows params sound kept) (suc i) (keys tables query rows params sound kept (suc i)) (tied (suc i) table.key is) (at i) l

@@ -3,14 +3,14 @@ use Rattle.std.proofs.Common.{◌≡◌, ◌≢◌, subst, ℕ, zero, suc, ◌<�
 use Rattle.std.specs.Prelude.{All, filter}
 use Rattle.std.proofs.lemmas.List.Elements.{All-head, All-tail, All-filter, All-cons, All-nil}
 use Rattle.std.proofs.lemmas.Bool.Decides.{nat_tests}
-use Rattle.pq_plan.specs.Cost.{AreApart}
+use Rattle.pq_plan.specs.Cost.{AreDistinct}
 
 abbrev others : ℕ → List ℕ → List ℕ
 others n xs = filter (λ x. not (nat_eq x n)) xs
 
-apart_others : (n : ℕ) (xs : List ℕ) → AreApart xs → AreApart (others n xs)
+apart_others : (n : ℕ) (xs : List ℕ) → AreDistinct xs → AreDistinct (others n xs)
 apart_others n [] h = h
-apart_others n (x ∷ xs) h = elim (not (nat_eq x n)) as (λ b. AreApart (cond b (x ∷ others n xs) (others n xs))) [
+apart_others n (x ∷ xs) h = elim (not (nat_eq x n)) as (λ b. AreDistinct (cond b (x ∷ others n xs) (others n xs))) [
   | true ↦ (All-filter (λ y. not (nat_eq y n)) (λ y. y ≢ x) xs h.0, apart_others n xs h.1)
   | false ↦ apart_others n xs h.1
 ]
@@ -22,7 +22,7 @@ kept n (x ∷ xs) h =
     let e : not (nat_eq x n) ≡ true = grind (arith, nat_tests, ne) in
     rw e (ap (λ ys. x ∷ ys) (kept n xs (All-tail (λ y. y ≢ n) x xs h)))
 
-one_less : (n : ℕ) (xs : List ℕ) → AreApart xs → length xs ≤ suc (length (others n xs))
+one_less : (n : ℕ) (xs : List ℕ) → AreDistinct xs → length xs ≤ suc (length (others n xs))
 one_less n [] h = omega arith
 one_less n (x ∷ xs) h = elim (nat_eq x n) as (λ b. nat_eq x n ≡ b → length (x ∷ xs) ≤ suc (length (cond (not b) (x ∷ others n xs) (others n xs)))) [
   | true ↦ λ e.
@@ -42,7 +42,7 @@ below n (x ∷ xs) h = elim (nat_eq x n) as (λ b. nat_eq x n ≡ b → All (λ 
       All-cons (λ x. x < n) x (others n xs) (omega arith) (below n xs (All-tail (λ x. x < suc n) x xs h))
 ] refl
 
-pub few : (n : ℕ) (xs : List ℕ) → AreApart xs → All (λ x. x < n) xs → length xs ≤ n
+pub few : (n : ℕ) (xs : List ℕ) → AreDistinct xs → All (λ x. x < n) xs → length xs ≤ n
 few zero [] apart all = omega arith
 few zero (x ∷ xs) apart all = let lt : x < zero = All-head (λ x. x < zero) x xs all in absurd (omega arith)
 few (suc n) xs apart all =

@@ -14,12 +14,12 @@ use Rattle.pq_schema.specs.declared.query.Operand.TheVariants as operand
 use Rattle.pq_schema.specs.declared.query.Pred.{Pred}
 use Rattle.pq_schema.specs.Sound.{IsNamedSide, IsNamedPred}
 use Rattle.pq_schema.specs.Relations.{later, belongs_to, is_equality, is_before, ties}
-use Rattle.pq_plan.specs.Members.{In}
+use Rattle.pq_base.specs.Members.{In}
 use Rattle.pq_plan.specs.Answer.{Asked, row_of, cell, side, compares, holds, no_value}
 use Rattle.pq_plan.specs.Kept.{cells}
 use Rattle.pq_plan.specs.Meaning.{keeps}
 use Rattle.pq_plan.specs.Running.{tied_value, is_match}
-use Rattle.pq_plan.proofs.Members.{filter_in, in_filter, in_map, all_at, all_from, found}
+use Rattle.pq_base.proofs.Members.{filter_in, in_filter, in_map, all_at, all_from, found}
 use Rattle.pq_plan.proofs.ValueOrder.{value_cmp_total, value_cmp_only}
 use Rattle.pq_plan.proofs.Apart.{equal, same_test}
 use Rattle.pq_plan.proofs.Laws.{Tied}

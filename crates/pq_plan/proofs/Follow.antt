@@ -3,8 +3,8 @@ use Rattle.std.proofs.Common.{◌≡◌, ℕ, zero, suc, Bool, true, false, cond
 use Rattle.std.specs.declared.cmp.Ordering.{Ordering}
 use Rattle.std.specs.Ordering.{is_gt}
 use Rattle.std.specs.List.{AllByRecursion}
-use Rattle.pq_plan.specs.Order.{placed, sort_by}
-use Rattle.pq_plan.proofs.Sorts.{each-sort_by}
+use Rattle.pq_base.specs.Sorting.{placed, sort_by}
+use Rattle.pq_base.proofs.Sorts.{each-sort_by}
 
 module _ {X Y K : Type 0} (R : K → K → Ordering) (at : X → K) (at' : Y → K) (g : X → List Y) where
   -- one item, at the same position

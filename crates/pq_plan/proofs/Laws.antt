@@ -6,7 +6,7 @@ use Rattle.pq_base.specs.declared.value.Value.{Value}
 use Rattle.pq_schema.specs.declared.query.Pred.{Pred}
 use Rattle.pq_schema.specs.declared.query.OrderItem.{OrderItem}
 use Rattle.pq_schema.specs.Relations.{belongs_to}
-use Rattle.pq_plan.specs.Members.{In, Apart}
+use Rattle.pq_base.specs.Members.{In, Apart}
 use Rattle.pq_plan.specs.Answer.{Asked, holds, row_of, rows_at}
 use Rattle.pq_plan.specs.Kept.{row_cmp, cells}
 use Rattle.pq_plan.specs.Meaning.{keeps, key_of, looks_up}

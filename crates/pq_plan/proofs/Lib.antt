@@ -7,11 +7,11 @@ pub mod Executing
 pub mod Few
 pub mod Fixed
 pub mod Follow
+pub mod Kept
 pub mod Laws
 pub mod Limits
 pub mod Matching
 pub mod Means
-pub mod Members
 pub mod Orders
 pub mod PlanCost
 pub mod PlanMeaning
@@ -19,9 +19,7 @@ pub mod PlanRows
 pub mod PlanTree
 pub mod Positions
 pub mod Pushing
-pub mod Sets
 pub mod Small
-pub mod Sorts
 pub mod Stops
 pub mod Totals
 pub mod Unique

@@ -7,10 +7,10 @@ use Rattle.std.proofs.lemmas.List.Quantifiers.{position-Some}
 use Rattle.pq_base.specs.Columns.{is_within, set_of}
 use Rattle.pq_schema.specs.declared.table.Table.{Table}
 use Rattle.pq_schema.specs.declared.table.Limit.{Limit}
-use Rattle.pq_schema.specs.Tables.{is_lookup, applies, least_limit, data_bound, is_least, is_primary, first_limit, limit_of}
+use Rattle.pq_schema.specs.Tables.{is_lookup, applies, least_limit, data_bound, is_least, is_primary, first_limit, limit_place}
 use Rattle.pq_schema.specs.Candidates.{no_limit}
-use Rattle.pq_plan.specs.Members.{In}
-use Rattle.pq_plan.proofs.Members.{in_filter}
+use Rattle.pq_base.specs.Members.{In}
+use Rattle.pq_base.proofs.Members.{in_filter}
 use Rattle.pq_plan.proofs.Bounds.{least_is}
 
 -- a member that passes has a first place
@@ -29,7 +29,7 @@ found_position p xs d x here h =
 
 -- what the limit taken has
 pub record IsTaken (table : Table) (set place : ℕ) : Type 0 where
-  pub taken : limit_of table set ≡ Some place
+  pub taken : limit_place table set ≡ Some place
   pub within : place < length table.limits
   pub applied : is_within (set_of (get_or table.limits place no_limit).cols) set ≡ true
   pub size : data_bound table set ≡ Some (get_or table.limits place no_limit).n
@@ -38,7 +38,7 @@ pub record IsTaken (table : Table) (set place : ℕ) : Type 0 where
 pub limit_taken : (table : Table) (set : ℕ) → is_lookup table set ≡ false → is_some (data_bound table set) ≡ true → (place : ℕ) × IsTaken table set place
 limit_taken table set no_lookup h =
     let bound : data_bound table set ≡ least_limit table set = ap (λ b. cond b (Some 1) (least_limit table set)) no_lookup in
-    let limit : limit_of table set ≡ option_and_then (first_limit table set) (least_limit table set) = ap (λ b. cond b None (option_and_then (first_limit table set) (least_limit table set))) no_lookup in
+    let limit : limit_place table set ≡ option_and_then (first_limit table set) (least_limit table set) = ap (λ b. cond b None (option_and_then (first_limit table set) (least_limit table set))) no_lookup in
     elim (least_limit table set) as (λ o. least_limit table set ≡ o → (place : ℕ) × IsTaken table set place) [
       | None ↦ λ none. absurd (false≢true (sym (ap is_some (bound ∙ none)) ∙ h))
       | Some n ↦ λ is.

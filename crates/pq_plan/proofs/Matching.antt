@@ -9,12 +9,12 @@ use Rattle.pq_schema.specs.declared.query.Op.TheVariants as op
 use Rattle.pq_schema.specs.declared.query.Pred.{Pred}
 use Rattle.pq_schema.specs.Sound.{IsNamedPred}
 use Rattle.pq_schema.specs.Relations.{ties}
-use Rattle.pq_plan.specs.Members.{In, Apart}
+use Rattle.pq_base.specs.Members.{In, Apart}
 use Rattle.pq_plan.specs.Answer.{Asked, rows_at, compares, no_value}
 use Rattle.pq_plan.specs.Kept.{row_cmp, cells}
 use Rattle.pq_plan.specs.Meaning.{keeps, partners, read, key_of}
 use Rattle.pq_plan.specs.Running.{tied_value, is_match, matching, looked_up, ranged}
-use Rattle.pq_plan.proofs.Members.{each_in, each_by_in, filter_none, filter_same, filter_both, filter-map, filter-flat_map, flat_map_same, all_at}
+use Rattle.pq_base.proofs.Members.{each_in, each_by_in, filter_none, filter_same, filter_both, filter-map, filter-flat_map, flat_map_same, all_at}
 use Rattle.pq_plan.proofs.ValueOrder.{row_total}
 use Rattle.pq_plan.proofs.Apart.{differs}
 use Rattle.pq_plan.proofs.Fixed.{both_are, passes_match}

@@ -6,26 +6,14 @@ use Rattle.std.specs.Ordering.{is_gt, eq_by_cmp, ordering_reverse}
 use Rattle.std.specs.Cmp.{IsTotalOrder, upto, eq_by_cmp_equiv}
 use Rattle.std.specs.List.{AllByRecursion, IsDistinct}
 use Rattle.std.specs.FinMap.{IsAntisymmetric, entries, from_entries, find, get-from_entries, same_map}
-use Rattle.std.proofs.lemmas.List.Sorted.{IsPermutation-refl, IsPermutation-trans, IsPermutation-cons, IsPermutation-middle, IsPermutation-sym, Contains-permutation}
+use Rattle.std.proofs.lemmas.List.Sorted.{IsPermutation-sym, Contains-permutation}
 use Rattle.std.proofs.lemmas.Map.Keys.{IsDistinct-IsPermutation}
 use Rattle.std.proofs.lemmas.Option.{none-some, same_Some}
-use Rattle.pq_plan.specs.Order.{placed, sort_by}
-use Rattle.pq_plan.specs.Members.{In, Apart}
-use Rattle.pq_plan.proofs.Sorts.{each-placed, EachAgree, Agree, entries-sort_by}
+use Rattle.pq_base.specs.Sorting.{placed, sort_by}
+use Rattle.pq_base.specs.Members.{In, Apart}
+use Rattle.pq_base.proofs.Sorts.{each-placed, EachAgree, Agree, entries-sort_by}
 
 module _ {K X : Type 0} (R : K → K → Ordering) (key : X → K) where
-  -- ---- a sort only moves elements
-  pub IsPermutation-placed : (x : X) (xs : List X) → IsPermutation (x ∷ xs) (placed R key x xs)
-  IsPermutation-placed x [] = IsPermutation-refl (x ∷ [])
-  IsPermutation-placed x (y ∷ ys) = elim (is_gt (R (key x) (key y))) as (λ b. IsPermutation (x ∷ y ∷ ys) (cond b (y ∷ placed R key x ys) (x ∷ y ∷ ys))) [
-    | true ↦ IsPermutation-trans (x ∷ y ∷ ys) (y ∷ x ∷ ys) (y ∷ placed R key x ys) (IsPermutation-middle (x ∷ []) y ys) (IsPermutation-cons y (x ∷ ys) (placed R key x ys) (IsPermutation-placed x ys))
-    | false ↦ IsPermutation-refl (x ∷ y ∷ ys)
-  ]
-
-  pub IsPermutation-sort_by : (xs : List X) → IsPermutation xs (sort_by R key xs)
-  IsPermutation-sort_by [] = IsPermutation-refl []
-  IsPermutation-sort_by (x ∷ xs) = IsPermutation-trans (x ∷ xs) (x ∷ sort_by R key xs) (placed R key x (sort_by R key xs)) (IsPermutation-cons x xs (sort_by R key xs) (IsPermutation-sort_by xs)) (IsPermutation-placed x (sort_by R key xs))
-
   -- ---- no element is above a later one
   abbrev pub UpTo : X → X → Type 0
   UpTo x y = is_gt (R (key x) (key y)) ≡ false

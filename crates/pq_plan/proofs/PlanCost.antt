@@ -2,7 +2,7 @@
 use Rattle.std.proofs.Common.{◌≡◌, Option, Some, None, ℕ, zero, suc, ◌+◌, ◌-◌, ◌*◌, ◌<◌, ◌≤◌, true, false, cond, List, [], ◌∷◌, ◌++◌, length, get_or, fold, is_some, option_map, position, IsSome, refl, sym, ap, ◌∙◌, subst, arith}
 use Rattle.std.specs.Prelude.{unwrap_or}
 use Rattle.std.specs.Option.{option_map_or}
-use Rattle.std.specs.List.{range_with_len}
+use Rattle.std.specs.List.{AllByRecursion, range_with_len}
 use Rattle.std.proofs.lemmas.Bool.{and_parts, false≢true}
 use Rattle.std.proofs.lemmas.List.Sums.{fold-append}
 use Rattle.pq_base.specs.Columns.{set_of}
@@ -16,14 +16,14 @@ use Rattle.pq_schema.specs.declared.query.Query.{Query}
 use Rattle.pq_schema.specs.Sound.{IsQuery}
 use Rattle.pq_schema.specs.Costs.{Reached, start, bound, plus, limit_cost, read_each, read_stop}
 use Rattle.pq_schema.specs.Sequences.{primary_sequence, index_sequence, begins_with, group_access, secondary, serves}
-use Rattle.pq_schema.specs.Tables.{is_lookup, limit_of, least_limit, data_bound}
+use Rattle.pq_schema.specs.Tables.{table_at, is_lookup, limit_place, least_limit, data_bound}
 use Rattle.pq_schema.specs.Tables as tables_of
 use Rattle.pq_schema.specs.Relations.{table_of, relation_at, fixed, order_rest, is_total}
 use Rattle.pq_schema.specs.Candidates.{no_limit, bound_at, read_next, reached_after, are_bounded, is_served, stop_cost, stop_size}
-use Rattle.pq_plan.specs.Kept.{KeepsSchema}
-use Rattle.pq_plan.specs.Cost.{is_primary}
+use Rattle.pq_schema.specs.Rows.{IsWithin, KeepsSchema}
+use Rattle.pq_plan.specs.Cost.{is_primary_access}
 use Rattle.pq_plan.specs.Nodes.{Node, lookup, limit_range, stop_scan, keep, sort, cut, project, step, run_of, read_nodes, range_nodes, stop_access, choice_nodes, plan_nodes}
-use Rattle.pq_plan.proofs.Members.{all_at, all_member, at_in, range_in}
+use Rattle.pq_base.proofs.Members.{all_at, all_member, at_in, range_in}
 use Rattle.pq_plan.proofs.Limits.{limit_taken}
 use Rattle.pq_plan.proofs.Choices.{CanStop, Has, cost_of}
 use Rattle.pq_plan.proofs.Bounds.{number_at, linked}
@@ -31,37 +31,35 @@ use Rattle.pq_plan.proofs.Totals.{total}
 use Rattle.pq_plan.proofs.PlanMeaning.{range_push, range_more}
 
 -- no rows keep every schema
+none_within : (t : ℕ) (limits : List Limit) → AllByRecursion (IsWithin t []) limits
+none_within t [] = tt
+none_within t (limit ∷ limits) = ((λ values. omega arith), none_within t limits)
+
 pub no_rows_keep : (tables : List Table) → KeepsSchema tables []
-no_rows_keep tables = record {
-  numbers = λ pair here. absurd here;
-  fits = λ number is row here. absurd here;
-  keys = λ number is. tt;
-  limits = λ number is limit here values. omega arith;
-  foreign = λ number is foreign there row here. absurd here;
-}
+no_rows_keep tables = record { known = tt; fit = tt; apart = tt; limits = λ t number. none_within t (table_at tables t).limits; foreign = tt }
 
 -- where some sequence begins with the columns of a limit, its access is primary exactly where the primary does
-access_primary : (table : Table) (set : ℕ) → IsSome (group_access table set) → is_primary (unwrap_or (group_access table set) Primary) ≡ begins_with (primary_sequence table) set
+access_primary : (table : Table) (set : ℕ) → IsSome (group_access table set) → is_primary_access (unwrap_or (group_access table set) Primary) ≡ begins_with (primary_sequence table) set
 access_primary table set h =
     let others = position (λ (index : Index). begins_with (index_sequence table index) set) table.indexes in
-    elim (begins_with (primary_sequence table) set) as (λ b. IsSome (cond b (Some Primary) (option_map secondary others)) → is_primary (unwrap_or (cond b (Some Primary) (option_map secondary others)) Primary) ≡ b) [
+    elim (begins_with (primary_sequence table) set) as (λ b. IsSome (cond b (Some Primary) (option_map secondary others)) → is_primary_access (unwrap_or (cond b (Some Primary) (option_map secondary others)) Primary) ≡ b) [
       | true ↦ λ _. refl
-      | false ↦ elim others as (λ o. IsSome (option_map secondary o) → is_primary (unwrap_or (option_map secondary o) Primary) ≡ false) [
+      | false ↦ elim others as (λ o. IsSome (option_map secondary o) → is_primary_access (unwrap_or (option_map secondary o) Primary) ≡ false) [
         | None ↦ λ none. absurd (false≢true none)
         | Some k ↦ λ _. refl
       ]
     ] h
 
 -- the access of a stop is primary exactly where the primary sequence serves
-served_access : (tables : List Table) (query : Query) (p : ℕ) → is_primary (stop_access tables query p) ≡ is_served tables query p
+served_access : (tables : List Table) (query : Query) (p : ℕ) → is_primary_access (stop_access tables query p) ≡ is_served tables query p
 served_access tables query p =
     let table = table_of tables query p in
     let set = fixed query p in
     let order = order_rest query p in
     let others = position (λ (index : Index). serves table set order (index_sequence table index)) table.indexes in
-    elim (is_served tables query p) as (λ b. is_primary (unwrap_or (cond b (Some Primary) (option_map secondary others)) (Secondary (length table.indexes + 1))) ≡ b) [
+    elim (is_served tables query p) as (λ b. is_primary_access (unwrap_or (cond b (Some Primary) (option_map secondary others)) (Secondary (length table.indexes + 1))) ≡ b) [
       | true ↦ refl
-      | false ↦ elim others as (λ o. is_primary (unwrap_or (option_map secondary o) (Secondary (length table.indexes + 1))) ≡ false) [ None ↦ refl | Some k ↦ refl ]
+      | false ↦ elim others as (λ o. is_primary_access (unwrap_or (option_map secondary o) (Secondary (length table.indexes + 1))) ≡ false) [ None ↦ refl | Some k ↦ refl ]
     ]
 
 module _ (tables : List Table) (query : Query) (sound : IsQuery tables query) where
@@ -73,7 +71,7 @@ module _ (tables : List Table) (query : Query) (sound : IsQuery tables query) wh
       let limit_at = λ (place : ℕ). get_or table.limits place no_limit in
       let of_limit = λ (place : ℕ). limit_range i (place + 1) (limit_at place).n (unwrap_or (group_access table (set_of (limit_at place).cols)) Primary) ∷ keep i ∷ [] in
       let cost_at = λ (place : ℕ). limit_cost (tables_of.is_primary table (limit_at place)) (limit_at place).n in
-      elim (is_lookup table set) as (λ b. is_lookup table set ≡ b → fold step before (cond b (lookup i ∷ keep i ∷ []) (option_map_or of_limit (limit_of table set) [])) ≡ read_each (unwrap_or (cond b (Some 1) (least_limit table set)) 0) (cond b (bound 1 1) (option_map_or cost_at (limit_of table set) (bound 0 0))) before) [
+      elim (is_lookup table set) as (λ b. is_lookup table set ≡ b → fold step before (cond b (lookup i ∷ keep i ∷ []) (option_map_or of_limit (limit_place table set) [])) ≡ read_each (unwrap_or (cond b (Some 1) (least_limit table set)) 0) (cond b (bound 1 1) (option_map_or cost_at (limit_place table set) (bound 0 0))) before) [
         | true ↦ λ is. refl
         | false ↦ λ is.
             let t = limit_taken table set is bounded in
@@ -135,7 +133,7 @@ module _ (tables : List Table) (query : Query) (sound : IsQuery tables query) wh
     lookups_cost r zero h = none_more r
     lookups_cost r (suc n) h =
         let i = p + 1 + n in
-        let limited = option_map_or (λ place. let limit = get_or (table_of tables query i).limits place no_limit in limit_range i (place + 1) limit.n (unwrap_or (group_access (table_of tables query i) (set_of limit.cols)) Primary) ∷ keep i ∷ []) (limit_of (table_of tables query i) (fixed query i)) [] in
+        let limited = option_map_or (λ place. let limit = get_or (table_of tables query i).limits place no_limit in limit_range i (place + 1) limit.n (unwrap_or (group_access (table_of tables query i) (set_of limit.cols)) Primary) ∷ keep i ∷ []) (limit_place (table_of tables query i) (fixed query i)) [] in
         ap (fold step r) (range_more tables query (p + 1) n)
         ∙ fold-append step r (range_nodes tables query (p + 1) n) (read_nodes tables query i)
         ∙ ap (λ s. fold step s (read_nodes tables query i)) (lookups_cost r n (omega arith))
@@ -153,7 +151,7 @@ module _ (tables : List Table) (query : Query) (sound : IsQuery tables query) wh
         let before = reached_after tables query (p - 1) in
         let scanned : fold step start (range_nodes tables query 1 (p - 1) ++ scan ∷ []) ≡ read_stop can.size (is_served tables query p) before =
         fold-append step start (range_nodes tables query 1 (p - 1)) (scan ∷ [])
-        ∙ ap (λ r. read_stop (unwrap_or (stop_size query.stop) 0) (is_primary (stop_access tables query p)) r) (reads_cost (p - 1) (omega arith) (each_bounded (p - 1) front))
+        ∙ ap (λ r. read_stop (unwrap_or (stop_size query.stop) 0) (is_primary_access (stop_access tables query p)) r) (reads_cost (p - 1) (omega arith) (each_bounded (p - 1) front))
         ∙ (λ j. read_stop (k j) (served_access tables query p j) before) in
         ap (λ (r : Reached). r.cost)
         (top_cost (choice_nodes tables query (Stop p))

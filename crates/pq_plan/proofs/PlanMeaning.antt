@@ -14,18 +14,18 @@ use Rattle.pq_schema.specs.declared.table.Access.TheVariants.{Primary}
 use Rattle.pq_schema.specs.declared.query.Query.{Query}
 use Rattle.pq_schema.specs.Sound.{IsQuery}
 use Rattle.pq_schema.specs.Sequences.{group_access}
-use Rattle.pq_schema.specs.Tables.{is_lookup, least_limit, limit_of}
+use Rattle.pq_schema.specs.Tables.{is_lookup, least_limit, limit_place}
 use Rattle.pq_schema.specs.Relations.{table_of, fixed}
 use Rattle.pq_schema.specs.Candidates.{no_limit, bound_at, are_bounded, stop_size}
-use Rattle.pq_plan.specs.Members.{In}
+use Rattle.pq_base.specs.Members.{In}
 use Rattle.pq_plan.specs.Answer.{Asked, in_order, first_past, stopped, whole, answered}
 use Rattle.pq_plan.specs.Kept.{KeepsSchema}
 use Rattle.pq_plan.specs.Meaning.{keeps, read}
 use Rattle.pq_plan.specs.Nodes.{Node, lookup, limit_range, stop_scan, keep, sort, cut, project, read_nodes, range_nodes, stop_access, choice_nodes, plan_nodes}
 use Rattle.pq_plan.specs.Plans.{HasChoice}
 use Rattle.pq_plan.specs.Running.{ranged, apply, run}
-use Rattle.pq_plan.proofs.Members.{each_by_in, all_at, range_in}
-use Rattle.pq_plan.proofs.Sets.{within_members}
+use Rattle.pq_base.proofs.Members.{each_by_in, all_at, range_in}
+use Rattle.pq_base.proofs.Sets.{within_members}
 use Rattle.pq_plan.proofs.Limits.{limit_taken}
 use Rattle.std.proofs.lemmas.Bool.{and_parts}
 use Rattle.pq_plan.proofs.Laws.{Pushable}
@@ -69,7 +69,7 @@ module _ (tables : List Table) (query : Query) (rows : List (ℕ × List Value))
       let table = table_of tables query i in
       let set = fixed query i in
       let of_limit = λ (place : ℕ). limit_range i (place + 1) (get_or table.limits place no_limit).n (unwrap_or (group_access table (set_of (get_or table.limits place no_limit).cols)) Primary) ∷ keep i ∷ [] in
-      elim (is_lookup table set) as (λ b. is_lookup table set ≡ b → fold step inputs (cond b (lookup i ∷ keep i ∷ []) (option_map_or of_limit (limit_of table set) [])) ≡ read q i inputs) [
+      elim (is_lookup table set) as (λ b. is_lookup table set ≡ b → fold step inputs (cond b (lookup i ∷ keep i ∷ []) (option_map_or of_limit (limit_place table set) [])) ≡ read q i inputs) [
         | true ↦ λ is. lookup_filtered q (named tables query rows params sound kept) i (keys tables query rows params sound kept i) (tied i table.key is) inputs l
         | false ↦ λ is.
             let t = limit_taken table set is bounded in

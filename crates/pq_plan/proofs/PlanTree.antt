@@ -15,14 +15,14 @@ use Rattle.pq_schema.specs.declared.table.Access.TheVariants.{Primary}
 use Rattle.pq_schema.specs.declared.query.Query.{Query}
 use Rattle.pq_schema.specs.Sound.{IsTable, IsQuery}
 use Rattle.pq_schema.specs.Sequences.{group_access}
-use Rattle.pq_schema.specs.Tables.{is_lookup, limit_of, no_table}
+use Rattle.pq_schema.specs.Tables.{is_lookup, limit_place, no_table}
 use Rattle.pq_schema.specs.Relations.{table_of, relation_at, fixed}
 use Rattle.pq_schema.specs.Candidates.{no_limit, stop_size}
 use Rattle.pq_plan.specs.declared.physical.Physical.{Physical}
 use Rattle.pq_plan.specs.declared.physical.Physical.TheVariants as node
-use Rattle.pq_plan.specs.Cost.{relations_read, AreApart, IsSmall, IsPlanTree}
+use Rattle.pq_plan.specs.Cost.{relations_read, AreDistinct, IsInLimits, IsPlanTree}
 use Rattle.pq_plan.specs.Nodes.{Node, lookup, limit_range, stop_scan, keep, sort, cut, project, nodes, read_nodes, range_nodes, stop_access, choice_nodes, plan_nodes}
-use Rattle.pq_plan.proofs.Members.{all_member, at_in}
+use Rattle.pq_base.proofs.Members.{all_member, at_in}
 use Rattle.pq_plan.proofs.Choices.{Has}
 use Rattle.pq_plan.proofs.Bounds.{number_at}
 use Rattle.pq_plan.proofs.PlanMeaning.{range_more}
@@ -83,7 +83,7 @@ rises_below a b (x ∷ xs) h = All-cons (λ y. suc y ≤ b) x xs (upto (suc x) x
     upto a [] h = h
     upto a (y ∷ ys) h = let rest = upto (suc y) ys h.1 in let low = h.0 in omega arith
 
-apart_push : (xs : List ℕ) (x : ℕ) → AreApart xs → All (λ y. y ≢ x) xs → AreApart (xs ++ x ∷ [])
+apart_push : (xs : List ℕ) (x : ℕ) → AreDistinct xs → All (λ y. y ≢ x) xs → AreDistinct (xs ++ x ∷ [])
 apart_push [] x h none = (All-nil (λ y. y ≢ x), tt)
 apart_push (y ∷ ys) x h none =
     let first : y ≢ x = All-head (λ z. z ≢ x) y ys none in
@@ -93,10 +93,10 @@ all_reverse : (P : ℕ → Type 0) (xs : List ℕ) → All P xs → All P (rever
 all_reverse P [] h = h
 all_reverse P (x ∷ xs) h = subst (All P) (sym (reverse-append (x ∷ []) xs)) (All-append P (reverse xs) (x ∷ []) (all_reverse P xs (All-tail P x xs h)) (All-cons P x [] (All-head P x xs h) (All-nil P)))
 
-rises_apart : (a b : ℕ) (xs : List ℕ) → Rises a xs b → AreApart (reverse xs)
+rises_apart : (a b : ℕ) (xs : List ℕ) → Rises a xs b → AreDistinct (reverse xs)
 rises_apart a b [] h = tt
 rises_apart a b (x ∷ xs) h =
-    subst AreApart (sym (reverse-append (x ∷ []) xs))
+    subst AreDistinct (sym (reverse-append (x ∷ []) xs))
     (apart_push (reverse xs) x (rises_apart (suc x) b xs h.1) (all_reverse (λ y. y ≢ x) xs (differ xs (rises_from (suc x) b xs h.1))))
   where
     differ : (ys : List ℕ) → All (λ y. suc x ≤ y) ys → All (λ y. y ≢ x) ys
@@ -121,7 +121,7 @@ small_both : (xs ys : List Node) → AllByRecursion SmallNode xs → AllByRecurs
 small_both [] ys g h = h
 small_both (x ∷ xs) ys g h = (g.0, small_both xs ys g.1 h)
 
-small_nodes : (t : Physical) → AllByRecursion SmallNode (nodes t) → IsSmall t
+small_nodes : (t : Physical) → AllByRecursion SmallNode (nodes t) → IsInLimits t
 small_nodes node.Unit h = tt
 small_nodes (node.Lookup' p input rel) h = small_nodes input (small_split (nodes input) (lookup rel) h).0
 small_nodes (node.LimitRange' p input rel limit n access) h = let s = small_split (nodes input) (limit_range rel limit n access) h in (s.1, small_nodes input s.0)
@@ -154,9 +154,9 @@ module _ (tables : List Table) (query : Query) (sound : IsQuery tables query) wh
   read_small : (i : ℕ) → 1 ≤ i → i ≤ length query.relations → AllByRecursion SmallNode (read_nodes tables query i)
   read_small i low high =
       let table = table_of tables query i in
-      elim (is_lookup table (fixed query i)) as (λ b. AllByRecursion SmallNode (cond b (lookup i ∷ keep i ∷ []) (option_map_or (of_limit i) (limit_of table (fixed query i)) []))) [
+      elim (is_lookup table (fixed query i)) as (λ b. AllByRecursion SmallNode (cond b (lookup i ∷ keep i ∷ []) (option_map_or (of_limit i) (limit_place table (fixed query i)) []))) [
         | true ↦ (tt, (tt, tt))
-        | false ↦ elim (limit_of table (fixed query i)) as (λ o. AllByRecursion SmallNode (option_map_or (of_limit i) o [])) [
+        | false ↦ elim (limit_place table (fixed query i)) as (λ o. AllByRecursion SmallNode (option_map_or (of_limit i) o [])) [
           | None ↦ tt
           | Some place ↦ (small_limit table.limits (sound_table i low high).sizes place, (tt, tt))
         ]
@@ -165,9 +165,9 @@ module _ (tables : List Table) (query : Query) (sound : IsQuery tables query) wh
   read_rises : (i : ℕ) → Rises i (relations (read_nodes tables query i)) (suc i)
   read_rises i =
       let table = table_of tables query i in
-      elim (is_lookup table (fixed query i)) as (λ b. Rises i (relations (cond b (lookup i ∷ keep i ∷ []) (option_map_or (of_limit i) (limit_of table (fixed query i)) []))) (suc i)) [
+      elim (is_lookup table (fixed query i)) as (λ b. Rises i (relations (cond b (lookup i ∷ keep i ∷ []) (option_map_or (of_limit i) (limit_place table (fixed query i)) []))) (suc i)) [
         | true ↦ (omega arith, omega arith)
-        | false ↦ elim (limit_of table (fixed query i)) as (λ o. Rises i (relations (option_map_or (of_limit i) o [])) (suc i)) [
+        | false ↦ elim (limit_place table (fixed query i)) as (λ o. Rises i (relations (option_map_or (of_limit i) o [])) (suc i)) [
           | None ↦ omega arith
           | Some place ↦ (omega arith, omega arith)
         ]
@@ -245,7 +245,7 @@ module _ (tables : List Table) (query : Query) (sound : IsQuery tables query) wh
       let rels : relations_read t ≡ reverse (relations (choice_nodes tables query choice)) = relations_nodes t ∙ ap (λ list. reverse (relations list)) is ∙ ap reverse (plan_relations choice) in
       let rises = choice_rises choice h in
       record {
-        once = subst AreApart (sym rels) (rises_apart 1 (1 + length query.relations) (relations (choice_nodes tables query choice)) rises);
+        once = subst AreDistinct (sym rels) (rises_apart 1 (1 + length query.relations) (relations (choice_nodes tables query choice)) rises);
         six = subst (All (λ rel. rel ≤ 6)) (sym rels) (all_reverse (λ rel. rel ≤ 6) (relations (choice_nodes tables query choice)) (six_below (relations (choice_nodes tables query choice)) (rises_below 1 (1 + length query.relations) (relations (choice_nodes tables query choice)) rises)));
         small = small_nodes t (subst (AllByRecursion SmallNode) (sym is) (plan_small choice h));
       }

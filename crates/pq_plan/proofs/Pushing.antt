@@ -10,13 +10,14 @@ use Rattle.pq_base.specs.declared.value.Value.{Value}
 use Rattle.pq_schema.specs.declared.query.OrderItem.{OrderItem}
 use Rattle.pq_schema.specs.Relations.{position_columns, key_items, key_item, is_ordered}
 use Rattle.pq_schema.specs.Candidates.{stop_size}
-use Rattle.pq_plan.specs.Members.{In, Apart}
+use Rattle.pq_base.specs.Members.{In, Apart}
 use Rattle.pq_plan.specs.Answer.{Asked, row_of, rows_at, no_value, position, by_position, in_order, past, first_past, whole, stopped, answered}
 use Rattle.pq_plan.specs.Kept.{row_cmp, cells}
 use Rattle.pq_plan.specs.Meaning.{Tree, Read, DataStop, StopRead, keeps, partners, followed, read, key_of, looks_up, combo_cmp, data_stop, mean}
 use Rattle.pq_plan.specs.Rewrites.{reads_tree, built, with_stop, placed_stops, pushed}
-use Rattle.pq_plan.proofs.Members.{each_in, each_by_in, filter_all, filter_none, in_filter, in_take, take_twice, each_append, each_flat_map, in_range}
-use Rattle.pq_plan.proofs.Orders.{IsPermutation-sort_by, apart_permuted, in_permuted, Rises, Rises-sort_by, Rises-take, sort_by_sorted, each_filter}
+use Rattle.pq_base.proofs.Members.{each_in, each_by_in, filter_all, filter_none, in_filter, in_take, take_twice, each_append, each_flat_map, in_range}
+use Rattle.pq_base.proofs.Sorts.{IsPermutation-sort_by}
+use Rattle.pq_plan.proofs.Orders.{apart_permuted, in_permuted, Rises, Rises-sort_by, Rises-take, sort_by_sorted, each_filter}
 use Rattle.pq_plan.proofs.ValueOrder.{row_total, combo_total, combo_only}
 use Rattle.pq_plan.proofs.Positions.{position_cmp_total}
 use Rattle.pq_plan.proofs.Apart.{apart_take, apart_filter, differs}

@@ -7,7 +7,7 @@ use Rattle.pq_schema.specs.Costs.{Reached, start, bound, limit_cost, read_each, 
 use Rattle.pq_plan.specs.declared.physical.Physical.{Physical}
 use Rattle.pq_plan.specs.declared.physical.Physical.TheVariants as node
 use Rattle.pq_plan.specs.declared.cost.Total.{Total}
-use Rattle.pq_plan.specs.Cost.{is_primary, reach, relations_read, IsSmall}
+use Rattle.pq_plan.specs.Cost.{is_primary_access, reach, relations_read, IsInLimits}
 use Rattle.pq_plan.specs.Totals.{reached, IsLow, Below}
 
 times_small : (a b m n : ℕ) → a ≤ b → m ≤ n → a * m ≤ n * b
@@ -35,18 +35,18 @@ some : (k : ℕ) → 1 ≤ 30000 ^ k
 some zero = lit≤ tt
 some (suc k) = let h = some k in rw (pow-suc 30000 k) (omega arith)
 
-limit_each : (a : Access) (n b : ℕ) (r : Reached) → n ≤ 10000 → Below b r → Below (30000 * b) (read_each n (limit_cost (is_primary a) n) r)
+limit_each : (a : Access) (n b : ℕ) (r : Reached) → n ≤ 10000 → Below b r → Below (30000 * b) (read_each n (limit_cost (is_primary_access a) n) r)
 limit_each Primary n b r s below = each_below n 1 n b r s (lit≤ tt) (omega arith) below
 limit_each (Secondary i) n b r s below = each_below n (1 + n) (2 * n) b r s (omega arith) (omega arith) below
 
-reach_below : (t : Physical) → IsSmall t → Below (30000 ^ length (relations_read t)) (reach t)
+reach_below : (t : Physical) → IsInLimits t → Below (30000 ^ length (relations_read t)) (reach t)
 reach_below node.Unit s = record { inputs = lit≤ tt; ops = lit≤ tt; entries = lit≤ tt }
 reach_below (node.Lookup' p input rel) s =
     more (length (relations_read input)) (reach (node.Lookup' p input rel)) (each_below 1 1 1 (30000 ^ length (relations_read input)) (reach input) (lit≤ tt) (lit≤ tt) (lit≤ tt) (reach_below input s))
 reach_below (node.LimitRange' p input rel limit n access) s =
     more (length (relations_read input)) (reach (node.LimitRange' p input rel limit n access)) (limit_each access n (30000 ^ length (relations_read input)) (reach input) s.0 (reach_below input s.1))
 reach_below (node.StopScan' p input rel k access) s =
-    more (length (relations_read input)) (reach (node.StopScan' p input rel k access)) (stop_below k (30000 ^ length (relations_read input)) (is_primary access) (reach input) s.0 (some (length (relations_read input))) (reach_below input s.1))
+    more (length (relations_read input)) (reach (node.StopScan' p input rel k access)) (stop_below k (30000 ^ length (relations_read input)) (is_primary_access access) (reach input) s.0 (some (length (relations_read input))) (reach_below input s.1))
 reach_below (node.Filter' p input rel) s = reach_below input s
 reach_below (node.Sort' p input) s = reach_below input s
 reach_below (node.Cut' p input k) s = reach_below input s.1
@@ -62,7 +62,7 @@ six (suc (suc (suc (suc (suc zero))))) h = lit< tt
 six (suc (suc (suc (suc (suc (suc zero)))))) h = lit< tt
 six (suc (suc (suc (suc (suc (suc (suc k))))))) h = absurd (omega arith)
 
-pub within : (t : Physical) (total : Total) → reached total ≡ reach t → IsSmall t → length (relations_read t) ≤ 6 → IsLow total
+pub within : (t : Physical) (total : Total) → reached total ≡ reach t → IsInLimits t → length (relations_read t) ≤ 6 → IsLow total
 within t total is small few =
     let below : Below (30000 ^ length (relations_read t)) (reached total) = subst (Below (30000 ^ length (relations_read t))) (sym is) (reach_below t small) in
     let top = six (length (relations_read t)) few in

@@ -20,15 +20,16 @@ use Rattle.pq_schema.specs.Sound.{IsQuery, IsForeign}
 use Rattle.pq_schema.specs.Tables.{table_at}
 use Rattle.pq_schema.specs.Relations.{relation_at, table_of, belongs_to, is_column, is_before, ties, spells, is_spelt, spells_one, is_whole, is_tied, is_total}
 use Rattle.pq_schema.specs.Candidates.{bound_at, can_stop_at, stop_size}
-use Rattle.pq_plan.specs.Members.{In}
+use Rattle.pq_base.specs.Members.{In}
 use Rattle.pq_plan.specs.Answer.{Asked, rows_of, row_of, rows_at, cell, side, compares, holds, no_value, answered}
 use Rattle.pq_plan.specs.Kept.{cells, IsNumber, KeepsSchema}
 use Rattle.pq_plan.specs.Meaning.{keeps, mean}
 use Rattle.pq_plan.specs.Rewrites.{built, placed_stops, pushed}
-use Rattle.pq_plan.proofs.Members.{each_by_in, in_filter, map_in, all_at, all_from, any_at, filter_in, all_member, get_at, in_range, range_in}
-use Rattle.pq_plan.proofs.Sets.{members_within}
+use Rattle.pq_base.proofs.Members.{each_by_in, in_filter, map_in, all_at, all_from, any_at, filter_in, all_member, get_at, in_range, range_in}
+use Rattle.pq_base.proofs.Sets.{members_within}
 use Rattle.pq_plan.proofs.ValueOrder.{value_cmp_total}
 use Rattle.pq_plan.proofs.Apart.{same_test}
+use Rattle.pq_plan.proofs.Kept.{row_fits, parent_kept}
 use Rattle.pq_plan.proofs.Laws.{Total, Pushable}
 use Rattle.pq_plan.proofs.Fixed.{equality, last, earlier_row}
 use Rattle.pq_plan.proofs.Bounds.{asked, number_at, linked, fixed_columns, keeps_over}
@@ -124,8 +125,8 @@ module _ (tables : List Table) (query : Query) (rows : List (ℕ × List Value))
         let a = and_parts _ _ b.0 in
         let right = column_is p.right j e.0 d.1 in
         let among = zip_in f.cols (table_of tables query i).key e any.1 in
-        let row_long : length r ≡ length (table_of tables query i).columns = fit_length _ r (kept.fits (relation_at query i).table own r at) ∙ length-map (table_of tables query i).columns (λ (column : Column). column.ty) in
-        let other_long : length (row_of j c) ≡ length (table_of tables query j).columns = fit_length _ (row_of j c) (kept.fits (relation_at query j).table other (row_of j c) inside) ∙ length-map (table_of tables query j).columns (λ (column : Column). column.ty) in
+        let row_long : length r ≡ length (table_of tables query i).columns = fit_length _ r (row_fits tables rows kept (relation_at query i).table r at) ∙ length-map (table_of tables query i).columns (λ (column : Column). column.ty) in
+        let other_long : length (row_of j c) ≡ length (table_of tables query j).columns = fit_length _ (row_of j c) (row_fits tables rows kept (relation_at query j).table (row_of j c) inside) ∙ length-map (table_of tables query j).columns (λ (column : Column). column.ty) in
         let short : e.1 < length (table_of tables query i).columns = all_member (λ col. col < length (table_of tables query i).columns) (table_of tables query i).key (linked tables query rows params sound kept (relation_at query i).table own).key e.1 among.1 in
         let other_short : e.0 < length (table_of tables query j).columns = all_member (λ col. col < length (table_of tables query j).columns) f.cols foreign.inside e.0 among.0 in
         let left_is : cell (c ++ r ∷ []) p.left ≡ Some (get_or r e.1 no_value) =
@@ -145,7 +146,7 @@ module _ (tables : List Table) (query : Query) (rows : List (ℕ × List Value))
       from_one = low;
       before = before;
       partner = λ c l inside.
-          let found = kept.foreign (relation_at query j).table other f here (row_of j c) inside in
+          let found = parent_kept tables rows kept (relation_at query j).table f here (row_of j c) inside in
           let at : In found.0 (rows_at q i) = subst (λ (n : ℕ). In found.0 (rows_of n rows)) same_table found.1 in
           let same : cells (table_of tables query i).key found.0 ≡ cells f.cols (row_of j c) = ap (λ (n : ℕ). cells (table_at tables n).key found.0) (sym same_table) ∙ found.2 in
           (found.0, at, passes c l inside found.0 at same);

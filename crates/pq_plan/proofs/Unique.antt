@@ -10,11 +10,11 @@ use Rattle.pq_base.specs.declared.value.Value.{Value}
 use Rattle.pq_schema.specs.declared.query.ColRef.{ColRef}
 use Rattle.pq_schema.specs.declared.query.OrderItem.{OrderItem}
 use Rattle.pq_schema.specs.Relations.{position_columns, key_items, key_item, is_ordered}
-use Rattle.pq_plan.specs.Members.{In, Apart}
+use Rattle.pq_base.specs.Members.{In, Apart}
 use Rattle.pq_plan.specs.Answer.{Asked, row_of, rows_at, no_value, position, by_position, in_order}
 use Rattle.pq_plan.specs.Kept.{row_cmp, cells}
 use Rattle.pq_plan.specs.Meaning.{followed, read, key_of, looks_up, combo_cmp, key_at}
-use Rattle.pq_plan.proofs.Members.{each_in, in_left, in_right, filter_in, map_in, flat_map_in, any_at, range_in}
+use Rattle.pq_base.proofs.Members.{each_in, in_left, in_right, filter_in, map_in, flat_map_in, any_at, range_in}
 use Rattle.pq_plan.proofs.Orders.{one_order, apart_permuted, in_permuted, sort_by_sorted, Rises}
 use Rattle.pq_plan.proofs.ValueOrder.{row_total, combo_total, combo_only}
 use Rattle.pq_plan.proofs.Positions.{position_cmp_only}

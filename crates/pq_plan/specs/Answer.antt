@@ -3,12 +3,11 @@
 -- Tables are one list of rows, each with the number of its table. The combinations of a query are the
 -- product of its relations' rows in FROM order, kept where all predicates hold. They come in the order of
 -- their positions. With LIMIT k or PAGINATE k the answer has the first k strictly after the cursor.
-use Rattle.std.specs.Prelude.{ℕ, zero, suc, ◌-◌, Bool, false, not, ◌==◌, List, [], ◌∷◌, ◌++◌, map, filter, flat_map, take, length, slice_get, slice_index_or, pos, Option, Some, None}
+use Rattle.std.specs.Prelude.{ℕ, zero, suc, ◌-◌, Bool, false, not, List, [], ◌∷◌, ◌++◌, map, filter, flat_map, take, length, slice_get, slice_index_or, Option, Some, None}
 use Rattle.std.specs.List.{list_all}
 use Rattle.std.specs.declared.cmp.Ordering.{Ordering}
 use Rattle.std.specs.Ordering.{is_eq, is_lt, is_gt}
 use Rattle.pq_base.specs.declared.value.Value.{Value}
-use Rattle.pq_base.specs.declared.value.Value.TheVariants as value
 use Rattle.pq_base.specs.Order.{value_cmp, position_cmp}
 use Rattle.pq_schema.specs.declared.table.Table.{Table}
 use Rattle.pq_schema.specs.declared.query.ColRef.{ColRef}
@@ -19,12 +18,9 @@ use Rattle.pq_schema.specs.declared.query.Operand.TheVariants as operand
 use Rattle.pq_schema.specs.declared.query.Pred.{Pred}
 use Rattle.pq_schema.specs.declared.query.Query.{Query}
 use Rattle.pq_schema.specs.Relations.{relation_at, position_columns}
+pub use Rattle.pq_schema.specs.Rows.{rows_of, no_value}
 use Rattle.pq_schema.specs.Candidates.{stop_size}
-use Rattle.pq_plan.specs.Order.{sort_by}
-
--- the rows of a table
-abbrev pub rows_of : ℕ → List (ℕ × List Value) → List (List Value)
-rows_of number rows = map (λ pair. pair.1) (filter (λ pair. pair.0 == number) rows)
+use Rattle.pq_base.specs.Sorting.{sort_by}
 
 -- ---- combinations: one row for each of the first relations
 
@@ -53,14 +49,11 @@ meets op.Ge order = not (is_lt order)
 -- both values are there, and their order meets the operator
 abbrev pub compares : Op → Option Value → Option Value → Bool
 compares op (Some left) (Some right) = meets op (value_cmp left right)
-compares op _ _ = false
+compares op (Some left) None = false
+compares op None right = false
 
 abbrev pub holds : List Value → List (List Value) → Pred → Bool
 holds params combo pred = compares pred.op (cell combo pred.left) (side params combo pred.right)
-
--- what stands at a column that isn't there
-abbrev pub no_value : Value
-no_value = value.Int (pos 0)
 
 -- the values at some columns
 abbrev pub values_at : List (List Value) → List ColRef → List Value

@@ -7,16 +7,16 @@ use Rattle.pq_schema.specs.Costs.{Reached, start, bound, limit_cost, read_each, 
 use Rattle.pq_plan.specs.declared.physical.Physical.{Physical}
 use Rattle.pq_plan.specs.declared.physical.Physical.TheVariants as node
 
-abbrev pub is_primary : Access → Bool
-is_primary Primary = true
-is_primary (Secondary number) = false
+abbrev pub is_primary_access : Access → Bool
+is_primary_access Primary = true
+is_primary_access (Secondary number) = false
 
 -- how many combinations it gives at most, and what it costs
 abbrev pub reach : Physical → Reached
 reach node.Unit = start
 reach (node.Lookup' p input rel) = read_each 1 (bound 1 1) (reach input)
-reach (node.LimitRange' p input rel limit n access) = read_each n (limit_cost (is_primary access) n) (reach input)
-reach (node.StopScan' p input rel k access) = read_stop k (is_primary access) (reach input)
+reach (node.LimitRange' p input rel limit n access) = read_each n (limit_cost (is_primary_access access) n) (reach input)
+reach (node.StopScan' p input rel k access) = read_stop k (is_primary_access access) (reach input)
 reach (node.Filter' p input rel) = reach input
 reach (node.Sort' p input) = reach input
 reach (node.Cut' p input k) = reach input
@@ -37,23 +37,23 @@ relations_read (node.Cut' p input k) = relations_read input
 relations_read (node.Project' p input) = relations_read input
 
 -- each differs from all that follow
-abbrev pub AreApart : List ℕ → Type 0
-AreApart [] = ⊤
-AreApart (x ∷ xs) = All (λ y. y ≢ x) xs × AreApart xs
+abbrev pub AreDistinct : List ℕ → Type 0
+AreDistinct [] = ⊤
+AreDistinct (x ∷ xs) = All (λ y. y ≢ x) xs × AreDistinct xs
 
 -- each n is at most 10,000 and each k at most 1,000
-abbrev pub IsSmall : Physical → Type 0
-IsSmall node.Unit = ⊤
-IsSmall (node.Lookup' p input rel) = IsSmall input
-IsSmall (node.LimitRange' p input rel limit n access) = (n ≤ 10000) × IsSmall input
-IsSmall (node.StopScan' p input rel k access) = (k ≤ 1000) × IsSmall input
-IsSmall (node.Filter' p input rel) = IsSmall input
-IsSmall (node.Sort' p input) = IsSmall input
-IsSmall (node.Cut' p input k) = (k ≤ 1000) × IsSmall input
-IsSmall (node.Project' p input) = IsSmall input
+abbrev pub IsInLimits : Physical → Type 0
+IsInLimits node.Unit = ⊤
+IsInLimits (node.Lookup' p input rel) = IsInLimits input
+IsInLimits (node.LimitRange' p input rel limit n access) = (n ≤ 10000) × IsInLimits input
+IsInLimits (node.StopScan' p input rel k access) = (k ≤ 1000) × IsInLimits input
+IsInLimits (node.Filter' p input rel) = IsInLimits input
+IsInLimits (node.Sort' p input) = IsInLimits input
+IsInLimits (node.Cut' p input k) = (k ≤ 1000) × IsInLimits input
+IsInLimits (node.Project' p input) = IsInLimits input
 
 -- each relation once at most, with a number of at most 6, and small numbers
 pub record IsPlanTree (tree : Physical) : Type 0 where
-  pub once : AreApart (relations_read tree)
+  pub once : AreDistinct (relations_read tree)
   pub six : All (λ rel. rel ≤ 6) (relations_read tree)
-  pub small : IsSmall tree
+  pub small : IsInLimits tree

@@ -3,9 +3,7 @@ pub mod Cost
 pub mod Executing
 pub mod Kept
 pub mod Meaning
-pub mod Members
 pub mod Nodes
-pub mod Order
 pub mod Plans
 pub mod Rewrites
 pub mod Running

@@ -11,12 +11,12 @@ use Rattle.pq_schema.specs.declared.table.Table.{Table}
 use Rattle.pq_schema.specs.declared.query.Query.{Query}
 use Rattle.pq_schema.specs.Costs.{Reached, start, bound, limit_cost, read_each, read_stop}
 use Rattle.pq_schema.specs.Sequences.{group_access, serving}
-use Rattle.pq_schema.specs.Tables.{is_lookup, limit_of}
+use Rattle.pq_schema.specs.Tables.{is_lookup, limit_place}
 use Rattle.pq_schema.specs.Relations.{table_of, fixed, order_rest}
 use Rattle.pq_schema.specs.Candidates.{no_limit, stop_size}
 use Rattle.pq_plan.specs.declared.physical.Physical.{Physical}
 use Rattle.pq_plan.specs.declared.physical.Physical.TheVariants as tree
-use Rattle.pq_plan.specs.Cost.{is_primary}
+use Rattle.pq_plan.specs.Cost.{is_primary_access}
 
 pub data Node : Type 0 where
   lookup : ℕ → Node
@@ -41,8 +41,8 @@ nodes (tree.Project' p input) = nodes input ++ project ∷ []
 -- what one node costs and gives
 abbrev pub step : Reached → Node → Reached
 step before (lookup rel) = read_each 1 (bound 1 1) before
-step before (limit_range rel limit n access) = read_each n (limit_cost (is_primary access) n) before
-step before (stop_scan rel k access) = read_stop k (is_primary access) before
+step before (limit_range rel limit n access) = read_each n (limit_cost (is_primary_access access) n) before
+step before (stop_scan rel k access) = read_stop k (is_primary_access access) before
 step before (keep rel) = before
 step before sort = before
 step before (cut k) = before
@@ -60,7 +60,7 @@ read_nodes tables query rel =
     else option_map_or
     (λ place. let limit = slice_index_or table.limits place no_limit in
     limit_range rel (place + 1) limit.n (unwrap_or (group_access table (set_of limit.cols)) Primary) ∷ keep rel ∷ [])
-    (limit_of table set) []
+    (limit_place table set) []
 
 -- the nodes that read some relations
 abbrev pub range_nodes : List Table → Query → ℕ → ℕ → List Node

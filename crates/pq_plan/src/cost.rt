@@ -2,7 +2,7 @@
 
 ghost use Rattle.std.specs.Prelude.{◌≡◌, ◌+◌, ◌^◌, ◌<◌, ◌≤◌, length};
 ghost use Rattle.pq_schema.specs.Costs.{bound, limit_cost, read_each, read_stop};
-ghost use Rattle.pq_plan.specs.Cost.{is_primary, reach, cost, relations_read, IsSmall, IsPlanTree};
+ghost use Rattle.pq_plan.specs.Cost.{is_primary_access, reach, cost, relations_read, IsInLimits, IsPlanTree};
 ghost use Rattle.pq_plan.specs.Totals.{reached, IsLow};
 
 use crate::physical::Physical;
@@ -50,8 +50,8 @@ pub fn limit_cost(primary: bool, n: u32) -> Bound
     }
 }
 
-fn is_primary(access: Access) -> bool
-    ensures { result ≡ is_primary access }
+fn is_primary_access(access: Access) -> bool
+    ensures { result ≡ is_primary_access access }
 {
     match access {
         Access::Primary => true,
@@ -78,7 +78,7 @@ pub fn read_stop(k: u16, served: bool, before: Total) -> Total
 
 fn total_of(tree: &Physical) -> Total
     requires few { length (relations_read tree.now) ≤ 7 }
-    requires small { IsSmall tree.now }
+    requires small { IsInLimits tree.now }
     ensures { reached result ≡ reach tree.now }
 {
     match tree {
@@ -96,13 +96,17 @@ fn total_of(tree: &Physical) -> Total
             n,
             access,
             ..
-        } => read_each(*n, limit_cost(is_primary(*access), *n), total_of(input)),
+        } => read_each(
+            *n,
+            limit_cost(is_primary_access(*access), *n),
+            total_of(input),
+        ),
         Physical::StopScan {
             input,
             k,
             access,
             ..
-        } => read_stop(*k, is_primary(*access), total_of(input)),
+        } => read_stop(*k, is_primary_access(*access), total_of(input)),
         Physical::Filter { input, .. } => total_of(input),
         Physical::Sort { input } => total_of(input),
         Physical::Cut { input, .. } => total_of(input),

@@ -10,6 +10,6 @@ mod tables;
 mod total;
 
 pub use position::position_columns;
-pub use relations::{belongs_to, fixed, order_rest, range_on};
+pub use relations::{belongs_to, fixed, order_rest, range_on, ties};
 pub use tables::{data_bound, is_lookup, is_primary, limit_of, table_number, table_of};
 pub use total::is_total;

@@ -20,7 +20,7 @@ pub fn belongs_to(pred: &Pred) -> u8
 }
 
 /// Whether it is an equality that ties a column of the relation.
-fn ties(pred: &Pred, rel: u8) -> bool
+pub fn ties(pred: &Pred, rel: u8) -> bool
     ensures { result ≡ ties rel pred.now }
 {
     let before = match &pred.right {
@@ -88,7 +88,7 @@ fn is_range(op: Op) -> bool
 {
     match op {
         Op::Eq | Op::Ne => false,
-        _ => true,
+        Op::Lt | Op::Le | Op::Gt | Op::Ge => true,
     }
 }
 

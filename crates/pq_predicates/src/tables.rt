@@ -3,7 +3,7 @@
 ghost use Rattle.std.specs.Prelude.{◌≡◌, ◌==◌, ◌≤◌, ◌&&◌, length, min, position};
 ghost use Rattle.std.specs.Option.{option_map_or};
 ghost use Rattle.pq_schema.specs.Sound.{IsTable, IsQuery, AreColumns};
-ghost use Rattle.pq_schema.specs.Tables.{is_lookup, applies, least_limit, data_bound, is_least, is_primary, first_limit, limit_number};
+ghost use Rattle.pq_schema.specs.Tables.{is_lookup, applies, least_limit, data_bound, is_least, is_primary, first_limit, limit_of};
 ghost use Rattle.pq_schema.specs.Relations.{relation_at, table_of};
 
 use pq_base::ColSet;
@@ -128,7 +128,7 @@ fn first_limit(table: &Table, set: ColSet, n: u32) -> Option<usize>
 /// The number of the limit taken, from 1. None at a lookup, and where no limit's columns are fixed.
 pub fn limit_of(table: &Table, set: ColSet) -> Option<u8>
     requires { IsTable table.now }
-    ensures { result ≡ limit_number table.now set }
+    ensures { result ≡ limit_of table.now set }
 {
     if is_lookup(table, set) {
         return None;

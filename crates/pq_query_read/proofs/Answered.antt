@@ -47,7 +47,7 @@ only_of text ts from (Ok x) h k s spelled = read_only (rest text ts from) x s h 
 only_of text ts from (Err NoMem) h k s spelled = tt
 only_of text ts from (Err (Refused r)) h k s spelled = read_none (rest text ts from) k.0 s k.1 spelled
 
-refused_is : (r q : Refusal) → Refused r ≡ Refused q → r ≡ q
+pub refused_is : (r q : Refusal) → Refused r ≡ Refused q → r ≡ q
 refused_is r q e = cc
 
 place_is : (text : List ℕ) (ts : List Token) (from left : ℕ) → from ≤ length ts → left ≤ length (rest text ts from) → length ts - left ≡ from + (length (rest text ts from) - left)

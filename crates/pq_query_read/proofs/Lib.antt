@@ -2,3 +2,17 @@ pub mod Elements
 pub mod Predicates
 pub mod Selects
 pub mod Answered
+pub mod Trying
+pub mod Loops
+pub mod Only
+pub mod Parameters
+pub mod Uses
+pub mod Refs
+pub mod Compares
+pub mod ResolvedQuery
+pub mod Names
+pub mod Named
+pub mod Within
+pub mod SpelledQueries
+pub mod QueryAnswers
+pub mod ResolvedRows

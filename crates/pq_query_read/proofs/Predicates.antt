@@ -1,36 +1,26 @@
 -- The readers of predicates read what the grammar says.
-use Rattle.std.proofs.Common.{◌≡◌, ℕ, ℤ, Bool, true, false, cond, List, [], ◌∷◌, ◌++◌, Option, Some, None, inl, inr, refl, ap, subst, ◌∙◌, append_assoc}
+use Rattle.std.proofs.Common.{◌≡◌, ℕ, ℤ, true, false, List, [], ◌∷◌, ◌++◌, Option, inl, inr, refl, ap, subst, ◌∙◌, append_assoc}
 use Rattle.pq_base.specs.declared.value.Value.{Value}
-use Rattle.pq_base.specs.declared.value.Dir.{Dir}
-use Rattle.pq_base.specs.declared.value.Dir.TheVariants as dir
-use Rattle.pq_grammar.specs.Language.{◌⋅◌, nothing, optional, made, one_or_other}
-use Rattle.pq_grammar.specs.Reader.{Reader, begins, picked, pair_at, skip_at, map_at, choice_at}
-use Rattle.pq_grammar.proofs.Steps.{Reads, never, begins-never, wider_reads}
+use Rattle.pq_grammar.specs.Language.{◌⋅◌, optional, made, one_or_other}
+use Rattle.pq_grammar.specs.Reader.{begins, pair_at, skip_at, map_at}
+use Rattle.pq_grammar.proofs.Steps.{Reads, never}
 use Rattle.pq_grammar.proofs.Readers.{pair_reads, close_reads, map_reads}
 use Rattle.pq_grammar.proofs.Options.{option_reads}
 use Rattle.pq_grammar.proofs.Lists.{one_opens, then_opens, one_shuts, then_shuts, pair_free, skip_free, same_set}
-use Rattle.pq_grammar.proofs.Choices.{made_reads, choice_reads, any_of, not_first, not_second}
-use Rattle.pq_shape.specs.Front.{is_word, is_mark, is_name, is_value, word_at, mark_at, name_at, number_at, value_at}
-use Rattle.pq_shape.specs.Parts.{word, mark, comma, name, number, a_value}
-use Rattle.pq_shape.proofs.Tokens.{word_reads, mark_reads, name_reads, number_reads, value_reads, value_opens}
+use Rattle.pq_grammar.proofs.Choices.{made_reads, choice_reads}
+use Rattle.pq_shape.specs.Front.{is_mark, is_name, is_value, mark_at, name_at, number_at, value_at}
+use Rattle.pq_shape.specs.Parts.{mark, name, number, a_value}
+use Rattle.pq_shape.proofs.Tokens.{mark_reads, name_reads, number_reads, value_reads, value_opens}
 use Rattle.pq_shape.specs.declared.shape.Shape.{Shape}
 use Rattle.pq_shape.specs.declared.shape.Shape.TheVariants as shape
-use Rattle.pq_grammar.specs.Reader.{nothing_at}
-use Rattle.pq_grammar.proofs.Readers.{same_reads}
-use Rattle.pq_grammar.proofs.Options.{nothing_reads}
 use Rattle.pq_schema.specs.declared.query.Op.{Op}
 use Rattle.pq_schema.specs.declared.query.Op.TheVariants as op
-use Rattle.pq_shape.specs.Front.{is_between, between_at}
-use Rattle.pq_shape.specs.declared.between.Between.TheVariants as between
-use Rattle.pq_shape.specs.declared.keyword.TheConstants.{AS, ASC, DESC, JOIN, LIMIT, PAGINATE}
-use Rattle.pq_shape.specs.declared.mark.TheConstants.{CLOSE_SQUARE, COLON, COMMA, EQUAL, GREATER, LESS, LESS_EQUAL, OPEN_SQUARE, POINT, UNEQUAL}
-use Rattle.pq_query_read.specs.Grammar.{ref, alias, relation, comma_or_join, operator, param, compare, pred, direction, item, stopped}
-use Rattle.pq_query_read.specs.Reading.{part_at, ref_at, is_alias, alias_at, relation_at, op_at, label_at, param_at, plain_at, operand_at, equality_at, compare_at, pred_at, dir_at, item_at, stop_at}
+use Rattle.pq_shape.specs.declared.mark.TheConstants.{CLOSE_SQUARE, COLON, EQUAL, GREATER, LESS, LESS_EQUAL, OPEN_SQUARE, POINT, UNEQUAL}
+use Rattle.pq_query_read.specs.Grammar.{ref, operator, param, compare, pred}
+use Rattle.pq_query_read.specs.Reading.{ref_at, op_at, label_at, param_at, plain_at, operand_at, equality_at, compare_at, pred_at}
 use Rattle.pq_query_read.specs.declared.select.OperandDef.{OperandDef}
 use Rattle.pq_query_read.specs.declared.select.OperandDef.TheVariants as operand
 use Rattle.pq_query_read.specs.declared.select.RefDef.{RefDef}
-use Rattle.pq_query_read.specs.declared.select.StopDef.{StopDef}
-use Rattle.pq_query_read.specs.declared.select.StopDef.TheVariants as stop
 use Rattle.pq_query_read.proofs.Elements.{wide, ref_reads, ref_opens}
 
 -- ---- predicates

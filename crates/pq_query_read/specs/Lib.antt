@@ -1,3 +1,10 @@
 pub mod Reading
 pub mod Shrinking
 pub mod Grammar
+pub mod Trying
+pub mod Columns
+pub mod Compared
+pub mod Parameters
+pub mod Resolving
+pub mod Spelled
+pub mod Queries

@@ -1,10 +1,15 @@
 -- The shapes of a text, from its bytes without their places.
-use Rattle.std.proofs.Common.{◌≡◌, ℕ, zero, suc, ◌+◌, ◌-◌, Bool, true, false, List, [], ◌∷◌, ◌++◌, length, take, refl, sym, ap, ◌∙◌, arith, append_assoc, length-append, ◌&&◌}
+use Rattle.std.proofs.Common.{◌≡◌, ℕ, zero, suc, ◌+◌, ◌-◌, ◌*◌, Bool, true, false, cond, eqb, List, [], ◌∷◌, ◌++◌, length, take, Option, Some, None, refl, sym, ap, subst, ◌∙◌, arith, append_assoc, length-append, ◌&&◌}
+use Rattle.std.specs.Prelude.{flat_map}
 use Rattle.std.specs.List.{slice_range, list_all, take_while}
+use Rattle.std.specs.Option.{option_map}
+use Rattle.std.specs.Str.{is_utf8}
+use Rattle.std.proofs.lemmas.Bool.{eqb-true}
 use Rattle.std.proofs.lemmas.List.{drop_at}
 use Rattle.pq_text.specs.Bytes.{next_is, is_white, is_digit, is_letter, is_word_byte, is_mark, is_double_mark}
 use Rattle.pq_text.specs.Forms.{Form, LeftOut, Of}
-use Rattle.pq_text.specs.Scanning.{left_out, first_token}
+use Rattle.pq_text.specs.Forms.{text_end}
+use Rattle.pq_text.specs.Scanning.{text_or_open, left_out, first_token}
 use Rattle.pq_text.specs.Tokens.{Front, front_of, put_before, tokens_from, tokens_of}
 use Rattle.pq_text.specs.declared.token.Kind.{Kind}
 use Rattle.pq_text.specs.declared.token.Kind.TheVariants as kind
@@ -12,10 +17,14 @@ use Rattle.pq_text.specs.declared.token.Token.{Token}
 use Rattle.pq_text.proofs.Apart.{letter_not_white, letter_not_dash, digit_not_white, digit_not_letter, digit_not_dash, mark_not_white, mark_not_letter, mark_not_digit, mark_not_dash, mark_not_quote}
 use Rattle.pq_text.proofs.Fronts.{left_front, token_front}
 use Rattle.pq_text.proofs.Runs.{while_true, while_false}
-use Rattle.pq_shape.specs.Shapes.{shape_of, shapes_of, kind_shape, word_shape, number_or_other}
+use Rattle.pq_text.proofs.TextEnds.{text_other_at, text_double_at, text_ends_at, text_last_at}
+use Rattle.pq_shape.specs.Shapes.{shape_of, shapes_of, kind_shape, word_shape, number_or_other, checked, undoubled, between_quotes}
+use Rattle.pq_shape.specs.Shapes.{quoted as quoted_shape}
 use Rattle.pq_shape.specs.Numbers.{number_of}
 use Rattle.pq_shape.specs.declared.shape.Shape.{Shape}
 use Rattle.pq_shape.specs.declared.shape.Shape.TheVariants as shape
+use Rattle.pq_print.specs.Values.{doubled, quoted}
+use Rattle.pq_reread.specs.Printed.{is_quote}
 
 -- what stands first, before the shapes behind it
 abbrev pub shaped : Front → List ℕ → List Shape → List Shape
@@ -64,7 +73,7 @@ cut_front : (b : ℕ) (bs : List ℕ) (front : Front) → front_of b bs ≡ fron
 unfolding cut
 cut_front b bs front e = ap (λ (f : Front). shaped f (b ∷ bs) (cut (f.len - 1) bs)) e
 
-take_exact : (w rest : List ℕ) → take (length w) (w ++ rest) ≡ w
+pub take_exact : (w rest : List ℕ) → take (length w) (w ++ rest) ≡ w
 take_exact [] rest = refl
 take_exact (b ∷ bs) rest = ap (λ (v : List ℕ). b ∷ v) (take_exact bs rest)
 
@@ -114,3 +123,61 @@ cut_mark b rest mark alone =
 pub cut_white : (b : ℕ) (rest : List ℕ) → is_white b ≡ true → cut 0 (b ∷ rest) ≡ cut 0 rest
 unfolding left_out
 cut_white b rest white = cut_front b rest _ (left_front b rest 1 (simp white) (omega arith))
+
+pub cut_two_marks : (b c : ℕ) (rest : List ℕ) → is_mark b ≡ true → is_double_mark b c ≡ true → cut 0 (b ∷ c ∷ rest) ≡ shape.Mark (b * 256 + c) ∷ cut 0 rest
+unfolding left_out first_token
+cut_two_marks b c rest mark double =
+    cut_run kind.Mark b (c ∷ []) rest (token_front b (c ∷ rest) 2 kind.Mark (simp (mark_not_white b mark, mark_not_dash b mark))
+    (simp (mark_not_letter b mark, mark_not_digit b mark, mark_not_dash b mark, mark_not_quote b mark, mark, double)))
+
+-- a dash before a digit begins a number
+negative_out : (bs : List ℕ) → next_is (λ c. eqb c 45) bs ≡ false → left_out 45 bs ≡ 0
+unfolding left_out
+negative_out bs out = rw out refl
+
+negative_token : (bs : List ℕ) → next_is is_digit bs ≡ true → first_token 45 bs ≡ (kind.Number, length (take_while is_digit bs) + 1)
+unfolding first_token
+negative_token bs digit = rw digit refl
+
+pub cut_negative : (d : ℕ) (ds rest : List ℕ) → is_digit d ≡ true → list_all is_digit (d ∷ ds) ≡ true → next_is is_digit rest ≡ false → cut 0 (45 ∷ (d ∷ (ds ++ rest))) ≡ number_or_other (number_of (45 ∷ d ∷ ds)) ∷ cut 0 rest
+cut_negative d ds rest digit all e =
+    cut_run kind.Number 45 (d ∷ ds) rest (token_front 45 (d ∷ (ds ++ rest)) (length (d ∷ ds) + 1) kind.Number (negative_out (d ∷ (ds ++ rest)) (digit_not_dash d digit))
+    (negative_token (d ∷ (ds ++ rest)) digit ∙ ap (λ (v : List ℕ). let t : Kind × ℕ = (kind.Number, length v + 1) in t) (while_exact is_digit (d ∷ ds) rest all e)))
+
+-- ---- texts
+
+-- a text ends behind its doubled bytes
+ends_step : (b : ℕ) (more rest : List ℕ) (q : Bool) → eqb b 39 ≡ q → text_end (more ++ rest) ≡ Some (length more) → text_end ((cond q (39 ∷ 39 ∷ []) (b ∷ []) ++ more) ++ rest) ≡ Some (length (cond q (39 ∷ 39 ∷ []) (b ∷ []) ++ more))
+ends_step b more rest true is later = text_double_at 39 39 (more ++ rest) refl refl ∙ ap (option_map (λ n. n + 2)) later ∙ ap (λ (n : ℕ). Some n) (omega arith)
+ends_step b more rest false is later = text_other_at b (more ++ rest) is ∙ ap (option_map (λ n. n + 1)) later ∙ ap (λ (n : ℕ). Some n) (omega arith)
+
+ends_behind : (t rest : List ℕ) → next_is is_quote rest ≡ false → text_end ((flat_map doubled t ++ 39 ∷ []) ++ rest) ≡ Some (length (flat_map doubled t ++ 39 ∷ []))
+ends_behind [] [] e = text_last_at 39 refl
+ends_behind [] (c ∷ rest) e = text_ends_at 39 c rest refl e
+ends_behind (b ∷ t) rest e =
+    subst (λ (w : List ℕ). text_end (w ++ rest) ≡ Some (length w)) (sym (append_assoc (doubled b) (flat_map doubled t) (39 ∷ [])))
+    (ends_step b (flat_map doubled t ++ 39 ∷ []) rest (eqb b 39) refl (ends_behind t rest e))
+
+undoubled_step : (b : ℕ) (t : List ℕ) (q : Bool) → eqb b 39 ≡ q → undoubled false (flat_map doubled t) ≡ t → undoubled false (cond q (39 ∷ 39 ∷ []) (b ∷ []) ++ flat_map doubled t) ≡ b ∷ t
+unfolding undoubled
+undoubled_step b t true is later = ap (λ (v : List ℕ). 39 ∷ v) later ∙ ap (λ (c : ℕ). c ∷ t) (sym (eqb-true b 39 is))
+undoubled_step b t false is later = rw is (ap (λ (v : List ℕ). b ∷ v) later)
+
+undoubled_back : (t : List ℕ) → undoubled false (flat_map doubled t) ≡ t
+unfolding undoubled
+undoubled_back [] = refl
+undoubled_back (b ∷ t) = undoubled_step b t (eqb b 39) refl (undoubled_back t)
+
+between : (t : List ℕ) → between_quotes (quoted t) ≡ t
+between t =
+    let ds : List ℕ = flat_map doubled t in
+    let count : (length (quoted t) - 1) - 1 ≡ length ds = omega (arith, length-append ds (39 ∷ [])) in
+    ap (λ (n : ℕ). undoubled false (take n (ds ++ 39 ∷ []))) count ∙ ap (undoubled false) (take_exact ds (39 ∷ [])) ∙ undoubled_back t
+
+pub cut_text : (t rest : List ℕ) → is_utf8 t ≡ true → next_is is_quote rest ≡ false → cut 0 (quoted t ++ rest) ≡ shape.Text t ∷ cut 0 rest
+unfolding first_token left_out checked
+cut_text t rest text e =
+    let ds : List ℕ = flat_map doubled t ++ 39 ∷ [] in
+    cut_run kind.Text 39 ds rest (token_front 39 (ds ++ rest) (length ds + 1) kind.Text refl (ap (λ (o : Option ℕ). text_or_open o (length (ds ++ rest) + 1)) (ends_behind t rest e)))
+    ∙ ap (λ (v : List ℕ). quoted_shape (checked v) ∷ cut 0 rest) (between t)
+    ∙ ap (λ (b : Bool). quoted_shape (cond b (Some t) None) ∷ cut 0 rest) text

@@ -18,7 +18,8 @@ use Rattle.pq_schema.specs.declared.table.Column.{Column}
 use Rattle.pq_schema.specs.declared.table.Table.{Table}
 use Rattle.pq_schema.specs.Definitions.{has_type, column_of, is_column, is_unknown, place_of, places_of, no_column, refused_if, is_outside, cardinality, or_ok, name_refusal, counts_refusal, columns_refusal, names_refusal, key_refusal, limit_refusal, limits_refusal, has_shape, reference_refusal, foreign_refusal, foreigns_refusal, groups_refusal, table_refusal, limit_of_def, foreign_of_def, bare_table, table_of_def, new_table}
 use Rattle.pq_schema.specs.Sequences.{ascending, group_access, with_group}
-use Rattle.pq_schema.specs.Tables.{no_table, table_at, type_at, types_at, same_kind, same_kinds}
+use Rattle.pq_base.specs.Values.{same_kind}
+use Rattle.pq_schema.specs.Tables.{no_table, table_at, type_at, types_at, same_kinds}
 use Rattle.pq_schema.specs.Schema.{Schema, is_table, number_of, find_table}
 use Rattle.pq_base.specs.Columns.{set_of}
 use Rattle.pq_base.specs.declared.value.ColType.{ColType}

@@ -12,10 +12,6 @@ use Rattle.pq_schema.specs.declared.definition.ColumnDef.{ColumnDef}
 use Rattle.pq_schema.specs.declared.definition.LimitDef.{LimitDef}
 use Rattle.pq_schema.specs.declared.definition.ForeignDef.{ForeignDef}
 use Rattle.pq_schema.specs.declared.definition.TableDef.{TableDef}
-use Rattle.pq_schema.specs.declared.query.ColRef.{ColRef}
-use Rattle.pq_schema.specs.declared.query.Pred.{Pred}
-use Rattle.pq_schema.specs.declared.query.Query.{Query}
-use Rattle.pq_schema.specs.declared.query.Relation.{Relation}
 use Rattle.pq_schema.specs.declared.table.Column.{Column}
 use Rattle.pq_schema.specs.declared.table.Foreign.{Foreign}
 use Rattle.pq_schema.specs.declared.table.Limit.{Limit}
@@ -25,18 +21,16 @@ use Rattle.pq_schema.specs.Names.{IsName, IsKind, IsColumnDef, IsLimitDef, IsFor
 use Rattle.pq_schema.specs.Schema.{Schema, find_table}
 use Rattle.pq_schema.specs.Tables.{table_at}
 use Rattle.pq_print.specs.Lists.{each_after, separated}
-use Rattle.pq_print.specs.Canonical.{column_name, type_text, column_text, columns_text, limit_text, foreign_text, items_text, table_text, ref_text, pred_text, query_text}
+use Rattle.pq_print.specs.Canonical.{column_name, type_text, column_text, columns_text, limit_text, foreign_text, items_text, table_text}
 use Rattle.pq_reread.specs.Said.{Pairwise, SaysColumn, SaysColumns, SaysLimit, SaysForeign, Says}
-use Rattle.pq_reread.specs.KeyText.{KeyTest, KeyText, SaysRef, SaysTest, SaysQuery, AreNames}
 use Rattle.pq_reread.specs.Orderly.{IsOrderly, AreOrderly}
 use Rattle.pq_reread.proofs.Alls.{one_by_one}
-use Rattle.pq_reread.proofs.Names.{name_short}
+use Rattle.pq_query_read.proofs.Names.{name_short}
 use Rattle.pq_reread.proofs.Tables.{size_is, kind_column}
-use Rattle.pq_reread.proofs.Queries.{ref_is, test_is, query_is}
 use Rattle.pq_reread.proofs.Defined.{ok_is, neither_refuses, not_refused, found_has, reference_length, defined_says}
 use Rattle.pq_reread.proofs.Orders.{keys_of}
 
-each_short : {Y : Type 0} (between : List ℕ) (text : Y → List ℕ) (m : ℕ) (ys : List Y) → AllByRecursion (λ y. length between + length (text y) ≤ m) ys → length (each_after between text ys) ≤ length ys * m
+pub each_short : {Y : Type 0} (between : List ℕ) (text : Y → List ℕ) (m : ℕ) (ys : List Y) → AllByRecursion (λ y. length between + length (text y) ≤ m) ys → length (each_after between text ys) ≤ length ys * m
 each_short between text m [] all = omega arith
 each_short between text m (y ∷ ys) all =
     let rest = each_after between text ys in
@@ -44,7 +38,7 @@ each_short between text m (y ∷ ys) all =
     let both : length ((between ++ text y) ++ rest) ≡ length (between ++ text y) + length rest = length-append (between ++ text y) rest in
     omega (arith, first, both, each_short between text m ys all.1, suc-mul (length ys) m)
 
-separated_short : {Y : Type 0} (between : List ℕ) (text : Y → List ℕ) (m : ℕ) (ys : List Y) → AllByRecursion (λ y. length between + length (text y) ≤ m) ys → length (separated between text ys) ≤ length ys * m
+pub separated_short : {Y : Type 0} (between : List ℕ) (text : Y → List ℕ) (m : ℕ) (ys : List Y) → AllByRecursion (λ y. length between + length (text y) ≤ m) ys → length (separated between text ys) ≤ length ys * m
 separated_short between text m [] all = omega arith
 separated_short between text m (y ∷ ys) all =
     omega (arith, all.0, length-append (text y) (each_after between text ys), each_short between text m ys all.1, suc-mul (length ys) m)
@@ -55,7 +49,7 @@ same_length R [] (y ∷ ys) says = absurd says
 same_length R (x ∷ xs) [] says = absurd says
 same_length R (x ∷ xs) (y ∷ ys) says = ap suc (same_length R xs ys says.1)
 
-number_short : (n : ℕ) → n < 2 ^ 63 → length (decimal n) ≤ 20
+pub number_short : (n : ℕ) → n < 2 ^ 63 → length (decimal n) ≤ 20
 number_short n small = length-decimal-le 20 n (omega arith) (omega arith) (omega arith)
 
 -- ---- columns
@@ -97,7 +91,7 @@ names_short columns [] (p ∷ ps) are says = absurd says
 names_short columns (n ∷ ns) [] are says = absurd says
 names_short columns (n ∷ ns) (p ∷ ps) are says = (omega (arith, ap length says.0, name_short n are.0), names_short columns ns ps are.1 says.1)
 
-cols_short : (table : Table) (names : List (List ℕ)) (places : List ℕ) → length names ≤ 4 → All IsName names → SaysColumns table.columns names places → length (columns_text table places) ≤ 138
+cols_short : (table : Table) (names : List (List ℕ)) (places : List ℕ) → length names ≤ 4 → All IsName names → SaysColumns table.columns names places → length (columns_text table.columns places) ≤ 138
 unfolding columns_text
 cols_short table names places few are says =
     let inner = separated (codes ", ") (column_name table.columns) places in
@@ -106,10 +100,10 @@ cols_short table names places few are says =
 
 -- ---- limits and foreign keys
 
-limit_short : (table : Table) (l : LimitDef) (printed : Limit) → length l.cols ≤ 4 → IsLimitDef l → SaysLimit table.columns l printed → 2 + length (limit_text table printed) ≤ 200
+limit_short : (table : Table) (l : LimitDef) (printed : Limit) → length l.cols ≤ 4 → IsLimitDef l → SaysLimit table.columns l printed → 2 + length (limit_text table.columns printed) ≤ 200
 unfolding limit_text
 limit_short table l printed few are says =
-    let cols = columns_text table printed.cols in
+    let cols = columns_text table.columns printed.cols in
     let n = decimal printed.n in
     omega (
       arith,
@@ -120,10 +114,10 @@ limit_short table l printed few are says =
       length-append (codes "CARDINALITY LIMIT ") n,
     )
 
-foreign_short : (tables : List Table) (table : Table) (f : ForeignDef) (printed : Foreign) → length f.cols ≤ 4 → IsForeignDef f → SaysForeign tables table.columns f printed → 2 + length (foreign_text tables table printed) ≤ 200
+foreign_short : (tables : List Table) (table : Table) (f : ForeignDef) (printed : Foreign) → length f.cols ≤ 4 → IsForeignDef f → SaysForeign tables table.columns f printed → 2 + length (foreign_text tables table.columns printed) ≤ 200
 unfolding foreign_text
 foreign_short tables table f printed few are says =
-    let cols = columns_text table printed.cols in
+    let cols = columns_text table.columns printed.cols in
     let name = (table_at tables printed.table).name in
     omega (
       arith,
@@ -136,14 +130,14 @@ foreign_short tables table f printed few are says =
     )
 
 limits_short : (table : Table) (ls : List LimitDef) (printed : List Limit) → AllByRecursion (λ (l : LimitDef). length l.cols ≤ 4) ls → AllByRecursion IsLimitDef ls → Pairwise (SaysLimit table.columns) ls printed
-    → AllByRecursion (λ p. 2 + length (limit_text table p) ≤ 200) printed
+    → AllByRecursion (λ p. 2 + length (limit_text table.columns p) ≤ 200) printed
 limits_short table [] [] few are says = tt
 limits_short table [] (p ∷ ps) few are says = absurd says
 limits_short table (l ∷ ls) [] few are says = absurd says
 limits_short table (l ∷ ls) (p ∷ ps) few are says = (limit_short table l p few.0 are.0 says.0, limits_short table ls ps few.1 are.1 says.1)
 
 foreigns_short : (tables : List Table) (table : Table) (fs : List ForeignDef) (printed : List Foreign) → AllByRecursion (λ (f : ForeignDef). length f.cols ≤ 4) fs → AllByRecursion IsForeignDef fs → Pairwise (SaysForeign tables table.columns) fs printed
-    → AllByRecursion (λ p. 2 + length (foreign_text tables table p) ≤ 200) printed
+    → AllByRecursion (λ p. 2 + length (foreign_text tables table.columns p) ≤ 200) printed
 foreigns_short tables table [] [] few are says = tt
 foreigns_short tables table [] (p ∷ ps) few are says = absurd says
 foreigns_short tables table (f ∷ fs) [] few are says = absurd says
@@ -164,9 +158,9 @@ text_short : (tables : List Table) (def : TableDef) (table : Table) → IsFew de
 unfolding table_text items_text
 text_short tables def table few is says =
     let columns = separated (codes ", ") column_text table.columns in
-    let key = columns_text table table.key in
-    let limits = each_after (codes ", ") (limit_text table) table.limits in
-    let foreign = each_after (codes ", ") (foreign_text tables table) table.foreign in
+    let key = columns_text table.columns table.key in
+    let limits = each_after (codes ", ") (limit_text table.columns) table.limits in
+    let foreign = each_after (codes ", ") (foreign_text tables table.columns) table.foreign in
     let name : length table.name ≤ 32 = omega (arith, ap length says.name, name_short def.name is.name) in
     let some : length columns ≤ 1952 =
     omega (
@@ -181,14 +175,14 @@ text_short tables def table few is says =
       arith,
       few.limits,
       same_length (SaysLimit table.columns) def.limits table.limits says.limits,
-      each_short (codes ", ") (limit_text table) 200 table.limits (limits_short table def.limits table.limits few.limit_cols (one_by_one IsLimitDef def.limits is.limits) says.limits),
+      each_short (codes ", ") (limit_text table.columns) 200 table.limits (limits_short table def.limits table.limits few.limit_cols (one_by_one IsLimitDef def.limits is.limits) says.limits),
     ) in
     let most : length foreign ≤ 800 =
     omega (
       arith,
       few.foreign,
       same_length (SaysForeign tables table.columns) def.foreign table.foreign says.foreign,
-      each_short (codes ", ") (foreign_text tables table) 200 table.foreign (foreigns_short tables table def.foreign table.foreign few.foreign_cols (one_by_one IsForeignDef def.foreign is.foreign) says.foreign),
+      each_short (codes ", ") (foreign_text tables table.columns) 200 table.foreign (foreigns_short tables table def.foreign table.foreign few.foreign_cols (one_by_one IsForeignDef def.foreign is.foreign) says.foreign),
     ) in
     let before = (codes "CREATE TABLE " ++ table.name) ++ codes " (" in
     let items = (((columns ++ codes ", PRIMARY KEY ") ++ key) ++ limits) ++ foreign in
@@ -258,66 +252,3 @@ unfolding new_table
 table_short schema def table are is e =
     let made = ok_is (table_refusal schema def) (table_of_def schema def) table e in
     text_short (schema.tables ++ table ∷ []) def table (few_of schema def are made.0) is (defined_says schema def table (keys_of schema.tables are) e)
-
--- ---- queries by the key
-
-ref_short : (tables : List Table) (query : Query) (r : Relation) (column : List ℕ) (ref : ColRef) → query.relations ≡ r ∷ [] → IsName r.alias → IsName column → SaysRef (table_at tables r.table).columns column ref → 2 + length (ref_text tables query ref) ≤ 67
-ref_short tables query r column ref is alias name says =
-    let printed = column_name (table_at tables r.table).columns ref.col in
-    omega (arith, ap length (ref_is tables query r ref is says.first), length-append (r.alias ++ codes ".") printed, length-append r.alias (codes "."), ap length says.names, name_short column name, name_short r.alias alias)
-
-refs_short : (tables : List Table) (query : Query) (r : Relation) → query.relations ≡ r ∷ [] → IsName r.alias → (columns : List (List ℕ)) (refs : List ColRef) → AllByRecursion IsName columns
-    → Pairwise (SaysRef (table_at tables r.table).columns) columns refs → AllByRecursion (λ ref. 2 + length (ref_text tables query ref) ≤ 67) refs
-refs_short tables query r is alias [] [] names says = tt
-refs_short tables query r is alias [] (x ∷ xs) names says = absurd says
-refs_short tables query r is alias (c ∷ cs) [] names says = absurd says
-refs_short tables query r is alias (c ∷ cs) (x ∷ xs) names says = (ref_short tables query r c x is alias names.0 says.0, refs_short tables query r is alias cs xs names.1 says.1)
-
-test_short : (tables : List Table) (query : Query) (r : Relation) (test : KeyTest) (pred : Pred) → query.relations ≡ r ∷ [] → IsName r.alias → IsName test.column → SaysTest (table_at tables r.table).columns test pred → 5 + length (pred_text tables query pred) ≤ 97
-test_short tables query r test pred is alias name says =
-    let ref = ref_text tables query pred.left in
-    let n = decimal test.number in
-    omega (
-      arith,
-      ap length (test_is tables query test pred says.op says.right),
-      length-append ref (32 ∷ ((61 ∷ []) ++ (32 ∷ ((91 ∷ []) ++ (n ++ (93 ∷ [])))))),
-      length-append n (93 ∷ []),
-      number_short test.number says.small,
-      ref_short tables query r test.column pred.left is alias name says.left,
-    )
-
-tests_short : (tables : List Table) (query : Query) (r : Relation) → query.relations ≡ r ∷ [] → IsName r.alias → (tests : List KeyTest) (preds : List Pred) → AllByRecursion (λ (test : KeyTest). IsName test.column) tests
-    → Pairwise (SaysTest (table_at tables r.table).columns) tests preds → AllByRecursion (λ pred. 5 + length (pred_text tables query pred) ≤ 97) preds
-tests_short tables query r is alias [] [] names says = tt
-tests_short tables query r is alias [] (x ∷ xs) names says = absurd says
-tests_short tables query r is alias (t ∷ ts) [] names says = absurd says
-tests_short tables query r is alias (t ∷ ts) (x ∷ xs) names says = (test_short tables query r t x is alias names.0 says.0, tests_short tables query r is alias ts xs names.1 says.1)
-
-pub query_short : (tables : List Table) (said : KeyText) (query : Query) → IsName query.name → AreNames said → SaysQuery tables said query → length said.columns ≤ 192 → length said.tests ≤ 4 → length (query_text tables query) ≤ 1048576
-query_short tables said query name names says few few_tests =
-    let r : Relation = record { table = says.number; alias = said.alias } in
-    let columns = separated (codes ", ") (ref_text tables query) query.select in
-    let tests = separated (codes " AND ") (pred_text tables query) query.preds in
-    let table = (table_at tables says.number).name in
-    let some : length columns ≤ 12864 =
-    omega (arith, few, same_length _ said.columns query.select says.select, separated_short (codes ", ") (ref_text tables query) 67 query.select (refs_short tables query r says.relation names.alias said.columns query.select names.columns says.select)) in
-    let more : length tests ≤ 388 =
-    omega (arith, few_tests, same_length _ said.tests query.preds says.tests, separated_short (codes " AND ") (pred_text tables query) 97 query.preds (tests_short tables query r says.relation names.alias said.tests query.preds names.tests says.tests)) in
-    let last = tests ++ codes ";" in
-    let aliased = said.alias ++ (codes " WHERE " ++ last) in
-    let from = table ++ (codes " AS " ++ aliased) in
-    omega (
-      arith,
-      some,
-      more,
-      name_short query.name name,
-      name_short said.alias names.alias,
-      ap length says.table,
-      name_short said.table names.table,
-      ap length (query_is tables said query says),
-      length-append query.name (codes " AS " ++ (codes "SELECT " ++ (columns ++ (codes " FROM " ++ from)))),
-      length-append columns (codes " FROM " ++ from),
-      length-append table (codes " AS " ++ aliased),
-      length-append said.alias (codes " WHERE " ++ last),
-      length-append tests (codes ";"),
-    )

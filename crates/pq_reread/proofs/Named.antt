@@ -1,22 +1,17 @@
 -- The names in a statement's tokens are names.
-use Rattle.std.proofs.Common.{◌≡◌, ℕ, ℤ, List, [], ◌∷◌, ◌++◌, Option, Some, None, Ok, refl, sym, ap, subst, inl, inr}
-use Rattle.std.specs.Prelude.{IsTrue}
+use Rattle.std.proofs.Common.{◌≡◌, ℕ, List, [], ◌∷◌, Ok, sym, ap, subst, inl, inr}
 use Rattle.std.specs.List.{All, AllByRecursion}
-use Rattle.pq_text.specs.Tokens.{tokens_of, slice_of, has_form, HaveForms}
-use Rattle.pq_text.specs.declared.token.Kind.{Kind}
-use Rattle.pq_text.specs.declared.token.Kind.TheVariants as kind
+use Rattle.pq_text.specs.Tokens.{tokens_of}
 use Rattle.pq_text.specs.declared.token.Token.{Token}
 use Rattle.pq_text.proofs.Spans.{tokens_have_forms}
-use Rattle.pq_grammar.specs.Language.{◌⋅◌, each, separated}
+use Rattle.pq_grammar.specs.Language.{◌⋅◌}
 use Rattle.pq_grammar.proofs.Options.{always}
 use Rattle.pq_grammar.proofs.Whole.{whole_found, whole_again}
 use Rattle.pq_schema.specs.declared.definition.TableDef.{TableDef}
 use Rattle.pq_schema.specs.Names.{IsName, IsKind, IsColumnDef, IsLimitDef, IsForeignDef, IsTableDef}
-use Rattle.pq_shape.specs.Numbers.{number_of}
 use Rattle.pq_shape.specs.Parts.{comma, name as a_name}
-use Rattle.pq_shape.specs.Shapes.{shape_of, shapes_of, kind_shape, checked, between_quotes, quoted, number_or_other}
+use Rattle.pq_shape.specs.Shapes.{shapes_of}
 use Rattle.pq_shape.specs.declared.shape.Shape.{Shape}
-use Rattle.pq_shape.specs.declared.shape.Shape.TheVariants as shape
 use Rattle.pq_def_read.specs.Definitions.{limits_of, foreign_of}
 use Rattle.pq_def_read.specs.Grammar.{cols, kind as a_kind, column, limit, foreign, a_constraint, constraints, create, Spells}
 use Rattle.pq_def_read.specs.Reading.{statement_at, read_at, statement_of}
@@ -28,66 +23,20 @@ use Rattle.pq_def_read.specs.declared.statement.Statement.{Statement}
 use Rattle.pq_def_read.specs.declared.statement.Statement.TheVariants.{Create, Prepare}
 use Rattle.pq_def_read.proofs.Statements.{statement_reads}
 use Rattle.pq_reread.proofs.Alls.{each_place}
-use Rattle.pq_reread.proofs.Names.{name_of_word}
-
--- where this is a name's shape, the name is one
-abbrev pub IsNamed : Shape → Type 0
-IsNamed s = (n : List ℕ) → s ≡ shape.Name n → IsName n
-
-abbrev pub AreNamed : List Shape → Type 0
-AreNamed shapes = AllByRecursion IsNamed shapes
-
-number_no_name : (o : Option ℤ) (n : List ℕ) → number_or_other o ≡ shape.Name n → IsName n
-number_no_name None n e = absurd cc
-number_no_name (Some z) n e = absurd cc
-
-text_no_name : (o : Option (List ℕ)) (n : List ℕ) → quoted o ≡ shape.Name n → IsName n
-text_no_name None n e = absurd cc
-text_no_name (Some t) n e = absurd cc
-
-named_kind : (k : Kind) (w : List ℕ) → IsTrue (has_form k w) → IsNamed (kind_shape k w)
-named_kind kind.Word w form n e = name_of_word w n form e
-named_kind kind.Number w form n e = number_no_name (number_of w) n e
-named_kind kind.Text w form n e = text_no_name (checked (between_quotes w)) n e
-named_kind kind.Mark w form n e = absurd cc
-named_kind kind.Other w form n e = absurd cc
-
-pub named_tokens : (text : List ℕ) (ts : List Token) → HaveForms text ts → AreNamed (shapes_of text ts)
-unfolding shape_of
-named_tokens text [] have = tt
-named_tokens text (t ∷ ts) have = (named_kind t.kind (slice_of text t) have.0, named_tokens text ts have.1)
-
-split : (a b : List Shape) → AreNamed (a ++ b) → AreNamed a × AreNamed b
-split [] b h = (tt, h)
-split (s ∷ a) b h = let parts = split a b h.1 in ((h.0, parts.0), parts.1)
-
--- the parts of two in a row
-pub both_named : (A B : List Shape → Type 0) (w : List Shape) (h : (A ⋅ B) w) → AreNamed w → AreNamed h.front × AreNamed h.back
-both_named A B w h named = split h.front h.back (subst AreNamed h.parts named)
+use Rattle.pq_query_read.proofs.Named.{IsNamed, AreNamed, named_tokens, name_gives}
+use Rattle.pq_query_read.proofs.Within.{GivesWithin, both_within, each_gives, separated_gives}
 
 -- what S spells of named shapes has this
 abbrev pub Gives : {X : Type 0} → (X → List Shape → Type 0) → (X → Type 0) → Type 0
-Gives {X} S P = (x : X) (w : List Shape) → S x w → AreNamed w → P x
+Gives S P = GivesWithin IsNamed S P
 
-pub name_gives : Gives a_name IsName
-name_gives n w h named = (subst AreNamed h named).0 n refl
-
-each_gives : {X : Type 0} (S : X → List Shape → Type 0) (P : X → Type 0) → Gives S P → Gives (each (λ x. comma ⋅ S x)) (AllByRecursion P)
-each_gives S P g [] w h named = tt
-each_gives S P g (x ∷ xs) w h named =
-    let parts = both_named (comma ⋅ S x) (each (λ y. comma ⋅ S y) xs) w h named in
-    (g x h.fits_front.back h.fits_front.fits_back (both_named comma (S x) h.front h.fits_front parts.0).1, each_gives S P g xs h.back h.fits_back parts.1)
-
-separated_gives : {X : Type 0} (S : X → List Shape → Type 0) (P : X → Type 0) → Gives S P → Gives (separated comma S) (AllByRecursion P)
-separated_gives S P g [] w h named = absurd h
-separated_gives S P g (x ∷ xs) w h named =
-    let parts = both_named (S x) (each (λ y. comma ⋅ S y) xs) w h named in
-    (g x h.front h.fits_front parts.0, each_gives S P g xs h.back h.fits_back parts.1)
+pub both_named : (A B : List Shape → Type 0) (w : List Shape) (h : (A ⋅ B) w) → AreNamed w → AreNamed h.front × AreNamed h.back
+both_named = both_within IsNamed
 
 cols_gives : Gives cols (All IsName)
 cols_gives ns w h named =
     let inner = (both_named _ _ w h named).1 in
-    each_place IsName ns (separated_gives a_name IsName name_gives ns h.fits_back.front h.fits_back.fits_front (both_named _ _ h.back h.fits_back inner).0)
+    each_place IsName ns (separated_gives IsNamed comma a_name IsName name_gives ns h.fits_back.front h.fits_back.fits_front (both_named _ _ h.back h.fits_back inner).0)
 
 kind_gives : (k : ColumnKind) (w : List Shape) → a_kind k w → IsKind k.name k.size
 kind_gives k w (inl h) = inr (inr (sym (ap (λ (x : ColumnKind). x.name) h.1)))
@@ -141,7 +90,7 @@ AreConstraints c = All IsLimitDef c.limits × All IsForeignDef c.foreign
 
 constraints_gives : Gives constraints AreConstraints
 constraints_gives c w h named =
-    let all = each_gives a_constraint IsConstraint constraint_gives h.0 w h.2 named in
+    let all = each_gives IsNamed comma a_constraint IsConstraint constraint_gives h.0 w h.2 named in
     subst AreConstraints h.1 (each_place IsLimitDef (limits_of h.0) (limits_named h.0 all), each_place IsForeignDef (foreign_of h.0) (foreign_named h.0 all))
 
 create_gives : Gives create IsTableDef
@@ -162,7 +111,7 @@ create_gives d w h named =
     let more = constraints_gives (record { limits = d.limits; foreign = d.foreign }) key.fits_back.front key.fits_back.fits_front k in
     record {
       name = name_gives d.name table.front table.fits_front c.0;
-      columns = each_place IsColumnDef d.columns (separated_gives column IsColumnDef column_gives d.columns columns.front columns.fits_front e.0);
+      columns = each_place IsColumnDef d.columns (separated_gives IsNamed comma column IsColumnDef column_gives d.columns columns.front columns.fits_front e.0);
       key = cols_gives d.key key.front key.fits_front j.0;
       limits = more.0;
       foreign = more.1;

@@ -1,16 +1,16 @@
 -- Tables that are defined one after the other are orderly.
-use Rattle.std.proofs.Common.{◌≡◌, ℕ, ◌+◌, ◌<◌, ◌≤◌, Bool, true, false, cond, not, ◌||◌, eqb, List, [], ◌∷◌, ◌++◌, length, map, Some, None, Ok, refl, sym, ap, subst, ◌∙◌, arith, append_assoc, length-append, eq-eqb, ◌⊎◌, inl, inr}
-use Rattle.std.specs.Prelude.{nat_lt, find, position, is_some, fold, All, slice_index_or}
+use Rattle.std.proofs.Common.{◌≡◌, ℕ, ◌+◌, ◌-◌, ◌<◌, ◌≤◌, Bool, true, false, cond, not, ◌||◌, eqb, List, [], ◌∷◌, ◌++◌, length, map, set, get_or, Option, Some, None, Ok, refl, sym, ap, subst, ◌∙◌, arith, append_assoc, length-append, eq-eqb, ◌⊎◌, inl, inr}
+use Rattle.std.specs.Prelude.{IfSome, nat_lt, find, position, is_some, fold, All, slice_index_or}
 use Rattle.std.specs.Option.{option_map}
 use Rattle.std.specs.List.{list_any, position_or_len, AllByRecursion}
 use Rattle.std.specs.Str.{bytes_eq}
 use Rattle.std.proofs.Math.ListN.{get_or-append}
 use Rattle.std.proofs.Math.Seq.{get_or-append_seam}
-use Rattle.std.proofs.lemmas.Bool.{lt-ltb}
+use Rattle.std.proofs.lemmas.Bool.{lt-ltb, cases_eq}
 use Rattle.std.proofs.lemmas.Bool.Decides.{nat_tests}
-use Rattle.std.proofs.lemmas.List.{length-map, map-append}
-use Rattle.std.proofs.lemmas.List.Elements.{All-append, All-nil, All-cons}
-use Rattle.std.proofs.lemmas.List.Folds.{position_or_len_push}
+use Rattle.std.proofs.lemmas.List.{length-map, map-append, length-set, get_or-set_same, get_or-set_other, get_or_default}
+use Rattle.std.proofs.lemmas.List.Elements.{All-append, All-nil, All-cons, All-set}
+use Rattle.std.proofs.lemmas.List.Folds.{position_or_len_push, position_or_len-set}
 use Rattle.std.proofs.lemmas.List.Sums.{prefix_len-le-length}
 use Rattle.std.proofs.lemmas.Slice.Eq.{bytes_eq-Decides}
 use Rattle.pq_base.specs.Columns.{set_of}
@@ -20,11 +20,16 @@ use Rattle.pq_schema.specs.declared.table.Column.{Column}
 use Rattle.pq_schema.specs.declared.table.Table.{Table}
 use Rattle.pq_schema.specs.Definitions.{column_of, is_column, is_unknown, place_of, no_column, repeated, repeated_after, refused_if, is_outside, first_repeated, definition_refusal, name_refusal, counts_refusal, columns_refusal, names_refusal, key_refusal, groups_refusal, table_refusal, bare_table, table_of_def, new_table}
 use Rattle.pq_schema.specs.Names.{IsName, IsColumnDef, IsTableDef}
-use Rattle.pq_schema.specs.Schema.{Schema, is_table, is_taken, number_of, find_query}
+use Rattle.pq_schema.specs.declared.table.NewIndex.{NewIndex}
+use Rattle.pq_schema.specs.Schema.{Schema, is_table, is_taken, number_of, find_query, with_wanted, with_new_index}
+use Rattle.pq_schema.specs.Tables.{no_table, table_at}
+use Rattle.pq_schema.specs.Valid.{IsValid}
+use Rattle.pq_schema.specs.Valid.IsValid.{empty, then_table, then_query}
+use Rattle.pq_schema.proofs.Valid.{wanted_there}
 use Rattle.pq_schema.specs.Sequences.{ascending, group_access, with_group}
-use Rattle.pq_reread.specs.Orderly.{AreApart, IsOrderly, AreOrderly}
+use Rattle.pq_reread.specs.Orderly.{AreNamedApart, IsOrderly, AreOrderly}
 use Rattle.pq_reread.proofs.Alls.{one_by_one}
-use Rattle.pq_reread.proofs.Names.{turned}
+use Rattle.pq_query_read.proofs.Names.{turned}
 use Rattle.pq_reread.proofs.Defined.{ok_is, neither_refuses, not_refused, none_mapped, not_false, inside_some, none_passes, within, place_is}
 
 -- ---- elements with different names
@@ -49,7 +54,7 @@ eqb_self n = eq-eqb n n refl
 eqb_below : (i n : ℕ) → i < n → eqb i n ≡ false
 eqb_below i n lt = grind arith
 
-push_at : {X : Type 0} (name : X → List ℕ) (xs : List X) (y : X) → AreApart name xs → position_or_len (λ x. bytes_eq (name x) (name y)) xs ≡ length xs
+push_at : {X : Type 0} (name : X → List ℕ) (xs : List X) (y : X) → AreNamedApart name xs → position_or_len (λ x. bytes_eq (name x) (name y)) xs ≡ length xs
     → (i : ℕ) (d : X) → ((i < length xs) ⊎ (i ≡ length xs)) → position_or_len (λ x. bytes_eq (name x) (name (slice_index_or (xs ++ y ∷ []) i d))) (xs ++ y ∷ []) ≡ i
 push_at {X} name xs y apart new i d (inl lt) =
     let n = name (slice_index_or xs i d) in
@@ -66,13 +71,13 @@ push_at {X} name xs y apart new i d (inr end) =
     ∙ ap (λ (b : Bool). length xs + cond b 0 1) (same_bytes (name y))
     ∙ omega (arith, end)
 
-push : {X : Type 0} (name : X → List ℕ) (xs : List X) (y : X) → AreApart name xs → position_or_len (λ x. bytes_eq (name x) (name y)) xs ≡ length xs → AreApart name (xs ++ y ∷ [])
+push : {X : Type 0} (name : X → List ℕ) (xs : List X) (y : X) → AreNamedApart name xs → position_or_len (λ x. bytes_eq (name x) (name y)) xs ≡ length xs → AreNamedApart name (xs ++ y ∷ [])
 push name xs y apart new i d lt = push_at name xs y apart new i d (below_or_end i (length xs) (omega (arith, length-append xs (y ∷ []))))
   where
     below_or_end : (i n : ℕ) → i < n + 1 → (i < n) ⊎ (i ≡ n)
     below_or_end i n lt = grind arith
 
-nil_apart : {X : Type 0} (name : X → List ℕ) → AreApart name []
+nil_apart : {X : Type 0} (name : X → List ℕ) → AreNamedApart name []
 nil_apart name i d lt = absurd (omega arith)
 
 -- ---- columns
@@ -84,8 +89,8 @@ unrepeated : (before names : List (List ℕ)) (n : List ℕ) (b : Bool) → cond
 unrepeated before names n true e = absurd cc
 unrepeated before names n false e = (refl, e)
 
-columns_apart : (before : List Column) (cs : List ColumnDef) → AreApart column_names before → repeated_after (map column_names before) (map (λ (c : ColumnDef). c.name) cs) ≡ None → AreApart column_names (before ++ map column_of cs)
-columns_apart before [] apart e = subst (AreApart column_names) (sym (nothing_behind before)) apart
+columns_apart : (before : List Column) (cs : List ColumnDef) → AreNamedApart column_names before → repeated_after (map column_names before) (map (λ (c : ColumnDef). c.name) cs) ≡ None → AreNamedApart column_names (before ++ map column_of cs)
+columns_apart before [] apart e = subst (AreNamedApart column_names) (sym (nothing_behind before)) apart
   where
     nothing_behind : {X : Type 0} (xs : List X) → xs ++ [] ≡ xs
     nothing_behind [] = refl
@@ -93,7 +98,7 @@ columns_apart before [] apart e = subst (AreApart column_names) (sym (nothing_be
 columns_apart before (c ∷ cs) apart e =
     let parts = unrepeated (map column_names before) (map (λ (d : ColumnDef). d.name) cs) c.name (list_any (bytes_eq c.name) (map column_names before)) e in
     let more = push column_names before (column_of c) apart (absent column_names c.name before parts.0) in
-    subst (AreApart column_names) (append_assoc before (column_of c ∷ []) (map column_of cs))
+    subst (AreNamedApart column_names) (append_assoc before (column_of c ∷ []) (map column_of cs))
     (columns_apart (before ++ column_of c ∷ []) cs more (ap (λ (v : List (List ℕ)). repeated_after v (map (λ (d : ColumnDef). d.name) cs)) (map-append column_names before (column_of c ∷ [])) ∙ parts.1))
 
 named_columns : (cs : List ColumnDef) → AllByRecursion IsColumnDef cs → AllByRecursion (λ (column : Column). IsName column.name) (map column_of cs)
@@ -180,12 +185,61 @@ table_orderly schema def table are is e =
     one_more schema.tables table are (subst IsOrderly made.1 (groups_orderly groups (bare_table schema def) (bare_orderly schema def is made.0)))
     (ap (λ (n : List ℕ). position_or_len (is_table n) schema.tables) name ∙ free_name schema def.name free)
 
+-- an index more leaves the names
+module _ (tables : List Table) (new : NewIndex) (one : 1 ≤ new.table) (there : new.table ≤ length tables) (are : AreOrderly tables) where
+  indexed : Table
+  indexed = with_new_index (table_at tables new.table) new.index
+
+  indexed_orderly : IsOrderly indexed
+  unfolding indexed
+  indexed_orderly =
+      let is = are.each (new.table - 1) no_table (omega arith) in
+      record { name = is.name; columns = is.columns; apart = is.apart; some_key = is.some_key; short_key = is.short_key; key = is.key }
+
+  after : List Table
+  after = set tables (new.table - 1) indexed
+
+  name_kept : (k : ℕ) (d : Table) → k < length tables → (get_or after k d).name ≡ (get_or tables k d).name
+  unfolding indexed after
+  name_kept k d lt =
+      elim (cases_eq k (new.table - 1)) [
+        | inl same ↦
+            ap (λ n. (get_or after n d).name) same
+            ∙ ap (λ (t : Table). t.name) (get_or-set_same tables (new.table - 1) indexed d (omega arith))
+            ∙ ap (λ (t : Table). t.name) (get_or_default tables (new.table - 1) no_table d (omega arith))
+            ∙ ap (λ n. (get_or tables n d).name) (sym same)
+        | inr other ↦ ap (λ (t : Table). t.name) (get_or-set_other tables (new.table - 1) k indexed d other)
+      ]
+
+  after_orderly : AreOrderly after
+  unfolding indexed after
+  after_orderly = record {
+    each = All-set IsOrderly tables (new.table - 1) indexed indexed_orderly are.each;
+    apart = λ k d lt.
+        let within : k < length tables = omega (arith, length-set tables (new.table - 1) indexed) in
+        ap (λ n. position_or_len (λ (t : Table). bytes_eq t.name n) after) (name_kept k d within)
+        ∙ position_or_len-set (λ (t : Table). bytes_eq t.name (get_or tables k d).name) tables (new.table - 1) indexed no_table refl
+        ∙ are.apart k d within;
+  }
+
+wanted_orderly : (tables : List Table) (wanted : Option NewIndex) → IfSome wanted (λ new. (1 ≤ new.table) × (new.table ≤ length tables)) → AreOrderly tables → AreOrderly (with_wanted tables wanted)
+unfolding indexed after
+wanted_orderly tables None there are = are
+wanted_orderly tables (Some new) there are = after_orderly tables new there.0 there.1 are
+
+-- the tables of a valid schema are orderly
+pub valid_orderly : {schema : Schema} → IsValid schema → AreOrderly schema.tables
+valid_orderly empty = none_orderly
+valid_orderly (then_table schema def table valid is made) = table_orderly schema def table (valid_orderly valid) is made
+valid_orderly (then_query schema query wanted valid d) =
+    wanted_orderly schema.tables wanted (wanted_there schema.tables query wanted d.resolved d.chosen) (valid_orderly valid)
+
 pub keys_of : (tables : List Table) → AreOrderly tables → All (λ (table : Table). 0 < length table.key) tables
 keys_of tables are k d lt = (are.each k d lt).some_key
 
 -- ---- what is found by its name
 
-found_at : {X : Type 0} (p : X → Bool) (xs : List X) (i : ℕ) → position_or_len p xs ≡ i → i < length xs → position p xs ≡ Some i
+pub found_at : {X : Type 0} (p : X → Bool) (xs : List X) (i : ℕ) → position_or_len p xs ≡ i → i < length xs → position p xs ≡ Some i
 found_at p xs i e lt =
     let within : nat_lt (position_or_len p xs) (length xs) ≡ true = lt-ltb _ _ (omega (arith, e)) in
     rw within (ap (λ (k : ℕ). Some k) e)

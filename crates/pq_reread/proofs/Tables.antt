@@ -20,8 +20,8 @@ use Rattle.pq_schema.specs.declared.table.Foreign.{Foreign}
 use Rattle.pq_schema.specs.declared.table.Table.{Table}
 use Rattle.pq_grammar.specs.Language.{◌⋅◌, each}
 use Rattle.pq_grammar.proofs.Lists.{regroup}
+use Rattle.pq_text.specs.Bytes.{is_digit, is_word_byte}
 use Rattle.pq_text.specs.Tokens.{tokens_of}
-use Rattle.pq_shape.specs.Shapes.{place_of, word_shape}
 use Rattle.pq_shape.specs.Parts.{comma, name as a_name, number}
 use Rattle.pq_shape.specs.declared.keyword.TheConstants.{BOOL, CARDINALITY, CREATE, FOREIGN, INT, KEY, LIMIT, PRIMARY, REFERENCES, TABLE, TEXT}
 use Rattle.pq_shape.specs.declared.shape.Shape.{Shape}
@@ -36,71 +36,29 @@ use Rattle.pq_def_read.specs.declared.statement.Statement.TheVariants.{Create}
 use Rattle.pq_print.specs.Lists.{each_after, separated as separated_texts}
 use Rattle.pq_print.specs.Canonical.{column_name, type_text, column_text, columns_text, limit_text, foreign_text, items_text, table_text}
 use Rattle.pq_reread.specs.Said.{Pairwise, SaysColumn, SaysColumns, SaysLimit, SaysForeign, Says}
+use Rattle.pq_reread.specs.Printed.{joins_none}
 use Rattle.pq_reread.proofs.Alls.{one_by_one}
+use Rattle.pq_reread.proofs.Keywords.{keyword_prints}
 use Rattle.pq_reread.proofs.Prints.{Prints, join, respelled, space, spaced, looser, mark_prints, word_prints, number_prints, each_prints, separated_prints, whole, whole_utf8}
-use Rattle.pq_reread.proofs.Names.{name_is_word, word_is_name}
+use Rattle.pq_query_read.proofs.Names.{name_is_word, word_is_name}
 use Rattle.pq_reread.proofs.Named.{statement_spelled}
 
-pub name_prints : (n : List ℕ) → IsName n → Prints (a_name n) false n true
+pub name_prints : (n : List ℕ) → IsName n → Prints (a_name n) joins_none n is_word_byte
 name_prints n is = word_prints n (shape.Name n) (name_is_word n is) (word_is_name n is)
-
-bool_word : word_shape (codes "BOOL") ≡ shape.Keyword BOOL
-unfolding place_of
-bool_word = refl
-
-cardinality_word : word_shape (codes "CARDINALITY") ≡ shape.Keyword CARDINALITY
-unfolding place_of
-cardinality_word = refl
-
-create_word : word_shape (codes "CREATE") ≡ shape.Keyword CREATE
-unfolding place_of
-create_word = refl
-
-foreign_word : word_shape (codes "FOREIGN") ≡ shape.Keyword FOREIGN
-unfolding place_of
-foreign_word = refl
-
-int_word : word_shape (codes "INT") ≡ shape.Keyword INT
-unfolding place_of
-int_word = refl
-
-key_word : word_shape (codes "KEY") ≡ shape.Keyword KEY
-unfolding place_of
-key_word = refl
-
-limit_word : word_shape (codes "LIMIT") ≡ shape.Keyword LIMIT
-unfolding place_of
-limit_word = refl
-
-primary_word : word_shape (codes "PRIMARY") ≡ shape.Keyword PRIMARY
-unfolding place_of
-primary_word = refl
-
-references_word : word_shape (codes "REFERENCES") ≡ shape.Keyword REFERENCES
-unfolding place_of
-references_word = refl
-
-table_word : word_shape (codes "TABLE") ≡ shape.Keyword TABLE
-unfolding place_of
-table_word = refl
-
-text_word : word_shape (codes "TEXT") ≡ shape.Keyword TEXT
-unfolding place_of
-text_word = refl
 
 -- ---- columns
 
-int_prints : Prints (a_kind int_kind) false (codes "INT") true
-int_prints = respelled (λ w h. inr (inl (refl, h))) (word_prints (codes "INT") (shape.Keyword INT) refl int_word)
+int_prints : Prints (a_kind int_kind) joins_none (codes "INT") is_word_byte
+int_prints = respelled (λ w h. inr (inl (refl, h))) (keyword_prints INT refl)
 
-bool_prints : Prints (a_kind bool_kind) false (codes "BOOL") true
-bool_prints = respelled (λ w h. inr (inr (refl, h))) (word_prints (codes "BOOL") (shape.Keyword BOOL) refl bool_word)
+bool_prints : Prints (a_kind bool_kind) joins_none (codes "BOOL") is_word_byte
+bool_prints = respelled (λ w h. inr (inr (refl, h))) (keyword_prints BOOL refl)
 
-text_prints : (n : ℕ) → n < 2 ^ 63 → Prints (a_kind (text_kind (pos n))) false (codes "TEXT(" ++ decimal n ++ codes ")") true
+text_prints : (n : ℕ) → n < 2 ^ 63 → Prints (a_kind (text_kind (pos n))) joins_none (codes "TEXT(" ++ decimal n ++ codes ")") is_word_byte
 text_prints n small =
-    let sized : Prints (sized_text (pos n)) false (codes "TEXT" ++ ((40 ∷ []) ++ (decimal n ++ (41 ∷ [])))) false =
-    join (word_prints (codes "TEXT") (shape.Keyword TEXT) refl text_word) (join (mark_prints 40 true refl refl refl) (join (number_prints n small) (mark_prints 41 true refl refl refl))) in
-    looser true (respelled (λ w h. inl (pos n, refl, h)) sized)
+    let sized : Prints (sized_text (pos n)) joins_none (codes "TEXT" ++ ((40 ∷ []) ++ (decimal n ++ (41 ∷ [])))) joins_none =
+    join (keyword_prints TEXT refl) (join (mark_prints 40 is_word_byte refl refl) (join (number_prints n small) (mark_prints 41 is_digit refl refl))) in
+    looser is_word_byte (λ b may. refl) (respelled (λ w h. inl (pos n, refl, h)) sized)
 
 pub size_is : (z : ℤ) → is_some (option_map type.Text (text_size z)) ≡ true → (n : ℕ) × (z ≡ pos n) × (n < 2 ^ 63) × (text_size z ≡ Some n)
 size_is (negsuc n) e = absurd cc
@@ -116,27 +74,27 @@ kind_column kind size = record { name = []; kind = kind; size = size }
 
 -- how a kind prints, where it has a type
 abbrev KindPrints : List ℕ → ℤ → Type 0
-KindPrints kind size = has_type (kind_column kind size) ≡ true → Prints (a_kind (record { name = kind; size = size })) false (type_text (unwrap_or (type_of (kind_column kind size)) type.Int)) true
+KindPrints kind size = has_type (kind_column kind size) ≡ true → Prints (a_kind (record { name = kind; size = size })) joins_none (type_text (unwrap_or (type_of (kind_column kind size)) type.Int)) is_word_byte
 
 text_kind_prints : (size : ℤ) → KindPrints (codes "TEXT") size
 text_kind_prints size typed =
     let n = size_is size typed in
-    subst (λ (z : ℤ). Prints (a_kind (record { name = codes "TEXT"; size = z })) false (type_text (unwrap_or (option_map type.Text (text_size size)) type.Int)) true) (sym n.1)
-    (subst (λ (o : Option ℕ). Prints (a_kind (text_kind (pos n.0))) false (type_text (unwrap_or (option_map type.Text o) type.Int)) true) (sym n.3) (text_prints n.0 n.2))
+    subst (λ (z : ℤ). Prints (a_kind (record { name = codes "TEXT"; size = z })) joins_none (type_text (unwrap_or (option_map type.Text (text_size size)) type.Int)) is_word_byte) (sym n.1)
+    (subst (λ (o : Option ℕ). Prints (a_kind (text_kind (pos n.0))) joins_none (type_text (unwrap_or (option_map type.Text o) type.Int)) is_word_byte) (sym n.3) (text_prints n.0 n.2))
 
 kind_prints : (kind : List ℕ) (size : ℤ) → IsKind kind size → KindPrints kind size
 kind_prints kind size (inl h) = subst (λ (k : List ℕ). KindPrints k size) (sym h.0) (subst (λ (z : ℤ). KindPrints (codes "INT") z) (sym h.1) (λ typed. int_prints))
 kind_prints kind size (inr (inl h)) = subst (λ (k : List ℕ). KindPrints k size) (sym h.0) (subst (λ (z : ℤ). KindPrints (codes "BOOL") z) (sym h.1) (λ typed. bool_prints))
 kind_prints kind size (inr (inr h)) = subst (λ (k : List ℕ). KindPrints k size) (sym h) (text_kind_prints size)
 
-column_prints : (c : ColumnDef) (printed : Column) → IsColumnDef c → SaysColumn c printed → Prints (column c) false (column_text printed) true
+column_prints : (c : ColumnDef) (printed : Column) → IsColumnDef c → SaysColumn c printed → Prints (column c) joins_none (column_text printed) is_word_byte
 unfolding column_text
 column_prints c printed is says =
-    subst (λ (x : Column). Prints (column c) false (column_text x) true) (sym says.column)
-    (subst (λ (v : List ℕ). Prints (column c) false v true) (sym (append_assoc c.name (codes " ") (type_text (column_of c).ty)))
-    (join (name_prints c.name is.name) (space true (kind_prints c.kind c.size is.kind says.typed))))
+    subst (λ (x : Column). Prints (column c) joins_none (column_text x) is_word_byte) (sym says.column)
+    (subst (λ (v : List ℕ). Prints (column c) joins_none v is_word_byte) (sym (append_assoc c.name (codes " ") (type_text (column_of c).ty)))
+    (join (name_prints c.name is.name) (space is_word_byte refl (kind_prints c.kind c.size is.kind says.typed))))
 
-columns_print : (cs : List ColumnDef) (printed : List Column) → AllByRecursion IsColumnDef cs → Pairwise SaysColumn cs printed → Pairwise (λ c p. Prints (column c) false (column_text p) true) cs printed
+columns_print : (cs : List ColumnDef) (printed : List Column) → AllByRecursion IsColumnDef cs → Pairwise SaysColumn cs printed → Pairwise (λ c p. Prints (column c) joins_none (column_text p) is_word_byte) cs printed
 columns_print [] [] are says = tt
 columns_print [] (p ∷ ps) are says = absurd says
 columns_print (c ∷ cs) [] are says = absurd says
@@ -144,54 +102,54 @@ columns_print (c ∷ cs) (p ∷ ps) are says = (column_prints c p are.0 says.0, 
 
 -- ---- columns by their names
 
-pub comma_prints : Prints comma true (codes ", ") false
-comma_prints = spaced (mark_prints 44 true refl refl refl)
+pub comma_prints : Prints comma is_word_byte (codes ", ") joins_none
+comma_prints = spaced refl (mark_prints 44 is_word_byte refl refl)
 
 names_print : (columns : List Column) (names : List (List ℕ)) (places : List ℕ) → AllByRecursion IsName names → Pairwise (λ name col. column_name columns col ≡ name) names places
-    → Pairwise (λ name col. Prints (a_name name) false (column_name columns col) true) names places
+    → Pairwise (λ name col. Prints (a_name name) joins_none (column_name columns col) is_word_byte) names places
 names_print columns [] [] are says = tt
 names_print columns [] (p ∷ ps) are says = absurd says
 names_print columns (n ∷ ns) [] are says = absurd says
 names_print columns (n ∷ ns) (p ∷ ps) are says =
-    (subst (λ (v : List ℕ). Prints (a_name n) false v true) (sym says.0) (name_prints n are.0), names_print columns ns ps are.1 says.1)
+    (subst (λ (v : List ℕ). Prints (a_name n) joins_none v is_word_byte) (sym says.0) (name_prints n are.0), names_print columns ns ps are.1 says.1)
 
-cols_prints : (table : Table) (names : List (List ℕ)) (places : List ℕ) (t : Bool) → All IsName names → SaysColumns table.columns names places → Prints (cols names) t (columns_text table places) false
+cols_prints : (table : Table) (names : List (List ℕ)) (places : List ℕ) → All IsName names → SaysColumns table.columns names places → Prints (cols names) joins_none (columns_text table.columns places) joins_none
 unfolding columns_text
-cols_prints table names places t are says =
-    join (mark_prints 40 t refl refl refl)
-    (join (separated_prints comma (codes ", ") a_name (column_name table.columns) true comma_prints names places says.some (names_print table.columns names places (one_by_one IsName names are) says.names))
-    (mark_prints 41 true refl refl refl))
+cols_prints table names places are says =
+    join (mark_prints 40 joins_none refl refl)
+    (join (separated_prints comma (codes ", ") a_name (column_name table.columns) is_word_byte comma_prints names places says.some (names_print table.columns names places (one_by_one IsName names are) says.names))
+    (mark_prints 41 is_word_byte refl refl))
 
 -- ---- limits and foreign keys
 
-limit_prints : (table : Table) (l : LimitDef) (printed : Limit) → IsLimitDef l → SaysLimit table.columns l printed → Prints (limit l) false (limit_text table printed) true
+limit_prints : (table : Table) (l : LimitDef) (printed : Limit) → IsLimitDef l → SaysLimit table.columns l printed → Prints (limit l) joins_none (limit_text table.columns printed) is_word_byte
 unfolding limit_text
 limit_prints table l printed are says =
-    let number : Prints (number l.n) false (decimal printed.n) true = subst (λ (z : ℤ). Prints (number z) false (decimal printed.n) true) (sym says.n) (number_prints printed.n says.small) in
-    subst (λ (v : List ℕ). Prints (limit l) false v true) (ap (λ (v : List ℕ). codes "CARDINALITY LIMIT " ++ v) (sym (append_assoc (decimal printed.n) (codes " ") (columns_text table printed.cols))))
-    (join (word_prints (codes "CARDINALITY") (shape.Keyword CARDINALITY) refl cardinality_word)
-    (space true (join (word_prints (codes "LIMIT") (shape.Keyword LIMIT) refl limit_word)
-    (space true (join number (space true (looser true (cols_prints table l.cols printed.cols false are says.cols))))))))
+    let number : Prints (number l.n) joins_none (decimal printed.n) is_digit = subst (λ (z : ℤ). Prints (number z) joins_none (decimal printed.n) is_digit) (sym says.n) (number_prints printed.n says.small) in
+    subst (λ (v : List ℕ). Prints (limit l) joins_none v is_word_byte) (ap (λ (v : List ℕ). codes "CARDINALITY LIMIT " ++ v) (sym (append_assoc (decimal printed.n) (codes " ") (columns_text table.columns printed.cols))))
+    (join (keyword_prints CARDINALITY refl)
+    (space is_word_byte refl (join (keyword_prints LIMIT refl)
+    (space is_word_byte refl (join number (space is_digit refl (looser is_word_byte (λ b may. refl) (cols_prints table l.cols printed.cols are says.cols))))))))
 
-foreign_prints : (tables : List Table) (table : Table) (f : ForeignDef) (printed : Foreign) → IsForeignDef f → SaysForeign tables table.columns f printed → Prints (foreign f) false (foreign_text tables table printed) true
+foreign_prints : (tables : List Table) (table : Table) (f : ForeignDef) (printed : Foreign) → IsForeignDef f → SaysForeign tables table.columns f printed → Prints (foreign f) joins_none (foreign_text tables table.columns printed) is_word_byte
 unfolding foreign_text
 foreign_prints tables table f printed are says =
-    subst (λ (v : List ℕ). Prints (foreign f) false v true) (ap (λ (v : List ℕ). codes "FOREIGN KEY " ++ v) (sym (append_assoc (columns_text table printed.cols) (codes " REFERENCES ") (table_at tables printed.table).name)))
-    (join (word_prints (codes "FOREIGN") (shape.Keyword FOREIGN) refl foreign_word)
-    (space true (join (word_prints (codes "KEY") (shape.Keyword KEY) refl key_word)
-    (space true (join (cols_prints table f.cols printed.cols false are.cols says.cols)
-    (space false (join (word_prints (codes "REFERENCES") (shape.Keyword REFERENCES) refl references_word)
-    (space true (subst (λ (v : List ℕ). Prints (a_name f.table) false v true) (sym says.table) (name_prints f.table are.table))))))))))
+    subst (λ (v : List ℕ). Prints (foreign f) joins_none v is_word_byte) (ap (λ (v : List ℕ). codes "FOREIGN KEY " ++ v) (sym (append_assoc (columns_text table.columns printed.cols) (codes " REFERENCES ") (table_at tables printed.table).name)))
+    (join (keyword_prints FOREIGN refl)
+    (space is_word_byte refl (join (keyword_prints KEY refl)
+    (space is_word_byte refl (join (cols_prints table f.cols printed.cols are.cols says.cols)
+    (space joins_none refl (join (keyword_prints REFERENCES refl)
+    (space is_word_byte refl (subst (λ (v : List ℕ). Prints (a_name f.table) joins_none v is_word_byte) (sym says.table) (name_prints f.table are.table))))))))))
 
 limits_print : (table : Table) (ls : List LimitDef) (printed : List Limit) → AllByRecursion IsLimitDef ls → Pairwise (SaysLimit table.columns) ls printed
-    → Pairwise (λ c p. Prints (a_constraint c) false (limit_text table p) true) (map (λ l. constraint.Limit l) ls) printed
+    → Pairwise (λ c p. Prints (a_constraint c) joins_none (limit_text table.columns p) is_word_byte) (map (λ l. constraint.Limit l) ls) printed
 limits_print table [] [] are says = tt
 limits_print table [] (p ∷ ps) are says = absurd says
 limits_print table (l ∷ ls) [] are says = absurd says
 limits_print table (l ∷ ls) (p ∷ ps) are says = (limit_prints table l p are.0 says.0, limits_print table ls ps are.1 says.1)
 
 foreign_print : (tables : List Table) (table : Table) (fs : List ForeignDef) (printed : List Foreign) → AllByRecursion IsForeignDef fs → Pairwise (SaysForeign tables table.columns) fs printed
-    → Pairwise (λ c p. Prints (a_constraint c) false (foreign_text tables table p) true) (map (λ f. constraint.Foreign f) fs) printed
+    → Pairwise (λ c p. Prints (a_constraint c) joins_none (foreign_text tables table.columns p) is_word_byte) (map (λ f. constraint.Foreign f) fs) printed
 foreign_print tables table [] [] are says = tt
 foreign_print tables table [] (p ∷ ps) are says = absurd says
 foreign_print tables table (f ∷ fs) [] are says = absurd says
@@ -222,44 +180,44 @@ same_parts : (ls ms : List LimitDef) (fs gs : List ForeignDef) → ls ≡ ms →
 same_parts ls ms fs gs e f = cc
 
 constraints_print : (tables : List Table) (def : TableDef) (table : Table) → IsTableDef def → Says tables def table
-    → Prints (constraints (record { limits = def.limits; foreign = def.foreign })) true (each_after (codes ", ") (limit_text table) table.limits ++ each_after (codes ", ") (foreign_text tables table) table.foreign) true
+    → Prints (constraints (record { limits = def.limits; foreign = def.foreign })) is_word_byte (each_after (codes ", ") (limit_text table.columns) table.limits ++ each_after (codes ", ") (foreign_text tables table.columns) table.foreign) is_word_byte
 constraints_print tables def table is says =
     let ls = map (λ (l : LimitDef). constraint.Limit l) def.limits in
     let fs = map (λ (f : ForeignDef). constraint.Foreign f) def.foreign in
     respelled
     (λ w h. (items_of def.limits def.foreign, same_parts _ _ _ _ (limits_back def.limits def.foreign) (foreign_back def.limits def.foreign), each_append (λ c. comma ⋅ a_constraint c) ls fs w h))
-    (join (each_prints comma (codes ", ") a_constraint (limit_text table) true comma_prints ls table.limits (limits_print table def.limits table.limits (one_by_one IsLimitDef def.limits is.limits) says.limits))
-    (each_prints comma (codes ", ") a_constraint (foreign_text tables table) true comma_prints fs table.foreign (foreign_print tables table def.foreign table.foreign (one_by_one IsForeignDef def.foreign is.foreign) says.foreign)))
+    (join (each_prints comma (codes ", ") a_constraint (limit_text table.columns) is_word_byte comma_prints ls table.limits (limits_print table def.limits table.limits (one_by_one IsLimitDef def.limits is.limits) says.limits))
+    (each_prints comma (codes ", ") a_constraint (foreign_text tables table.columns) is_word_byte comma_prints fs table.foreign (foreign_print tables table def.foreign table.foreign (one_by_one IsForeignDef def.foreign is.foreign) says.foreign)))
 
 -- ---- the whole text
 
 regrouped : (a b c d e f g h i : List ℕ) → ((((a ++ b) ++ c) ++ ((((d ++ e) ++ f) ++ g) ++ h)) ++ i) ≡ a ++ (b ++ (c ++ (d ++ (e ++ (f ++ ((g ++ h) ++ i))))))
 regrouped a b c d e f g h i = simp append_assoc
 
-create_prints : (tables : List Table) (def : TableDef) (table : Table) → IsTableDef def → Says tables def table → Prints (create def) false (table_text tables table) false
+create_prints : (tables : List Table) (def : TableDef) (table : Table) → IsTableDef def → Says tables def table → Prints (create def) joins_none (table_text tables table) joins_none
 unfolding table_text items_text
 create_prints tables def table is says =
     let columns = separated_texts (codes ", ") column_text table.columns in
-    let key = columns_text table table.key in
-    let limits = each_after (codes ", ") (limit_text table) table.limits in
-    let foreign = each_after (codes ", ") (foreign_text tables table) table.foreign in
-    subst (λ (v : List ℕ). Prints (create def) false v false) (sym (regrouped (codes "CREATE TABLE ") table.name (codes " (") columns (codes ", PRIMARY KEY ") key limits foreign (codes ");")))
-    (join (word_prints (codes "CREATE") (shape.Keyword CREATE) refl create_word)
-    (space true (join (word_prints (codes "TABLE") (shape.Keyword TABLE) refl table_word)
-    (space true (join (subst (λ (v : List ℕ). Prints (a_name def.name) false v true) (sym says.name) (name_prints def.name is.name))
-    (space true (join (mark_prints 40 false refl refl refl)
-    (join (separated_prints comma (codes ", ") column column_text true comma_prints def.columns table.columns says.some (columns_print def.columns table.columns (one_by_one IsColumnDef def.columns is.columns) says.columns))
-    (join (mark_prints 44 true refl refl refl)
-    (space false (join (word_prints (codes "PRIMARY") (shape.Keyword PRIMARY) refl primary_word)
-    (space true (join (word_prints (codes "KEY") (shape.Keyword KEY) refl key_word)
-    (space true (join (looser true (cols_prints table def.key table.key false is.key says.key))
+    let key = columns_text table.columns table.key in
+    let limits = each_after (codes ", ") (limit_text table.columns) table.limits in
+    let foreign = each_after (codes ", ") (foreign_text tables table.columns) table.foreign in
+    subst (λ (v : List ℕ). Prints (create def) joins_none v joins_none) (sym (regrouped (codes "CREATE TABLE ") table.name (codes " (") columns (codes ", PRIMARY KEY ") key limits foreign (codes ");")))
+    (join (keyword_prints CREATE refl)
+    (space is_word_byte refl (join (keyword_prints TABLE refl)
+    (space is_word_byte refl (join (subst (λ (v : List ℕ). Prints (a_name def.name) joins_none v is_word_byte) (sym says.name) (name_prints def.name is.name))
+    (space is_word_byte refl (join (mark_prints 40 joins_none refl refl)
+    (join (separated_prints comma (codes ", ") column column_text is_word_byte comma_prints def.columns table.columns says.some (columns_print def.columns table.columns (one_by_one IsColumnDef def.columns is.columns) says.columns))
+    (join (mark_prints 44 is_word_byte refl refl)
+    (space joins_none refl (join (keyword_prints PRIMARY refl)
+    (space is_word_byte refl (join (keyword_prints KEY refl)
+    (space is_word_byte refl (join (looser is_word_byte (λ b may. refl) (cols_prints table def.key table.key is.key says.key))
     (join (constraints_print tables def table is says)
-    (join (mark_prints 41 true refl refl refl) (mark_prints 59 false refl refl refl))))))))))))))))))
+    (join (mark_prints 41 is_word_byte refl refl) (mark_prints 59 joins_none refl refl))))))))))))))))))
 
 pub table_reads : (tables : List Table) (def : TableDef) (table : Table) → IsTableDef def → Says tables def table → statement_of (table_text tables table) (tokens_of (table_text tables table)) ≡ Ok (Create def)
 table_reads tables def table is says =
     let text = table_text tables table in
-    statement_spelled text (tokens_of text) (Create def) (whole (create def) text false (create_prints tables def table is says))
+    statement_spelled text (tokens_of text) (Create def) (whole (create def) text joins_none (create_prints tables def table is says))
 
 pub table_utf8 : (tables : List Table) (def : TableDef) (table : Table) → IsTableDef def → Says tables def table → is_utf8 (table_text tables table) ≡ true
-table_utf8 tables def table is says = whole_utf8 (create def) (table_text tables table) false (create_prints tables def table is says)
+table_utf8 tables def table is says = whole_utf8 (create def) (table_text tables table) joins_none (create_prints tables def table is says)

@@ -1,4 +1,6 @@
 pub mod Printed
 pub mod Said
-pub mod KeyText
+pub mod SaidQuery
 pub mod Orderly
+pub mod WholeStatements
+pub mod ReadBack

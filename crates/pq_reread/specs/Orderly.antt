@@ -7,14 +7,14 @@ use Rattle.pq_schema.specs.declared.table.Table.{Table}
 use Rattle.pq_schema.specs.Names.{IsName}
 
 -- the first that has the name of an element is this element
-abbrev pub AreApart : {X : Type 0} → (X → List ℕ) → List X → Type 0
-AreApart {X} name xs = (i : ℕ) (d : X) → i < length xs → position_or_len (λ x. bytes_eq (name x) (name (slice_index_or xs i d))) xs ≡ i
+abbrev pub AreNamedApart : {X : Type 0} → (X → List ℕ) → List X → Type 0
+AreNamedApart {X} name xs = (i : ℕ) (d : X) → i < length xs → position_or_len (λ x. bytes_eq (name x) (name (slice_index_or xs i d))) xs ≡ i
 
 -- its columns have names, all different, and its key has one to four of them
 pub record IsOrderly (table : Table) : Type 0 where
   pub name : IsName table.name
   pub columns : AllByRecursion (λ (column : Column). IsName column.name) table.columns
-  pub apart : AreApart (λ (column : Column). column.name) table.columns
+  pub apart : AreNamedApart (λ (column : Column). column.name) table.columns
   pub some_key : 0 < length table.key
   pub short_key : length table.key ≤ 4
   pub key : AllByRecursion (λ col. col < length table.columns) table.key
@@ -22,4 +22,4 @@ pub record IsOrderly (table : Table) : Type 0 where
 -- and the names of the tables are all different
 pub record AreOrderly (tables : List Table) : Type 0 where
   pub each : All IsOrderly tables
-  pub apart : AreApart (λ (table : Table). table.name) tables
+  pub apart : AreNamedApart (λ (table : Table). table.name) tables

@@ -1,28 +1,33 @@
 -- Printed texts, piece by piece, and the shapes of their tokens.
-use Rattle.std.specs.Prelude.{◌≡◌, ℕ, pos, ◌^◌, ◌<◌, ◌==◌, true, false, Bool, List, [], ◌∷◌, flat_map}
-use Rattle.std.specs.Fmt.{decimal}
-use Rattle.pq_text.specs.Bytes.{is_mark}
-use Rattle.pq_text.specs.Forms.{is_word}
-use Rattle.pq_shape.specs.Shapes.{word_shape}
+use Rattle.std.specs.Prelude.{◌≡◌, ℕ, ℤ, ◌==◌, true, false, Bool, List, [], ◌∷◌, flat_map, FitsSigned, IsUtf8}
+use Rattle.std.specs.Int.{w64}
+use Rattle.std.specs.Fmt.{signed_decimal}
+use Rattle.pq_text.specs.Bytes.{next_is, is_digit, is_word_byte, is_double_mark}
+use Rattle.pq_text.specs.Forms.{is_word, is_whole_mark}
+use Rattle.pq_shape.specs.Shapes.{word_shape, mark_code}
 use Rattle.pq_shape.specs.declared.shape.Shape.{Shape}
 use Rattle.pq_shape.specs.declared.shape.Shape.TheVariants as shape
+use Rattle.pq_print.specs.Values.{quoted}
 
 pub data Piece : Type 0 where
   Word : List ℕ → Piece
-  Number : ℕ → Piece
-  Mark : ℕ → Piece
+  Number : ℤ → Piece
+  Text : List ℕ → Piece
+  Mark : List ℕ → Piece
   Space : Piece
 
 abbrev pub piece_text : Piece → List ℕ
 piece_text (Word w) = w
-piece_text (Number n) = decimal n
-piece_text (Mark b) = b ∷ []
+piece_text (Number z) = signed_decimal z
+piece_text (Text t) = quoted t
+piece_text (Mark m) = m
 piece_text Space = 32 ∷ []
 
 abbrev pub piece_shapes : Piece → List Shape
 piece_shapes (Word w) = word_shape w ∷ []
-piece_shapes (Number n) = shape.Number (pos n) ∷ []
-piece_shapes (Mark b) = shape.Mark b ∷ []
+piece_shapes (Number z) = shape.Number z ∷ []
+piece_shapes (Text t) = shape.Text t ∷ []
+piece_shapes (Mark m) = shape.Mark (mark_code m) ∷ []
 piece_shapes Space = []
 
 abbrev pub printed : List Piece → List ℕ
@@ -31,11 +36,36 @@ printed pieces = flat_map piece_text pieces
 abbrev pub shapes_printed : List Piece → List Shape
 shapes_printed pieces = flat_map piece_shapes pieces
 
--- It is a word, a number of 63 bits, or a mark that begins no mark of two bytes; and no word or number stands
--- right behind another, of which the flag tells.
-abbrev pub ArePieces : Bool → List Piece → Type 0
-ArePieces touches [] = Unit {0}
-ArePieces touches (Word w ∷ pieces) = (touches ≡ false) × (is_word w ≡ true) × ArePieces true pieces
-ArePieces touches (Number n ∷ pieces) = (touches ≡ false) × (n < 2 ^ 63) × ArePieces true pieces
-ArePieces touches (Mark b ∷ pieces) = (is_mark b ≡ true) × ((b == 60) ≡ false) × ((b == 62) ≡ false) × ArePieces false pieces
-ArePieces touches (Space ∷ pieces) = ArePieces false pieces
+-- no byte
+abbrev pub joins_none : ℕ → Bool
+joins_none b = false
+
+abbrev pub is_quote : ℕ → Bool
+is_quote b = b == 39
+
+-- the bytes that make a mark of one byte one of two
+abbrev pub joins_mark : List ℕ → ℕ → Bool
+joins_mark [] b = false
+joins_mark (a ∷ []) b = is_double_mark a b
+joins_mark (a ∷ c ∷ m) b = false
+
+-- the bytes that would join the piece, right behind it
+abbrev pub joins : Piece → ℕ → Bool
+joins (Word w) b = is_word_byte b
+joins (Number z) b = is_digit b
+joins (Text t) b = is_quote b
+joins (Mark m) b = joins_mark m b
+joins Space b = false
+
+-- a word, a number of 64 bits, a text of UTF-8 bytes, a mark or a space
+abbrev pub IsPiece : Piece → Type 0
+IsPiece (Word w) = is_word w ≡ true
+IsPiece (Number z) = FitsSigned w64 z
+IsPiece (Text t) = IsUtf8 t
+IsPiece (Mark m) = is_whole_mark m ≡ true
+IsPiece Space = Unit {0}
+
+-- pieces, of which none joins the one before it; these bytes would join what stands before the first
+abbrev pub ArePieces : (ℕ → Bool) → List Piece → Type 0
+ArePieces before [] = Unit {0}
+ArePieces before (piece ∷ pieces) = IsPiece piece × (next_is before (piece_text piece) ≡ false) × ArePieces (joins piece) pieces

@@ -1,5 +1,5 @@
 //! What the definitions promise by themselves: each law is the contract of a call that does nothing.
-ghost use Rattle.std.specs.Prelude.{◌≡◌, ◌<◌, ◌≤◌, ◌∷◌, ◌++◌, ℕ, List, [], All, Ok, drop, length, true, false};
+ghost use Rattle.std.specs.Prelude.{◌≡◌, ◌<◌, ◌≤◌, ◌∷◌, ◌++◌, ◌-◌, ℕ, List, [], All, Ok, Err, length, true};
 ghost use Rattle.std.specs.Str.{is_utf8};
 ghost use Rattle.pq_schema.specs.declared.definition.TableDef.{TableDef};
 ghost use Rattle.pq_schema.specs.declared.query.Query.{Query};
@@ -7,15 +7,19 @@ ghost use Rattle.pq_schema.specs.declared.table.Table.{Table};
 ghost use Rattle.pq_schema.specs.Definitions.{new_table};
 ghost use Rattle.pq_schema.specs.Names.{IsName, IsTableDef};
 ghost use Rattle.pq_schema.specs.Schema.{Schema};
+ghost use Rattle.pq_schema.specs.Valid.{IsValid};
+ghost use Rattle.pq_grammar.specs.Language.{IsFaultPlace};
 ghost use Rattle.pq_text.specs.Tokens.{text_limit, tokens_of};
+ghost use Rattle.pq_text.specs.declared.token.Token.{Token};
 ghost use Rattle.pq_shape.specs.Shapes.{shapes_of};
 ghost use Rattle.pq_def_read.specs.Reading.{statement_of};
 ghost use Rattle.pq_def_read.specs.declared.statement.Statement.TheVariants.{Create, Prepare};
 ghost use Rattle.pq_print.specs.Canonical.{table_text, query_text};
-ghost use Rattle.pq_reread.specs.KeyText.{KeyText, select_by_key, SaysQuery, AreNames};
 ghost use Rattle.pq_reread.specs.Orderly.{AreOrderly};
-ghost use Rattle.pq_reread.specs.Printed.{Piece, ArePieces, printed, shapes_printed};
+ghost use Rattle.pq_reread.specs.Printed.{Piece, ArePieces, joins_none, printed, shapes_printed};
+ghost use Rattle.pq_reread.specs.ReadBack.{IsNamedQuery, IsReadBack, IsReadBackLater, IsReadBackDefined};
 ghost use Rattle.pq_reread.specs.Said.{Says};
+ghost use Rattle.pq_reread.specs.WholeStatements.{WholeStatement, SpellsWhole, whole_of};
 
 /// Names in a statement are words in small letters, of at most 32 bytes, and no keywords.
 pub fn names_law()
@@ -26,9 +30,21 @@ pub fn names_law()
     ensures queries { (text name : List ℕ) (from : ℕ) → statement_of text (tokens_of text) ≡ Ok (Prepare name from) → IsName name }
 {}
 
-/// Words, numbers, marks and spaces that were printed one behind the other are cut into just these.
+/// Reading a statement, and the query behind the head of a PREPARE or an EXPLAIN, is reading the whole statement.
+pub fn whole_statements_law()
+    // What is read is what the tokens spell.
+    ensures found { (text : List ℕ) (tokens : List Token) (whole : WholeStatement) → whole_of (shapes_of text tokens) ≡ Ok whole → SpellsWhole whole (shapes_of text tokens) }
+
+    // What the tokens spell is read.
+    ensures only { (text : List ℕ) (tokens : List Token) (whole : WholeStatement) → SpellsWhole whole (shapes_of text tokens) → whole_of (shapes_of text tokens) ≡ Ok whole }
+
+    // Where they spell no statement, reading stops at the first token such that no whole statement begins with the tokens up to and with it.
+    ensures place { (text : List ℕ) (tokens : List Token) (left : ℕ) → whole_of (shapes_of text tokens) ≡ Err left → (left ≤ length (shapes_of text tokens)) × IsFaultPlace SpellsWhole (shapes_of text tokens) (length (shapes_of text tokens) - left) }
+{}
+
+/// Words, numbers, texts, marks and spaces that were printed one behind the other are cut into just these.
 pub fn printed_law()
-    ensures { (pieces : List Piece) → ArePieces false pieces → shapes_of (printed pieces) (tokens_of (printed pieces)) ≡ shapes_printed pieces }
+    ensures { (pieces : List Piece) → ArePieces joins_none pieces → shapes_of (printed pieces) (tokens_of (printed pieces)) ≡ shapes_printed pieces }
 {}
 
 /// The canonical text of a table is read as the definition that says the same.
@@ -43,26 +59,30 @@ pub fn tables_law()
     ensures again { (schema : Schema) (def : TableDef) (table : Table) → All (λ (other : Table). 0 < length other.key) schema.tables → IsTableDef def → new_table schema def ≡ Ok table → statement_of (table_text (schema.tables ++ table ∷ []) table) (tokens_of (table_text (schema.tables ++ table ∷ []) table)) ≡ Ok (Create def) }
 {}
 
-/// The canonical text of a query by the key is read as the query that says the same.
-pub fn key_queries_law()
-    // Its head is read with its name, and has three tokens.
-    ensures head { (tables : List Table) (said : KeyText) (query : Query) → IsName query.name → AreNames said → SaysQuery tables said query → statement_of (query_text tables query) (tokens_of (query_text tables query)) ≡ Ok (Prepare query.name 3) }
+/// The canonical text of every query over a valid schema is read back: it is UTF-8 and short enough to be cut, its head
+/// is that of a PREPARE under the query's name, and the rest stands for the query.
+pub fn queries_law()
+    // Over orderly tables, as those of a valid schema are.
+    ensures resolved { (schema : Schema) (query : Query) → IsNamedQuery schema query → IsReadBack schema query (query_text schema.tables query) }
 
-    // The tokens behind these spell the query in names.
-    ensures rest { (tables : List Table) (said : KeyText) (query : Query) → IsName query.name → AreNames said → SaysQuery tables said query → select_by_key said (drop 3 (shapes_of (query_text tables query) (tokens_of (query_text tables query)))) }
+    // Also as it is printed over later tables, with more tables, columns and indexes.
+    ensures later { (schema : Schema) (query : Query) → IsNamedQuery schema query → IsReadBackLater schema query }
+
+    // So each query that was defined is read back over the schema before it, with the index that it made or without.
+    ensures defined { (schema : Schema) (query : Query) → IsValid schema → IsReadBackDefined schema query }
 {}
 
-/// Canonical texts are UTF-8, and short enough to be cut into tokens.
+/// The canonical text of a table that was defined over orderly tables is UTF-8, and short enough to be cut into
+/// tokens.
 pub fn texts_law()
-    // Of a table that was defined over orderly tables.
-    ensures table { (schema : Schema) (def : TableDef) (table : Table) → AreOrderly schema.tables → IsTableDef def → new_table schema def ≡ Ok table → (is_utf8 (table_text (schema.tables ++ table ∷ []) table) ≡ true) × (length (table_text (schema.tables ++ table ∷ []) table) ≤ text_limit) }
-
-    // Of a query by the key of up to 192 columns.
-    ensures query { (tables : List Table) (said : KeyText) (query : Query) → IsName query.name → AreNames said → SaysQuery tables said query → length said.columns ≤ 192 → length said.tests ≤ 4 → (is_utf8 (query_text tables query) ≡ true) × (length (query_text tables query) ≤ text_limit) }
+    ensures { (schema : Schema) (def : TableDef) (table : Table) → AreOrderly schema.tables → IsTableDef def → new_table schema def ≡ Ok table → (is_utf8 (table_text (schema.tables ++ table ∷ []) table) ≡ true) × (length (table_text (schema.tables ++ table ∷ []) table) ≤ text_limit) }
 {}
 
 /// Tables that are defined one after the other are orderly: their names are names and lead back to them.
 pub fn orderly_law()
     ensures none { AreOrderly [] }
     ensures one_more { (schema : Schema) (def : TableDef) (table : Table) → AreOrderly schema.tables → IsTableDef def → new_table schema def ≡ Ok table → AreOrderly (schema.tables ++ table ∷ []) }
+
+    // So are the tables of a valid schema.
+    ensures valid { (schema : Schema) → IsValid schema → AreOrderly schema.tables }
 {}

@@ -5,4 +5,6 @@
 
 mod laws;
 
-pub use laws::{key_queries_law, names_law, orderly_law, printed_law, tables_law, texts_law};
+pub use laws::{
+    names_law, orderly_law, printed_law, queries_law, tables_law, texts_law, whole_statements_law,
+};

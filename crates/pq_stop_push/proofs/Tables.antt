@@ -8,7 +8,7 @@ use Rattle.pq_schema.specs.declared.table.Table.{Table}
 use Rattle.pq_schema.specs.declared.table.Limit.{Limit}
 use Rattle.pq_schema.specs.Sound.{IsTable}
 use Rattle.pq_schema.specs.Candidates.{no_limit}
-use Rattle.pq_schema.specs.Tables.{is_lookup, applies, least_of, least_limit, data_bound, is_least, is_primary, first_limit, limit_of}
+use Rattle.pq_schema.specs.Tables.{is_lookup, applies, least_of, least_limit, data_bound, is_least, is_primary, first_limit, limit_place}
 
 least_small : (b : ℕ) (ns : List ℕ) → All (λ n. n ≤ b) ns → unwrap_or (least_of ns) 0 ≤ b
 least_small b [] h = omega arith
@@ -30,7 +30,7 @@ either_within p q limits place = elim (position p limits) as (λ o. position p l
   | Some k ↦ λ e h. (position-Some p limits place no_limit (e ∙ h)).0
 ] refl
 
-pub limit_within : (table : Table) (set place : ℕ) → limit_of table set ≡ Some place → place < length table.limits
+pub limit_within : (table : Table) (set place : ℕ) → limit_place table set ≡ Some place → place < length table.limits
 limit_within table set place = elim (is_lookup table set) as (λ b. cond b None (option_and_then (first_limit table set) (least_limit table set)) ≡ Some place → place < length table.limits) [
   | true ↦ λ h. let no : None ≡ Some place = h in cc
   | false ↦ elim (least_limit table set) as (λ o. option_and_then (first_limit table set) o ≡ Some place → place < length table.limits) [

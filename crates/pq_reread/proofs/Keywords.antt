@@ -1,0 +1,51 @@
+-- The words of canonical texts that are keywords: in capitals, but TRUE and FALSE in small letters.
+use Rattle.std.proofs.Common.{◌≡◌, ℕ, Bool, true, ◌&&◌, List, [], map, Option, Some, None, refl, ap, arith}
+use Rattle.std.specs.Prelude.{nat_lt, codes, slice_index_or}
+use Rattle.std.specs.List.{list_all, range_with_len}
+use Rattle.std.proofs.lemmas.Bool.{and_parts, eqb-true, ltb-true}
+use Rattle.pq_base.specs.Words.{keywords, raised}
+use Rattle.pq_base.proofs.Members.{all_at, range_in}
+use Rattle.pq_text.specs.Bytes.{is_word_byte}
+use Rattle.pq_text.specs.Forms.{is_word, is_at}
+use Rattle.pq_shape.specs.Parts.{word}
+use Rattle.pq_shape.specs.Shapes.{place_of, word_shape, keyword_or, name_shape}
+use Rattle.pq_shape.specs.declared.keyword.TheConstants.{FALSE, TRUE}
+use Rattle.pq_shape.specs.declared.shape.Shape.TheVariants as shape
+use Rattle.pq_reread.specs.Printed.{joins_none}
+use Rattle.pq_reread.proofs.Prints.{Prints, word_prints}
+
+-- the keyword of this place
+abbrev pub keyword_text : ℕ → List ℕ
+keyword_text k = slice_index_or keywords k []
+
+-- it is a word, and found at its place
+abbrev is_placed : ℕ → Bool
+is_placed k = is_word (keyword_text k) && is_at (place_of keywords (map raised (keyword_text k))) k
+
+all_placed : list_all is_placed (range_with_len 0 35) ≡ true
+unfolding place_of
+all_placed = refl
+
+placed_at : (o : Option ℕ) (k : ℕ) → is_at o k ≡ true → o ≡ Some k
+placed_at None k is = absurd cc
+placed_at (Some m) k is = ap (λ (n : ℕ). Some n) (eqb-true m k is)
+
+pub keyword_prints : (k : ℕ) → nat_lt k 35 ≡ true → Prints (word k) joins_none (keyword_text k) is_word_byte
+keyword_prints k below =
+    let w : List ℕ = keyword_text k in
+    let parts = and_parts (is_word w) (is_at (place_of keywords (map raised w)) k) (all_at is_placed (range_with_len 0 35) all_placed k (range_in k 0 35 (omega arith) (omega (arith, ltb-true k 35 below)))) in
+    word_prints w (shape.Keyword k) parts.0 (ap (keyword_or (name_shape w)) (placed_at (place_of keywords (map raised w)) k parts.1))
+
+true_word : word_shape (codes "true") ≡ shape.Keyword TRUE
+unfolding place_of
+true_word = refl
+
+false_word : word_shape (codes "false") ≡ shape.Keyword FALSE
+unfolding place_of
+false_word = refl
+
+pub true_prints : Prints (word TRUE) joins_none (codes "true") is_word_byte
+true_prints = word_prints (codes "true") (shape.Keyword TRUE) refl true_word
+
+pub false_prints : Prints (word FALSE) joins_none (codes "false") is_word_byte
+false_prints = word_prints (codes "false") (shape.Keyword FALSE) refl false_word
