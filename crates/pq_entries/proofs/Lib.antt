@@ -1,0 +1,5 @@
+pub mod Decoded
+pub mod Fetched
+pub mod Naming
+pub mod Tables
+pub mod Told

@@ -1,0 +1,97 @@
+-- Ranges of one sequence's keys, and pairs that are the code of nothing.
+use Rattle.std.specs.Prelude.{◌≡◌, ◌≢◌, ℕ, List, [], ◌∷◌, ◌++◌, map, take, drop, Option, Some, IfSome, IsSome}
+use Rattle.std.specs.List.{AllByRecursion}
+use Rattle.std.specs.FinMap.{get}
+use Rattle.pq_base.specs.Members.{In}
+use Rattle.pq_base.specs.Values.{AllFit}
+use Rattle.pq_base.specs.declared.value.ColType.{ColType}
+use Rattle.pq_base.specs.declared.value.Dir.{Dir}
+use Rattle.pq_base.specs.declared.value.Value.{Value}
+use Rattle.pq_key_code.specs.KeyCode.{IsBytes, code_of}
+use Rattle.pq_row_code.specs.RowCode.{row_code}
+use Rattle.pq_schema.specs.declared.table.Access.{Access}
+use Rattle.pq_schema.specs.declared.table.Access.TheVariants.{Primary, Secondary}
+use Rattle.pq_schema.specs.declared.table.Table.{Table}
+use Rattle.pq_schema.specs.Rows.{IsTableNumber, types_of}
+use Rattle.pq_schema.specs.Sequences.{IsAccess, index_sequence, index_numbered, sequence_of}
+use Rattle.pq_schema.specs.Tables.{table_at}
+use Rattle.pq_store.specs.Content.{Content, pairs_within}
+use Rattle.pq_store.specs.declared.damage.Broke.{Broke}
+use Rattle.pq_store.specs.declared.damage.Broke.TheVariants as broke
+use Rattle.pq_store.specs.declared.damage.Damage.{Damage}
+use Rattle.pq_calls.specs.Keys.{sequence_key}
+use Rattle.pq_content.specs.Pairs.{Pair, row_pair, entry_pair}
+use Rattle.pq_content.specs.Tables.{values_of}
+
+-- a sequence of a table that is there
+pub record IsSequence (tables : List Table) (t : ℕ) (access : Access) : Type 0 where
+  pub number : IsTableNumber tables t
+  pub is_access : IsAccess (table_at tables t) access
+
+-- what the keys of a sequence begin with: the space, and the numbers of the table and the index
+abbrev pub key_front : ℕ → Access → List ℕ
+key_front t Primary = 2 ∷ t ∷ []
+key_front t (Secondary index) = 3 ∷ t ∷ index ∷ []
+
+abbrev pub Begins : List ℕ → List ℕ → Type 0
+Begins front bytes = (rest : List ℕ) × (bytes ≡ front ++ rest)
+
+-- both ends of a range begin as the keys of the sequence do
+pub record AreEnds (t : ℕ) (access : Access) (low high : List ℕ) : Type 0 where
+  pub from : Begins (key_front t access) low
+  pub upto : Begins (key_front t access) high
+
+-- ---- pairs that are the code of nothing
+
+-- an error of reading alone: want of memory, or damage that shows
+abbrev pub IsUnread : (Damage → Type 0) → Broke → Type 0
+IsUnread shows broke.Failed = ⊥
+IsUnread shows broke.NoMem = Unit {0}
+IsUnread shows (broke.Damaged damage) = shows damage
+
+-- the pair is told as damage
+pub record TellsPair (pair : Pair) (damage : Damage) : Type 0 where
+  pub bytes : IsBytes pair.0
+  pub at : damage.key ≡ pair.0
+  pub has : damage.value ≡ Some pair.1
+
+-- its value is the code of no row of these types
+pub record IsNoRowPair (types : List ColType) (pair : Pair) (damage : Damage) : Type 0 where
+  pub tells : TellsPair pair damage
+  pub no_row : (row : List Value) → AllFit types row → row_code row ≢ pair.1
+
+-- its key, behind the first bytes, is the code of no values of these types
+pub record IsNoKeyPair (types : List ColType) (dirs : List Dir) (skipped : ℕ) (pair : Pair) (damage : Damage) : Type 0 where
+  pub tells : TellsPair pair damage
+  pub no_values : (values : List Value) → AllFit types values → code_of dirs values ≢ drop skipped pair.0
+
+-- one of the pairs shows it
+abbrev pub OneShows : (Pair → Damage → Type 0) → List Pair → Damage → Type 0
+OneShows shows pairs damage = (pair : Pair) × In pair pairs × shows pair damage
+
+-- ---- what is read
+
+-- where the pairs of a range are those of some rows, the first rows of them
+abbrev pub AreFirstRows : ℕ → Table → List ℕ → List ℕ → ℕ → List (List Value) → Content → Type 0
+AreFirstRows t table low high limit found content =
+    (rows : List (List Value)) → AllByRecursion (AllFit (types_of table)) rows → pairs_within content low high ≡ map (row_pair t table) rows
+    → found ≡ take limit rows
+
+-- the pair of a row in a sequence
+abbrev pub pair_of : ℕ → Table → Access → List Value → Pair
+pair_of t table Primary row = row_pair t table row
+pair_of t table (Secondary index) row = entry_pair t index (index_sequence table (index_numbered table index)) row
+
+-- the values of the first rows of them in the sequence
+abbrev pub AreFirstValues : ℕ → Table → Access → List ℕ → List ℕ → ℕ → List (List Value) → Content → Type 0
+AreFirstValues t table access low high limit found content =
+    (rows : List (List Value)) → AllByRecursion (AllFit (types_of table)) rows → pairs_within content low high ≡ map (pair_of t table access) rows
+    → found ≡ map (values_of (sequence_of table access)) (take limit rows)
+
+-- a key of the sequence with these values is there
+abbrev pub IsKeyThere : ℕ → Table → Access → Option Content → List Value → Type 0
+IsKeyThere t table access told values = IfSome told (λ content. IsSome (get content (sequence_key t table access values)))
+
+-- an entry of the index with these values is there
+abbrev pub IsEntryThere : ℕ → Table → ℕ → Option Content → List Value → Type 0
+IsEntryThere t table index told values = IsKeyThere t table (Secondary index) told values

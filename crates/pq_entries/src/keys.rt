@@ -1,0 +1,126 @@
+//! Keys of a table's sequences, and what they are made of.
+ghost use Rattle.std.specs.Prelude.{◌≡◌, ◌≤◌, map, take, length, IfOk};
+ghost use Rattle.pq_schema.specs.Keys.{dirs_of, given};
+ghost use Rattle.pq_schema.specs.Sequences.{IsAccess, columns_of, sequence_of};
+ghost use Rattle.pq_schema.specs.Sound.{IsTable};
+ghost use Rattle.pq_schema.specs.Tables.{types_at};
+ghost use Rattle.pq_calls.specs.Keys.{sequence_key, named_key};
+
+use pq_base::{Bytes, ColType, Dir, List, NoMem, Row, Value};
+use pq_key_code::{entry_key, row_key};
+use pq_schema::{Access, Column, KeyPart, Table, sequence, type_at};
+use std::alloc::Global;
+
+/// The directions of the parts.
+pub fn dirs_of(alloc: Global, parts: &[KeyPart]) -> Result<List<Dir>, NoMem>
+    ensures { IfOk result (λ dirs. dirs ≡ dirs_of parts.now) }
+{
+    let mut dirs = List::new(alloc);
+    for part in parts {
+        dirs.push(alloc, part.dir)?;
+    }
+    Ok(dirs)
+}
+
+/// The types of the columns of the parts.
+pub fn types_at(
+    alloc: Global,
+    columns: &[Column],
+    parts: &[KeyPart],
+) -> Result<List<ColType>, NoMem>
+    ensures { IfOk result (λ types. types ≡ types_at columns.now (columns_of parts.now)) }
+{
+    let mut types = List::new(alloc);
+    for part in parts {
+        types.push(alloc, type_at(columns, part.col))?;
+    }
+    Ok(types)
+}
+
+/// As many directions of the sequence as there are values.
+fn first_dirs(
+    alloc: Global,
+    table: &Table,
+    access: Access,
+    values: &Row,
+) -> Result<List<Dir>, NoMem>
+    requires table { IsTable table.now }
+    requires access { IsAccess table.now access }
+    ensures { IfOk result (λ dirs. dirs ≡ take (length values.now) (dirs_of (sequence_of table.now access))) }
+{
+    let parts = sequence(alloc, table, access)?;
+    let mut dirs = dirs_of(alloc, parts.items())?;
+    dirs.truncate(values.items().len());
+    Ok(dirs)
+}
+
+/// The beginning of the keys of an index's entries with these first values, or the whole key.
+fn entry_front(
+    alloc: Global,
+    number: u8,
+    table: &Table,
+    index: u8,
+    values: &Row,
+) -> Result<Bytes, NoMem>
+    requires table { IsTable table.now }
+    requires access { IsAccess table.now (Access.Secondary index) }
+    requires short { length values.now ≤ length (sequence_of table.now (Access.Secondary index)) }
+    ensures { IfOk result (λ key. key ≡ sequence_key number table.now (Access.Secondary index) values.now) }
+{
+    let dirs = first_dirs(alloc, table, Access::Secondary(index), values)?;
+    entry_key(alloc, number, index, values, dirs.items())
+}
+
+/// The key of these values in a sequence of the table, or the beginning of the keys with these first values.
+pub fn sequence_key(
+    alloc: Global,
+    number: u8,
+    table: &Table,
+    access: Access,
+    values: &Row,
+) -> Result<Bytes, NoMem>
+    requires table { IsTable table.now }
+    requires access { IsAccess table.now access }
+    requires short { length values.now ≤ length (sequence_of table.now access) }
+    ensures { IfOk result (λ key. key ≡ sequence_key number table.now access values.now) }
+{
+    match access {
+        Access::Primary => row_key(alloc, number, values),
+        Access::Secondary(index) => entry_front(alloc, number, table, index, values),
+    }
+}
+
+/// The value that a column is given, where the columns of the parts are given these values.
+fn given(alloc: Global, parts: &[KeyPart], values: &[Value], col: u8) -> Result<Value, NoMem>
+    ensures { IfOk result (λ value. value ≡ given (columns_of parts.now) values.now col) }
+{
+    match (parts.split_first(), values.split_first()) {
+        (Some((part, parts)), Some((value, values))) => {
+            if part.col == col {
+                value.copy(alloc)
+            } else {
+                given(alloc, parts, values, col)
+            }
+        }
+        _ => Ok(Value::Bool(false)),
+    }
+}
+
+/// The key of the row that the entry with these values names.
+pub(crate) fn named_key(
+    alloc: Global,
+    table: &Table,
+    access: Access,
+    values: &Row,
+) -> Result<Row, NoMem>
+    requires table { IsTable table.now }
+    requires access { IsAccess table.now access }
+    ensures { IfOk result (λ key. key ≡ named_key table.now access values.now) }
+{
+    let parts = sequence(alloc, table, access)?;
+    let mut key = Row::new(alloc);
+    for col in table.key.items() {
+        key.push(alloc, given(alloc, parts.items(), values.items(), *col)?)?;
+    }
+    Ok(key)
+}

@@ -1,0 +1,128 @@
+//! Ranges of keys of one sequence.
+ghost use Rattle.std.specs.Prelude.{◌≡◌, ◌≤◌, All, length, IfOk, IfErr, IfSome};
+ghost use Rattle.std.specs.List.{AllByRecursion};
+ghost use Rattle.pq_base.specs.Values.{IsType, AllFit};
+ghost use Rattle.pq_schema.specs.Rows.{types_of};
+ghost use Rattle.pq_schema.specs.Keys.{dirs_of};
+ghost use Rattle.pq_schema.specs.Sequences.{IsAccess, sequence_of};
+ghost use Rattle.pq_schema.specs.Sound.{IsTable};
+ghost use Rattle.pq_schema.specs.Tables.{table_at};
+ghost use Rattle.pq_calls.specs.Calls.{Uses, Fails};
+ghost use Rattle.pq_calls.specs.Keys.{sequence_types};
+ghost use Rattle.pq_calls.specs.World.{Affords, where_told};
+ghost use Rattle.pq_nodes.specs.Operators.{ShowsRead};
+ghost use Rattle.pq_entries.specs.Entries.{IsSequence, AreEnds, AreFirstRows, AreFirstValues, IsKeyThere, key_front};
+
+use crate::decode::{decoded_keys, decoded_rows};
+use crate::keys::{dirs_of, types_at};
+use pq_base::{ColType, Dir, List, NoMem, Row};
+use pq_calls::{Calls, types_of};
+use pq_schema::{Access, Catalog, Table, sequence};
+use pq_store::{Broke, Store};
+use std::alloc::Global;
+use std::sync::ledger::Ledger;
+
+/// The table of this number.
+#[tactic(auto, using(crate::proofs::Tables::sequence_table, crate::proofs::Tables::sequence_types_known))]
+pub(crate) fn table_of(catalog: &Catalog, number: u8, access: Access) -> &Table
+    requires { IsSequence catalog.now.tables number access }
+    ensures table { result.now ≡ table_at catalog.now.tables number }
+    ensures is_table { IsTable result.now }
+    ensures access { IsAccess result.now access }
+    ensures types { All IsType (types_of result.now) }
+{
+    catalog.known();
+    catalog.table(number)
+}
+
+/// The rows of a table between two keys, by rising key, the first `limit` of them: one operation, and an
+/// entry for each.
+pub fn range_rows<S: Store<L>, L: Ledger>(
+    alloc: Global,
+    catalog: &Catalog,
+    number: u8,
+    low: &[u8],
+    high: &[u8],
+    limit: u32,
+    calls: &mut Calls<S, L>,
+) -> Result<List<Row>, Broke>
+    requires sequence { IsSequence catalog.now.tables number Access.Primary }
+    requires ends { AreEnds number Access.Primary low.now high.now }
+    requires limit { 1 ≤ limit }
+    requires share { Affords calls.old.allowance.now 1 limit }
+    ensures uses { Uses S.content S.faults calls.old calls.new 1 limit }
+    ensures cause { IfErr result (Fails (where_told (ShowsRead catalog.now.tables)) S.content S.faults calls.old calls.new) }
+    ensures few { IfOk result (λ rows. length rows ≤ limit) }
+    ensures fit { IfOk result (AllByRecursion (AllFit (types_of (table_at catalog.now.tables number)))) }
+    ensures answer { IfOk result (λ rows. IfSome (S.content calls.old.store.now) (AreFirstRows number (table_at catalog.now.tables number) low.now high.now limit rows)) }
+{
+    let table = table_of(catalog, number, Access::Primary);
+    let types = types_of(alloc, table)?;
+    let pairs = calls.range(alloc, low, high, limit)?;
+    decoded_rows(alloc, types.items(), pairs.items())
+}
+
+/// What the values of a sequence's keys are read by: their types and directions.
+#[derive(Debug, Drop)]
+struct KeyShape {
+    types: List<ColType>,
+    dirs: List<Dir>,
+}
+
+fn key_shape(alloc: Global, table: &Table, access: Access) -> Result<KeyShape, NoMem>
+    requires table { IsTable table.now }
+    requires access { IsAccess table.now access }
+    ensures types { IfOk result (λ shape. shape.types ≡ sequence_types table.now access) }
+    ensures dirs { IfOk result (λ shape. shape.dirs ≡ dirs_of (sequence_of table.now access)) }
+{
+    let parts = sequence(alloc, table, access)?;
+    Ok(KeyShape {
+        types: types_at(alloc, table.columns.items(), parts.items())?,
+        dirs: dirs_of(alloc, parts.items())?,
+    })
+}
+
+/// How many bytes stand before the values in the keys of a sequence.
+fn front_len(access: Access) -> usize
+    ensures { result ≡ length (key_front 0 access) }
+{
+    match access {
+        Access::Primary => 2,
+        Access::Secondary(_) => 3,
+    }
+}
+
+/// The values of a sequence's keys between two keys, by rising key, those of the first `limit` of them: one
+/// operation, and an entry for each.
+pub fn range_values<S: Store<L>, L: Ledger>(
+    alloc: Global,
+    catalog: &Catalog,
+    number: u8,
+    access: Access,
+    low: &[u8],
+    high: &[u8],
+    limit: u32,
+    calls: &mut Calls<S, L>,
+) -> Result<List<Row>, Broke>
+    requires sequence { IsSequence catalog.now.tables number access }
+    requires ends { AreEnds number access low.now high.now }
+    requires limit { 1 ≤ limit }
+    requires share { Affords calls.old.allowance.now 1 limit }
+    ensures uses { Uses S.content S.faults calls.old calls.new 1 limit }
+    ensures cause { IfErr result (Fails (where_told (ShowsRead catalog.now.tables)) S.content S.faults calls.old calls.new) }
+    ensures few { IfOk result (λ found. length found ≤ limit) }
+    ensures fit { IfOk result (AllByRecursion (AllFit (sequence_types (table_at catalog.now.tables number) access))) }
+    ensures there { IfOk result (AllByRecursion (IsKeyThere number (table_at catalog.now.tables number) access (S.content calls.old.store.now))) }
+    ensures answer { IfOk result (λ found. IfSome (S.content calls.old.store.now) (AreFirstValues number (table_at catalog.now.tables number) access low.now high.now limit found)) }
+{
+    let shape = key_shape(alloc, table_of(catalog, number, access), access)?;
+    let skipped = front_len(access);
+    let pairs = calls.range(alloc, low, high, limit)?;
+    decoded_keys(
+        alloc,
+        shape.types.items(),
+        shape.dirs.items(),
+        skipped,
+        pairs.items(),
+    )
+}

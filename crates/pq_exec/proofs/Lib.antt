@@ -1,0 +1,4 @@
+pub mod Few
+pub mod Page
+pub mod Parts
+pub mod Running

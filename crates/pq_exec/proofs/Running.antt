@@ -1,0 +1,183 @@
+-- A tree is run as its input and then its outermost node.
+use Rattle.std.proofs.Common.{◌≡◌, ℕ, suc, ◌<◌, ◌≤◌, List, [], ◌∷◌, ◌++◌, length, Option, refl, sym, ap, ◌∙◌, subst, arith, length-append}
+use Rattle.std.specs.List.{AllByRecursion}
+use Rattle.std.proofs.lemmas.List.Sums.{fold-append}
+use Rattle.pq_base.specs.declared.number.Bound.{Bound}
+use Rattle.pq_base.specs.declared.value.Value.{Value}
+use Rattle.pq_schema.specs.Costs.{Reached, start, plus}
+use Rattle.pq_schema.specs.declared.query.Query.{Query}
+use Rattle.pq_schema.specs.declared.table.Table.{Table}
+use Rattle.pq_store.specs.Counts.{Allowed}
+use Rattle.pq_store.specs.declared.damage.Broke.{Broke}
+use Rattle.pq_content.specs.Pairs.{HoldsRows}
+use Rattle.pq_plan.specs.Answer.{Asked}
+use Rattle.pq_plan.specs.Cost.{cost}
+use Rattle.pq_plan.specs.Executing.{Makes, Gives}
+use Rattle.pq_plan.specs.Nodes.{Node, lookup, limit_range, stop_scan, keep, sort, cut, project, nodes, step, run_of}
+use Rattle.pq_plan.specs.declared.physical.Physical.{Physical}
+use Rattle.pq_plan.proofs.PlanRows.{reach_nodes}
+use Rattle.pq_calls.specs.World.{World, Affords, Reads}
+use Rattle.pq_calls.proofs.Steps.{reads_then, reads_within, rest_left}
+use Rattle.pq_nodes.specs.Combos.{FitsTables}
+use Rattle.pq_nodes.specs.Operators.{IsReady, AffordsNode, ReadsNode, Answers, IsSoundOverRows}
+use Rattle.pq_nodes.specs.Ordered.{after_node, after_nodes, StandsAt}
+use Rattle.pq_nodes.specs.Paid.{node_cost, node_size, IsAtMost}
+use Rattle.pq_nodes.proofs.Paying.{at_most_itself, step_size, step_more}
+use Rattle.pq_runnable.specs.Runnable.{IsWholeAt, IsRunnable, IsRunnableNode}
+use Rattle.pq_runnable.proofs.Runnable.{runnable_split}
+use Rattle.pq_exec.specs.Execution.{top_node, rows_before, rows_behind, AreGiven, AreRun, RunAnswers}
+
+-- ---- nodes
+
+-- the inputs of a node have rows of the relations that were read
+rows_at : (query : Query) (count : ℕ) (node : Node) → StandsAt count node → IsWholeAt (length query.relations) count node → rows_before query node ≡ count
+rows_at query count (lookup rel) at whole = omega (arith, at)
+rows_at query count (limit_range rel limit n access) at whole = omega (arith, at)
+rows_at query count (stop_scan rel k access) at whole = omega (arith, at)
+rows_at query count (keep rel) at whole = at
+rows_at query count sort at whole = sym whole
+rows_at query count (cut k) at whole = sym whole
+rows_at query count project at whole = sym whole
+
+rows_after : (query : Query) (count : ℕ) (node : Node) → StandsAt count node → IsWholeAt (length query.relations) count node → rows_behind query node ≡ after_node count node
+rows_after query count (lookup rel) at whole = at
+rows_after query count (limit_range rel limit n access) at whole = at
+rows_after query count (stop_scan rel k access) at whole = at
+rows_after query count (keep rel) at whole = at
+rows_after query count sort at whole = sym whole
+rows_after query count (cut k) at whole = sym whole
+rows_after query count project at whole = sym whole
+
+-- what is made of what the nodes before gave
+gives_then : (q : Asked) (cursor : Option (List Value)) (front : List Node) (node : Node) (inputs made found : List (List (List Value))) → Gives q cursor inputs front made → Makes q cursor made node found → Gives q cursor inputs (front ++ node ∷ []) found
+gives_then q cursor [] node inputs made found given makes = (found, subst (λ i. Makes q cursor i node found) given makes, refl)
+gives_then q cursor (x ∷ front) node inputs made found given makes = (given.0, given.1, gives_then q cursor front node given.0 made found given.2 makes)
+
+-- nodes that read nothing are none
+after_grows : (count : ℕ) (list : List Node) → count ≤ after_nodes count list
+after_grows count [] = omega arith
+after_grows count (lookup rel ∷ rest) = let more = after_grows (suc count) rest in omega arith
+after_grows count (limit_range rel limit n access ∷ rest) = let more = after_grows (suc count) rest in omega arith
+after_grows count (stop_scan rel k access ∷ rest) = let more = after_grows (suc count) rest in omega arith
+after_grows count (keep rel ∷ rest) = after_grows count rest
+after_grows count (sort ∷ rest) = after_grows count rest
+after_grows count (cut k ∷ rest) = after_grows count rest
+after_grows count (project ∷ rest) = after_grows count rest
+
+none_read : (tables : List Table) (query : Query) (granted : Bound) (list : List Node) → 1 ≤ length query.relations → IsRunnable tables query granted list → after_nodes 0 list ≡ 0 → list ≡ []
+none_read tables query granted [] some runnable none = refl
+none_read tables query granted (lookup rel ∷ rest) some runnable none = let more = after_grows 1 rest in absurd (omega arith)
+none_read tables query granted (limit_range rel limit n access ∷ rest) some runnable none = let more = after_grows 1 rest in absurd (omega arith)
+none_read tables query granted (stop_scan rel k access ∷ rest) some runnable none = let more = after_grows 1 rest in absurd (omega arith)
+none_read tables query granted (keep rel ∷ rest) some runnable none = let low = runnable.each.0.from_one in let at = runnable.order.0 in absurd (omega arith)
+none_read tables query granted (sort ∷ rest) some runnable none = let whole = runnable.whole.0 in absurd (omega arith)
+none_read tables query granted (cut k ∷ rest) some runnable none = let whole = runnable.whole.0 in absurd (omega arith)
+none_read tables query granted (project ∷ rest) some runnable none = let whole = runnable.whole.0 in absurd (omega arith)
+
+-- ---- a tree over its input
+
+module _ (tables : List Table) (query : Query) (tree input : Physical) (over : nodes tree ≡ nodes input ++ top_node tree ∷ []) (runnable : IsRunnable tables query (cost tree) (nodes tree)) where
+  abbrev node : Node
+  node = top_node tree
+
+  abbrev reached : Reached
+  reached = run_of (nodes input)
+
+  parts : IsRunnable tables query (cost tree) (nodes input) × IsRunnableNode tables query (cost tree) (nodes input) node
+  parts = runnable_split tables query (cost tree) (nodes input) node (subst (IsRunnable tables query (cost tree)) over runnable)
+
+  input_cost : (run_of (nodes input)).cost ≡ cost input
+  input_cost = ap (λ (r : Reached). r.cost) (sym (reach_nodes input))
+
+  pub input_smaller : length (nodes input) < length (nodes tree)
+  input_smaller =
+      let long = length-append (nodes input) (node ∷ []) in
+      let same = ap length over in
+      omega (arith, long, same)
+
+  pub input_runnable : IsRunnable tables query (cost input) (nodes input)
+  input_runnable =
+      let first = parts.0 in
+      record {
+        each = first.each;
+        indexed = first.indexed;
+        order = first.order;
+        whole = first.whole;
+        paid = subst (IsAtMost (run_of (nodes input)).cost) input_cost (at_most_itself (run_of (nodes input)).cost);
+      }
+
+  input_paid : IsAtMost (cost input) (cost tree)
+  input_paid = subst (λ (b : Bound). IsAtMost b (cost tree)) input_cost parts.0.paid
+
+  pub input_share : (allowed : Allowed) → Affords allowed (cost tree).ops (cost tree).entries → Affords allowed (cost input).ops (cost input).entries
+  input_share allowed left =
+      let paid = input_paid in
+      let ops = paid.ops in
+      let entries = paid.entries in
+      let a = left.ops_left in
+      let b = left.entries_left in
+      record { ops_left = omega arith; entries_left = omega arith }
+
+  pub node_ready : IsReady tables query node
+  node_ready = record { is = parts.1.is; indexed = parts.1.indexed }
+
+  input_rows : rows_before query node ≡ after_nodes 0 (nodes input)
+  input_rows = rows_at query (after_nodes 0 (nodes input)) node parts.1.stands parts.1.whole
+
+  pub node_inputs : (inputs : List (List (List Value))) → AreRun tables query (nodes input) inputs → AllByRecursion (FitsTables tables query (rows_before query node)) inputs
+  node_inputs inputs given = subst (λ n. AllByRecursion (FitsTables tables query n) inputs) (sym input_rows) given.fit
+
+  -- the first relation is read for the combination of no relation
+  pub node_first : 1 ≤ length query.relations → (inputs : List (List (List Value))) → AreRun tables query (nodes input) inputs → rows_before query node ≡ 0 → inputs ≡ [] ∷ []
+  node_first some inputs given none = given.unit (none_read tables query (cost tree) (nodes input) some parts.0 (sym input_rows ∙ none))
+
+  -- the input's cost and the node's are within the tree's
+  node_paid : (inputs : List (List (List Value))) → AreRun tables query (nodes input) inputs → IsAtMost (plus (cost input) (node_cost (length inputs) node)) (cost tree)
+  node_paid inputs given = parts.1.affords (length inputs) (cost input) given.few (subst (λ (b : Bound). IsAtMost b (run_of (nodes input)).cost) input_cost (at_most_itself (run_of (nodes input)).cost))
+
+  pub node_share : (inputs : List (List (List Value))) (a b : World) → AreRun tables query (nodes input) inputs → Affords a.allowed (cost tree).ops (cost tree).entries → Reads a b (cost input).ops (cost input).entries → AffordsNode b.allowed (length inputs) node
+  node_share inputs a b given left reads =
+      let paid = node_paid inputs given in
+      rest_left a b (cost input).ops (cost input).entries (node_cost (length inputs) node).ops (node_cost (length inputs) node).entries (cost tree).ops (cost tree).entries reads left paid.ops paid.entries
+
+  pub tree_reads : (inputs : List (List (List Value))) (a b c : World) → AreRun tables query (nodes input) inputs → Reads a b (cost input).ops (cost input).entries → ReadsNode b c (length inputs) node → Reads a c (cost tree).ops (cost tree).entries
+  tree_reads inputs a b c given first second =
+      let paid = node_paid inputs given in
+      reads_then a b c (cost input).ops (cost input).entries (node_cost (length inputs) node).ops (node_cost (length inputs) node).entries (cost tree).ops (cost tree).entries first second paid.ops paid.entries
+
+  -- the input alone
+  pub input_reads : (a b : World) → Reads a b (cost input).ops (cost input).entries → Reads a b (cost tree).ops (cost tree).entries
+  input_reads a b first = let paid = input_paid in reads_within a b (cost input).ops (cost input).entries (cost tree).ops (cost tree).entries first paid.ops paid.entries
+
+  pub tree_given : (inputs found : List (List (List Value))) → AreRun tables query (nodes input) inputs → AreGiven tables query (length inputs) node found → AreRun tables query (nodes tree) found
+  tree_given inputs found first given =
+      let all = run_of (nodes input ++ node ∷ []) in
+      let last : all ≡ step reached node = fold-append step start (nodes input) (node ∷ []) in
+      let more = step_more (record { inputs = length inputs; cost = reached.cost }) reached node (record { inputs = first.few; cost = at_most_itself reached.cost }) in
+      let size : (step (record { inputs = length inputs; cost = reached.cost }) node).inputs ≡ node_size (length inputs) node = step_size (record { inputs = length inputs; cost = reached.cost }) node in
+      let within : node_size (length inputs) node ≤ (step reached node).inputs = subst (λ n. n ≤ (step reached node).inputs) size more.inputs in
+      let few = given.few in
+      let small : length found ≤ (step reached node).inputs = omega arith in
+      let rows : rows_behind query node ≡ after_nodes 0 (nodes input ++ node ∷ []) = rows_after query (after_nodes 0 (nodes input)) node parts.1.stands parts.1.whole ∙ sym (fold-append after_node 0 (nodes input) (node ∷ [])) in
+      subst (λ list. AreRun tables query list found) (sym over) (record {
+        few = subst (λ (r : Reached). length found ≤ r.inputs) (sym last) small;
+        fit = subst (λ n. AllByRecursion (FitsTables tables query n) found) rows given.fit;
+        unit = λ none. absurd (some_nodes none);
+      })
+    where
+      some_nodes : nodes input ++ node ∷ [] ≡ [] → ⊥
+      some_nodes none =
+          let long = length-append (nodes input) (node ∷ []) in
+          let same = ap length none in
+          omega (arith, long, same)
+
+  pub tree_answers : (params : List Value) (cursor : Option (List Value)) (a b : World) (o e : ℕ) (inputs found : List (List (List Value))) → Reads a b o e → RunAnswers a.told tables query params cursor (nodes input) inputs → Answers b.told tables query params cursor inputs node found → RunAnswers a.told tables query params cursor (nodes tree) found
+  tree_answers params cursor a b o e inputs found reads first answers rows others holds =
+      let q : Asked = record { tables = tables; query = query; rows = rows; params = params } in
+      subst (λ list. Gives q cursor ([] ∷ []) list found) (sym over)
+      (gives_then q cursor (nodes input) node ([] ∷ []) inputs found (first rows others holds)
+      (answers rows others (subst (λ told. HoldsRows told tables rows others) (sym reads.same) holds)))
+
+-- no damage over what is still there
+pub sound_later : (tables : List Table) (a b : World) (o e : ℕ) (error : Broke) → Reads a b o e → IsSoundOverRows b.told tables error → IsSoundOverRows a.told tables error
+sound_later tables a b o e error reads sound rows others holds = sound rows others (subst (λ told. HoldsRows told tables rows others) (sym reads.same) holds)

@@ -1,0 +1,34 @@
+use Rattle.std.proofs.Common.{ap, ◌∙◌}
+use Rattle.std.proofs.lemmas.Result.{err_from_is_err_and}
+use Rattle.pq_schema.proofs.Soundness.{valid_query}
+use Rattle.pq_operands.specs.Ties.{cells_tied}
+use Rattle.pq_calls.specs.Calls.{seen}
+use Rattle.pq_fk_join.proofs.Partners.{partner_explains, partner_is}
+use Rattle.pq_fk_join.proofs.join.partner.Goals as goal
+
+pub table_of-table-requires-clause-query : goal.table_of-table-requires-clause-query
+table_of-table-requires-clause-query g c = valid_query c.args.catalog.now c.args.query.now c.known.ensures c.requires.asked.resolved
+
+pub returns-in_err-stored-clause-cause : goal.returns-in_err-stored-clause-cause
+returns-in_err-stored-clause-cause g c =
+    let p = err_from_is_err_and c.from_residual-in_err-stored.result c.from_residual-in_err-stored.ensures.1 in
+    rw (p.1, p.2)
+    (partner_explains c.args.catalog.now c.args.query.now c.args.params.now c.args.rel c.args.input.now c.requires.asked c.requires.lookup c.requires.input
+    c.table_number.result c.table_of-table.result.now c.in_ok-key.key c.table_number.ensures c.table_of-table.ensures.table
+    (c.in_ok-key.ensures ∙ ap (cells_tied c.args.query.now c.args.params.now c.args.rel c.args.input.now) c.items.ensures)
+    (seen g.S.Store.content g.S.Store.faults c.args.calls.now) (seen g.S.Store.content g.S.Store.faults c.row.new.self) c.in_err-stored.field-0.0
+    c.in_err-stored.ensures.cause)
+
+pub returns-in-Some-clause-answer : goal.returns-in-Some-clause-answer
+returns-in-Some-clause-answer g c =
+    partner_is c.args.catalog.now c.args.query.now c.args.params.now c.args.rel c.args.input.now c.requires.asked c.requires.lookup c.requires.input
+    c.table_number.result c.table_of-table.result.now c.in_ok-key.key c.table_number.ensures c.table_of-table.ensures.table
+    (c.in_ok-key.ensures ∙ ap (cells_tied c.args.query.now c.args.params.now c.args.rel c.args.input.now) c.items.ensures)
+    c.known.ensures (g.S.Store.content c.args.calls.now.store.now) _ (rw c.in-Some.is at c.in_ok-stored.ensures.read)
+
+pub returns-clause-answer : goal.returns-clause-answer
+returns-clause-answer g c =
+    partner_is c.args.catalog.now c.args.query.now c.args.params.now c.args.rel c.args.input.now c.requires.asked c.requires.lookup c.requires.input
+    c.table_number.result c.table_of-table.result.now c.in_ok-key.key c.table_number.ensures c.table_of-table.ensures.table
+    (c.in_ok-key.ensures ∙ ap (cells_tied c.args.query.now c.args.params.now c.args.rel c.args.input.now) c.items.ensures)
+    c.known.ensures (g.S.Store.content c.args.calls.now.store.now) _ (rw c.in-None.is at c.in_ok-stored.ensures.read)

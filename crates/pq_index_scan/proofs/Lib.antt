@@ -1,0 +1,3 @@
+pub mod Ranging
+pub mod Following
+pub mod Stopping

@@ -1,0 +1,73 @@
+//! The stop read of relation 1.
+ghost use Rattle.std.specs.Prelude.{◌≡◌, ◌∷◌, [], option_copied, IfOk, IfErr};
+ghost use Rattle.pq_calls.specs.World.{world};
+ghost use Rattle.pq_plan.specs.Nodes.{stop_scan};
+ghost use Rattle.pq_nodes.specs.Operators.{IsAsked, IsReady, IsCursor, AffordsNode, ReadsNode, AreFound, Answers, StopsReading, IsSoundOverRows};
+
+use pq_base::{List, NoMem, Row};
+use pq_calls::Calls;
+use pq_plan::Combo;
+use pq_scan::scan_inputs;
+use pq_schema::{Access, Catalog, Query};
+use pq_store::{Allowance, Broke, Meter, Store};
+use std::alloc::Global;
+use std::sync::ledger::Ledger;
+
+/// The one input of relation 1: the combination of no relation.
+fn no_relation(alloc: Global) -> Result<List<Combo>, NoMem>
+    ensures { IfOk result (λ inputs. inputs ≡ [] ∷ []) }
+{
+    let mut inputs = List::new(alloc);
+    inputs.push(alloc, Combo::empty(alloc))?;
+    Ok(inputs)
+}
+
+/// The first `k` rows of relation 1 by position, strictly after the cursor, each as a combination: one range
+/// of at most `k` rows, or entries of an index, and for an index a get of each row.
+pub fn index_scan<S: Store<L>, L: Ledger>(
+    alloc: Global,
+    catalog: &Catalog,
+    query: &Query,
+    params: &Row,
+    rel: u8,
+    access: Access,
+    after: Option<&Row>,
+    k: u16,
+    store: &mut S,
+    allowance: &mut Allowance,
+    meter: &mut Meter<L>,
+) -> Result<List<Combo>, Broke>
+    requires asked { IsAsked catalog.now.tables query.now params.now }
+    requires ready { IsReady catalog.now.tables query.now (stop_scan rel k access) }
+    requires first { rel ≡ 1 }
+    requires cursor { IsCursor catalog.now.tables query.now (option_copied after) }
+    requires share { AffordsNode allowance.old 1 (stop_scan rel k access) }
+    ensures answer { IfOk result (Answers (S.content store.old)
+        catalog.now.tables query.now params.now (option_copied after.entry) ([] ∷ []) (stop_scan rel k access)) }
+    ensures reads { ReadsNode (world (S.content store.old) (S.faults store.old) allowance.old meter.old)
+        (world (S.content store.new) (S.faults store.new) allowance.new meter.new) 1 (stop_scan rel k access) }
+    ensures found { IfOk result (AreFound catalog.now.tables query.now rel 1 (stop_scan rel k access)) }
+    ensures cause { IfErr result (StopsReading catalog.now.tables
+        (world (S.content store.old) (S.faults store.old) allowance.old meter.old)
+        (world (S.content store.new) (S.faults store.new) allowance.new meter.new)) }
+    ensures undamaged { IfErr result (IsSoundOverRows (S.content store.old) catalog.now.tables) }
+{
+    let inputs = no_relation(alloc)?;
+    let mut calls = Calls {
+        store,
+        allowance,
+        meter,
+    };
+    scan_inputs(
+        alloc,
+        catalog,
+        query,
+        params,
+        rel,
+        access,
+        inputs.items(),
+        after,
+        k,
+        &mut calls,
+    )
+}

@@ -1,0 +1,6 @@
+use Rattle.std.proofs.Common.{◌≡◌, map}
+use Rattle.pq_local_ops.specs.Codes.{coded}
+use Rattle.pq_local_ops.proofs.sort.with_codes.Given as goal
+
+abbrev pub invariant-loop-combo : goal.invariant-loop-combo
+invariant-loop-combo l = l.items.items ≡ map (coded l.cols l.dirs) l.yielded

@@ -1,0 +1,105 @@
+//! The values of a combination at columns: its position, and what is selected of it.
+ghost use Rattle.std.specs.Prelude.{◌≡◌, length, map, slice_index_or, IfOk};
+ghost use Rattle.pq_base.specs.Values.{AllFit};
+ghost use Rattle.pq_key_code.specs.KeyCode.{code_of};
+ghost use Rattle.pq_schema.specs.Rows.{no_value};
+ghost use Rattle.pq_schema.specs.Resolved.{IsResolved};
+ghost use Rattle.pq_schema.specs.Sound.{IsQuery};
+ghost use Rattle.pq_plan.specs.Answer.{row_of, selected, values_at};
+ghost use Rattle.pq_nodes.specs.Combos.{FitsTables, position_types};
+ghost use Rattle.pq_local_ops.specs.Lists.{IsPositionOf};
+ghost use Rattle.pq_local_ops.specs.Places.{ArePlaces};
+
+use pq_base::{Bytes, Dir, List, NoMem, Row, Value};
+use pq_key_code::encode_key;
+use pq_operands::cell;
+use pq_plan::Combo;
+use pq_predicates::position_columns;
+use pq_schema::{Catalog, ColRef, Query};
+use std::alloc::Global;
+
+/// The position columns of a query, and their directions.
+#[derive(Drop)]
+pub(crate) struct Places {
+    pub(crate) cols: List<ColRef>,
+    pub(crate) dirs: List<Dir>,
+}
+
+/// The position columns of a query, and their directions.
+pub(crate) fn places_of(alloc: Global, catalog: &Catalog, query: &Query) -> Result<Places, NoMem>
+    requires { IsResolved catalog.now.tables query.now }
+    ensures places { IfOk result (ArePlaces catalog.now.tables query.now) }
+    ensures sound { IfOk result (λ _. IsQuery catalog.now.tables query.now) }
+{
+    catalog.known();
+    let mut cols = List::new(alloc);
+    let mut dirs = List::new(alloc);
+    for item in position_columns(alloc, catalog, query)?.items() {
+        cols.push(alloc, item.col)?;
+        dirs.push(alloc, item.dir)?;
+    }
+    Ok(Places { cols, dirs })
+}
+
+/// A copy of the value at a column; a column that isn't there reads as false.
+fn value_at(alloc: Global, combo: &Combo, col: ColRef) -> Result<Value, NoMem>
+    ensures { IfOk result (λ value. value ≡ slice_index_or (row_of col.rel combo.now) col.col no_value) }
+{
+    match cell(combo, col) {
+        Some(value) => value.copy(alloc),
+        None => Ok(Value::Bool(false)),
+    }
+}
+
+/// The values of a combination at some columns.
+pub(crate) fn values_at(alloc: Global, combo: &Combo, cols: &[ColRef]) -> Result<Row, NoMem>
+    ensures { IfOk result (λ values. values ≡ values_at combo.now cols.now) }
+{
+    let mut values = Row::new(alloc);
+    for col in cols {
+        values.push(alloc, value_at(alloc, combo, *col)?)?;
+    }
+    Ok(values)
+}
+
+/// The key code of a combination's values at some columns, each in its direction.
+pub(crate) fn code_at(
+    alloc: Global,
+    combo: &Combo,
+    cols: &[ColRef],
+    dirs: &[Dir],
+) -> Result<Bytes, NoMem>
+    requires { length cols.now ≡ length dirs.now }
+    ensures { IfOk result (λ code. code ≡ code_of dirs.now (values_at combo.now cols.now)) }
+{
+    let values = values_at(alloc, combo, cols)?;
+    encode_key(alloc, &values, dirs)
+}
+
+/// The position of a combination: its values at the position columns. It fits their types where the
+/// combination has a fitting row for each relation.
+pub fn position_of(
+    alloc: Global,
+    catalog: &Catalog,
+    query: &Query,
+    combo: &Combo,
+) -> Result<Row, NoMem>
+    requires { IsResolved catalog.now.tables query.now }
+    ensures position { IfOk result (IsPositionOf catalog.now.tables query.now combo.now) }
+    ensures fits { IfOk result (λ values. FitsTables catalog.now.tables query.now (length query.now.relations) combo.now
+        → AllFit (position_types catalog.now.tables query.now) values) }
+{
+    let places = places_of(alloc, catalog, query)?;
+    values_at(alloc, combo, places.cols.items())
+}
+
+/// The selected columns of each combination.
+pub fn project(alloc: Global, query: &Query, combos: &List<Combo>) -> Result<List<Row>, NoMem>
+    ensures { IfOk result (λ rows. rows ≡ map (selected query.now) combos.now) }
+{
+    let mut rows = List::new(alloc);
+    for combo in combos.items() {
+        rows.push(alloc, values_at(alloc, combo, query.select.items())?)?;
+    }
+    Ok(rows)
+}

@@ -1,0 +1,9 @@
+pub mod Fitting
+pub mod InOrder
+pub mod Inverse
+pub mod Making
+pub mod Paying
+pub mod Ranges
+pub mod Sizes
+pub mod Tied
+pub mod Undamaged

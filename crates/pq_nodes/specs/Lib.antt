@@ -1,0 +1,6 @@
+pub mod Combos
+pub mod Inverse
+pub mod Operators
+pub mod Ordered
+pub mod Paid
+pub mod Tied

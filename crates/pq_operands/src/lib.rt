@@ -1,0 +1,8 @@
+//! The values that operands and ties stand for, and comparisons of them.
+#![tactic(auto)]
+
+mod operands;
+mod ties;
+
+pub use operands::{cell, compares, meets, order_of, side};
+pub use ties::{tied_cells, tied_value};

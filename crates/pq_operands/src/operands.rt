@@ -1,0 +1,78 @@
+//! Operands and comparisons.
+ghost use Rattle.std.specs.Prelude.{◌≡◌, option_copied};
+ghost use Rattle.pq_base.specs.Order.{kind_rank, value_cmp};
+ghost use Rattle.pq_plan.specs.Answer.{side, cell, meets, compares};
+
+use pq_base::{Row, Value};
+use pq_plan::Combo;
+use pq_schema::{ColRef, Op, Operand};
+use std::cmp::Ordering;
+
+/// The value at a column of a combination, where it is there.
+pub fn cell<'a>(combo: &'a Combo, col: ColRef) -> Option<&'a Value>
+    ensures { option_copied result ≡ cell combo.now col }
+{
+    match combo.rows().get((col.rel as usize).saturating_sub(1)) {
+        Some(row) => row.items().get(col.col as usize),
+        None => None,
+    }
+}
+
+/// The value that an operand stands for: a constant, a parameter, or a column of an earlier relation.
+pub fn side<'a>(params: &'a Row, combo: &'a Combo, operand: &'a Operand) -> Option<&'a Value>
+    ensures { option_copied result ≡ side params.now combo.now operand.now }
+{
+    match operand {
+        Operand::Const(value) => Some(value),
+        Operand::Param(number) => params.items().get((*number as usize).saturating_sub(1)),
+        Operand::Col(col) => cell(combo, *col),
+    }
+}
+
+/// Whether the order of two values meets the operator.
+pub fn meets(op: Op, order: Ordering) -> bool
+    ensures { result ≡ meets op order }
+{
+    match op {
+        Op::Eq => order.is_eq(),
+        Op::Ne => order.is_ne(),
+        Op::Lt => order.is_lt(),
+        Op::Le => order.is_le(),
+        Op::Gt => order.is_gt(),
+        Op::Ge => order.is_ge(),
+    }
+}
+
+/// The rank of a value's kind.
+fn kind_rank(value: &Value) -> u8
+    ensures { result ≡ kind_rank value.now }
+{
+    match value {
+        Value::Int(_) => 1,
+        Value::Bool(_) => 2,
+        Value::Text(_) => 3,
+    }
+}
+
+/// The order of two values: by their kinds, and of one kind numbers by size, false before true, texts by
+/// their bytes.
+pub fn order_of(a: &Value, b: &Value) -> Ordering
+    ensures { result ≡ value_cmp a.now b.now }
+{
+    match (a, b) {
+        (Value::Int(a), Value::Int(b)) => a.cmp(b),
+        (Value::Bool(a), Value::Bool(b)) => a.cmp(b),
+        (Value::Text(a), Value::Text(b)) => a.bytes().cmp(b.bytes()),
+        _ => kind_rank(a).cmp(&kind_rank(b)),
+    }
+}
+
+/// Whether both values are there, and their order meets the operator.
+pub fn compares(op: Op, left: Option<&Value>, right: Option<&Value>) -> bool
+    ensures { result ≡ compares op (option_copied left.entry) (option_copied right.entry) }
+{
+    match (left, right) {
+        (Some(left), Some(right)) => meets(op, order_of(left, right)),
+        _ => false,
+    }
+}

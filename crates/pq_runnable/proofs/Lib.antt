@@ -1,0 +1,11 @@
+pub mod Again
+pub mod Bits
+pub mod Compiled
+pub mod Growing
+pub mod Indexed
+pub mod Indexes
+pub mod Keeping
+pub mod Runnable
+pub mod Same
+pub mod Staying
+pub mod Whole

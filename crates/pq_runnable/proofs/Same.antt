@@ -1,0 +1,89 @@
+-- The candidates of a query look at its tables' keys, limits and foreign keys alone, and so stay where tables grow.
+use Rattle.std.proofs.Common.{◌≡◌, ℕ, ◌+◌, ◌-◌, ◌*◌, Bool, not, nat_le, ◌&&◌, ◌==◌, if◌then◌else◌, List, [], ◌∷◌, ◌++◌, flat_map, fold, length, zip, is_some, Option, refl, ap}
+use Rattle.std.specs.Prelude.{unwrap_or}
+use Rattle.std.specs.List.{list_all, list_any, range_with_len}
+use Rattle.std.specs.Option.{option_map_or}
+use Rattle.pq_base.specs.declared.number.Bound.{Bound}
+use Rattle.pq_base.specs.declared.number.Choice.TheVariants.{Whole, Stop}
+use Rattle.pq_schema.specs.declared.query.Query.{Query}
+use Rattle.pq_schema.specs.declared.table.Table.{Table}
+use Rattle.pq_schema.specs.Candidates.{Candidate, candidates, can_stop_at, stop_size, read_cost}
+use Rattle.pq_schema.specs.Costs.{Reached, start, bound, plus, read_each, read_stop}
+use Rattle.pq_schema.specs.Relations.{relation_at, table_of, fixed, order_rest, range_on, is_whole}
+use Rattle.pq_schema.specs.Resolved.{IsResolved}
+use Rattle.pq_schema.specs.Sequences.{primary_sequence, serves}
+use Rattle.pq_schema.specs.Tables.{is_lookup, data_bound}
+use Rattle.pq_runnable.specs.Grown.{HaveGrown}
+use Rattle.pq_runnable.proofs.Growing.{relation_grown}
+
+-- the candidates where each relation has this table
+module _ (table : ℕ → Table) (query : Query) where
+  abbrev bound_on : ℕ → Option ℕ
+  bound_on rel = data_bound (table rel) (fixed query rel)
+
+  abbrev next_on : Reached → ℕ → Reached
+  next_on reached rel = read_each (unwrap_or (bound_on rel) 0) (read_cost (table rel) (fixed query rel)) reached
+
+  abbrev reached_on : ℕ → Reached
+  reached_on count = fold next_on start (range_with_len 1 count)
+
+  abbrev bounded_on : ℕ → Bool
+  bounded_on count = list_all (λ rel. is_some (bound_on rel)) (range_with_len 1 count)
+
+  abbrev whole_on : List Candidate
+  whole_on = if bounded_on (length query.relations) then record { choice = Whole; bound = (reached_on (length query.relations)).cost } ∷ [] else []
+
+  abbrev tied_on : ℕ → ℕ → Bool
+  tied_on rel earlier =
+      list_any (λ foreign. foreign.table == (relation_at query rel).table && is_whole query rel earlier (zip foreign.cols (table rel).key))
+      (table earlier).foreign
+
+  abbrev total_on : ℕ → Bool
+  total_on rel = list_any (tied_on rel) (range_with_len 1 (rel - 1))
+
+  abbrev can_stop_on : ℕ → Bool
+  can_stop_on p =
+      bounded_on (p - 1)
+      && not (is_lookup (table p) (fixed query p))
+      && list_all (λ item. nat_le item.col.rel p) query.order
+      && range_on query p
+      && list_all total_on (range_with_len (p + 1) (length query.relations - p))
+
+  abbrev served_on : ℕ → Bool
+  served_on p = serves (table p) (fixed query p) (order_rest query p) (primary_sequence (table p))
+
+  abbrev cost_on : ℕ → ℕ → Bound
+  cost_on k p =
+      let rest = k * (length query.relations - p) in
+      plus (read_stop k (served_on p) (reached_on (p - 1))).cost (bound rest rest)
+
+  abbrev stop_on : ℕ → ℕ → List Candidate
+  stop_on k p = if can_stop_on p then record { choice = Stop p; bound = cost_on k p } ∷ [] else []
+
+  abbrev candidates_on : List Candidate
+  candidates_on = whole_on ++ option_map_or (λ k. flat_map (stop_on k) (range_with_len 1 (length query.relations))) (stop_size query.stop) []
+
+abbrev bare : Table → Table
+bare table = record table { indexes = [] }
+
+-- they are those of the query's tables
+of_tables : (tables : List Table) (query : Query) → candidates_on (table_of tables query) query ≡ candidates tables query
+of_tables tables query = refl
+
+-- and need no indexes
+of_bare : (table : ℕ → Table) (query : Query) → candidates_on (λ rel. bare (table rel)) query ≡ candidates_on table query
+of_bare table query = refl
+
+module _ (before now : List Table) (query : Query) (grown : HaveGrown before now) (resolved : IsResolved before query) where
+  same_bare : (rel : ℕ) → bare (table_of now query rel) ≡ bare (table_of before query rel)
+  same_bare rel = ap bare (relation_grown before now query grown resolved rel).is
+
+  same_on : candidates_on (λ rel. bare (table_of now query rel)) query ≡ candidates_on (λ rel. bare (table_of before query rel)) query
+  same_on = λ i. candidates_on (λ rel. same_bare rel i) query
+
+  pub same_candidates : candidates now query ≡ candidates before query
+  same_candidates = same_on
+
+  -- and where one may stop
+  pub same_can_stop : (p : ℕ) → can_stop_at now query p ≡ can_stop_at before query p
+  same_can_stop p = λ i. can_stop_on (λ rel. same_bare rel i) query p

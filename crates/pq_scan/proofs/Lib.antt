@@ -1,0 +1,9 @@
+pub mod Codes
+pub mod Columns
+pub mod Ends
+pub mod Filtered
+pub mod Merged
+pub mod Reading
+pub mod Running
+pub mod Steps
+pub mod Told

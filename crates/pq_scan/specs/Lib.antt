@@ -1,0 +1,4 @@
+pub mod Candidates
+pub mod Ends
+pub mod Inputs
+pub mod Prepared

@@ -1,0 +1,78 @@
+//! The candidates of all inputs, and the first of them by position.
+ghost use Rattle.std.specs.Prelude.{◌≡◌, ◌≤◌, ◌*◌, ◌-◌, length, take, option_copied, IfOk, IfErr, OnOk};
+ghost use Rattle.std.specs.List.{AllByRecursion};
+ghost use Rattle.pq_base.specs.Sorting.{sort_by};
+ghost use Rattle.pq_store.specs.Content.{key_cmp};
+ghost use Rattle.pq_calls.specs.Calls.{Uses, Fails};
+ghost use Rattle.pq_calls.specs.World.{Affords, where_told};
+ghost use Rattle.pq_nodes.specs.Combos.{FitsTables};
+ghost use Rattle.pq_nodes.specs.Operators.{AreInputs, IsCursor, ShowsRead};
+ghost use Rattle.pq_scan.specs.Candidates.{IsCandidate, AreCandidates, place_of_candidate};
+ghost use Rattle.pq_scan.specs.Prepared.{IsScannable};
+
+use crate::candidates::Candidate;
+use crate::prepared::Scan;
+use crate::reads::scan_input;
+use pq_base::{List, NoMem, Row};
+use pq_calls::Calls;
+use pq_plan::Combo;
+use pq_store::{Broke, Store};
+use std::alloc::Global;
+use std::sync::ledger::Ledger;
+
+/// What a scan finds for all inputs, in their order: for each input at most one operation, and at most
+/// `limit` entries.
+pub(crate) fn gather<S: Store<L>, L: Ledger>(
+    alloc: Global,
+    scan: &Scan<'_>,
+    inputs: &[Combo],
+    after: Option<&Row>,
+    limit: u32,
+    calls: &mut Calls<S, L>,
+) -> Result<List<Candidate>, Broke>
+    requires ready { IsScannable scan.now }
+    requires inputs { AreInputs scan.now.catalog.now.tables scan.now.query.now scan.now.rel inputs.now }
+    requires cursor { IsCursor scan.now.catalog.now.tables scan.now.query.now (option_copied after) }
+    requires limit { 1 ≤ limit }
+    requires share { Affords calls.old.allowance.now (length inputs.now) (length inputs.now * limit) }
+    ensures uses { Uses S.content S.faults calls.old calls.new (length inputs.now) (length inputs.now * limit) }
+    ensures cause { IfErr result (Fails (where_told
+        (ShowsRead scan.now.catalog.now.tables)) S.content S.faults calls.old calls.new) }
+    ensures kept { IfOk result (AllByRecursion (IsCandidate scan.now (S.content calls.old.store.now)
+        (length inputs.now))) }
+    ensures answer { IfOk result (AreCandidates scan.now (S.content calls.old.store.now) limit
+        (option_copied after.entry) inputs.now) }
+{
+    let mut found = List::new(alloc);
+    for place in 0..inputs.len() {
+        scan_input(
+            alloc,
+            scan,
+            place,
+            &inputs[place],
+            after,
+            limit,
+            calls,
+            &mut found,
+        )?;
+    }
+    Ok(found)
+}
+
+/// Puts candidates in the order of their positions; those of one position keep their order.
+fn sort_candidates(items: &mut Vec<Candidate>) -> Result<(), NoMem>
+    ensures { OnOk result (items.new.items ≡ sort_by key_cmp place_of_candidate items.old.items) }
+{
+    items.sort_by(|a, b| a.place.items().cmp(b.place.items()))?;
+    Ok(())
+}
+
+/// The first candidates by position, at most `k`; of one position those of the earlier input first.
+pub(crate) fn first_few(found: List<Candidate>, k: usize) -> Result<List<Candidate>, NoMem>
+    ensures { IfOk result (λ first. first ≡ take k (sort_by key_cmp place_of_candidate found)) }
+{
+    let mut items = found.into_vec();
+    sort_candidates(&mut items)?;
+    items.truncate(k);
+    Ok(List::from_vec(items))
+}

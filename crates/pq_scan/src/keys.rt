@@ -1,0 +1,368 @@
+//! The ends of an input's range as keys.
+ghost use Rattle.std.specs.Prelude.{◌≡◌, ◌<◌, ◌==◌, ◌++◌, ◌∷◌, [], cond, map, drop, count_ones, slice_get, option_copied, IfOk};
+ghost use Rattle.std.specs.List.{AllByRecursion};
+ghost use Rattle.std.specs.Option.{option_to_list};
+ghost use Rattle.pq_base.specs.declared.value.Value.{Value};
+ghost use Rattle.pq_key_code.specs.KeyCode.{code_of};
+ghost use Rattle.pq_schema.specs.Relations.{belongs_to};
+ghost use Rattle.pq_serving.specs.Keys.{bound_key, higher, lesser};
+ghost use Rattle.pq_serving.specs.Scanning.{first_direction, rest};
+ghost use Rattle.pq_serving.specs.Starts.{under, lower, upper, filled};
+ghost use Rattle.pq_scan.specs.Ends.{is_past, edge_bounds, bounds_by, pred_bounds, own_bounds, farther, farthest, with_key, bound_of, direction_of, started, end_code};
+ghost use Rattle.pq_scan.specs.Inputs.{IsInputOf, low_code, high_code};
+ghost use Rattle.pq_entries.specs.Entries.{key_front};
+ghost use Rattle.pq_scan.specs.Prepared.{asked_over, IsSound};
+
+use crate::passing::is_tied;
+use crate::places::{constants, position};
+use crate::prepared::Scan;
+use crate::starts::{Start, start_at};
+use pq_base::{Bytes, Dir, List, NoMem, Row, Value};
+use pq_key_code::{encode_key, past};
+use pq_operands::{side, tied_cells};
+use pq_plan::Combo;
+use pq_predicates::belongs_to;
+use pq_schema::{Access, KeyPart, Op, Pred};
+use std::alloc::Global;
+use std::cmp::Ordering;
+
+/// An end of a range: where it starts, or before which it ends.
+#[derive(Clone, Copy)]
+pub(crate) enum End {
+    Low,
+    High,
+}
+
+/// Whether a bound is at its values, or past them.
+#[derive(Clone, Copy)]
+pub(crate) enum Edge {
+    At,
+    Past,
+}
+
+fn lower_edge(dir: Dir, op: Op) -> Option<Edge>
+    ensures { (w : Value) → edge_bounds result w ≡ lower dir op w }
+{
+    match (dir, op) {
+        (Dir::Asc, Op::Gt) | (Dir::Desc, Op::Lt) => Some(Edge::Past),
+        (Dir::Asc, Op::Ge) | (Dir::Desc, Op::Le) => Some(Edge::At),
+        _ => None,
+    }
+}
+
+fn upper_edge(dir: Dir, op: Op) -> Option<Edge>
+    ensures { (w : Value) → edge_bounds result w ≡ upper dir op w }
+{
+    match (dir, op) {
+        (Dir::Asc, Op::Lt) | (Dir::Desc, Op::Gt) => Some(Edge::At),
+        (Dir::Asc, Op::Le) | (Dir::Desc, Op::Ge) => Some(Edge::Past),
+        _ => None,
+    }
+}
+
+/// Where a range predicate bounds an end of the range, in the direction of the column.
+fn edge_of(end: End, dir: Dir, op: Op) -> Option<Edge>
+    ensures { (w : Value) → edge_bounds result w ≡ bounds_by end dir op w }
+{
+    match end {
+        End::Low => lower_edge(dir, op),
+        End::High => upper_edge(dir, op),
+    }
+}
+
+/// The code of values, as far as there are directions.
+#[tactic(auto, using(crate::proofs::Codes::code_of_front))]
+fn front_code(alloc: Global, values: Row, dirs: &[Dir]) -> Result<Bytes, NoMem>
+    ensures { IfOk result (λ code. code ≡ code_of dirs.now values) }
+{
+    let mut values = values;
+    values.truncate(dirs.len());
+    encode_key(alloc, &values, &dirs[..values.items().len()])
+}
+
+/// The code of values, as far as there are directions, and 20 behind it where it is past them.
+#[tactic(auto, using(crate::proofs::Codes::nil_behind))]
+fn prefix_key(alloc: Global, values: Row, dirs: &[Dir], edge: Edge) -> Result<Bytes, NoMem>
+    ensures { IfOk result (λ key. key ≡ code_of dirs.now values ++ cond (is_past edge) (32 ∷ []) []) }
+{
+    let code = front_code(alloc, values, dirs)?;
+    match edge {
+        Edge::At => Ok(code),
+        Edge::Past => past(alloc, code),
+    }
+}
+
+/// The key of the tied values alone.
+fn tied_key(alloc: Global, dirs: &[Dir], ties: &Row, edge: Edge) -> Result<Bytes, NoMem>
+    ensures { IfOk result (λ key. key ≡ bound_key dirs.now (record { past = is_past edge; values = ties.now })) }
+{
+    prefix_key(alloc, ties.copy(alloc)?, dirs, edge)
+}
+
+/// The key of one value behind the tied ones.
+fn value_key(
+    alloc: Global,
+    dirs: &[Dir],
+    ties: &Row,
+    value: &Value,
+    edge: Edge,
+) -> Result<Bytes, NoMem>
+    ensures { IfOk result (λ key. key ≡ bound_key dirs.now (under ties.now
+        (record { past = is_past edge; values = value.now ∷ [] }))) }
+{
+    let mut values = ties.copy(alloc)?;
+    values.push(alloc, value.copy(alloc)?)?;
+    prefix_key(alloc, values, dirs, edge)
+}
+
+/// The values of both rows.
+fn joined(alloc: Global, first: &Row, second: &Row) -> Result<Row, NoMem>
+    ensures { IfOk result (λ both. both ≡ first.now ++ second.now) }
+{
+    let mut both = first.copy(alloc)?;
+    for value in second.items() {
+        both.push(alloc, value.copy(alloc)?)?;
+    }
+    Ok(both)
+}
+
+/// The key of a start behind the tied values.
+fn start_key(alloc: Global, dirs: &[Dir], ties: &Row, start: &Start) -> Result<Bytes, NoMem>
+    ensures { IfOk result (λ key. key ≡ bound_key dirs.now (under ties.now (bound_of start.now))) }
+{
+    let values = joined(alloc, ties, &start.values)?;
+    if start.past {
+        prefix_key(alloc, values, dirs, Edge::Past)
+    } else {
+        prefix_key(alloc, values, dirs, Edge::At)
+    }
+}
+
+fn higher(a: Bytes, b: Bytes) -> Bytes
+    ensures { result ≡ higher a b }
+{
+    match a.items().cmp(b.items()) {
+        Ordering::Less => b,
+        _ => a,
+    }
+}
+
+fn lesser(a: Bytes, b: Bytes) -> Bytes
+    ensures { result ≡ lesser a b }
+{
+    match a.items().cmp(b.items()) {
+        Ordering::Less => a,
+        _ => b,
+    }
+}
+
+/// Which of two keys is the end: the higher low one, the lesser high one.
+fn farther(end: End, a: Bytes, b: Bytes) -> Bytes
+    ensures { result ≡ farther end a b }
+{
+    match end {
+        End::Low => higher(a, b),
+        End::High => lesser(a, b),
+    }
+}
+
+fn with_key(end: End, found: Option<Bytes>, key: Bytes) -> Bytes
+    ensures { result ≡ with_key end found key }
+{
+    match found {
+        None => key,
+        Some(one) => farther(end, one, key),
+    }
+}
+
+/// The key of the bound that a predicate makes at an end, where it is one of the relation's on a column
+/// that is not tied, with an operand.
+fn pred_key(
+    alloc: Global,
+    scan: &Scan<'_>,
+    combo: &Combo,
+    ties: &Row,
+    end: End,
+    dir: Dir,
+    pred: &Pred,
+) -> Result<Option<Bytes>, NoMem>
+    requires sound { IsSound scan.now }
+    requires column { pred.now.left.col < 32 }
+    ensures { IfOk result (λ key. option_to_list key ≡ map (λ b. bound_key scan.now.dirs (under ties.now b))
+        (cond (belongs_to pred.now == scan.now.rel) (pred_bounds (asked_over scan.now []) scan.now.rel end dir combo.now pred.now) [])) }
+{
+    if belongs_to(pred) != scan.rel || is_tied(scan, pred) {
+        return Ok(None);
+    }
+    let Some(operand) = side(scan.params, combo, &pred.right) else {
+        return Ok(None);
+    };
+    match edge_of(end, dir, pred.op) {
+        None => Ok(None),
+        Some(edge) => Ok(Some(value_key(alloc, scan.dirs.items(), ties, operand, edge)?)),
+    }
+}
+
+/// The end of a key and of the bounds that some predicates make.
+fn farthest_from(
+    alloc: Global,
+    scan: &Scan<'_>,
+    combo: &Combo,
+    ties: &Row,
+    end: End,
+    dir: Dir,
+    preds: &[Pred],
+    base: Bytes,
+) -> Result<Bytes, NoMem>
+    requires sound { IsSound scan.now }
+    requires columns { AllByRecursion (λ pred. pred.left.col < 32) preds.now }
+    ensures { IfOk result (λ key. key ≡ farthest end scan.now.dirs base (map (under ties.now)
+        (own_bounds (asked_over scan.now []) scan.now.rel end dir combo.now preds.now))) }
+{
+    let Some((pred, rest)) = preds.split_first() else {
+        return Ok(base);
+    };
+    let key = farthest_from(alloc, scan, combo, ties, end, dir, rest, base)?;
+    let found = pred_key(alloc, scan, combo, ties, end, dir, pred)?;
+    Ok(with_key(end, found, key))
+}
+
+/// The direction of a part, ascending where there is none.
+fn direction_of(part: Option<&KeyPart>) -> Dir
+    ensures { result ≡ direction_of (option_copied part.entry) }
+{
+    match part {
+        Some(part) => part.dir,
+        None => Dir::Asc,
+    }
+}
+
+/// The part of the sequence at a place.
+fn part_at<'s>(scan: &'s Scan<'_>, place: usize) -> Option<&'s KeyPart>
+    ensures { option_copied result ≡ slice_get scan.now.sequence place }
+{
+    scan.sequence.items().get(place)
+}
+
+/// The direction of the first column behind the tied ones.
+fn rest_direction(scan: &Scan<'_>) -> Dir
+    requires { IsSound scan.now }
+    ensures { result ≡ first_direction (rest (asked_over scan.now []) scan.now.rel scan.now.sequence) }
+{
+    direction_of(part_at(scan, scan.fixed.count() as usize))
+}
+
+/// A low end, and the start that a cursor makes.
+fn with_start(
+    alloc: Global,
+    scan: &Scan<'_>,
+    ties: &Row,
+    constants: &[Option<Value>],
+    after: Option<&Row>,
+    key: Bytes,
+) -> Result<Bytes, NoMem>
+    ensures { IfOk result (λ low. low ≡ started scan.now.dirs ties.now scan.now.position_dirs constants.now
+        (option_copied after.entry) key) }
+{
+    match after {
+        None => Ok(key),
+        Some(at) => {
+            let start = start_at(alloc, scan.position_dirs.items(), constants, at)?;
+            let one = start_key(alloc, scan.dirs.items(), ties, &start)?;
+            Ok(higher(one, key))
+        }
+    }
+}
+
+/// An end of an input's range as a code, before a cursor plays a part.
+fn end_code(
+    alloc: Global,
+    scan: &Scan<'_>,
+    combo: &Combo,
+    ties: &Row,
+    end: End,
+    edge: Edge,
+) -> Result<Bytes, NoMem>
+    requires { IsSound scan.now }
+    ensures { IfOk result (λ key. key ≡ end_code scan.now combo.now ties.now end edge) }
+{
+    let dir = rest_direction(scan);
+    let base = tied_key(alloc, scan.dirs.items(), ties, edge)?;
+    let preds = scan.query.preds.items();
+    farthest_from(alloc, scan, combo, ties, end, dir, preds, base)
+}
+
+/// A code behind what the keys of the scan's sequence begin with.
+fn with_front(alloc: Global, scan: &Scan<'_>, code: &Bytes) -> Result<Bytes, NoMem>
+    ensures { IfOk result (λ key. key ≡ key_front scan.now.number scan.now.access ++ code.now) }
+{
+    let mut key = match scan.access {
+        Access::Primary => Bytes::of_bytes(alloc, &[0x02, scan.number])?,
+        Access::Secondary(index) => Bytes::of_bytes(alloc, &[0x03, scan.number, index])?,
+    };
+    key.extend(alloc, code.items())?;
+    Ok(key)
+}
+
+/// What is the same for all rows of an input: the tied values, and the constants of its positions.
+#[derive(Drop)]
+pub(crate) struct Input {
+    pub ties: Row,
+    pub constants: List<Option<Value>>,
+}
+
+/// The ties and constants of an input.
+pub(crate) fn input_of(alloc: Global, scan: &Scan<'_>, combo: &Combo) -> Result<Input, NoMem>
+    requires { IsSound scan.now }
+    ensures { IfOk result (IsInputOf scan.now combo.now) }
+{
+    let front = scan.front.items();
+    let ties = tied_cells(alloc, scan.query, scan.params, scan.rel, combo, front)?;
+    let constants = constants(alloc, scan, combo)?;
+    Ok(Input { ties, constants })
+}
+
+/// The keys from which an input's range starts, and before which it ends.
+#[derive(Drop)]
+pub(crate) struct Ends {
+    pub low: Bytes,
+    pub high: Bytes,
+}
+
+/// The ends of an input's range, strictly after a cursor.
+pub(crate) fn ends_of(
+    alloc: Global,
+    scan: &Scan<'_>,
+    combo: &Combo,
+    input: &Input,
+    after: Option<&Row>,
+) -> Result<Ends, NoMem>
+    requires { IsSound scan.now }
+    ensures low { IfOk result (λ ends. ends.low ≡ key_front scan.now.number scan.now.access ++ low_code scan.now
+        combo.now input.now (option_copied after.entry)) }
+    ensures high { IfOk result (λ ends. ends.high ≡ key_front scan.now.number scan.now.access ++ high_code scan.now
+        combo.now input.now) }
+{
+    let ties = &input.ties;
+    let low = end_code(alloc, scan, combo, ties, End::Low, Edge::At)?;
+    let low = with_start(alloc, scan, ties, input.constants.items(), after, low)?;
+    let low = with_front(alloc, scan, &low)?;
+    let high = end_code(alloc, scan, combo, ties, End::High, Edge::Past)?;
+    let high = with_front(alloc, scan, &high)?;
+    Ok(Ends { low, high })
+}
+
+/// The code of the position of a row of an input, from the values of the sequence.
+pub(crate) fn place_of(
+    alloc: Global,
+    scan: &Scan<'_>,
+    constants: &[Option<Value>],
+    values: &[Value],
+) -> Result<Bytes, NoMem>
+    ensures { IfOk result (λ key. key ≡ code_of scan.now.position_dirs (filled constants.now (drop
+        (count_ones scan.now.fixed) values.now))) }
+{
+    let tied = scan.fixed.count() as usize;
+    let position = position(alloc, constants, tied, values)?;
+    front_code(alloc, position, scan.position_dirs.items())
+}

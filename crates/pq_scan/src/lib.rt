@@ -1,0 +1,20 @@
+//! What the inputs of a stop scan ask of a serving sequence, what is read for them, and what is made of that.
+//!
+//! A scan is prepared once for all inputs of its node. For one input the predicates on tied columns are
+//! tested first; then one range is read, from the highest lower bound up to the lowest upper one, with
+//! the cursor's start among the lower ones. What is found for all inputs is put in the order of positions
+//! and cut, and then the rows of entries are fetched.
+#![tactic(auto)]
+
+mod candidates;
+mod fetch;
+mod gather;
+mod keys;
+mod passing;
+mod places;
+mod prepared;
+mod reads;
+mod scanning;
+mod starts;
+
+pub use scanning::scan_inputs;

@@ -1,0 +1,127 @@
+//! The positions of an input's rows: constants, and the values behind the tied ones between them.
+ghost use Rattle.std.specs.Prelude.{◌≡◌, [], ◌<◌, ◌++◌, map, drop, unwrap_or, option_copied, slice_index_or, IfOk};
+ghost use Rattle.pq_schema.specs.Rows.{no_value};
+ghost use Rattle.pq_plan.specs.Answer.{cell};
+ghost use Rattle.pq_serving.specs.Starts.{filled};
+ghost use Rattle.pq_serving.specs.Scanning.{constant_value, constant};
+ghost use Rattle.pq_scan.specs.Prepared.{asked_over, IsSound};
+
+use crate::prepared::Scan;
+use pq_base::{List, NoMem, Row, Value};
+use pq_operands::{cell, tied_value};
+use pq_plan::Combo;
+use pq_schema::OrderItem;
+use std::alloc::Global;
+
+/// A copy of a value that is there, and else of the value of a column that isn't there.
+pub(crate) fn copied(alloc: Global, value: Option<&Value>) -> Result<Value, NoMem>
+    ensures { IfOk result (λ copy. copy ≡ unwrap_or (option_copied value.entry) no_value) }
+{
+    match value {
+        Some(value) => value.copy(alloc),
+        None => Ok(Value::Bool(false)),
+    }
+}
+
+/// The value of a position column that is the same for each row of an input that passes.
+fn constant_value(
+    alloc: Global,
+    scan: &Scan<'_>,
+    combo: &Combo,
+    item: &OrderItem,
+) -> Result<Value, NoMem>
+    ensures { IfOk result (λ value. value ≡ constant_value (asked_over scan.now []) scan.now.rel combo.now item.now) }
+{
+    if item.col.rel == scan.rel {
+        copied(
+            alloc,
+            tied_value(scan.query, scan.params, scan.rel, combo, item.col.col),
+        )
+    } else {
+        copied(alloc, cell(combo, item.col))
+    }
+}
+
+/// The constant of a position column, or none where the rows of an input differ at it.
+fn constant(
+    alloc: Global,
+    scan: &Scan<'_>,
+    combo: &Combo,
+    item: &OrderItem,
+) -> Result<Option<Value>, NoMem>
+    requires sound { IsSound scan.now }
+    requires column { item.now.col.col < 32 }
+    ensures { IfOk result (λ value. value ≡ constant (asked_over scan.now []) scan.now.rel combo.now item.now) }
+{
+    if item.col.rel == scan.rel && !scan.fixed.has(item.col.col) {
+        return Ok(None);
+    }
+    Ok(Some(constant_value(alloc, scan, combo, item)?))
+}
+
+/// The constants of an input's positions.
+pub(crate) fn constants(
+    alloc: Global,
+    scan: &Scan<'_>,
+    combo: &Combo,
+) -> Result<List<Option<Value>>, NoMem>
+    requires { IsSound scan.now }
+    ensures { IfOk result (λ made. made ≡ map (constant
+        (asked_over scan.now []) scan.now.rel combo.now) scan.now.items) }
+{
+    let mut constants = List::new(alloc);
+    for item in scan.items.items() {
+        constants.push(alloc, constant(alloc, scan, combo, item)?)?;
+    }
+    Ok(constants)
+}
+
+/// A list with constants at some places, and the others, in order, from another list, behind a row.
+fn filled_behind(
+    alloc: Global,
+    constants: &[Option<Value>],
+    own: &[Value],
+    mut row: Row,
+) -> Result<Row, NoMem>
+    ensures { IfOk result (λ whole. whole ≡ row ++ filled constants.now own.now) }
+{
+    let Some((constant, constants)) = constants.split_first() else {
+        return Ok(row);
+    };
+    match constant {
+        Some(value) => {
+            row.push(alloc, value.copy(alloc)?)?;
+            filled_behind(alloc, constants, own, row)
+        }
+        None => {
+            let Some((value, own)) = own.split_first() else {
+                return Ok(row);
+            };
+            row.push(alloc, value.copy(alloc)?)?;
+            filled_behind(alloc, constants, own, row)
+        }
+    }
+}
+
+/// The values from a place on.
+fn values_from(values: &[Value], place: usize) -> &[Value]
+    ensures { result.now ≡ drop place values.now }
+{
+    if place < values.len() {
+        &values[place..]
+    } else {
+        &[]
+    }
+}
+
+/// The position of a row of an input, from the values of the sequence.
+pub(crate) fn position(
+    alloc: Global,
+    constants: &[Option<Value>],
+    tied: usize,
+    values: &[Value],
+) -> Result<Row, NoMem>
+    ensures { IfOk result (λ position. position ≡ filled constants.now (drop tied values.now)) }
+{
+    filled_behind(alloc, constants, values_from(values, tied), Row::new(alloc))
+}

@@ -1,0 +1,13 @@
+pub mod Columns
+pub mod Constants
+pub mod Found
+pub mod Keys
+pub mod Merge
+pub mod Places
+pub mod RangePreds
+pub mod Rows
+pub mod Scans
+pub mod Served
+pub mod Stored
+pub mod Typed
+pub mod Whole

@@ -1,0 +1,79 @@
+-- Where the range of one input starts and ends.
+use Rattle.std.specs.Prelude.{ℕ, suc, Bool, true, false, cond, List, [], ◌∷◌, ◌++◌, Option, Some, None}
+use Rattle.std.specs.declared.cmp.Ordering.{Ordering}
+use Rattle.std.specs.declared.cmp.Ordering.TheVariants.{Less, Equal, Greater}
+use Rattle.std.specs.Ordering.{is_lt, is_le}
+use Rattle.pq_base.specs.declared.value.Dir.{Dir}
+use Rattle.pq_base.specs.declared.value.Dir.TheVariants.{Asc, Desc}
+use Rattle.pq_base.specs.declared.value.Value.{Value}
+use Rattle.pq_base.specs.Order.{value_cmp, directed}
+use Rattle.pq_schema.specs.declared.query.Op.{Op}
+use Rattle.pq_schema.specs.declared.query.Op.TheVariants as op
+use Rattle.pq_key_code.specs.KeyOrder.{common_cmp}
+
+-- a prefix of a sequence: from its first code on, or past its last one
+pub record Bound : Type 0 where
+  pub past : Bool
+  pub values : List Value
+
+-- a list with some places constant, and the others, in order, from another list
+abbrev pub filled : {A : Type 0} → List (Option A) → List A → List A
+filled [] xs = []
+filled (Some v ∷ gs) xs = v ∷ filled gs xs
+filled (None ∷ gs) [] = []
+filled (None ∷ gs) (x ∷ xs) = x ∷ filled gs xs
+
+-- how many places are not constant
+abbrev pub own_count : {A : Type 0} → List (Option A) → ℕ
+own_count [] = 0
+own_count (Some v ∷ gs) = own_count gs
+own_count (None ∷ gs) = suc (own_count gs)
+
+-- what stands beside the places that are not constant
+abbrev pub own : {A B : Type 0} → List A → List (Option B) → List A
+own (d ∷ ds) (Some v ∷ gs) = own ds gs
+own (d ∷ ds) (None ∷ gs) = d ∷ own ds gs
+own _ _ = []
+
+abbrev pub by_case : {A : Type 0} → Ordering → A → A → A → A
+by_case Less a b c = a
+by_case Equal a b c = b
+by_case Greater a b c = c
+
+-- the list is at or past the bound
+abbrev pub reaches : List Dir → Bound → List Value → Bool
+reaches ds b xs = cond b.past (is_lt (common_cmp ds b.values xs)) (is_le (common_cmp ds b.values xs))
+
+-- from where on an input's rows are strictly after a cursor: a constant above the cursor's value leaves all under
+-- the prefix so far, one below it none
+abbrev pub start_of : List Dir → List (Option Value) → List Value → Bound
+start_of (d ∷ ds) (Some v ∷ gs) (a ∷ at) =
+    by_case (directed d (value_cmp a v)) (record { past = false; values = [] }) (start_of ds gs at)
+    (record { past = true; values = [] })
+start_of (d ∷ ds) (None ∷ gs) (a ∷ at) = let b = start_of ds gs at in record { past = b.past; values = a ∷ b.values }
+start_of _ _ _ = record { past = true; values = [] }
+
+-- a bound behind first values
+abbrev pub under : List Value → Bound → Bound
+under e b = record { past = b.past; values = e ++ b.values }
+
+abbrev pub at_value : Value → Bound
+at_value w = record { past = false; values = w ∷ [] }
+
+abbrev pub past_value : Value → Bound
+past_value w = record { past = true; values = w ∷ [] }
+
+-- a range predicate bounds the sequence below or above, by the direction
+abbrev pub lower : Dir → Op → Value → List Bound
+lower Asc op.Gt w = past_value w ∷ []
+lower Asc op.Ge w = at_value w ∷ []
+lower Desc op.Lt w = past_value w ∷ []
+lower Desc op.Le w = at_value w ∷ []
+lower _ _ w = []
+
+abbrev pub upper : Dir → Op → Value → List Bound
+upper Asc op.Lt w = at_value w ∷ []
+upper Asc op.Le w = past_value w ∷ []
+upper Desc op.Gt w = at_value w ∷ []
+upper Desc op.Ge w = past_value w ∷ []
+upper _ _ w = []

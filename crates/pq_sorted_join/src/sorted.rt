@@ -1,0 +1,65 @@
+//! The sorted join.
+ghost use Rattle.std.specs.Prelude.{length, option_copied, IfOk, IfErr};
+ghost use Rattle.pq_calls.specs.World.{world};
+ghost use Rattle.pq_plan.specs.Nodes.{stop_scan};
+ghost use Rattle.pq_nodes.specs.Operators.{IsAsked, IsReady, AreInputs, IsCursor, AffordsNode, ReadsNode, AreFound, Answers, StopsReading, IsSoundOverRows};
+
+use pq_base::{List, Row};
+use pq_calls::Calls;
+use pq_plan::Combo;
+use pq_scan::scan_inputs;
+use pq_schema::{Access, Catalog, Query};
+use pq_store::{Allowance, Broke, Meter, Store};
+use std::alloc::Global;
+use std::sync::ledger::Ledger;
+
+/// The first `k` combinations by position of an input and a row of the relation each, strictly after the
+/// cursor: for each input one range of at most `k` rows, or entries of an index, and for an index a get of
+/// each row that is answered.
+pub fn sorted_join<S: Store<L>, L: Ledger>(
+    alloc: Global,
+    catalog: &Catalog,
+    query: &Query,
+    params: &Row,
+    rel: u8,
+    access: Access,
+    inputs: List<Combo>,
+    after: Option<&Row>,
+    k: u16,
+    store: &mut S,
+    allowance: &mut Allowance,
+    meter: &mut Meter<L>,
+) -> Result<List<Combo>, Broke>
+    requires asked { IsAsked catalog.now.tables query.now params.now }
+    requires ready { IsReady catalog.now.tables query.now (stop_scan rel k access) }
+    requires inputs { AreInputs catalog.now.tables query.now rel inputs }
+    requires cursor { IsCursor catalog.now.tables query.now (option_copied after) }
+    requires share { AffordsNode allowance.old (length inputs) (stop_scan rel k access) }
+    ensures answer { IfOk result (Answers (S.content store.old) catalog.now.tables query.now params.now
+        (option_copied after.entry) inputs (stop_scan rel k access)) }
+    ensures reads { ReadsNode (world (S.content store.old) (S.faults store.old) allowance.old meter.old)
+        (world (S.content store.new) (S.faults store.new) allowance.new meter.new) (length inputs) (stop_scan rel k access) }
+    ensures found { IfOk result (AreFound catalog.now.tables query.now rel (length inputs) (stop_scan rel k access)) }
+    ensures cause { IfErr result (StopsReading catalog.now.tables (world (S.content store.old)
+        (S.faults store.old) allowance.old meter.old)
+        (world (S.content store.new) (S.faults store.new) allowance.new meter.new)) }
+    ensures undamaged { IfErr result (IsSoundOverRows (S.content store.old) catalog.now.tables) }
+{
+    let mut calls = Calls {
+        store,
+        allowance,
+        meter,
+    };
+    scan_inputs(
+        alloc,
+        catalog,
+        query,
+        params,
+        rel,
+        access,
+        inputs.items(),
+        after,
+        k,
+        &mut calls,
+    )
+}
