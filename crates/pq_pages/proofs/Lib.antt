@@ -1,0 +1,4 @@
+pub mod Begins
+pub mod Columns
+pub mod Pages
+pub mod Params

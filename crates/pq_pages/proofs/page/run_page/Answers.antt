@@ -1,0 +1,45 @@
+use Rattle.std.proofs.Common.{◌≡◌, length, option_copied, refl, arith}
+use Rattle.pq_schema.specs.Schema.{query_at}
+use Rattle.pq_exec.specs.Execution.{AnswersQuery}
+use Rattle.pq_pages.specs.Running.{next_cursor}
+use Rattle.pq_pages.proofs.Pages.{within_bound, defined_asked, defined_resolved, defined_plan, answer_page}
+use Rattle.pq_pages.proofs.page.run_page.Goals as goal
+
+pub execute-requires-clause-asked : goal.execute-requires-clause-asked
+execute-requires-clause-asked g c =
+    defined_asked c.args.catalog.now c.args.number c.known.ensures c.requires.number.query c.query-query.result.now c.query-query.ensures c.args.params.now c.requires.fits
+
+pub execute-requires-clause-plan : goal.execute-requires-clause-plan
+execute-requires-clause-plan g c =
+    defined_plan c.args.catalog.now c.args.number c.known.ensures c.requires.number.query c.query-query.result.now c.query-query.ensures c.args.plan.now c.requires.plan
+
+pub returns-in_err-answer-clause-within : goal.returns-in_err-answer-clause-within
+returns-in_err-answer-clause-within g c =
+    within_bound c.args.catalog.now.tables (query_at c.args.catalog.now c.args.number) c.args.plan.now c.requires.bound c.args.meter.now c.execute.new.meter c.execute.ensures.bound
+
+pub next_cursor-requires-clause-resolved : goal.next_cursor-requires-clause-resolved
+next_cursor-requires-clause-resolved g c =
+    defined_resolved c.args.catalog.now c.args.number c.known.ensures c.requires.number.query c.query-query.result.now c.query-query.ensures
+
+pub returns-in_err-next-clause-within : goal.returns-in_err-next-clause-within
+returns-in_err-next-clause-within g c =
+    within_bound c.args.catalog.now.tables (query_at c.args.catalog.now c.args.number) c.args.plan.now c.requires.bound c.args.meter.now c.execute.new.meter c.execute.ensures.bound
+
+pub returns-clause-page : goal.returns-clause-page
+returns-clause-page g c = λ rows others holds.
+    let answers : AnswersQuery (g.S.Store.content c.args.store.now) c.args.catalog.now.tables (query_at c.args.catalog.now c.args.number) c.args.params.now (option_copied c.args.after) c.in_ok-answer.answer =
+    rw (← c.query-query.ensures) c.in_ok-answer.ensures.answer in
+    let next : c.in_ok-next.next ≡ next_cursor c.args.catalog.now.tables c.args.number (query_at c.args.catalog.now c.args.number) (length c.in_ok-answer.answer.rows) c.in_ok-answer.answer.last =
+    rw (← c.query-query.ensures) c.in_ok-next.ensures in
+    answer_page c.args.catalog.now.tables c.args.number (query_at c.args.catalog.now c.args.number) c.args.params.now (option_copied c.args.after) rows
+    c.in_ok-answer.answer (answers rows others holds) _ refl next
+
+pub returns-clause-few : goal.returns-clause-few
+returns-clause-few g c =
+    let few = c.in_ok-answer.ensures.page.few in
+    let narrow = c.requires.plan.narrow_entries in
+    omega (few, narrow, arith)
+
+pub returns-clause-within : goal.returns-clause-within
+returns-clause-within g c =
+    within_bound c.args.catalog.now.tables (query_at c.args.catalog.now c.args.number) c.args.plan.now c.requires.bound c.args.meter.now c.execute.new.meter c.execute.ensures.bound

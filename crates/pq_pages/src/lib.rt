@@ -1,0 +1,9 @@
+//! Pages: what a RUN of a defined query is refused for, and the page of its answer with the cursor of the
+//! next one.
+#![tactic(auto)]
+
+mod beginning;
+mod page;
+
+pub use beginning::begin;
+pub use page::{Page, run_page};
