@@ -1,0 +1,7 @@
+pub mod Entering
+pub mod Filled
+pub mod Finals
+pub mod Following
+pub mod Standing
+pub mod Ranges
+pub mod Staging

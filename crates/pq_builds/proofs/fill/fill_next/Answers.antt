@@ -1,0 +1,36 @@
+use Rattle.std.proofs.Common.{◌≡◌, ◌∙◌, sym, ap, subst, map, length, List}
+use Rattle.std.proofs.lemmas.List.{length-map}
+use Rattle.std.proofs.lemmas.Result.{err_from_is_err_and}
+use Rattle.pq_store.specs.Content.{entry}
+use Rattle.pq_store.specs.declared.store.Pair.{Pair as Stored}
+use Rattle.pq_intent.proofs.Steps.{on_err_holds}
+use Rattle.pq_builds.specs.Filling.{past_key, IsPast}
+use Rattle.pq_builds.proofs.Following.{answer_at, part_at, follows_from, stops_from, no_row_from, next_space}
+use Rattle.pq_builds.proofs.fill.fill_next.Goals as goal
+
+pub returns-in_err-write_entries-clause-stopped : goal.returns-in_err-write_entries-clause-stopped
+returns-in_err-write_entries-clause-stopped g c =
+    let high = past_key c.args.target.now.table in
+    let answer = answer_at (g.S.Store.content c.args.store.now) (map entry c.in-Ok.found) (map entry c.items-5.result.now) c.items.result.now c.items-2.result.now c.args.low high c.items.ensures (c.items-2.ensures ∙ c.in_ok-high.ensures) (ap (map entry) c.items-5.ensures) c.in-Ok.ensures.answer in
+    on_err_holds c.from_residual-in_err-write_entries.result (stops_from c.args.target.now c.args.low (g.S.Store.content c.args.store.now) (g.S.Store.content c.range.new.self) _ (map entry c.items-5.result.now) answer c.range.ensures.same c.in_err-write_entries.ensures.stopped)
+
+pub returns-in_err-write_entries-clause-damage : goal.returns-in_err-write_entries-clause-damage
+returns-in_err-write_entries-clause-damage g c =
+    let p = err_from_is_err_and c.from_residual-in_err-write_entries.result c.from_residual-in_err-write_entries.ensures.1 in
+    let high = past_key c.args.target.now.table in
+    let answer = answer_at (g.S.Store.content c.args.store.now) (map entry c.in-Ok.found) (map entry c.items-5.result.now) c.items.result.now c.items-2.result.now c.args.low high c.items.ensures (c.items-2.ensures ∙ c.in_ok-high.ensures) (ap (map entry) c.items-5.ensures) c.in-Ok.ensures.answer in
+    rw (p.1, p.2) (no_row_from c.args.target.now.types c.args.number c.args.target.now.table c.args.low (g.S.Store.content c.args.store.now) (map entry c.items-5.result.now) _ answer c.in_err-write_entries.ensures.damage)
+
+pub returns-clause-follows : goal.returns-clause-follows
+returns-clause-follows g c =
+    let high = past_key c.args.target.now.table in
+    let answer = answer_at (g.S.Store.content c.args.store.now) (map entry c.in-Ok.found) (map entry c.items-5.result.now) c.items.result.now c.items-2.result.now c.args.low high c.items.ensures (c.items-2.ensures ∙ c.in_ok-high.ensures) (ap (map entry) c.items-5.ensures) c.in-Ok.ensures.answer in
+    let long : length (map entry c.items-5.result.now) ≡ c.args.number = length-map c.items-5.result.now entry ∙ ap (λ (l : List Stored). length l) (c.items-5.ensures ∙ sym c.items-3.ensures) ∙ c.if-items-number.false in
+    let past = subst (λ (l : List Stored). IsPast c.args.low (map entry l) c.in_ok-next.next) (c.items-4.ensures ∙ sym c.items-5.ensures) c.in_ok-next.ensures in
+    follows_from c.args.target.now c.args.low c.args.number (g.S.Store.content c.args.store.now) (g.S.Store.content c.range.new.self) _ (map entry c.items-5.result.now) c.in_ok-next.next answer c.range.ensures.same long past c.in_ok-write_entries.ensures.enters
+
+pub returns-clause-next : goal.returns-clause-next
+returns-clause-next g c =
+    let high = past_key c.args.target.now.table in
+    let within = part_at (map entry c.in-Ok.found) (map entry c.items-4.result.now) c.items.result.now c.items-2.result.now c.args.low high c.items.ensures (c.items-2.ensures ∙ c.in_ok-high.ensures) (ap (map entry) c.items-4.ensures) c.in-Ok.ensures.part.within in
+    next_space c.args.low c.args.target.now.table 256 (map entry c.items-4.result.now) c.in_ok-next.next c.requires.low within c.in_ok-next.ensures

@@ -1,0 +1,5 @@
+pub mod Bounds
+pub mod Filling
+pub mod Stages
+pub mod Standing
+pub mod Targets

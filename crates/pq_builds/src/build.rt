@@ -1,0 +1,256 @@
+//! Builds: from no definition to a ready one, and of one that was left.
+ghost use Rattle.std.specs.Prelude.{◌≡◌, ◌≤◌, ◌+◌, ◌*◌, ◌⊎◌, false, Some, length, IfOk, IfErr, IfSome, OnOk, OnErr};
+ghost use Rattle.pq_content.specs.Pairs.{is_of_rows};
+ghost use Rattle.pq_store.specs.Breaks.{IfDamaged, IsPresent, IsUndamaged};
+ghost use Rattle.pq_store.specs.Content.{HasBrokeCause, Content};
+ghost use Rattle.pq_builds.specs.Filling.{row_pairs_in, IsNoRowAmong, NamesKey, fill_ops};
+ghost use Rattle.pq_builds.specs.Stages.{marked_value, IsMarked, IsReady, IsBuilt, StopsFilling, StopsBuilding, ShowsBuild, ShowsLeft, Ran, Takes, TakesBuild, IsFew, IsWithin, build_ops, left_ops};
+ghost use Rattle.pq_builds.specs.Standing.{Origin, HoldsOrigin, HoldsFilling, IsMarkedOrReady, Makes, Leaves};
+
+use crate::count::count_rows;
+use crate::entries::put;
+use crate::fill::{fill_rows, miscounted};
+use crate::target::{NewQuery, Target};
+use pq_base::{Bytes, NoMem};
+use pq_store::{Broke, Damage, Guard, Meter, Store};
+use std::alloc::Global;
+use std::sync::ledger::Ledger;
+
+/// What a build made: an index over so many rows, or nothing, since the table has too many.
+#[derive(Clone, Copy, Debug, PartialEq, Eq)]
+pub enum Built {
+    Rows(u32),
+    TooMany,
+}
+
+/// The mark of a definition whose index is being filled, and of one that is ready.
+const BUILDING: u8 = 1;
+
+const READY: u8 = 0;
+
+/// The value of a definition: its format, a mark and its text.
+fn value_of(alloc: Global, query: &NewQuery, mark: u8) -> Result<Bytes, NoMem>
+    ensures { IfOk result (λ value. value ≡ marked_value query.now mark) }
+{
+    let mut value = Bytes::of_bytes(alloc, &[query.format, mark])?;
+    value.extend(alloc, query.text.items())?;
+    Ok(value)
+}
+
+/// Writes the definition, whose key has to be absent, with the mark that its index is being filled.
+fn mark<S: Store<L>, L: Ledger>(
+    alloc: Global,
+    query: &NewQuery,
+    store: &mut S,
+    meter: &mut Meter<L>,
+) -> Result<(), Broke>
+    ensures marked { OnOk result (IfSome (S.content store.old) (λ c. IsMarked query.now c (S.content store.new))) }
+    ensures stopped { OnErr result (IfSome (S.content store.old) (λ c.
+        (S.content store.new ≡ Some c) ⊎ IsMarked query.now c (S.content store.new))) }
+    ensures shown { IfErr result (λ broke. IfSome (S.content store.old) (λ c.
+        IfDamaged (IsPresent query.now.key c) broke)) }
+    ensures names { IfErr result (NamesKey query.now.key) }
+    ensures takes { OnOk result (Takes 1 0 meter.old meter.new) }
+    ensures few { meter.new.ops ≤ meter.old.ops + 1 }
+    ensures entries { meter.new.entries ≡ meter.old.entries }
+    ensures cause { HasBrokeCause (S.faults store.old) (S.faults store.new) result }
+{
+    let value = value_of(alloc, query, BUILDING)?;
+    let key = Bytes::of_bytes(alloc, query.key.items())?;
+    match store.write(
+        alloc,
+        key.items(),
+        Guard::Absent,
+        Some(value.items()),
+        meter,
+    ) {
+        Ok(true) => Ok(()),
+        Ok(false) => Err(Broke::Damaged(Damage { key, value: None })),
+        Err(error) => Err(Broke::from(error)),
+    }
+}
+
+/// Writes each row's entry, and then the definition as ready.
+fn finish<S: Store<L>, L: Ledger>(
+    alloc: Global,
+    target: &Target,
+    query: &NewQuery,
+    count: u32,
+    store: &mut S,
+    meter: &mut Meter<L>,
+) -> Result<(), Broke>
+    requires few { count ≤ 1000000 }
+    ensures ready { OnOk result (IfSome (S.content store.old) (λ c.
+        length (row_pairs_in target.now.table c) ≡ count → IsReady target.now query.now c (S.content store.new))) }
+    ensures stopped { OnErr result (IfSome (S.content store.old) (λ c.
+        length (row_pairs_in target.now.table c) ≡ count → StopsFilling target.now query.now c (S.content store.new))) }
+    ensures shown { IfErr result (λ broke. IfSome (S.content store.old) (λ c.
+        length (row_pairs_in target.now.table c) ≡ count
+        → IfDamaged (IsNoRowAmong target.now.types (row_pairs_in target.now.table c)) broke)) }
+    ensures names { IfErr result (NamesKey query.now.key) }
+    ensures takes { OnOk result (Takes (fill_ops count + 1) count meter.old meter.new) }
+    ensures few_ops { meter.new.ops ≤ meter.old.ops + (fill_ops count + 1) }
+    ensures few_entries { meter.new.entries ≤ meter.old.entries + (count + 256) }
+    ensures cause { HasBrokeCause (S.faults store.old) (S.faults store.new) result }
+{
+    let value = value_of(alloc, query, READY)?;
+    fill_rows(alloc, target, query.key.items(), count, store, meter)?;
+    put(alloc, query.key.items(), value.items(), store, meter)
+}
+
+/// Writes the definition with its mark, and all that comes then.
+fn build_rows<S: Store<L>, L: Ledger>(
+    alloc: Global,
+    target: &Target,
+    query: &NewQuery,
+    count: u32,
+    store: &mut S,
+    meter: &mut Meter<L>,
+) -> Result<(), Broke>
+    requires few { count ≤ 1000000 }
+    requires key { is_of_rows query.now.key ≡ false }
+    ensures built { OnOk result (IfSome (S.content store.old) (λ c.
+        length (row_pairs_in target.now.table c) ≡ count → IsBuilt target.now query.now c (S.content store.new))) }
+    ensures stopped { OnErr result (IfSome (S.content store.old) (λ c.
+        length (row_pairs_in target.now.table c) ≡ count
+        → StopsBuilding target.now query.now c (S.content store.new))) }
+    ensures shown { IfErr result (λ broke. IfSome (S.content store.old) (λ c.
+        length (row_pairs_in target.now.table c) ≡ count → ShowsBuild target.now query.now c broke)) }
+    ensures names { IfErr result (NamesKey query.now.key) }
+    ensures takes { OnOk result (Takes (fill_ops count + 2) count meter.old meter.new) }
+    ensures few_ops { meter.new.ops ≤ meter.old.ops + (fill_ops count + 2) }
+    ensures few_entries { meter.new.entries ≤ meter.old.entries + (count + 256) }
+    ensures cause { HasBrokeCause (S.faults store.old) (S.faults store.new) result }
+{
+    mark(alloc, query, store, meter)?;
+    finish(alloc, target, query, count, store, meter)
+}
+
+/// Counts the rows, and makes the definition and its index where they are few enough.
+fn run_build<S: Store<L>, L: Ledger>(
+    alloc: Global,
+    target: &Target,
+    query: &NewQuery,
+    store: &mut S,
+    meter: &mut Meter<L>,
+) -> Result<Built, Broke>
+    requires key { is_of_rows query.now.key ≡ false }
+    ensures ran { IfOk result (λ built. IfSome (S.content store.old) (λ c.
+        Ran target.now query.now built c (S.content store.new))) }
+    ensures ended { OnErr result (IfSome (S.content store.old) (λ c.
+        StopsBuilding target.now query.now c (S.content store.new))) }
+    ensures shown { IfErr result (λ broke. IfSome (S.content store.old) (λ c.
+        ShowsBuild target.now query.now c broke)) }
+    ensures names { IfErr result (NamesKey query.now.key) }
+    ensures unchanged { IfOk result (λ built. built ≡ Built.TooMany → S.content store.new ≡ S.content store.old) }
+    ensures few { IfOk result IsFew }
+    ensures takes { IfOk result (λ built. TakesBuild built meter.old meter.new) }
+    ensures within { OnErr result (IsWithin build_ops meter.old meter.new) }
+    ensures cause { HasBrokeCause (S.faults store.old) (S.faults store.new) result }
+{
+    match count_rows(alloc, target.table, store, meter)? {
+        None => Ok(Built::TooMany),
+        Some(count) => {
+            build_rows(alloc, target, query, count, store, meter)?;
+            Ok(Built::Rows(count))
+        }
+    }
+}
+
+/// Counts the rows, and completes the index.
+fn run_completion<S: Store<L>, L: Ledger>(
+    alloc: Global,
+    target: &Target,
+    query: &NewQuery,
+    store: &mut S,
+    meter: &mut Meter<L>,
+) -> Result<u32, Broke>
+    ensures ready { IfOk result (λ count. IfSome (S.content store.old) (λ c.
+        (length (row_pairs_in target.now.table c) ≡ count) × IsReady target.now query.now c (S.content store.new))) }
+    ensures few { IfOk result (λ count. count ≤ 1000000) }
+    ensures ended { OnErr result (IfSome (S.content store.old) (λ c.
+        StopsFilling target.now query.now c (S.content store.new))) }
+    ensures shown { IfErr result (λ broke. IfSome (S.content store.old) (λ c.
+        ShowsLeft target.now query.now c broke)) }
+    ensures names { IfErr result (NamesKey query.now.key) }
+    ensures takes { IfOk result (λ count. Takes (left_ops count) (2 * count) meter.old meter.new) }
+    ensures within { OnErr result (IsWithin left_ops meter.old meter.new) }
+    ensures cause { HasBrokeCause (S.faults store.old) (S.faults store.new) result }
+{
+    match count_rows(alloc, target.table, store, meter)? {
+        None => Err(Broke::Damaged(miscounted(alloc, query.key.items())?)),
+        Some(count) => {
+            finish(alloc, target, query, count, store, meter)?;
+            Ok(count)
+        }
+    }
+}
+
+/// Makes the definition of a query and fills its index, where the table has few enough rows.
+/// Wherever it stops, the content is as it was, or the index is being filled, or all is done.
+pub fn build_index<S: Store<L>, L: Ledger>(
+    alloc: Global,
+    target: &Target,
+    query: &NewQuery,
+    store: &mut S,
+    meter: &mut Meter<L>,
+) -> Result<Built, Broke>
+    requires key { is_of_rows query.now.key ≡ false }
+    // Over a content of rows that keep their tables.
+    ensures made { IfOk result (λ built. (origin : Origin) → HoldsOrigin origin target.now query.now (S.content store.old)
+        → Makes origin target.now query.now built (S.content store.new)) }
+    ensures stopped { OnErr result ((origin : Origin) → HoldsOrigin origin target.now query.now (S.content store.old)
+        → Leaves origin target.now query.now (S.content store.new)) }
+    ensures sound { IfErr result (λ broke. (origin : Origin)
+        → HoldsOrigin origin target.now query.now (S.content store.old) → IsUndamaged broke) }
+    // Over any content that is told.
+    ensures ran { IfOk result (λ built. IfSome (S.content store.old) (λ c.
+        Ran target.now query.now built c (S.content store.new))) }
+    ensures ended { OnErr result (IfSome (S.content store.old) (λ c.
+        StopsBuilding target.now query.now c (S.content store.new))) }
+    ensures shown { IfErr result (λ broke. IfSome (S.content store.old) (λ c.
+        ShowsBuild target.now query.now c broke)) }
+    // Over every store, told or not. Damage that has no value names the definition's key: it was there,
+    // or the ranges gave another number of rows than the count.
+    ensures names { IfErr result (NamesKey query.now.key) }
+    ensures unchanged { IfOk result (λ built. built ≡ Built.TooMany → S.content store.new ≡ S.content store.old) }
+    ensures few { IfOk result IsFew }
+    ensures takes { IfOk result (λ built. TakesBuild built meter.old meter.new) }
+    ensures within { OnErr result (IsWithin build_ops meter.old meter.new) }
+    ensures cause { HasBrokeCause (S.faults store.old) (S.faults store.new) result }
+{
+    run_build(alloc, target, query, store, meter)
+}
+
+/// Completes a build that was left, and answers how many rows the index is over. More rows than an
+/// index is filled for are damage. Wherever it stops, the index is being filled still, or all is done.
+pub fn complete_index<S: Store<L>, L: Ledger>(
+    alloc: Global,
+    target: &Target,
+    query: &NewQuery,
+    store: &mut S,
+    meter: &mut Meter<L>,
+) -> Result<u32, Broke>
+    // Over a content in which the index is being filled.
+    ensures made { IfOk result (λ count. (origin : Origin) → HoldsFilling origin target.now query.now (S.content store.old)
+        → Makes origin target.now query.now (Built.Rows count) (S.content store.new)) }
+    ensures stopped { OnErr result ((origin : Origin) → HoldsFilling origin target.now query.now (S.content store.old)
+        → IsMarkedOrReady origin target.now query.now (S.content store.new)) }
+    ensures sound { IfErr result (λ broke. (origin : Origin)
+        → HoldsFilling origin target.now query.now (S.content store.old) → IsUndamaged broke) }
+    // Over any content that is told.
+    ensures ready { IfOk result (λ count. IfSome (S.content store.old) (λ c.
+        (length (row_pairs_in target.now.table c) ≡ count) × IsReady target.now query.now c (S.content store.new))) }
+    ensures ended { OnErr result (IfSome (S.content store.old) (λ c.
+        StopsFilling target.now query.now c (S.content store.new))) }
+    ensures shown { IfErr result (λ broke. IfSome (S.content store.old) (λ c.
+        ShowsLeft target.now query.now c broke)) }
+    // Over every store, told or not.
+    ensures few { IfOk result (λ count. count ≤ 1000000) }
+    ensures names { IfErr result (NamesKey query.now.key) }
+    ensures takes { IfOk result (λ count. Takes (left_ops count) (2 * count) meter.old meter.new) }
+    ensures within { OnErr result (IsWithin left_ops meter.old meter.new) }
+    ensures cause { HasBrokeCause (S.faults store.old) (S.faults store.new) result }
+{
+    run_completion(alloc, target, query, store, meter)
+}

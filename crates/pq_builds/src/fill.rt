@@ -1,0 +1,127 @@
+//! The entries of all rows of a table, read by ranges.
+ghost use Rattle.std.specs.Prelude.{◌≡◌, ◌≤◌, ◌+◌, ◌/◌, true, None, length, map, take, IfOk, IfErr, IfSome, OnOk, OnErr};
+ghost use Rattle.pq_content.specs.Pairs.{is_in_space};
+ghost use Rattle.pq_store.specs.Breaks.{IfDamaged};
+ghost use Rattle.pq_store.specs.Content.{pairs_within, HasBrokeCause, entry};
+ghost use Rattle.pq_builds.specs.Filling.{first_key, past_key, row_pairs_in, IsPast, Enters, EntersSome, Follows, ShowsRange, IsNoRowAmong, NamesKey, fill_ops};
+
+use crate::entries::write_entries;
+use crate::target::Target;
+use pq_base::{Bytes, NoMem, Row};
+use pq_key_code::{past, row_key};
+use pq_store::{Broke, Damage, Meter, Pair, Store};
+use std::alloc::Global;
+use std::sync::ledger::Ledger;
+
+/// How many rows one range reads.
+const ROWS: u32 = 256;
+
+/// The first key of a table's rows.
+pub(crate) fn first_key(alloc: Global, table: u8) -> Result<Bytes, NoMem>
+    ensures { IfOk result (λ key. key ≡ first_key table) }
+{
+    row_key(alloc, table, &Row::new(alloc))
+}
+
+/// The first key past a table's rows.
+pub(crate) fn past_key(alloc: Global, table: u8) -> Result<Bytes, NoMem>
+    ensures { IfOk result (λ key. key ≡ past_key table) }
+{
+    past(alloc, first_key(alloc, table)?)
+}
+
+/// The first key past those of the pairs; where there are none, the one that was handed in.
+fn next_key(alloc: Global, low: Bytes, pairs: &[Pair]) -> Result<Bytes, NoMem>
+    ensures { IfOk result (λ next. IsPast low (map entry pairs.now) next) }
+{
+    if pairs.is_empty() {
+        return Ok(low);
+    }
+    let last = &pairs[pairs.len() - 1];
+    let mut next = Bytes::of_bytes(alloc, last.key.items())?;
+    next.push(alloc, 0)?;
+    Ok(next)
+}
+
+/// The damage of a table that has not as many rows as were counted: the definition's key.
+pub(crate) fn miscounted(alloc: Global, key: &[u8]) -> Result<Damage, NoMem>
+    ensures key { IfOk result (λ damage. damage.key ≡ key.now) }
+    ensures value { IfOk result (λ damage. damage.value ≡ None) }
+{
+    let key = Bytes::of_bytes(alloc, key)?;
+    Ok(Damage { key, value: None })
+}
+
+/// Reads one range of rows, which has to have so many, and writes their entries. Gives the key from
+/// which the others come.
+fn fill_next<S: Store<L>, L: Ledger>(
+    alloc: Global,
+    target: &Target,
+    key: &[u8],
+    low: Bytes,
+    number: u32,
+    store: &mut S,
+    meter: &mut Meter<L>,
+) -> Result<Bytes, Broke>
+    requires low { is_in_space 2 low ≡ true }
+    requires number { number ≤ 256 }
+    ensures follows { IfOk result (λ next. IfSome (S.content store.old) (λ c.
+        Follows target.now low number c (S.content store.new) next)) }
+    ensures next { IfOk result (λ next. is_in_space 2 next ≡ true) }
+    ensures stopped { OnErr result (IfSome (S.content store.old) (λ c.
+        EntersSome target.now (pairs_within c low (past_key target.now.table)) c (S.content store.new))) }
+    ensures damage { IfErr result (λ broke. IfSome (S.content store.old) (λ c.
+        ShowsRange target.now.types number (pairs_within c low (past_key target.now.table)) broke)) }
+    ensures names { IfErr result (NamesKey key.now) }
+    ensures each { OnOk result (meter.new.ops ≡ meter.old.ops + (number + 1)) }
+    ensures each_entry { OnOk result (meter.new.entries ≡ meter.old.entries + number) }
+    ensures few { meter.new.ops ≤ meter.old.ops + (number + 1) }
+    ensures few_entries { meter.new.entries ≤ meter.old.entries + 256 }
+    ensures cause { HasBrokeCause (S.faults store.old) (S.faults store.new) result }
+{
+    let high = past_key(alloc, target.table)?;
+    let found = match store.range(alloc, low.items(), high.items(), ROWS, meter) {
+        Err(error) => return Err(Broke::from(error)),
+        Ok(found) => found,
+    };
+    if found.items().len() != number as usize {
+        return Err(Broke::Damaged(miscounted(alloc, key)?));
+    }
+    let next = next_key(alloc, low, found.items())?;
+    write_entries(alloc, target, found.items(), store, meter)?;
+    Ok(next)
+}
+
+/// Reads all rows of a table, which are this many, and writes their entries.
+pub(crate) fn fill_rows<S: Store<L>, L: Ledger>(
+    alloc: Global,
+    target: &Target,
+    key: &[u8],
+    count: u32,
+    store: &mut S,
+    meter: &mut Meter<L>,
+) -> Result<(), Broke>
+    requires few { count ≤ 1000000 }
+    ensures enters { OnOk result (IfSome (S.content store.old) (λ c.
+        length (row_pairs_in target.now.table c) ≡ count
+        → Enters target.now (row_pairs_in target.now.table c) c (S.content store.new))) }
+    ensures stopped { OnErr result (IfSome (S.content store.old) (λ c.
+        EntersSome target.now (row_pairs_in target.now.table c) c (S.content store.new))) }
+    ensures damage { IfErr result (λ broke. IfSome (S.content store.old) (λ c.
+        length (row_pairs_in target.now.table c) ≡ count
+        → IfDamaged (IsNoRowAmong target.now.types (row_pairs_in target.now.table c)) broke)) }
+    // Over every store, told or not.
+    ensures names { IfErr result (NamesKey key.now) }
+    ensures each { OnOk result (meter.new.ops ≡ meter.old.ops + fill_ops count) }
+    ensures each_entry { OnOk result (meter.new.entries ≡ meter.old.entries + count) }
+    ensures few { meter.new.ops ≤ meter.old.ops + fill_ops count }
+    ensures few_entries { meter.new.entries ≤ meter.old.entries + (count + 256) }
+    ensures cause { HasBrokeCause (S.faults store.old) (S.faults store.new) result }
+{
+    let mut low = first_key(alloc, target.table)?;
+    for full in 0..count / ROWS {
+        low = fill_next(alloc, target, key, low, ROWS, store, meter)?;
+    }
+    fill_next(alloc, target, key, low, count % ROWS, store, meter)?;
+    Ok(())
+}

@@ -1,0 +1,15 @@
+//! Builds of indexes over a store: each row of a table gets its entry in one more index.
+//!
+//! A build is made of calls that may stop at any of them. Whatever was done, the content is one in
+//! which the index is being filled, and the same build may be made again over it.
+#![tactic(auto)]
+
+mod build;
+mod count;
+mod entries;
+mod fill;
+pub mod laws;
+mod target;
+
+pub use build::{Built, build_index, complete_index};
+pub use target::{NewQuery, Target};
