@@ -1,0 +1,4 @@
+pub mod Clips
+pub mod Tally
+pub mod Spans
+pub mod Gathered

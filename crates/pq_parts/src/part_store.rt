@@ -1,0 +1,403 @@
+//! The store over parts.
+ghost use Rattle.std.specs.Prelude.{◌≡◌, ◌≤◌, ◌<◌, ◌+◌, ◌++◌, ◌⊎◌, ◌↔◌, IfSome, IfOk, IfErr, IsOk, OnOk, IsErrOf, OnErr, IsTrue, map, take, drop, length, min};
+ghost use Rattle.std.specs.Option.{option_map, option_copied};
+ghost use Rattle.std.specs.FinMap.{get as value_at};
+ghost use Rattle.pq_store.specs.Counts.{charged};
+ghost use Rattle.pq_store.specs.Content.{entry, pairs_within, after_write, admits, got_entries, ranged_entries, counted_entries, IsPartOf, HasCause};
+ghost use Rattle.pq_parts.specs.Tally.{counted, HasAsked};
+ghost use Rattle.pq_parts.specs.Spans.{IsPlacement, are_rising, has_key, first_from, firsts, spans, joined, number_met, faults_of};
+ghost use Rattle.pq_parts.specs.Gathered.{IsGathered, IsPieceAt, IsCountAt};
+
+use crate::part::Part;
+use crate::tally::Tally;
+use pq_base::{Bytes, List, NoMem};
+use pq_store::{Guard, Meter, Pair, Store, StoreErr};
+use std::alloc::Global;
+use std::marker::Model;
+use std::sync::ledger::Ledger;
+
+/// A store over parts in the order of their keys. The calls of its nodes are counted on a meter of
+/// its own.
+#[derive(Drop)]
+pub struct PartStore<S, N: Ledger> {
+    parts: Vec<Part<S>>,
+    tally: Tally<N>,
+}
+
+impl<S, N: Ledger> Model for PartStore<S, N> {
+    ghost use Rattle.pq_parts.specs.Spans.{Placed, IsPlacement};
+
+    ghost Value = { Placed S };
+
+    ghost view = { λ p. record { parts = p.parts.items; tally = p.tally } };
+
+    ghost invariant = { λ p. IsPlacement p.parts.items };
+}
+
+// Whether the parts begin at the empty key, are at most 64, and strictly rise.
+fn are_placed<S>(parts: &[Part<S>]) -> bool
+    ensures { IsTrue result ↔ IsPlacement parts.now }
+{
+    match parts.first() {
+        Some(first) => parts.len() <= 64 && first.from.items().is_empty() && rise(parts),
+        None => false,
+    }
+}
+
+// Whether the first keys strictly rise.
+fn rise<S>(parts: &[Part<S>]) -> bool
+    ensures { result ≡ are_rising parts.now }
+{
+    let Some((first, rest)) = parts.split_first() else {
+        return true;
+    };
+    let mut last = first;
+    for part in rest {
+        if !last.from.items().cmp(part.from.items()).is_lt() {
+            return false;
+        }
+        last = part;
+    }
+    true
+}
+
+impl<S, N: Ledger> PartStore<S, N> {
+    /// The store of these parts. They are given back exactly where there are none or more than 64,
+    /// the first doesn't begin at the empty key, or they don't strictly rise.
+    pub fn new(parts: List<Part<S>>, nodes: Meter<N>) -> Result<PartStore<S, N>, List<Part<S>>>
+    where
+        N: Drop,
+        ensures placed { IsOk result ↔ IsPlacement parts }
+        ensures store { IfOk result (λ store. store ≡ record { parts = parts; tally = record { nodes = nodes; ops = 0; entries = 0 } }) }
+        ensures back { IfErr result (λ back. back ≡ parts) }
+    {
+        if !are_placed(parts.items()) {
+            return Err(parts);
+        }
+        Ok(PartStore {
+            parts: parts.into_vec(),
+            tally: Tally::new(nodes),
+        })
+    }
+
+    /// How many calls of nodes the calls so far have made, up to the last number of 64 bits.
+    pub fn node_ops(&self) -> u64
+        ensures { result ≡ self.now.tally.ops }
+    {
+        self.tally.ops()
+    }
+
+    /// How many entries the nodes have answered so far, up to the last number of 64 bits.
+    pub fn node_entries(&self) -> u64
+        ensures { result ≡ self.now.tally.entries }
+    {
+        self.tally.entries()
+    }
+
+    // The place of the part that has the key.
+    fn place(&self, key: &[u8]) -> usize
+        ensures within { result < length self.now.parts }
+        ensures has { IsTrue (has_key self.now.parts result key.now) }
+    {
+        self.parts
+            .as_slice()
+            .partition_point(|part| part.from.items().cmp(key).is_le())
+            - 1
+    }
+}
+
+impl<S: Store<N>, N: Ledger> PartStore<S, N> {
+    // The pairs of the range: the parts in order.
+    fn collect(
+        &mut self,
+        alloc: Global,
+        low: &[u8],
+        high: &[u8],
+        limit: u32,
+    ) -> Result<List<Pair>, StoreErr>
+        ensures answer { IfOk result (λ found. IfSome (joined (spans S.content self.old.parts)) (λ pairs.
+            map entry found ≡ take limit (pairs_within pairs low.now high.now))) }
+        ensures part { IfOk result (λ found. IsPartOf low.now high.now limit (map entry found)) }
+        ensures same { spans S.content self.new.parts ≡ spans S.content self.old.parts }
+        ensures cause { HasCause (faults_of S.faults self.old.parts) (faults_of S.faults self.new.parts) result }
+        ensures places { firsts self.new.parts ≡ firsts self.old.parts }
+        ensures nodes { HasAsked self.old.tally self.new.tally (number_met low.now high.now (spans S.content self.old.parts)) limit (ranged_entries result) result }
+    {
+        let mut found = List::new(alloc);
+        for at in 0..self.parts.len() {
+            self.take_part(alloc, at, low, high, limit, &mut found)?;
+        }
+        Ok(found)
+    }
+
+    // Puts what the part at this place has of the range behind what was found before it.
+    fn take_part(
+        &mut self,
+        alloc: Global,
+        at: usize,
+        low: &[u8],
+        high: &[u8],
+        limit: u32,
+        found: &mut List<Pair>,
+    ) -> Result<(), StoreErr>
+        requires within { at < length self.old.parts }
+        requires few { length found.old ≤ limit }
+        ensures gathers { (before : _) → OnOk result (IsGathered (spans S.content self.old.parts) before self.old.tally at low.now high.now limit (map entry found.old)
+            → IsGathered (spans S.content self.old.parts) before self.new.tally (at + 1) low.now high.now limit (map entry found.new)) }
+        ensures nodes { (before : _) → OnErr result (IsGathered (spans S.content self.old.parts) before self.old.tally at low.now high.now limit (map entry found.old)
+            → HasAsked before self.new.tally (number_met low.now high.now (spans S.content self.old.parts)) limit 0 result) }
+        ensures same { spans S.content self.new.parts ≡ spans S.content self.old.parts }
+        ensures cause { HasCause (faults_of S.faults self.old.parts) (faults_of S.faults self.new.parts) result }
+        ensures places { firsts self.new.parts ≡ firsts self.old.parts }
+    {
+        let left = limit - found.items().len() as u32;
+        match self.range_at(alloc, at, low, high, left) {
+            Ok(piece) => match append(alloc, found, piece) {
+                Ok(()) => Ok(()),
+                Err(_) => Err(StoreErr::NoMem),
+            },
+            Err(error) => Err(error),
+        }
+    }
+
+    // The first `limit` pairs of the range that the part at this place has.
+    fn range_at(
+        &mut self,
+        alloc: Global,
+        at: usize,
+        low: &[u8],
+        high: &[u8],
+        limit: u32,
+    ) -> Result<List<Pair>, StoreErr>
+        requires { at < length self.old.parts }
+        ensures piece { IsPieceAt (spans S.content self.old.parts) at low.now high.now limit self.old.tally self.new.tally result }
+        ensures same { spans S.content self.new.parts ≡ spans S.content self.old.parts }
+        ensures cause { HasCause (faults_of S.faults self.old.parts) (faults_of S.faults self.new.parts) result }
+        ensures places { firsts self.new.parts ≡ firsts self.old.parts }
+    {
+        match self.end_of(alloc, at) {
+            Ok(until) => self.ask_range(alloc, at, low, high, &until, limit),
+            Err(_) => Err(StoreErr::NoMem),
+        }
+    }
+
+    // The first `limit` pairs of the range that the part at this place, which ends there, has.
+    fn ask_range(
+        &mut self,
+        alloc: Global,
+        at: usize,
+        low: &[u8],
+        high: &[u8],
+        until: &Option<Bytes>,
+        limit: u32,
+    ) -> Result<List<Pair>, StoreErr>
+        requires within { at < length self.old.parts }
+        requires end { until.now ≡ first_from (drop (at + 1) self.old.parts) }
+        ensures piece { IsPieceAt (spans S.content self.old.parts) at low.now high.now limit self.old.tally self.new.tally result }
+        ensures same { spans S.content self.new.parts ≡ spans S.content self.old.parts }
+        ensures cause { HasCause (faults_of S.faults self.old.parts) (faults_of S.faults self.new.parts) result }
+        ensures places { firsts self.new.parts ≡ firsts self.old.parts }
+    {
+        self.parts[at].range(alloc, low, high, until, limit, &mut self.tally)
+    }
+
+    // A copy of the key before which the part at this place ends: its node is lent to the call.
+    fn end_of(&self, alloc: Global, at: usize) -> Result<Option<Bytes>, NoMem>
+        requires { at < length self.now.parts }
+        ensures end { IfOk result (λ end. end ≡ first_from (drop (at + 1) self.now.parts)) }
+        ensures placed { IsPlacement self.now.parts }
+    {
+        match self.parts.get(at + 1) {
+            Some(next) => Ok(Some(Bytes::of_bytes(alloc, next.from.items())?)),
+            None => Ok(None),
+        }
+    }
+
+    // The number of pairs of the range: the parts in order.
+    fn total(&mut self, alloc: Global, low: &[u8], high: &[u8], cap: u32) -> Result<u32, StoreErr>
+        ensures answer { IfOk result (λ n. IfSome (joined (spans S.content self.old.parts)) (λ pairs.
+            n ≡ min cap (length (pairs_within pairs low.now high.now)))) }
+        ensures few { IfOk result (λ n. n ≤ cap) }
+        ensures same { spans S.content self.new.parts ≡ spans S.content self.old.parts }
+        ensures cause { HasCause (faults_of S.faults self.old.parts) (faults_of S.faults self.new.parts) result }
+        ensures places { firsts self.new.parts ≡ firsts self.old.parts }
+        ensures nodes { HasAsked self.old.tally self.new.tally (number_met low.now high.now (spans S.content self.old.parts)) cap (counted_entries result) result }
+    {
+        let mut n = 0;
+        for at in 0..self.parts.len() {
+            n += self.count_at(alloc, at, low, high, cap - n)?;
+        }
+        Ok(n)
+    }
+
+    // How many pairs of the range the part at this place has, up to `cap`.
+    fn count_at(
+        &mut self,
+        alloc: Global,
+        at: usize,
+        low: &[u8],
+        high: &[u8],
+        cap: u32,
+    ) -> Result<u32, StoreErr>
+        requires { at < length self.old.parts }
+        ensures number { IsCountAt (spans S.content self.old.parts) at low.now high.now cap self.old.tally self.new.tally result }
+        ensures same { spans S.content self.new.parts ≡ spans S.content self.old.parts }
+        ensures cause { HasCause (faults_of S.faults self.old.parts) (faults_of S.faults self.new.parts) result }
+        ensures places { firsts self.new.parts ≡ firsts self.old.parts }
+    {
+        match self.end_of(alloc, at) {
+            Ok(until) => self.ask_count(alloc, at, low, high, &until, cap),
+            Err(_) => Err(StoreErr::NoMem),
+        }
+    }
+
+    // How many pairs of the range the part at this place, which ends there, has, up to `cap`.
+    fn ask_count(
+        &mut self,
+        alloc: Global,
+        at: usize,
+        low: &[u8],
+        high: &[u8],
+        until: &Option<Bytes>,
+        cap: u32,
+    ) -> Result<u32, StoreErr>
+        requires within { at < length self.old.parts }
+        requires end { until.now ≡ first_from (drop (at + 1) self.old.parts) }
+        ensures number { IsCountAt (spans S.content self.old.parts) at low.now high.now cap self.old.tally self.new.tally result }
+        ensures same { spans S.content self.new.parts ≡ spans S.content self.old.parts }
+        ensures cause { HasCause (faults_of S.faults self.old.parts) (faults_of S.faults self.new.parts) result }
+        ensures places { firsts self.new.parts ≡ firsts self.old.parts }
+    {
+        self.parts[at].count(alloc, low, high, until, cap, &mut self.tally)
+    }
+}
+
+// Puts the pairs behind those that were found. After an error some of them are there.
+fn append(alloc: Global, found: &mut List<Pair>, piece: List<Pair>) -> Result<(), NoMem>
+    ensures { OnOk result (found.new ≡ found.old ++ piece) }
+{
+    for pair in piece.into_vec() {
+        found.push(alloc, pair)?;
+    }
+    Ok(())
+}
+
+impl<S: Store<N>, N: Ledger, L: Ledger> Store<L> for PartStore<S, N> {
+    ghost use Rattle.pq_parts.specs.Spans.{spans, joined, faults_of};
+
+    ghost content = { λ s. joined (spans S.content s.parts) };
+
+    ghost faults = { λ s. faults_of S.faults s.parts };
+
+    /// One call of the node that has the key.
+    fn get(
+        &mut self,
+        alloc: Global,
+        key: &[u8],
+        meter: &mut Meter<L>,
+    ) -> Result<Option<Bytes>, StoreErr>
+        ensures answer { IfOk result (λ found. IfSome (joined (spans S.content self.old.parts)) (λ pairs. found ≡ value_at pairs key.now)) }
+        ensures same { joined (spans S.content self.new.parts) ≡ joined (spans S.content self.old.parts) }
+        ensures cause { HasCause (faults_of S.faults self.old.parts) (faults_of S.faults self.new.parts) result }
+        ensures meter { meter.new ≡ charged meter.old (got_entries result) }
+        ensures places { firsts self.new.parts ≡ firsts self.old.parts }
+        ensures nodes { self.new.tally ≡ counted self.old.tally 1 (got_entries result) }
+    {
+        let at = self.place(key);
+        let found = self.tally.get(alloc, &mut self.parts[at].store, key);
+        match &found {
+            Ok(Some(_)) => meter.charge(1),
+            _ => meter.charge(0),
+        }
+        found
+    }
+
+    /// Asks the parts that the range meets, in order, each for what is left of the limit.
+    fn range(
+        &mut self,
+        alloc: Global,
+        low: &[u8],
+        high: &[u8],
+        limit: u32,
+        meter: &mut Meter<L>,
+    ) -> Result<List<Pair>, StoreErr>
+        requires { 1 ≤ limit }
+        ensures answer { IfOk result (λ found. IfSome (joined (spans S.content self.old.parts)) (λ pairs.
+            map entry found ≡ take limit (pairs_within pairs low.now high.now))) }
+        ensures part { IfOk result (λ found. IsPartOf low.now high.now limit (map entry found)) }
+        ensures same { joined (spans S.content self.new.parts) ≡ joined (spans S.content self.old.parts) }
+        ensures cause { HasCause (faults_of S.faults self.old.parts) (faults_of S.faults self.new.parts) result }
+        ensures meter { meter.new ≡ charged meter.old (ranged_entries result) }
+        ensures places { firsts self.new.parts ≡ firsts self.old.parts }
+        ensures nodes { HasAsked self.old.tally self.new.tally (number_met low.now high.now (spans S.content self.old.parts)) limit (ranged_entries result) result }
+    {
+        match self.collect(alloc, low, high, limit) {
+            Ok(found) => {
+                meter.charge(found.items().len() as u32);
+                Ok(found)
+            }
+            Err(error) => {
+                meter.charge(0);
+                Err(error)
+            }
+        }
+    }
+
+    /// Asks the parts that the range meets, in order, each for what is left of the cap.
+    fn count(
+        &mut self,
+        alloc: Global,
+        low: &[u8],
+        high: &[u8],
+        cap: u32,
+        meter: &mut Meter<L>,
+    ) -> Result<u32, StoreErr>
+        ensures answer { IfOk result (λ n. IfSome (joined (spans S.content self.old.parts)) (λ pairs.
+            n ≡ min cap (length (pairs_within pairs low.now high.now)))) }
+        ensures few { IfOk result (λ n. n ≤ cap) }
+        ensures same { joined (spans S.content self.new.parts) ≡ joined (spans S.content self.old.parts) }
+        ensures cause { HasCause (faults_of S.faults self.old.parts) (faults_of S.faults self.new.parts) result }
+        ensures meter { meter.new ≡ charged meter.old (counted_entries result) }
+        ensures places { firsts self.new.parts ≡ firsts self.old.parts }
+        ensures nodes { HasAsked self.old.tally self.new.tally (number_met low.now high.now (spans S.content self.old.parts)) cap (counted_entries result) result }
+    {
+        match self.total(alloc, low, high, cap) {
+            Ok(n) => {
+                meter.charge(n);
+                Ok(n)
+            }
+            Err(error) => {
+                meter.charge(0);
+                Err(error)
+            }
+        }
+    }
+
+    /// One call of the node that has the key.
+    fn write(
+        &mut self,
+        alloc: Global,
+        key: &[u8],
+        guard: Guard,
+        new: Option<&[u8]>,
+        meter: &mut Meter<L>,
+    ) -> Result<bool, StoreErr>
+        ensures answer { IfOk result (λ done. IfSome (joined (spans S.content self.old.parts)) (λ pairs.
+            done ≡ admits guard.entry (value_at pairs key.now))) }
+        ensures content { OnOk result (joined (spans S.content self.new.parts)
+            ≡ option_map (after_write guard.entry key.now (option_copied new.entry)) (joined (spans S.content self.old.parts))) }
+        ensures no_memory { IsErrOf result StoreErr.NoMem → joined (spans S.content self.new.parts) ≡ joined (spans S.content self.old.parts) }
+        ensures failed { IsErrOf result StoreErr.Failed → (joined (spans S.content self.new.parts) ≡ joined (spans S.content self.old.parts))
+            ⊎ (joined (spans S.content self.new.parts)
+            ≡ option_map (after_write guard.entry key.now (option_copied new.entry)) (joined (spans S.content self.old.parts))) }
+        ensures cause { HasCause (faults_of S.faults self.old.parts) (faults_of S.faults self.new.parts) result }
+        ensures meter { meter.new ≡ charged meter.old 0 }
+        ensures places { firsts self.new.parts ≡ firsts self.old.parts }
+        ensures nodes { self.new.tally ≡ counted self.old.tally 1 0 }
+    {
+        meter.charge(0);
+        let at = self.place(key);
+        self.tally
+            .write(alloc, &mut self.parts[at].store, key, guard, new)
+    }
+}

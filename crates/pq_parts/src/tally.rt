@@ -1,0 +1,165 @@
+//! The calls of nodes, counted: the meter, and beside it numbers that a program can read.
+ghost use Rattle.std.specs.Prelude.{◌≡◌, ◌⊎◌, IfSome, IfOk, OnOk, IsErrOf, ◌≤◌, map, take, length, min};
+ghost use Rattle.std.specs.Option.{option_map, option_copied};
+ghost use Rattle.std.specs.FinMap.{get as value_at};
+ghost use Rattle.pq_store.specs.Content.{entry, pairs_within, after_write, admits, got_entries, ranged_entries, counted_entries, IsPartOf, HasCause};
+ghost use Rattle.pq_parts.specs.Tally.{raised, counted};
+
+use pq_base::{Bytes, List};
+use pq_store::{Guard, Meter, Pair, Store, StoreErr};
+use std::alloc::Global;
+use std::marker::Model;
+use std::sync::ledger::Ledger;
+
+/// How many calls of nodes were made, and how many entries they answered. The numbers beside the
+/// meter stand still at the last number of 64 bits.
+#[derive(Drop)]
+pub struct Tally<N: Ledger> {
+    meter: Meter<N>,
+    ops: u64,
+    entries: u64,
+}
+
+impl<N: Ledger> Model for Tally<N> {
+    ghost use Rattle.pq_parts.specs.Tally.{Tallied};
+
+    ghost Value = { Tallied };
+
+    ghost view = { λ t. record { nodes = t.meter; ops = t.ops; entries = t.entries } };
+}
+
+// The number raised by so much, up to its end.
+fn raised(number: u64, more: u64) -> u64
+    ensures { result ≡ raised number more }
+{
+    number.saturating_add(more)
+}
+
+impl<N: Ledger> Tally<N> {
+    /// The tally of calls on this meter, before the first.
+    pub fn new(meter: Meter<N>) -> Tally<N>
+        ensures { result ≡ record { nodes = meter; ops = 0; entries = 0 } }
+    {
+        Tally {
+            meter,
+            ops: 0,
+            entries: 0,
+        }
+    }
+
+    /// How many calls of nodes were made.
+    pub fn ops(&self) -> u64
+        ensures { result ≡ self.now.ops }
+    {
+        self.ops
+    }
+
+    /// How many entries they answered.
+    pub fn entries(&self) -> u64
+        ensures { result ≡ self.now.entries }
+    {
+        self.entries
+    }
+
+    // Raises the numbers beside the meter by one call that answered so many entries.
+    fn note(&mut self, entries: u32)
+        ensures meter { self.new.nodes ≡ self.old.nodes }
+        ensures ops { self.new.ops ≡ raised self.old.ops 1 }
+        ensures entries { self.new.entries ≡ raised self.old.entries entries }
+    {
+        self.ops = raised(self.ops, 1);
+        self.entries = raised(self.entries, entries as u64);
+    }
+
+    /// The node's `get`, one call.
+    pub fn get<S: Store<N>>(
+        &mut self,
+        alloc: Global,
+        node: &mut S,
+        key: &[u8],
+    ) -> Result<Option<Bytes>, StoreErr>
+        ensures answer { IfOk result (λ found. IfSome (S.content node.old) (λ pairs. found ≡ value_at pairs key.now)) }
+        ensures same { S.content node.new ≡ S.content node.old }
+        ensures cause { HasCause (S.faults node.old) (S.faults node.new) result }
+        ensures counts { self.new ≡ counted self.old 1 (got_entries result) }
+    {
+        let found = node.get(alloc, key, &mut self.meter);
+        match &found {
+            Ok(Some(_)) => self.note(1),
+            _ => self.note(0),
+        }
+        found
+    }
+
+    /// The node's `range`, one call.
+    pub fn range<S: Store<N>>(
+        &mut self,
+        alloc: Global,
+        node: &mut S,
+        low: &[u8],
+        high: &[u8],
+        limit: u32,
+    ) -> Result<List<Pair>, StoreErr>
+        requires { 1 ≤ limit }
+        ensures answer { IfOk result (λ found. IfSome (S.content node.old) (λ pairs.
+            map entry found ≡ take limit (pairs_within pairs low.now high.now))) }
+        ensures part { IfOk result (λ found. IsPartOf low.now high.now limit (map entry found)) }
+        ensures same { S.content node.new ≡ S.content node.old }
+        ensures cause { HasCause (S.faults node.old) (S.faults node.new) result }
+        ensures counts { self.new ≡ counted self.old 1 (ranged_entries result) }
+    {
+        let found = node.range(alloc, low, high, limit, &mut self.meter);
+        match &found {
+            Ok(pairs) => self.note(pairs.items().len() as u32),
+            Err(_) => self.note(0),
+        }
+        found
+    }
+
+    /// The node's `count`, one call.
+    pub fn count<S: Store<N>>(
+        &mut self,
+        alloc: Global,
+        node: &mut S,
+        low: &[u8],
+        high: &[u8],
+        cap: u32,
+    ) -> Result<u32, StoreErr>
+        ensures answer { IfOk result (λ n. IfSome (S.content node.old) (λ pairs.
+            n ≡ min cap (length (pairs_within pairs low.now high.now)))) }
+        ensures few { IfOk result (λ n. n ≤ cap) }
+        ensures same { S.content node.new ≡ S.content node.old }
+        ensures cause { HasCause (S.faults node.old) (S.faults node.new) result }
+        ensures counts { self.new ≡ counted self.old 1 (counted_entries result) }
+    {
+        let found = node.count(alloc, low, high, cap, &mut self.meter);
+        match &found {
+            Ok(n) => self.note(*n),
+            Err(_) => self.note(0),
+        }
+        found
+    }
+
+    /// The node's `write`, one call.
+    pub fn write<S: Store<N>>(
+        &mut self,
+        alloc: Global,
+        node: &mut S,
+        key: &[u8],
+        guard: Guard,
+        new: Option<&[u8]>,
+    ) -> Result<bool, StoreErr>
+        ensures answer { IfOk result (λ done. IfSome (S.content node.old) (λ pairs.
+            done ≡ admits guard.entry (value_at pairs key.now))) }
+        ensures content { OnOk result (S.content node.new ≡ option_map (after_write guard.entry key.now (option_copied new.entry)) (S.content node.old)) }
+        ensures no_memory { IsErrOf result StoreErr.NoMem → S.content node.new ≡ S.content node.old }
+        ensures failed { IsErrOf result StoreErr.Failed → (S.content node.new ≡ S.content node.old)
+            ⊎ (S.content node.new ≡ option_map (after_write guard.entry key.now (option_copied new.entry)) (S.content node.old)) }
+        ensures cause { HasCause (S.faults node.old) (S.faults node.new) result }
+        ensures counts { self.new ≡ counted self.old 1 0 }
+    {
+        let done = node.write(alloc, key, guard, new, &mut self.meter);
+        self.note(0);
+        done
+    }
+}
