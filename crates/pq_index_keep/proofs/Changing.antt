@@ -2,15 +2,14 @@
 use Rattle.std.proofs.Common.{◌≡◌, ℕ, zero, suc, ◌+◌, ◌<◌, List, [], ◌∷◌, ◌++◌, length, take, map, get_or, Some, None, refl, sym, ap, ◌∙◌, arith, append_assoc, add-one}
 use Rattle.std.proofs.lemmas.List.{map-append}
 use Rattle.pq_base.specs.declared.value.Value.{Value}
-use Rattle.pq_key_code.specs.KeyCode.{code_of, rowkey}
+use Rattle.pq_key_code.specs.KeyCode.{row_key}
 use Rattle.pq_row_code.specs.declared.changes.Change.{Change as Coded}
-use Rattle.pq_row_code.specs.RowCode.{row_code}
 use Rattle.pq_schema.specs.declared.table.Index.{Index}
 use Rattle.pq_schema.specs.declared.table.Table.{Table}
 use Rattle.pq_schema.specs.Sequences.{index_sequence}
 use Rattle.pq_content.specs.Pairs.{Change, entry_pair, entries_from, pairs_of_row, entry_changes, puts, removals, update_changes}
 use Rattle.pq_content.specs.Standing.{change_of}
-use Rattle.pq_content.specs.Tables.{key_of}
+use Rattle.pq_content.specs.Tables.{key_of, stored_code}
 use Rattle.pq_index_keep.specs.Moved.{entry_change}
 
 each_from : (ℕ → Index → List Change) → ℕ → List Index → List Change
@@ -48,17 +47,17 @@ stepped f xs k x first before after less at so_far more =
 
 module _ (t : ℕ) (table : Table) (row : List Value) where
   abbrev put : ℕ → Index → List Change
-  put i index = ((entry_pair code_of row_code t i (index_sequence table index) row).0, Some []) ∷ []
+  put i index = ((entry_pair t i (index_sequence table index) row).0, Some []) ∷ []
 
   abbrev removed : ℕ → Index → List Change
-  removed i index = ((entry_pair code_of row_code t i (index_sequence table index) row).0, None) ∷ []
+  removed i index = ((entry_pair t i (index_sequence table index) row).0, None) ∷ []
 
-  puts_are : (i : ℕ) (xs : List Index) → each_from put i xs ≡ puts (entries_from code_of row_code t i table xs row)
+  puts_are : (i : ℕ) (xs : List Index) → each_from put i xs ≡ puts (entries_from t i table xs row)
   unfolding each_from
   puts_are i [] = refl
   puts_are i (x ∷ xs) = ap (λ (l : List Change). put i x ++ l) (puts_are (i + 1) xs)
 
-  removals_are : (i : ℕ) (xs : List Index) → each_from removed i xs ≡ removals (entries_from code_of row_code t i table xs row)
+  removals_are : (i : ℕ) (xs : List Index) → each_from removed i xs ≡ removals (entries_from t i table xs row)
   unfolding each_from
   removals_are i [] = refl
   removals_are i (x ∷ xs) = ap (λ (l : List Change). removed i x ++ l) (removals_are (i + 1) xs)
@@ -66,18 +65,18 @@ module _ (t : ℕ) (table : Table) (row : List Value) where
   one_more : (before after : List Coded) (change : Coded) → after ≡ before ++ change ∷ [] → map change_of after ≡ map change_of before ++ change_of change ∷ []
   one_more before after change is = ap (map change_of) is ∙ map-append change_of before (change ∷ [])
 
-  pub put_step : (xs : List Index) (k : ℕ) (x : Index) (key : List ℕ) (first before after : List Coded) → k < length xs → x ≡ get_or xs k x → key ≡ (entry_pair code_of row_code t (k + 1) (index_sequence table x) row).0
-      → map change_of before ≡ map change_of first ++ puts (entries_from code_of row_code t 1 table (take k xs) row) → after ≡ before ++ record { key = key; new = Some [] } ∷ []
-      → map change_of after ≡ map change_of first ++ puts (entries_from code_of row_code t 1 table (take (k + 1) xs) row)
+  pub put_step : (xs : List Index) (k : ℕ) (x : Index) (key : List ℕ) (first before after : List Coded) → k < length xs → x ≡ get_or xs k x → key ≡ (entry_pair t (k + 1) (index_sequence table x) row).0
+      → map change_of before ≡ map change_of first ++ puts (entries_from t 1 table (take k xs) row) → after ≡ before ++ record { key = key; new = Some [] } ∷ []
+      → map change_of after ≡ map change_of first ++ puts (entries_from t 1 table (take (k + 1) xs) row)
   put_step xs k x key first before after less at is so_far more =
       stepped put xs k x (map change_of first) (map change_of before) (map change_of after) less at
       (so_far ∙ ap (λ (l : List Change). map change_of first ++ l) (sym (puts_are 1 (take k xs))))
       (one_more before after (record { key = key; new = Some [] }) more ∙ ap (λ (b : List ℕ). map change_of before ++ (b, Some []) ∷ []) is)
       ∙ ap (λ (l : List Change). map change_of first ++ l) (puts_are 1 (take (k + 1) xs))
 
-  pub remove_step : (xs : List Index) (k : ℕ) (x : Index) (key : List ℕ) (first before after : List Coded) → k < length xs → x ≡ get_or xs k x → key ≡ (entry_pair code_of row_code t (k + 1) (index_sequence table x) row).0
-      → map change_of before ≡ map change_of first ++ removals (entries_from code_of row_code t 1 table (take k xs) row) → after ≡ before ++ record { key = key; new = None } ∷ []
-      → map change_of after ≡ map change_of first ++ removals (entries_from code_of row_code t 1 table (take (k + 1) xs) row)
+  pub remove_step : (xs : List Index) (k : ℕ) (x : Index) (key : List ℕ) (first before after : List Coded) → k < length xs → x ≡ get_or xs k x → key ≡ (entry_pair t (k + 1) (index_sequence table x) row).0
+      → map change_of before ≡ map change_of first ++ removals (entries_from t 1 table (take k xs) row) → after ≡ before ++ record { key = key; new = None } ∷ []
+      → map change_of after ≡ map change_of first ++ removals (entries_from t 1 table (take (k + 1) xs) row)
   remove_step xs k x key first before after less at is so_far more =
       stepped removed xs k x (map change_of first) (map change_of before) (map change_of after) less at
       (so_far ∙ ap (λ (l : List Change). map change_of first ++ l) (sym (removals_are 1 (take k xs))))
@@ -88,14 +87,14 @@ module _ (t : ℕ) (table : Table) (row : List Value) where
     abbrev moved : ℕ → Index → List Change
     moved i index = entry_change t i table index row new
 
-    moves_are : (i : ℕ) (xs : List Index) → each_from moved i xs ≡ entry_changes code_of row_code t i table xs row new
+    moves_are : (i : ℕ) (xs : List Index) → each_from moved i xs ≡ entry_changes t i table xs row new
     unfolding each_from
     moves_are i [] = refl
     moves_are i (x ∷ xs) = ap (λ (l : List Change). moved i x ++ l) (moves_are (i + 1) xs)
 
     pub move_step : (xs : List Index) (k : ℕ) (x : Index) (first before after : List Coded) → k < length xs → x ≡ get_or xs k x
-        → map change_of before ≡ map change_of first ++ entry_changes code_of row_code t 1 table (take k xs) row new → map change_of after ≡ map change_of before ++ entry_change t (k + 1) table x row new
-        → map change_of after ≡ map change_of first ++ entry_changes code_of row_code t 1 table (take (k + 1) xs) row new
+        → map change_of before ≡ map change_of first ++ entry_changes t 1 table (take k xs) row new → map change_of after ≡ map change_of before ++ entry_change t (k + 1) table x row new
+        → map change_of after ≡ map change_of first ++ entry_changes t 1 table (take (k + 1) xs) row new
     move_step xs k x first before after less at so_far more =
         stepped moved xs k x (map change_of first) (map change_of before) (map change_of after) less at
         (so_far ∙ ap (λ (l : List Change). map change_of first ++ l) (sym (moves_are 1 (take k xs))))
@@ -104,14 +103,21 @@ module _ (t : ℕ) (table : Table) (row : List Value) where
 
 -- ---- the change at the row's own key, and those of its entries
 
-pub own_puts : (t : ℕ) (table : Table) (row : List Value) (at : List ℕ) (changes : List Change) → at ≡ rowkey t (key_of table row) → changes ≡ (at, Some (row_code row)) ∷ puts (entries_from code_of row_code t 1 table table.indexes row)
-    → changes ≡ puts (pairs_of_row code_of row_code t table row)
-own_puts t table row at changes is made = made ∙ ap (λ (k : List ℕ). (k, Some (row_code row)) ∷ puts (entries_from code_of row_code t 1 table table.indexes row)) is
+pub own_puts : (t : ℕ) (table : Table) (row : List Value) (at : List ℕ) (changes : List Change) → at ≡ row_key t (key_of table row) → changes ≡ (at, Some (stored_code table row)) ∷ puts (entries_from t 1 table table.indexes row)
+    → changes ≡ puts (pairs_of_row t table row)
+own_puts t table row at changes is made = made ∙ ap (λ (k : List ℕ). (k, Some (stored_code table row)) ∷ puts (entries_from t 1 table table.indexes row)) is
 
-pub own_removals : (t : ℕ) (table : Table) (row : List Value) (at : List ℕ) (changes : List Change) → at ≡ rowkey t (key_of table row) → changes ≡ (at, None) ∷ removals (entries_from code_of row_code t 1 table table.indexes row)
-    → changes ≡ removals (pairs_of_row code_of row_code t table row)
-own_removals t table row at changes is made = made ∙ ap (λ (k : List ℕ). (k, None) ∷ removals (entries_from code_of row_code t 1 table table.indexes row)) is
+pub own_removals : (t : ℕ) (table : Table) (row : List Value) (at : List ℕ) (changes : List Change) → at ≡ row_key t (key_of table row) → changes ≡ (at, None) ∷ removals (entries_from t 1 table table.indexes row)
+    → changes ≡ removals (pairs_of_row t table row)
+own_removals t table row at changes is made = made ∙ ap (λ (k : List ℕ). (k, None) ∷ removals (entries_from t 1 table table.indexes row)) is
 
-pub own_updates : (t : ℕ) (table : Table) (old new : List Value) (at : List ℕ) (changes : List Change) → at ≡ rowkey t (key_of table new) → changes ≡ (at, Some (row_code new)) ∷ entry_changes code_of row_code t 1 table table.indexes old new
-    → changes ≡ update_changes code_of row_code t table old new
-own_updates t table old new at changes is made = made ∙ ap (λ (k : List ℕ). (k, Some (row_code new)) ∷ entry_changes code_of row_code t 1 table table.indexes old new) is
+pub own_updates : (t : ℕ) (table : Table) (old new : List Value) (at : List ℕ) (changes : List Change) → at ≡ row_key t (key_of table new) → changes ≡ (at, Some (stored_code table new)) ∷ entry_changes t 1 table table.indexes old new
+    → changes ≡ update_changes t table old new
+own_updates t table old new at changes is made = made ∙ ap (λ (k : List ℕ). (k, Some (stored_code table new)) ∷ entry_changes t 1 table table.indexes old new) is
+
+-- a removal and a change at the row's key come first
+pub own_removal : (t : ℕ) (key : List Value) (at : List ℕ) (changes rest : List Change) → at ≡ row_key t key → changes ≡ (at, None) ∷ rest → (more : List Change) × (changes ≡ (row_key t key, None) ∷ more)
+own_removal t key at changes rest is made = (rest, made ∙ ap (λ (k : List ℕ). (k, None) ∷ rest) is)
+
+pub own_change : (t : ℕ) (key : List Value) (at value : List ℕ) (changes rest : List Change) → at ≡ row_key t key → changes ≡ (at, Some value) ∷ rest → (put : List ℕ) × (more : List Change) × (changes ≡ (row_key t key, Some put) ∷ more)
+own_change t key at value changes rest is made = (value, rest, made ∙ ap (λ (k : List ℕ). (k, Some value) ∷ rest) is)

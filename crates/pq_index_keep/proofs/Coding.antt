@@ -15,22 +15,22 @@ use Rattle.pq_base.specs.declared.value.Dir.TheVariants.{Asc}
 use Rattle.pq_base.specs.declared.value.Value.{Value}
 use Rattle.pq_base.specs.declared.value.Value.TheVariants as value
 use Rattle.pq_base.specs.Values.{AllFit, FitsType}
-use Rattle.pq_key_code.specs.KeyCode.{code_of, rowkey}
+use Rattle.pq_key_code.specs.KeyCode.{row_key}
 use Rattle.pq_row_code.specs.declared.changes.Change.{Change as Coded}
 use Rattle.pq_row_code.specs.Changes.{IsChange}
-use Rattle.pq_row_code.specs.RowCode.{field, fields, row_code, IsShort}
+use Rattle.pq_row_code.specs.RowCode.{field, fields, IsShort}
 use Rattle.pq_schema.specs.declared.table.Column.{Column}
 use Rattle.pq_schema.specs.declared.table.Index.{Index}
 use Rattle.pq_schema.specs.declared.table.Table.{Table}
 use Rattle.pq_schema.specs.Sequences.{ascending, columns_of, without, index_sequence}
 use Rattle.pq_content.specs.Pairs.{Change, entry_pair, entries_from, pairs_of_row, entry_changes, puts, removals}
 use Rattle.pq_content.specs.Standing.{change_of, AreOfRows}
-use Rattle.pq_content.specs.Tables.{types_of, type_of, types_at, key_types, key_of, values_of, same_values}
+use Rattle.pq_content.specs.Tables.{types_of, type_of, types_at, key_types, key_of, values_of, same_values, stored_code}
 use Rattle.pq_content.proofs.Lengths.{length-puts, length-removals, length-pairs_of_row, length-update_changes, IsWithinLength, length-code_of, length-entry_key}
 use Rattle.pq_content.proofs.Values.{key_fits}
 use Rattle.pq_content.proofs.Settling.{inserts_of_rows, deletes_of_rows, updates_of_rows}
 use Rattle.pq_index_keep.specs.Promises.{ArePlanned}
-use Rattle.pq_index_keep.specs.Sound.{IsSized, IsWritable}
+use Rattle.pq_index_keep.specs.Sound.{IsShortType, IsWritable}
 use Rattle.pq_index_keep.proofs.Inserting.{each_is, each_by}
 
 -- ---- a row that fits
@@ -41,7 +41,7 @@ fit_length [] (x ∷ xs) h = absurd h
 fit_length (t ∷ ts) [] h = absurd h
 fit_length (t ∷ ts) (x ∷ xs) h = ap suc (fit_length ts xs h.1)
 
-one_short : (t : ColType) (x : Value) → IsSized t → FitsType t x → IsShort x
+one_short : (t : ColType) (x : Value) → IsShortType t → FitsType t x → IsShort x
 one_short type.Int (value.Int n) sized fits = tt
 one_short type.Int (value.Bool b) sized fits = tt
 one_short type.Int (value.Text t) sized fits = absurd fits
@@ -52,7 +52,7 @@ one_short (type.Text n) (value.Int m) sized fits = tt
 one_short (type.Text n) (value.Bool b) sized fits = tt
 one_short (type.Text n) (value.Text t) sized fits = let le = fits.1 in omega arith
 
-all_short : (columns : List Column) (row : List Value) → AllByRecursion (λ (column : Column). IsSized column.ty) columns → AllFit (map (λ (column : Column). column.ty) columns) row → AllByRecursion IsShort row
+all_short : (columns : List Column) (row : List Value) → AllByRecursion (λ (column : Column). IsShortType column.ty) columns → AllFit (map (λ (column : Column). column.ty) columns) row → AllByRecursion IsShort row
 all_short [] [] sized fits = tt
 all_short [] (x ∷ xs) sized fits = absurd fits
 all_short (c ∷ cs) [] sized fits = absurd fits
@@ -60,7 +60,7 @@ all_short (c ∷ cs) (x ∷ xs) sized fits = (one_short c.ty x sized.0 fits.0, a
 
 module _ (tables : List Table) (table : Table) (w : IsWritable tables table) (row : List Value) (fits : AllFit (types_of table) row) where
   shorts : AllByRecursion IsShort row
-  shorts = all_short table.columns row (each_by (λ (column : Column). IsSized column.ty) table.columns w.sized) fits
+  shorts = all_short table.columns row (each_by (λ (column : Column). IsShortType column.ty) table.columns w.sized) fits
 
   pub fit_texts : All IsShort row
   fit_texts = each_is IsShort row shorts
@@ -84,7 +84,7 @@ fields_short (x ∷ xs) h =
     let rest = fields_short xs h.1 in
     omega (arith, suc-mul (length xs) 1002)
 
-pub code_short : (tables : List Table) (table : Table) → IsWritable tables table → (row : List Value) → AllFit (types_of table) row → length (row_code row) ≤ 40000
+pub code_short : (tables : List Table) (table : Table) → IsWritable tables table → (row : List Value) → AllFit (types_of table) row → length (stored_code table row) ≤ 40000
 code_short tables table w row fits =
     let most = fields_short row (shorts tables table w row fits) in
     let few = fit_columns tables table w row fits in
@@ -92,7 +92,7 @@ code_short tables table w row fits =
 
 -- ---- a key that fits
 
-type_sized : (columns : List Column) (col : ℕ) → AllByRecursion (λ (column : Column). IsSized column.ty) columns → IsSized (get_or (map (λ (column : Column). column.ty) columns) col type.Bool)
+type_sized : (columns : List Column) (col : ℕ) → AllByRecursion (λ (column : Column). IsShortType column.ty) columns → IsShortType (get_or (map (λ (column : Column). column.ty) columns) col type.Bool)
 type_sized [] col sized = tt
 type_sized (c ∷ cs) zero sized = sized.0
 type_sized (c ∷ cs) (suc col) sized = type_sized cs col sized.1
@@ -102,7 +102,7 @@ within_short (value.Int n) h = tt
 within_short (value.Bool b) h = tt
 within_short (value.Text t) h = h
 
-key_within : (table : Table) (cols : List ℕ) (key : List Value) → AllByRecursion (λ (column : Column). IsSized column.ty) table.columns → AllFit (types_at table cols) key → AllByRecursion (IsWithinLength 1000) key
+key_within : (table : Table) (cols : List ℕ) (key : List Value) → AllByRecursion (λ (column : Column). IsShortType column.ty) table.columns → AllFit (types_at table cols) key → AllByRecursion (IsWithinLength 1000) key
 key_within table [] [] sized fits = tt
 key_within table [] (x ∷ xs) sized fits = absurd fits
 key_within table (c ∷ cols) [] sized fits = absurd fits
@@ -144,80 +144,80 @@ module _ (tables : List Table) (table : Table) (w : IsWritable tables table) (t 
       let short = w.is_table.short in
       omega arith
 
-  key_coded : (key : List Value) → AllFit (key_types table) key → length (rowkey t key) < 2 ^ 32
+  key_coded : (key : List Value) → AllFit (key_types table) key → length (row_key t key) < 2 ^ 32
   key_coded key fits =
-      let sized = each_by (λ (column : Column). IsSized column.ty) table.columns w.sized in
+      let sized = each_by (λ (column : Column). IsShortType column.ty) table.columns w.sized in
       let most = length-code_of 1000 (replicate (length key) Asc) key (key_within table table.key key sized fits) in
       let long : length key ≡ length table.key = fit_length (key_types table) key fits ∙ length-map table.key (type_of table) in
       let short = w.is_table.short in
       omega arith
 
   module _ (row : List Value) (fits : AllFit (types_of table) row) where
-    value_coded : length (row_code row) < 2 ^ 32
+    value_coded : length (stored_code table row) < 2 ^ 32
     value_coded = let most = code_short tables table w row fits in omega arith
 
-    entry_coded : (i : ℕ) (index : Index) → length index.cols ≤ 36 → length (entry_pair code_of row_code t i (index_sequence table index) row).0 < 2 ^ 32
+    entry_coded : (i : ℕ) (index : Index) → length index.cols ≤ 36 → length (entry_pair t i (index_sequence table index) row).0 < 2 ^ 32
     entry_coded i index narrow =
-        let most = length-entry_key 40000 t i (index_sequence table index) row (code_short tables table w row fits) in
+        let most = length-entry_key 40000 t i table (index_sequence table index) row (code_short tables table w row fits) in
         let long = narrow_sequence index narrow in
         omega (arith, mul-le-mul_right 80009 long)
 
-    puts_coded : (i : ℕ) (indexes : List Index) → AllByRecursion (λ (index : Index). length index.cols ≤ 36) indexes → AllByRecursion IsCoded (puts (entries_from code_of row_code t i table indexes row))
+    puts_coded : (i : ℕ) (indexes : List Index) → AllByRecursion (λ (index : Index). length index.cols ≤ 36) indexes → AllByRecursion IsCoded (puts (entries_from t i table indexes row))
     puts_coded i [] h = tt
     puts_coded i (x ∷ xs) h = ((entry_coded i x h.0, omega arith), puts_coded (i + 1) xs h.1)
 
-    removals_coded : (i : ℕ) (indexes : List Index) → AllByRecursion (λ (index : Index). length index.cols ≤ 36) indexes → AllByRecursion IsCoded (removals (entries_from code_of row_code t i table indexes row))
+    removals_coded : (i : ℕ) (indexes : List Index) → AllByRecursion (λ (index : Index). length index.cols ≤ 36) indexes → AllByRecursion IsCoded (removals (entries_from t i table indexes row))
     removals_coded i [] h = tt
     removals_coded i (x ∷ xs) h = ((entry_coded i x h.0, tt), removals_coded (i + 1) xs h.1)
 
     narrows : AllByRecursion (λ (index : Index). length index.cols ≤ 36) table.indexes
     narrows = each_by (λ (index : Index). length index.cols ≤ 36) table.indexes w.narrow
 
-    pub insert_planned : (changes : List Coded) → map change_of changes ≡ puts (pairs_of_row code_of row_code t table row) → ArePlanned (1 + length table.indexes) changes
+    pub insert_planned : (changes : List Coded) → map change_of changes ≡ puts (pairs_of_row t table row) → ArePlanned (1 + length table.indexes) changes
     insert_planned changes made =
-        let pairs = pairs_of_row code_of row_code t table row in
-        let long : length (puts pairs) ≡ suc (length table.indexes) = length-puts pairs ∙ length-pairs_of_row code_of row_code t table row in
+        let pairs = pairs_of_row t table row in
+        let long : length (puts pairs) ≡ suc (length table.indexes) = length-puts pairs ∙ length-pairs_of_row t table row in
         let few = w.is_table.few_indexes in
-        planned_from (puts pairs) (1 + length table.indexes) changes made ((key_coded (key_of table row) (key_fits table row fits), value_coded), puts_coded 1 table.indexes narrows) (inserts_of_rows code_of row_code t table row) (omega arith) (omega arith) (omega arith)
+        planned_from (puts pairs) (1 + length table.indexes) changes made ((key_coded (key_of table row) (key_fits table row fits), value_coded), puts_coded 1 table.indexes narrows) (inserts_of_rows t table row) (omega arith) (omega arith) (omega arith)
 
-    pub delete_planned : (key : List Value) (at : List ℕ) → AllFit (key_types table) key → at ≡ rowkey t key → (changes : List Coded) → map change_of changes ≡ (at, None) ∷ removals (entries_from code_of row_code t 1 table table.indexes row) → ArePlanned (1 + length table.indexes) changes
+    pub delete_planned : (key : List Value) (at : List ℕ) → AllFit (key_types table) key → at ≡ row_key t key → (changes : List Coded) → map change_of changes ≡ (at, None) ∷ removals (entries_from t 1 table table.indexes row) → ArePlanned (1 + length table.indexes) changes
     delete_planned key at fits_key is changes made =
-        let pairs = pairs_of_row code_of row_code t table row in
-        let rest = removals (entries_from code_of row_code t 1 table table.indexes row) in
-        let long : suc (length rest) ≡ suc (length table.indexes) = length-removals pairs ∙ length-pairs_of_row code_of row_code t table row in
+        let pairs = pairs_of_row t table row in
+        let rest = removals (entries_from t 1 table table.indexes row) in
+        let long : suc (length rest) ≡ suc (length table.indexes) = length-removals pairs ∙ length-pairs_of_row t table row in
         let few = w.is_table.few_indexes in
-        planned_from ((rowkey t key, None) ∷ rest) (1 + length table.indexes) changes (made ∙ ap (λ (k : List ℕ). (k, None) ∷ rest) is) ((key_coded key fits_key, tt), removals_coded 1 table.indexes narrows) (refl, (deletes_of_rows code_of row_code t table row).1) (omega arith) (omega arith) (omega arith)
+        planned_from ((row_key t key, None) ∷ rest) (1 + length table.indexes) changes (made ∙ ap (λ (k : List ℕ). (k, None) ∷ rest) is) ((key_coded key fits_key, tt), removals_coded 1 table.indexes narrows) (refl, (deletes_of_rows t table row).1) (omega arith) (omega arith) (omega arith)
 
     module _ (new : List Value) (fits_new : AllFit (types_of table) new) (of : Scope) where
-      moves_coded : (i : ℕ) (indexes : List Index) → AllByRecursion (λ (index : Index). length index.cols ≤ 36) indexes → AllByRecursion IsCoded (entry_changes code_of row_code t i table indexes row new)
+      moves_coded : (i : ℕ) (indexes : List Index) → AllByRecursion (λ (index : Index). length index.cols ≤ 36) indexes → AllByRecursion IsCoded (entry_changes t i table indexes row new)
       moves_coded i [] h = tt
       moves_coded i (x ∷ xs) h =
-          elim (same_values (values_of (index_sequence table x) row) (values_of (index_sequence table x) new)) as (λ b. AllByRecursion IsCoded ((cond b [] (((entry_pair code_of row_code t i (index_sequence table x) row).0, None) ∷ ((entry_pair code_of row_code t i (index_sequence table x) new).0, Some []) ∷ [])) ++ entry_changes code_of row_code t (i + 1) table xs row new)) [
+          elim (same_values (values_of (index_sequence table x) row) (values_of (index_sequence table x) new)) as (λ b. AllByRecursion IsCoded ((cond b [] (((entry_pair t i (index_sequence table x) row).0, None) ∷ ((entry_pair t i (index_sequence table x) new).0, Some []) ∷ [])) ++ entry_changes t (i + 1) table xs row new)) [
             | true ↦ moves_coded (i + 1) xs h.1
             | false ↦ ((entry_coded i x h.0, tt), ((new_coded i x h.0, omega arith), moves_coded (i + 1) xs h.1))
           ]
         where
-          new_coded : (i : ℕ) (index : Index) → length index.cols ≤ 36 → length (entry_pair code_of row_code t i (index_sequence table index) new).0 < 2 ^ 32
+          new_coded : (i : ℕ) (index : Index) → length index.cols ≤ 36 → length (entry_pair t i (index_sequence table index) new).0 < 2 ^ 32
           new_coded i index narrow =
-              let most = length-entry_key 40000 t i (index_sequence table index) new (code_short tables table w new fits_new) in
+              let most = length-entry_key 40000 t i table (index_sequence table index) new (code_short tables table w new fits_new) in
               let long = narrow_sequence index narrow in
               omega (arith, mul-le-mul_right 80009 long)
 
-      new_value : length (row_code new) < 2 ^ 32
+      new_value : length (stored_code table new) < 2 ^ 32
       new_value = let most = code_short tables table w new fits_new in omega arith
 
-      pub update_planned : ((index : Index) → touches_index of table index ≡ false → values_of (index_sequence table index) row ≡ values_of (index_sequence table index) new) → (key : List Value) (at : List ℕ) → AllFit (key_types table) key → at ≡ rowkey t key
-          → (changes : List Coded) → map change_of changes ≡ (at, Some (row_code new)) ∷ entry_changes code_of row_code t 1 table table.indexes row new → ArePlanned (1 + 2 * count_by (touches_index of table) table.indexes) changes
+      pub update_planned : ((index : Index) → touches_index of table index ≡ false → values_of (index_sequence table index) row ≡ values_of (index_sequence table index) new) → (key : List Value) (at : List ℕ) → AllFit (key_types table) key → at ≡ row_key t key
+          → (changes : List Coded) → map change_of changes ≡ (at, Some (stored_code table new)) ∷ entry_changes t 1 table table.indexes row new → ArePlanned (1 + 2 * count_by (touches_index of table) table.indexes) changes
       update_planned stays key at fits_key is changes made =
-          let rest = entry_changes code_of row_code t 1 table table.indexes row new in
-          let most : suc (length rest) ≤ 1 + 2 * length (filter (touches_index of table) table.indexes) = length-update_changes code_of row_code (touches_index of table) t table row new stays in
+          let rest = entry_changes t 1 table table.indexes row new in
+          let most : suc (length rest) ≤ 1 + 2 * length (filter (touches_index of table) table.indexes) = length-update_changes (touches_index of table) t table row new stays in
           let same = length-filter (touches_index of table) table.indexes in
           let all = count_by-le-length (touches_index of table) table.indexes in
           let few = w.is_table.few_indexes in
-          planned_from ((rowkey t key, Some (row_code new)) ∷ rest) (1 + 2 * count_by (touches_index of table) table.indexes) changes (made ∙ ap (λ (k : List ℕ). (k, Some (row_code new)) ∷ rest) is) ((key_coded key fits_key, new_value), moves_coded 1 table.indexes narrows) (refl, (updates_of_rows code_of row_code t table row new).1) (omega arith) (omega arith) (omega arith)
+          planned_from ((row_key t key, Some (stored_code table new)) ∷ rest) (1 + 2 * count_by (touches_index of table) table.indexes) changes (made ∙ ap (λ (k : List ℕ). (k, Some (stored_code table new)) ∷ rest) is) ((key_coded key fits_key, new_value), moves_coded 1 table.indexes narrows) (refl, (updates_of_rows t table row new).1) (omega arith) (omega arith) (omega arith)
 
-pub short_texts : (table : Table) (row : List Value) → All (λ (column : Column). IsSized column.ty) table.columns → AllFit (types_of table) row → All IsShort row
-short_texts table row sized fits = each_is IsShort row (all_short table.columns row (each_by (λ (column : Column). IsSized column.ty) table.columns sized) fits)
+pub short_texts : (table : Table) (row : List Value) → All (λ (column : Column). IsShortType column.ty) table.columns → AllFit (types_of table) row → All IsShort row
+short_texts table row sized fits = each_is IsShort row (all_short table.columns row (each_by (λ (column : Column). IsShortType column.ty) table.columns sized) fits)
 
 pub few_values : (table : Table) (row : List Value) → length table.columns ≤ 32 → AllFit (types_of table) row → length row ≤ 32
 few_values table row few fits = omega (arith, fit_length (types_of table) row fits, length-map table.columns (λ (column : Column). column.ty))

@@ -9,25 +9,25 @@ use Rattle.pq_base.specs.Columns.{has_col, set_of}
 use Rattle.pq_base.specs.declared.value.ColType.{ColType}
 use Rattle.pq_base.specs.declared.value.Dir.{Dir}
 use Rattle.pq_base.specs.declared.value.Value.{Value}
-use Rattle.pq_key_code.specs.KeyCode.{component, code_of, entrykey, past_code}
-use Rattle.pq_row_code.specs.RowCode.{row_code}
+use Rattle.pq_key_code.specs.KeyCode.{component, code_of, entry_key, past_code}
 use Rattle.pq_schema.specs.declared.table.Access.{Access}
 use Rattle.pq_schema.specs.declared.table.Access.TheVariants.{Primary, Secondary}
 use Rattle.pq_schema.specs.declared.table.Index.{Index}
 use Rattle.pq_schema.specs.declared.table.KeyPart.{KeyPart}
 use Rattle.pq_schema.specs.declared.table.Table.{Table}
-use Rattle.pq_schema.specs.Sequences.{columns_of, primary_sequence, index_sequence, begins_with, group_access, secondary}
+use Rattle.pq_schema.specs.Sequences.{columns_of, primary_sequence, index_sequence, no_index, index_numbered, begins_with, group_access, secondary}
 use Rattle.pq_schema.specs.Tables.{table_at}
-use Rattle.pq_content.specs.Pairs.{Pair, pairs, pairs_within}
-use Rattle.pq_content.specs.Tables.{Rows, AllOfKinds, IsOfKind, type_of, types_at, value_of, values_at, group_of}
-use Rattle.pq_content.proofs.Members.{In}
+use Rattle.pq_content.specs.Pairs.{Pair, content_pairs}
+use Rattle.pq_content.specs.Tables.{Rows, AllOfKinds, IsOfKind, type_of, types_at, value_of, cells, group_of}
+use Rattle.pq_base.specs.Members.{In}
 use Rattle.pq_content.proofs.Scans.{columns_of-primary, rows_counted, entries_counted, group_by_first}
-use Rattle.pq_store.specs.Content.{Content}
-use Rattle.pq_index_keep.specs.Groups.{no_index, index_at, prefix_key, access_of, first_values, group_key}
-use Rattle.pq_index_keep.specs.Promises.{Settled}
+use Rattle.pq_store.specs.Content.{Content, pairs_within}
+use Rattle.pq_calls.specs.Keys.{sequence_key}
+use Rattle.pq_index_keep.specs.Groups.{access_of, first_values, group_key}
+use Rattle.pq_index_keep.specs.Promises.{HoldsRows}
 use Rattle.pq_index_keep.specs.Sound.{is_among, AreDifferent}
 use Rattle.pq_index_keep.specs.Tested.{given}
-use Rattle.pq_index_keep.proofs.Sets.{set_members, members_set}
+use Rattle.pq_base.proofs.Sets.{set_members, members_set}
 
 -- a code takes no more directions than there are values
 code_of-take : (dirs : List Dir) (values : List Value) → code_of (take (length values) dirs) values ≡ code_of dirs values
@@ -36,7 +36,7 @@ code_of-take [] (x ∷ xs) = refl
 code_of-take (d ∷ ds) [] = refl
 code_of-take (d ∷ ds) (x ∷ xs) = ap (λ (bytes : List ℕ). component d x ++ bytes) (code_of-take ds xs)
 
-pub entry_prefix : (t i : ℕ) (dirs : List Dir) (values : List Value) → entrykey t i (take (length values) dirs) values ≡ entrykey t i dirs values
+pub entry_prefix : (t i : ℕ) (dirs : List Dir) (values : List Value) → entry_key t i (take (length values) dirs) values ≡ entry_key t i dirs values
 entry_prefix t i dirs values = ap (λ (bytes : List ℕ). 3 ∷ t ∷ i ∷ bytes) (code_of-take dirs values)
 
 -- ---- values that columns are given
@@ -60,8 +60,8 @@ given_of f (c ∷ cols) d i =
     ] refl
 
 -- columns are given the values that a row has there
-pub given_at : (cols : List ℕ) (row : List Value) → map (given cols (values_at cols row)) cols ≡ values_at cols row
-given_at cols row = agree_in (given cols (values_at cols row)) (value_of row) cols (given_of (value_of row) cols)
+pub given_at : (cols : List ℕ) (row : List Value) → map (given cols (cells cols row)) cols ≡ cells cols row
+given_at cols row = agree_in (given cols (cells cols row)) (value_of row) cols (given_of (value_of row) cols)
 
 not_among : (c d : ℕ) (cols : List ℕ) → is_among cols c ≡ false → In d cols → (c == d) ≡ false
 not_among c d [] none i = absurd i
@@ -130,7 +130,7 @@ first_short f (c ∷ cols) (suc n) = let rest = first_short f cols n in omega ar
 abbrev IsAccess : Table → List ℕ → Access → Type 0
 IsAccess table cols access =
     ((access ≡ Primary) × (begins_with (primary_sequence table) (set_of cols) ≡ true))
-    ⊎ ((place : ℕ) × (access ≡ Secondary (place + 1)) × (slice_get table.indexes place ≡ Some (index_at table (place + 1))) × (begins_with (index_sequence table (index_at table (place + 1))) (set_of cols) ≡ true))
+    ⊎ ((place : ℕ) × (access ≡ Secondary (place + 1)) × (slice_get table.indexes place ≡ Some (index_numbered table (place + 1))) × (begins_with (index_sequence table (index_numbered table (place + 1))) (set_of cols) ≡ true))
 
 got : (indexes : List Index) (place : ℕ) → place < length indexes → slice_get indexes place ≡ Some (slice_index_or indexes place no_index)
 got [] place less = absurd (omega arith)
@@ -149,25 +149,25 @@ access_found table cols there =
             | Some place ↦ λ found some.
                 let at = position-Some p table.indexes place no_index found in
                 let same : place + 1 - 1 ≡ place = omega arith in
-                let index : slice_index_or table.indexes place no_index ≡ index_at table (place + 1) = ap (λ (n : ℕ). slice_index_or table.indexes n no_index) (sym same) in
+                let index : slice_index_or table.indexes place no_index ≡ index_numbered table (place + 1) = ap (λ (n : ℕ). slice_index_or table.indexes n no_index) (sym same) in
                 inr (place, refl, got table.indexes place at.0 ∙ ap Some index, ap p (sym index) ∙ at.1)
           ] refl some
     ] refl there
 
 -- ---- the range of a group
 
-module _ (tables : List Table) (rows : Rows) (others : List Pair) (told : Option Content) (s : Settled told tables rows others) (t : ℕ) where
+module _ (tables : List Table) (rows : Rows) (others : List Pair) (told : Option Content) (s : HoldsRows told tables rows others) (t : ℕ) where
   abbrev table : Table
   table = table_at tables t
 
   abbrev within : List ℕ → ℕ
-  within key = length (pairs_within (pairs code_of row_code tables rows others) key (past_code key))
+  within key = length (pairs_within (content_pairs tables rows others) key (past_code key))
 
   module _ (cols : List ℕ) (values : List Value) (kinds : AllOfKinds (types_at table cols) values) (own : map (given cols values) cols ≡ values) where
     abbrev n : ℕ
     n = count_ones (set_of cols)
 
-    under_primary : begins_with (primary_sequence table) (set_of cols) ≡ true → within (prefix_key t table Primary (first_values table Primary cols values)) ≡ length (group_of t cols values rows)
+    under_primary : begins_with (primary_sequence table) (set_of cols) ≡ true → within (sequence_key t table Primary (first_values table Primary cols values)) ≡ length (group_of t cols values rows)
     under_primary begins =
         let all = columns_of (primary_sequence table) in
         let ps = map (given cols values) (take n all) in
@@ -175,27 +175,27 @@ module _ (tables : List Table) (rows : Rows) (others : List Pair) (told : Option
         let same : set_of (take n all) ≡ set_of cols = eqb-true _ _ begins in
         let of_kinds : AllOfKinds (take (length ps) (types_at table table.key)) ps = subst (λ (cs : List ℕ). AllOfKinds (take (length ps) (types_at table cs)) ps) key (first_kinds table cols all values n same kinds) in
         let short : length ps ≤ length table.key = subst (λ (cs : List ℕ). length ps ≤ length cs) key (first_short (given cols values) all n) in
-        rows_counted tables rows others s.keeps.fit s.keeps.apart s.catalog t ps of_kinds short
+        rows_counted tables rows others s.keeps.fit s.keeps.apart s.beside t ps of_kinds short
         ∙ ap (λ (cs : List ℕ). length (group_of t (take (length ps) cs) ps rows)) (sym key)
         ∙ ap (λ (rs : List (List Value)). length rs) (group_by_first (primary_sequence table) cols (given cols values) t rows begins)
         ∙ ap (λ (vs : List Value). length (group_of t cols vs rows)) own
 
-    under_index : (place : ℕ) → slice_get table.indexes place ≡ Some (index_at table (place + 1)) → begins_with (index_sequence table (index_at table (place + 1))) (set_of cols) ≡ true
-        → within (prefix_key t table (Secondary (place + 1)) (first_values table (Secondary (place + 1)) cols values)) ≡ length (group_of t cols values rows)
+    under_index : (place : ℕ) → slice_get table.indexes place ≡ Some (index_numbered table (place + 1)) → begins_with (index_sequence table (index_numbered table (place + 1))) (set_of cols) ≡ true
+        → within (sequence_key t table (Secondary (place + 1)) (first_values table (Secondary (place + 1)) cols values)) ≡ length (group_of t cols values rows)
     under_index place has begins =
-        let sequence = index_sequence table (index_at table (place + 1)) in
+        let sequence = index_sequence table (index_numbered table (place + 1)) in
         let all = columns_of sequence in
         let ps = map (given cols values) (take n all) in
         let same : set_of (take n all) ≡ set_of cols = eqb-true _ _ begins in
         let columns : length all ≡ length sequence = length-map sequence (λ (part : KeyPart). part.col) in
         let fits : length ps ≤ length all = first_short (given cols values) all n in
-        entries_counted tables rows others s.keeps.fit s.keeps.apart s.catalog t place (index_at table (place + 1)) has (place + 1) (omega arith) ps (first_kinds table cols all values n same kinds) (omega (arith, columns, fits))
+        entries_counted tables rows others s.keeps.fit s.keeps.apart s.beside t place (index_numbered table (place + 1)) has (place + 1) (omega arith) ps (first_kinds table cols all values n same kinds) (omega (arith, columns, fits))
         ∙ ap (λ (rs : List (List Value)). length rs) (group_by_first sequence cols (given cols values) t rows begins)
         ∙ ap (λ (vs : List Value). length (group_of t cols vs rows)) own
 
-    by_access : (access : Access) → IsAccess table cols access → within (prefix_key t table access (first_values table access cols values)) ≡ length (group_of t cols values rows)
-    by_access access (inl primary) = subst (λ (a : Access). within (prefix_key t table a (first_values table a cols values)) ≡ length (group_of t cols values rows)) (sym primary.0) (under_primary primary.1)
-    by_access access (inr index) = subst (λ (a : Access). within (prefix_key t table a (first_values table a cols values)) ≡ length (group_of t cols values rows)) (sym index.1) (under_index index.0 index.2 index.3)
+    by_access : (access : Access) → IsAccess table cols access → within (sequence_key t table access (first_values table access cols values)) ≡ length (group_of t cols values rows)
+    by_access access (inl primary) = subst (λ (a : Access). within (sequence_key t table a (first_values table a cols values)) ≡ length (group_of t cols values rows)) (sym primary.0) (under_primary primary.1)
+    by_access access (inr index) = subst (λ (a : Access). within (sequence_key t table a (first_values table a cols values)) ≡ length (group_of t cols values rows)) (sym index.1) (under_index index.0 index.2 index.3)
 
     -- as many pairs stand under the group's key as it has rows
     pub counted : IsSome (group_access table (set_of cols)) → within (group_key t table cols values) ≡ length (group_of t cols values rows)

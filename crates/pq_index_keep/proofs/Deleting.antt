@@ -1,6 +1,6 @@
 -- What a DELETE makes of settled pairs, and what its tests need.
 use Rattle.std.proofs.Common.{◌≡◌, ℕ, zero, suc, ◌+◌, ◌-◌, ◌<◌, true, false, ◌&&◌, List, [], ◌∷◌, length, map, drop, get_or, Option, Some, None, Result, Ok, refl, sym, ap, subst, ◌∙◌, arith, add-one}
-use Rattle.std.specs.Prelude.{All, IfSome, MatchResult, option_map, nat_lt}
+use Rattle.std.specs.Prelude.{All, IfErr, IfSome, MatchResult, option_map, nat_lt}
 use Rattle.std.specs.List.{AllByRecursion, position}
 use Rattle.std.specs.FinMap.{get}
 use Rattle.std.proofs.lemmas.Bool.{eq-eqb}
@@ -10,7 +10,7 @@ use Rattle.pq_base.specs.declared.value.ColType.{ColType}
 use Rattle.pq_base.specs.declared.value.ColType.TheVariants as type
 use Rattle.pq_base.specs.declared.value.Value.{Value}
 use Rattle.pq_base.specs.Values.{IsType, AllFit}
-use Rattle.pq_key_code.specs.KeyCode.{code_of, rowkey}
+use Rattle.pq_key_code.specs.KeyCode.{row_key}
 use Rattle.pq_row_code.specs.declared.changes.Change.{Change as Coded}
 use Rattle.pq_row_code.specs.RowCode.{row_code}
 use Rattle.pq_row_code.proofs.Rows.{row_code_injective}
@@ -20,20 +20,25 @@ use Rattle.pq_schema.specs.Tables.{no_table, table_at}
 use Rattle.pq_schema.specs.declared.table.Column.{Column}
 use Rattle.pq_schema.specs.declared.table.Foreign.{Foreign}
 use Rattle.pq_schema.specs.declared.table.Table.{Table}
-use Rattle.pq_content.specs.Pairs.{Pair, Change, pairs, entries_from, removals, changed}
+use Rattle.pq_content.specs.Pairs.{Pair, Change, entries_from, removals, changed, content_pairs}
 use Rattle.pq_content.specs.Standing.{change_of}
-use Rattle.pq_content.specs.Tables.{Rows, AllOfKinds, IsTableNumber, IsUnreferenced, types_of, key_types, row_at, rows_without, group_of}
-use Rattle.pq_content.proofs.Codes.{key_laws}
+use Rattle.pq_content.specs.Tables.{Rows, AllOfKinds, IsTableNumber, IsUnreferenced, types_of, key_types, row_at, rows_without, group_of, stored_code}
 use Rattle.pq_content.proofs.Deletes.{delete_row}
 use Rattle.pq_content.proofs.Keeping.{row_found}
 use Rattle.pq_content.proofs.KeepingWrites.{keeps_delete}
 use Rattle.pq_store.specs.Content.{Content}
-use Rattle.pq_store.specs.declared.damage.Broke.{Broke}
-use Rattle.pq_store.specs.declared.damage.Broke.TheVariants.{Failed, NoMem, Damaged}
+use Rattle.pq_store.specs.declared.damage.Damage.{Damage}
+use Rattle.std.proofs.lemmas.Option.{same_Some}
 use Rattle.pq_index_keep.specs.Effects.{effect, changes_of, deleted, removal_of, child_refusal, names_key, referenced, no_row}
-use Rattle.pq_index_keep.specs.Promises.{World, Shows, Settled, IsRead, Spoils, Explains, Fails, IsUndamaged, MakesRows, Plans}
-use Rattle.pq_index_keep.specs.Sound.{IsSized, IsSound, IsWritable, IsLike, AreLike, MayName}
-use Rattle.pq_index_keep.specs.declared.calls.StoredRow.{StoredRow}
+use Rattle.pq_calls.specs.Evidence.{IsRead, IsNoRow}
+use Rattle.pq_calls.specs.World.{World, Explains, where_told}
+use Rattle.pq_calls.proofs.Steps.{explained_undamaged}
+use Rattle.pq_store.specs.Breaks.{IsUndamaged}
+use Rattle.pq_store.specs.declared.damage.Broke.{Broke}
+use Rattle.std.proofs.lemmas.Result.{IfErr-weaker}
+use Rattle.pq_index_keep.specs.Promises.{HoldsRows, MakesRows, Plans}
+use Rattle.pq_index_keep.specs.Sound.{IsShortType, AreWritable, IsWritable, IsLike, AreLike, MayName}
+use Rattle.pq_calls.specs.declared.rows.StoredRow.{StoredRow}
 use Rattle.pq_index_keep.specs.declared.plan.Planned.TheVariants as planned
 use Rattle.pq_index_keep.specs.declared.write.Write.TheVariants as write
 use Rattle.pq_index_keep.proofs.Changing.{own_removals}
@@ -42,73 +47,58 @@ use Rattle.pq_index_keep.proofs.Tests.{settled_get}
 
 -- ---- the row that is read
 
-is_type : (ty : ColType) → IsSized ty → IsType ty
+is_type : (ty : ColType) → IsShortType ty → IsType ty
 is_type type.Int h = tt
 is_type type.Bool h = tt
 is_type (type.Text n) h = omega arith
 
-are_types : (columns : List Column) → AllByRecursion (λ (column : Column). IsSized column.ty) columns → AllByRecursion IsType (map (λ (column : Column). column.ty) columns)
+are_types : (columns : List Column) → AllByRecursion (λ (column : Column). IsShortType column.ty) columns → AllByRecursion IsType (map (λ (column : Column). column.ty) columns)
 are_types [] h = tt
 are_types (c ∷ cs) h = (is_type c.ty h.0, are_types cs h.1)
 
-module _ (tables : List Table) (rows : Rows) (others : List Pair) (told : Option Content) (t : ℕ) (key : List Value) (s : Settled told tables rows others) (sound : IsSound tables) (number : IsTableNumber tables t) (kinds : AllOfKinds (key_types (table_at tables t)) key) where
+module _ (tables : List Table) (rows : Rows) (others : List Pair) (told : Option Content) (t : ℕ) (key : List Value) (s : HoldsRows told tables rows others) (sound : AreWritable tables) (number : IsTableNumber tables t) (kinds : AllOfKinds (key_types (table_at tables t)) key) where
   abbrev table : Table
   table = table_at tables t
 
   types : All IsType (types_of table)
-  types = each_is IsType (types_of table) (are_types table.columns (each_by (λ (column : Column). IsSized column.ty) table.columns (writable_at tables t sound number).sized))
+  types = each_is IsType (types_of table) (are_types table.columns (each_by (λ (column : Column). IsShortType column.ty) table.columns (writable_at tables t sound number).sized))
 
-  read_is : (o : Option (List Value)) → row_at tables rows t key ≡ o → (row : Option (List Value)) → IsRead (types_of table) (option_map row_code o) row → row ≡ o
+  read_is : (o : Option (List Value)) → row_at tables rows t key ≡ o → (row : Option (List Value)) → IsRead (types_of table) (option_map (stored_code table) o) row → row ≡ o
   read_is None is None read = refl
   read_is None is (Some row) read = absurd read
   read_is (Some r) is None read = absurd read
-  read_is (Some r) is (Some row) read = ap Some (row_code_injective (types_of table) row r types read.0 (row_found row_code tables rows t key r s.keeps is).fits read.1)
+  read_is (Some r) is (Some row) read = ap Some (row_code_injective (types_of table) row r types read.0 (row_found tables rows t key r s.keeps is).fits read.1)
 
-  pub told_row : (row : Option (List Value)) → IfSome told (λ c. IsRead (types_of table) (get c (rowkey t key)) row) → row ≡ row_at tables rows t key
+  pub told_row : (row : Option (List Value)) → IfSome told (λ c. IsRead (types_of table) (get c (row_key t key)) row) → row ≡ row_at tables rows t key
   told_row row read =
       read_is (row_at tables rows t key) refl row
       (subst (λ (o : Option (List ℕ)). IsRead (types_of table) o row) (settled_get tables rows others told t key s kinds)
-      (subst (λ (o : Option Content). IfSome o (λ c. IsRead (types_of table) (get c (rowkey t key)) row)) s.is read))
+      (subst (λ (o : Option Content). IfSome o (λ c. IsRead (types_of table) (get c (row_key t key)) row)) s.is read))
 
-  unspoiled : (o : Option (List Value)) → row_at tables rows t key ≡ o → (code : List ℕ) → ((row : List Value) → AllFit (types_of table) row → row_code row ≡ code → ⊥) → option_map row_code o ≡ Some code → ⊥
-  unspoiled None is code none e = absurd (cc)
-  unspoiled (Some r) is code none e = none r (row_found row_code tables rows t key r s.keeps is).fits (same (row_code r) code e)
-    where
-      same : (a b : List ℕ) → Some a ≡ Some b → a ≡ b
-      same a b e = cc
+-- over settled pairs no row's value is the code of none
+module _ (tables : List Table) (rows : Rows) (others : List Pair) (told : Option Content) (s : HoldsRows told tables rows others) where
+  unspoiled : (t : ℕ) (key : List Value) (o : Option (List Value)) → row_at tables rows t key ≡ o → (code : List ℕ) → ((row : List Value) → AllFit (types_of (table_at tables t)) row → row_code row ≡ code → ⊥) → option_map row_code o ≡ Some code → ⊥
+  unspoiled t key None is code none e = absurd (cc)
+  unspoiled t key (Some r) is code none e = none r (row_found tables rows t key r s.keeps is).fits (same_Some _ _ e)
 
-  pub undamaged : (before after : World) (error : Broke) → before.told ≡ told → Spoils (types_of table) (rowkey t key) before after error → IsUndamaged error
-  undamaged before after Failed is h = tt
-  undamaged before after NoMem is h = tt
-  undamaged before after (Damaged d) is h =
-      unspoiled (row_at tables rows t key) refl h.code h.no_row
-      (sym (settled_get tables rows others told t key s kinds) ∙ subst (λ (o : Option Content). IfSome o (λ c. get c (rowkey t key) ≡ Some h.code)) (is ∙ s.is) h.there)
+  no_row_shown : (damage : Damage) → IsNoRow tables (content_pairs tables rows others) damage → ⊥
+  no_row_shown damage h =
+      unspoiled h.table h.key (row_at tables rows h.table h.key) refl h.shown.code h.shown.no_row
+      (sym (settled_get tables rows others told h.table h.key s h.kinds) ∙ h.shown.there)
+
+  pub undamaged : (damage : Damage) → where_told (IsNoRow tables) told damage → ⊥
+  undamaged damage h = no_row_shown damage (subst (λ (o : Option Content). where_told (IsNoRow tables) o damage) s.is h)
+
+-- so a call that tells such damage alone tells none
+pub told_undamaged : {A : Type 0} (tables : List Table) (a b : World) (result : Result A Broke) → IfErr result (Explains (where_told (IsNoRow tables)) a b)
+    → IfErr result (λ error. (rows : Rows) (others : List Pair) → HoldsRows a.told tables rows others → IsUndamaged error)
+told_undamaged tables a b result h =
+    IfErr-weaker result (Explains (where_told (IsNoRow tables)) a b) (λ error. (rows : Rows) (others : List Pair) → HoldsRows a.told tables rows others → IsUndamaged error)
+    (λ error why rows others s. explained_undamaged (where_told (IsNoRow tables)) a b error (undamaged tables rows others a.told s) why) h
 
 -- where nothing is read, no row is there
 pub none_read : (found : Option StoredRow) (row : Option (List Value)) → found ≡ None → option_map (λ stored. stored.row) found ≡ row → None ≡ row
 none_read found row none is = ap (option_map (λ (stored : StoredRow). stored.row)) (sym none) ∙ is
-
-pub spoils_explains : (tables : List Table) (t : ℕ) (key : List Value) (before after : World) (error : Broke) → IsTableNumber tables t → AllOfKinds (key_types (table_at tables t)) key → Spoils (types_of (table_at tables t)) (rowkey t key) before after error → Explains tables before after error
-spoils_explains tables t key before after Failed number kinds h = h
-spoils_explains tables t key before after NoMem number kinds h = tt
-spoils_explains tables t key before after (Damaged d) number kinds h = shown before.told h.there
-  where
-    shown : (told : Option Content) → IfSome told (λ c. get c (rowkey t key) ≡ Some h.code) → IfSome told (Shows tables d)
-    shown None there = tt
-    shown (Some c) there = record {
-      has = ap (get c) h.at ∙ there ∙ sym h.has;
-      spoiled = record { table = t; key = key; code = h.code; number = number; kinds = kinds; at = h.at; has = h.has; no_row = h.no_row };
-    }
-
-pub fails_explains : (tables : List Table) (before after : World) (error : Broke) → Fails before after error → Explains tables before after error
-fails_explains tables before after Failed h = h
-fails_explains tables before after NoMem h = tt
-fails_explains tables before after (Damaged d) h = absurd h
-
-pub fails_undamaged : (before after : World) (error : Broke) → Fails before after error → IsUndamaged error
-fails_undamaged before after Failed h = tt
-fails_undamaged before after NoMem h = tt
-fails_undamaged before after (Damaged d) h = h
 
 -- ---- foreign keys to the row
 
@@ -129,7 +119,7 @@ like_turned (t ∷ ts) (u ∷ us) h = (turned t u h.0, like_turned ts us h.1)
     turned (type.Text m) type.Bool h = absurd h
     turned (type.Text m) (type.Text n) h = tt
 
-pub may_name : (tables : List Table) (t : ℕ) (key : List Value) → IsSound tables → AllOfKinds (key_types (table_at tables t)) key → All (λ (table : Table). All (MayName table t key) table.foreign) tables
+pub may_name : (tables : List Table) (t : ℕ) (key : List Value) → AreWritable tables → AllOfKinds (key_types (table_at tables t)) key → All (λ (table : Table). All (MayName table t key) table.foreign) tables
 may_name tables t key sound kinds k table lt j f less refers =
     let r = (sound k table lt).references j f less in
     record {
@@ -207,16 +197,16 @@ module _ (tables : List Table) (rows : Rows) (others : List Pair) (t : ℕ) (key
   unfolding effect
   delete_refused old refusal found is = ap (deleted tables rows t key) (sym found) ∙ ap (λ (o : Option Refusal). or_ok o (rows_without tables t key rows)) (sym is)
 
-  pub delete_made : (told : Option Content) (old : List Value) (changes : List Coded) → Settled told tables rows others → Some old ≡ row_at tables rows t key → None ≡ child_refusal rows t key 1 tables → (at : List ℕ) → at ≡ rowkey t key → map change_of changes ≡ (at, None) ∷ removals (entries_from code_of row_code t 1 (table_at tables t) (table_at tables t).indexes old)
+  pub delete_made : (told : Option Content) (old : List Value) (changes : List Coded) → HoldsRows told tables rows others → Some old ≡ row_at tables rows t key → None ≡ child_refusal rows t key 1 tables → (at : List ℕ) → at ≡ row_key t key → map change_of changes ≡ (at, None) ∷ removals (entries_from t 1 (table_at tables t) (table_at tables t).indexes old)
       → Plans tables rows others (write.Delete t key) (planned.Changes changes)
   unfolding effect changes_of
   delete_made told old changes s found none at is own =
-      let key_is = (row_found row_code tables rows t key old s.keeps (sym found)).key_is in
-      let made = own_removals t (table_at tables t) old at (map change_of changes) (is ∙ ap (rowkey t) (sym key_is)) own in
+      let key_is = (row_found tables rows t key old s.keeps (sym found)).key_is in
+      let made = own_removals t (table_at tables t) old at (map change_of changes) (is ∙ ap (row_key t) (sym key_is)) own in
       let makes : MakesRows tables rows others (write.Delete t key) changes (rows_without tables t key rows) = record {
         changes_are = made ∙ ap (removal_of (table_at tables t) t) found;
-        content = ap (λ (cs : List Change). changed cs (pairs code_of row_code tables rows others)) made ∙ delete_row code_of row_code key_laws tables rows others t key old s.keeps s.catalog (sym found);
-        keeps = keeps_delete row_code tables rows t key s.keeps (unreferenced rows t key tables (sym none));
+        content = ap (λ (cs : List Change). changed cs (content_pairs tables rows others)) made ∙ delete_row tables rows others t key old s.keeps s.beside (sym found);
+        keeps = keeps_delete tables rows t key s.keeps (unreferenced rows t key tables (sym none));
       } in
       let effect_is : deleted tables rows t key (row_at tables rows t key) ≡ Ok (rows_without tables t key rows) = ap (deleted tables rows t key) (sym found) ∙ ap (λ (o : Option Refusal). or_ok o (rows_without tables t key rows)) (sym none) in
       subst (λ (r : Result Rows Refusal). MatchResult r (MakesRows tables rows others (write.Delete t key) changes) (λ (refusal : Refusal). ⊥)) (sym effect_is) makes

@@ -33,7 +33,8 @@ use Rattle.pq_schema.specs.Schema.{Schema, with_new_index, with_wanted}
 use Rattle.pq_schema.specs.Sequences.{ascending, group_access, groups, with_group, serving, new_index}
 use Rattle.pq_schema.specs.Sound.{IsMade, IsMadeLimit, IsMadeForeign, AreMade}
 use Rattle.pq_schema.specs.Sound as sound
-use Rattle.pq_schema.specs.Tables.{table_at, no_table, same_kind, same_kinds}
+use Rattle.pq_base.specs.Values.{same_kind}
+use Rattle.pq_schema.specs.Tables.{table_at, no_table, same_kinds}
 use Rattle.pq_schema.specs.Valid.{IsValid}
 use Rattle.pq_schema.specs.Valid.IsValid.{empty, then_table, then_query}
 use Rattle.pq_schema.specs.Wanted.{is_large, index_at, index_of, too_many_indexes, Chosen, with_index, chosen_of, IsWanted}
@@ -43,7 +44,7 @@ use Rattle.pq_schema.proofs.Groups.{IsAsBefore, group_index, groups_as_before}
 use Rattle.pq_schema.proofs.Soundness.{table_made, table_linked, all_made}
 use Rattle.pq_schema.proofs.Valid.{valid_made}
 use Rattle.pq_content.specs.Tables.{type_of, types_at, key_types}
-use Rattle.pq_index_keep.specs.Sound.{IsSized, is_among, AreDifferent, IsLike, AreLike, IsReference, IsWritable, IsSound}
+use Rattle.pq_index_keep.specs.Sound.{IsShortType, is_among, AreDifferent, IsLike, AreLike, IsReference, IsWritable, AreWritable}
 
 -- ---- different columns
 
@@ -142,7 +143,7 @@ is_reference tables number table foreign made = record {
 
 -- ---- tables
 
-is_sized : (ty : ColType) → sound.IsSized ty → IsSized ty
+is_sized : (ty : ColType) → sound.IsSized ty → IsShortType ty
 is_sized type.Int is = tt
 is_sized type.Bool is = tt
 is_sized (type.Text n) is = is.1
@@ -155,14 +156,14 @@ is_writable : (tables : List Table) (number : ℕ) (table : Table) → IsMade ta
 is_writable tables number table made narrow = record {
   is_table = table_made tables number table made;
   linked = table_linked tables number table made;
-  sized = All-weaker (λ (column : Column). sound.IsSized column.ty) (λ (column : Column). IsSized column.ty) (λ column is. is_sized column.ty is) table.columns made.sized;
+  sized = All-weaker (λ (column : Column). sound.IsSized column.ty) (λ (column : Column). IsShortType column.ty) (λ column is. is_sized column.ty is) table.columns made.sized;
   few_foreign = made.few_foreign;
   references = All-weaker (IsMadeForeign tables number table.columns) (IsReference tables table) (is_reference tables number table) table.foreign made.foreign;
   narrow = narrow;
 }
 
 -- made tables with indexes of few columns are ones whose rows can be written
-pub writable : (tables : List Table) → AreMade tables → (narrow : All (λ (t : Table). All (λ (index : Index). length index.cols ≤ 36) t.indexes) tables) → IsSound tables
+pub writable : (tables : List Table) → AreMade tables → (narrow : All (λ (t : Table). All (λ (index : Index). length index.cols ≤ 36) t.indexes) tables) → AreWritable tables
 writable tables made narrow = All-from_get_or (IsWritable tables) tables no_table (λ i there.
     let place : i + 1 - 1 ≡ i = omega arith in
     let is : IsMade tables (i + 1) (get_or tables i no_table) = subst (λ n. IsMade tables (i + 1) (get_or tables n no_table)) place (made (i + 1) (omega arith) (omega arith)) in
@@ -303,5 +304,5 @@ valid_narrow (then_query s query wanted v d) =
     narrow_with_wanted s.tables wanted (valid_narrow v) (narrow_wanted s.tables query few d.resolved.few_order wanted d.chosen)
 
 -- the rows of a valid schema's tables can be written
-pub valid_writable : {s : Schema} → IsValid s → IsSound s.tables
+pub valid_writable : {s : Schema} → IsValid s → AreWritable s.tables
 valid_writable {s} v = writable s.tables (valid_made v) (valid_narrow v)

@@ -10,24 +10,22 @@ use Rattle.pq_base.specs.declared.value.ColType.TheVariants as type
 use Rattle.pq_base.specs.declared.value.Value.{Value}
 use Rattle.pq_base.specs.declared.value.Value.TheVariants as value
 use Rattle.pq_base.specs.Values.{AllFit}
-use Rattle.pq_key_code.specs.KeyCode.{code_of}
 use Rattle.pq_row_code.specs.declared.changes.Change.{Change as Coded}
-use Rattle.pq_row_code.specs.RowCode.{row_code}
 use Rattle.pq_schema.specs.Definitions.{refused_if, or_ok}
 use Rattle.pq_schema.specs.Tables.{no_table, table_at}
 use Rattle.pq_schema.specs.declared.table.Foreign.{Foreign}
 use Rattle.pq_schema.specs.declared.table.Limit.{Limit}
 use Rattle.pq_schema.specs.declared.table.Table.{Table}
-use Rattle.pq_content.specs.Pairs.{Pair, Change, pairs, pairs_of_row, puts, changed}
+use Rattle.pq_content.specs.Pairs.{Pair, Change, pairs_of_row, puts, changed, content_pairs}
 use Rattle.pq_content.specs.Standing.{change_of}
-use Rattle.pq_content.specs.Tables.{Rows, AllOfKinds, IsOfKind, IsTableNumber, HasRoom, HasParent, types_of, key_of, values_at, row_at, group_of}
+use Rattle.pq_content.specs.Tables.{Rows, AllOfKinds, IsOfKind, IsTableNumber, HasRoom, HasParent, types_of, key_of, cells, row_at, group_of}
 use Rattle.pq_content.proofs.Keeping.{keeps_insert}
 use Rattle.pq_content.proofs.Values.{kinds_from_fit, fit_at}
 use Rattle.pq_content.proofs.Writes.{insert_row}
 use Rattle.pq_store.specs.Content.{Content}
 use Rattle.pq_index_keep.specs.Effects.{effect, changes_of, insert_refusal, lacks_parent, lacks_room, no_parent, no_room, is_full}
-use Rattle.pq_index_keep.specs.Promises.{Settled, IsTested, MakesRows, Plans}
-use Rattle.pq_index_keep.specs.Sound.{IsSound, IsWritable, IsInsert, IsLike, AreLike}
+use Rattle.pq_index_keep.specs.Promises.{HoldsRows, IsTested, MakesRows, Plans}
+use Rattle.pq_index_keep.specs.Sound.{AreWritable, IsWritable, IsInsert, IsLike, AreLike}
 use Rattle.pq_index_keep.specs.declared.plan.Planned.TheVariants as planned
 use Rattle.pq_index_keep.specs.declared.write.Scope.TheVariants as scope
 use Rattle.pq_index_keep.specs.declared.write.Write.TheVariants as write
@@ -83,11 +81,11 @@ nothing None h = refl
 nothing (Some row) h = absurd (cc)
 
 pub has_room : (rows : Rows) (t : ℕ) (row : List Value) (limit : Limit) → is_full rows t row limit ≡ false → HasRoom t rows row limit
-has_room rows t row limit h = let most = leb-false limit.n (length (group_of t limit.cols (values_at limit.cols row) rows)) h in omega arith
+has_room rows t row limit h = let most = leb-false limit.n (length (group_of t limit.cols (cells limit.cols row) rows)) h in omega arith
 
 -- ---- tables over which writes are planned
 
-pub writable_at : (tables : List Table) (t : ℕ) → IsSound tables → IsTableNumber tables t → IsWritable tables (table_at tables t)
+pub writable_at : (tables : List Table) (t : ℕ) → AreWritable tables → IsTableNumber tables t → IsWritable tables (table_at tables t)
 writable_at tables t sound number = sound (t - 1) no_table (omega (arith, number.0, number.1))
 
 like_kind : (t u : ColType) (x : Value) → IsLike t u → IsOfKind t x → IsOfKind u x
@@ -110,7 +108,7 @@ like_kinds (t ∷ ts) [] xs like kinds = absurd like
 like_kinds (t ∷ ts) (u ∷ us) [] like kinds = absurd kinds
 like_kinds (t ∷ ts) (u ∷ us) (x ∷ xs) like kinds = (like_kind t u x like.0 kinds.0, like_kinds ts us xs like.1 kinds.1)
 
-pub is_tested : (tables : List Table) (t : ℕ) (row : List Value) → IsSound tables → IsTableNumber tables t → AllFit (types_of (table_at tables t)) row → IsTested tables (table_at tables t) row
+pub is_tested : (tables : List Table) (t : ℕ) (row : List Value) → AreWritable tables → IsTableNumber tables t → AllFit (types_of (table_at tables t)) row → IsTested tables (table_at tables t) row
 is_tested tables t row sound number fits =
     let table = table_at tables t in
     let w = writable_at tables t sound number in
@@ -128,7 +126,7 @@ module _ (tables : List Table) (rows : Rows) (others : List Pair) (t : ℕ) (row
   unfolding effect
   insert_refused refusal is = ap (λ (o : Option Refusal). or_ok o ((t, row) ∷ rows)) (sym is)
 
-  pub insert_made : (told : Option Content) (changes : List Coded) → Settled told tables rows others → IsInsert tables t row → None ≡ insert_refusal tables rows t row → map change_of changes ≡ puts (pairs_of_row code_of row_code t (table_at tables t) row)
+  pub insert_made : (told : Option Content) (changes : List Coded) → HoldsRows told tables rows others → IsInsert tables t row → None ≡ insert_refusal tables rows t row → map change_of changes ≡ puts (pairs_of_row t (table_at tables t) row)
       → Plans tables rows others (write.Insert t row) (planned.Changes changes)
   unfolding effect changes_of
   insert_made told changes s w none made =
@@ -137,14 +135,14 @@ module _ (tables : List Table) (rows : Rows) (others : List Pair) (t : ℕ) (row
       let tests = or_none _ _ parts.1 in
       let absent : row_at tables rows t (key_of table row) ≡ None = nothing _ (not_refused _ _ parts.0) in
       let parents : AllByRecursion (HasParent tables rows row) table.foreign =
-      each_weaker (λ (f : Foreign). lacks_parent tables rows scope.All row f ≡ false) (HasParent tables rows row) (λ f h. there_is (row_at tables rows f.table (values_at f.cols row)) h) table.foreign
+      each_weaker (λ (f : Foreign). lacks_parent tables rows scope.All row f ≡ false) (HasParent tables rows row) (λ f h. there_is (row_at tables rows f.table (cells f.cols row)) h) table.foreign
       (none_passes (lacks_parent tables rows scope.All row) table.foreign (mapped_none (no_parent table) _ tests.0)) in
       let rooms : AllByRecursion (HasRoom t rows row) table.limits =
       each_weaker (λ (l : Limit). lacks_room rows scope.All None t row l ≡ false) (HasRoom t rows row) (λ l h. has_room rows t row l h) table.limits
       (none_passes (lacks_room rows scope.All None t row) table.limits (mapped_none (no_room table) _ tests.1)) in
       let makes : MakesRows tables rows others (write.Insert t row) changes ((t, row) ∷ rows) = record {
         changes_are = made;
-        content = ap (λ (cs : List Change). changed cs (pairs code_of row_code tables rows others)) made ∙ insert_row code_of row_code tables rows others t row;
-        keeps = keeps_insert row_code tables rows t row s.keeps w.number w.fits w.short absent rooms parents;
+        content = ap (λ (cs : List Change). changed cs (content_pairs tables rows others)) made ∙ insert_row tables rows others t row;
+        keeps = keeps_insert tables rows t row s.keeps w.number w.fits w.short absent rooms parents;
       } in
       subst (λ (o : Option Refusal). MatchResult (or_ok o ((t, row) ∷ rows)) (MakesRows tables rows others (write.Insert t row) changes) (λ (refusal : Refusal). ⊥)) none makes

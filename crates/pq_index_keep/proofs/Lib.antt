@@ -6,8 +6,6 @@ pub mod Few
 pub mod Fitting
 pub mod FromMade
 pub mod Inserting
-pub mod Leaving
-pub mod Sets
 pub mod Steps
 pub mod Tests
 pub mod Touching

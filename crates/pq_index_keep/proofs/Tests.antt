@@ -7,58 +7,56 @@ use Rattle.std.proofs.lemmas.List.{length-map}
 use Rattle.pq_base.specs.Columns.{set_of}
 use Rattle.pq_base.specs.Values.{AllFit}
 use Rattle.pq_base.specs.declared.value.Value.{Value}
-use Rattle.pq_key_code.specs.KeyCode.{code_of, rowkey, past_code}
-use Rattle.pq_row_code.specs.RowCode.{row_code}
+use Rattle.pq_key_code.specs.KeyCode.{row_key, past_code}
 use Rattle.pq_schema.specs.Sequences.{group_access}
 use Rattle.pq_schema.specs.declared.table.Foreign.{Foreign}
 use Rattle.pq_schema.specs.declared.table.Limit.{Limit}
 use Rattle.pq_schema.specs.declared.table.Table.{Table}
 use Rattle.pq_schema.specs.Tables.{table_at}
-use Rattle.pq_content.specs.Pairs.{Pair, pairs, pairs_within}
-use Rattle.pq_content.specs.Tables.{Rows, AllOfKinds, types_of, type_of, types_at, key_types, values_at, key_of, row_at, group_of}
-use Rattle.pq_content.proofs.Codes.{key_laws}
+use Rattle.pq_content.specs.Pairs.{Pair, content_pairs}
+use Rattle.pq_content.specs.Tables.{Rows, AllOfKinds, types_of, type_of, types_at, key_types, cells, key_of, row_at, group_of, stored_code}
 use Rattle.pq_content.proofs.Gets.{get_row}
 use Rattle.pq_content.proofs.Values.{kinds_from_fit, fit_at, key_of_kinds}
-use Rattle.pq_store.specs.Content.{Content}
+use Rattle.pq_store.specs.Content.{Content, pairs_within}
 use Rattle.pq_index_keep.specs.Effects.{is_missing, is_full, names_key}
 use Rattle.pq_index_keep.specs.Groups.{group_key}
-use Rattle.pq_index_keep.specs.Promises.{Settled}
+use Rattle.pq_index_keep.specs.Promises.{HoldsRows}
 use Rattle.pq_index_keep.specs.Sound.{MayName}
 use Rattle.pq_index_keep.specs.Tested.{given}
 use Rattle.pq_index_keep.proofs.Counted.{given_at, given_all, counted}
 
 -- the value at a row's key
-pub settled_get : (tables : List Table) (rows : Rows) (others : List Pair) (told : Option Content) (t : ℕ) (key : List Value) → Settled told tables rows others → AllOfKinds (key_types (table_at tables t)) key
-    → get (pairs code_of row_code tables rows others) (rowkey t key) ≡ option_map row_code (row_at tables rows t key)
-settled_get tables rows others told t key s kinds = get_row code_of row_code key_laws tables rows others t key s.keeps.fit kinds s.catalog
+pub settled_get : (tables : List Table) (rows : Rows) (others : List Pair) (told : Option Content) (t : ℕ) (key : List Value) → HoldsRows told tables rows others → AllOfKinds (key_types (table_at tables t)) key
+    → get (content_pairs tables rows others) (row_key t key) ≡ option_map (stored_code (table_at tables t)) (row_at tables rows t key)
+settled_get tables rows others told t key s kinds = get_row tables rows others t key s.keeps.fit kinds s.beside
 
-some_mapped : (o : Option (List Value)) → is_some (option_map row_code o) ≡ is_some o
-some_mapped None = refl
-some_mapped (Some row) = refl
+some_mapped : (table : Table) (o : Option (List Value)) → is_some (option_map (stored_code table) o) ≡ is_some o
+some_mapped table None = refl
+some_mapped table (Some row) = refl
 
 none_not : (o : Option (List Value)) → not (is_some o) ≡ is_none o
 none_not None = refl
 none_not (Some row) = refl
 
-pub told_there : (tables : List Table) (rows : Rows) (others : List Pair) (told : Option Content) (t : ℕ) (key : List Value) (there : Bool) → Settled told tables rows others → AllOfKinds (key_types (table_at tables t)) key
-    → IfSome told (λ c. there ≡ is_some (get c (rowkey t key))) → there ≡ is_some (row_at tables rows t key)
+pub told_there : (tables : List Table) (rows : Rows) (others : List Pair) (told : Option Content) (t : ℕ) (key : List Value) (there : Bool) → HoldsRows told tables rows others → AllOfKinds (key_types (table_at tables t)) key
+    → IfSome told (λ c. there ≡ is_some (get c (row_key t key))) → there ≡ is_some (row_at tables rows t key)
 told_there tables rows others told t key there s kinds is =
-    subst (λ (o : Option Content). IfSome o (λ c. there ≡ is_some (get c (rowkey t key)))) s.is is
+    subst (λ (o : Option Content). IfSome o (λ c. there ≡ is_some (get c (row_key t key)))) s.is is
     ∙ ap is_some (settled_get tables rows others told t key s kinds)
-    ∙ some_mapped (row_at tables rows t key)
+    ∙ some_mapped (table_at tables t) (row_at tables rows t key)
 
 -- the same at the key of a row
-pub told_own : (tables : List Table) (rows : Rows) (others : List Pair) (told : Option Content) (t : ℕ) (table : Table) (row : List Value) (at : List ℕ) (there : Bool) → Settled told tables rows others → table ≡ table_at tables t → AllFit (types_of table) row
-    → at ≡ rowkey t (key_of table row) → IfSome told (λ c. there ≡ is_some (get c at)) → there ≡ is_some (row_at tables rows t (key_of table row))
+pub told_own : (tables : List Table) (rows : Rows) (others : List Pair) (told : Option Content) (t : ℕ) (table : Table) (row : List Value) (at : List ℕ) (there : Bool) → HoldsRows told tables rows others → table ≡ table_at tables t → AllFit (types_of table) row
+    → at ≡ row_key t (key_of table row) → IfSome told (λ c. there ≡ is_some (get c at)) → there ≡ is_some (row_at tables rows t (key_of table row))
 told_own tables rows others told t table row at there s is fits own answer =
     let kinds = subst (λ (tb : Table). AllOfKinds (key_types tb) (key_of table row)) is (key_of_kinds table row fits) in
     told_there tables rows others told t (key_of table row) there s kinds (subst (λ (k : List ℕ). IfSome told (λ c. there ≡ is_some (get c k))) own answer)
 
-pub told_missing : (tables : List Table) (rows : Rows) (others : List Pair) (told : Option Content) (row : List Value) (foreign : Foreign) (there : Bool) → Settled told tables rows others → AllOfKinds (key_types (table_at tables foreign.table)) (values_at foreign.cols row)
-    → IfSome told (λ c. there ≡ is_some (get c (rowkey foreign.table (values_at foreign.cols row)))) → not there ≡ is_missing tables rows row foreign
+pub told_missing : (tables : List Table) (rows : Rows) (others : List Pair) (told : Option Content) (row : List Value) (foreign : Foreign) (there : Bool) → HoldsRows told tables rows others → AllOfKinds (key_types (table_at tables foreign.table)) (cells foreign.cols row)
+    → IfSome told (λ c. there ≡ is_some (get c (row_key foreign.table (cells foreign.cols row)))) → not there ≡ is_missing tables rows row foreign
 told_missing tables rows others told row foreign there s kinds is =
-    ap not (told_there tables rows others told foreign.table (values_at foreign.cols row) there s kinds is)
-    ∙ none_not (row_at tables rows foreign.table (values_at foreign.cols row))
+    ap not (told_there tables rows others told foreign.table (cells foreign.cols row) there s kinds is)
+    ∙ none_not (row_at tables rows foreign.table (cells foreign.cols row))
 
 -- ---- groups
 
@@ -69,7 +67,7 @@ capped_one : (k : ℕ) → not (eqb (min 1 k) 0) ≡ nat_lt 0 k
 capped_one k = grind arith
 
 -- what a count up to n tells of a group
-told_count : (tables : List Table) (rows : Rows) (others : List Pair) (told : Option Content) (t : ℕ) (table : Table) (cols : List ℕ) (values : List Value) (most k : ℕ) → Settled told tables rows others → table ≡ table_at tables t → IsSome (group_access table (set_of cols))
+told_count : (tables : List Table) (rows : Rows) (others : List Pair) (told : Option Content) (t : ℕ) (table : Table) (cols : List ℕ) (values : List Value) (most k : ℕ) → HoldsRows told tables rows others → table ≡ table_at tables t → IsSome (group_access table (set_of cols))
     → AllOfKinds (types_at table cols) values → map (given cols values) cols ≡ values
     → IfSome told (λ c. k ≡ min most (length (pairs_within c (group_key t table cols values) (past_code (group_key t table cols values))))) → k ≡ min most (length (group_of t cols values rows))
 told_count tables rows others told t table cols values most k s is access kinds own counts =
@@ -83,13 +81,13 @@ told_count tables rows others told t table cols values most k s is access kinds 
     ∙ ap (min most) (counted tables rows others told s t cols values (subst K same kinds) own (subst P same access)) in
     at table is access kinds counts
 
-pub told_full : (tables : List Table) (rows : Rows) (others : List Pair) (told : Option Content) (t : ℕ) (table : Table) (row : List Value) (limit : Limit) (k : ℕ) → Settled told tables rows others → table ≡ table_at tables t → IsSome (group_access table (set_of limit.cols)) → AllFit (types_of table) row
-    → IfSome told (λ c. k ≡ min limit.n (length (pairs_within c (group_key t table limit.cols (values_at limit.cols row)) (past_code (group_key t table limit.cols (values_at limit.cols row)))))) → eqb k limit.n ≡ is_full rows t row limit
+pub told_full : (tables : List Table) (rows : Rows) (others : List Pair) (told : Option Content) (t : ℕ) (table : Table) (row : List Value) (limit : Limit) (k : ℕ) → HoldsRows told tables rows others → table ≡ table_at tables t → IsSome (group_access table (set_of limit.cols)) → AllFit (types_of table) row
+    → IfSome told (λ c. k ≡ min limit.n (length (pairs_within c (group_key t table limit.cols (cells limit.cols row)) (past_code (group_key t table limit.cols (cells limit.cols row)))))) → eqb k limit.n ≡ is_full rows t row limit
 told_full tables rows others told t table row limit k s is access fits counts =
-    ap (λ m. eqb m limit.n) (told_count tables rows others told t table limit.cols (values_at limit.cols row) limit.n k s is access (kinds_from_fit (types_at table limit.cols) (values_at limit.cols row) (fit_at table limit.cols row fits)) (given_at limit.cols row) counts)
-    ∙ capped limit.n (length (group_of t limit.cols (values_at limit.cols row) rows))
+    ap (λ m. eqb m limit.n) (told_count tables rows others told t table limit.cols (cells limit.cols row) limit.n k s is access (kinds_from_fit (types_at table limit.cols) (cells limit.cols row) (fit_at table limit.cols row fits)) (given_at limit.cols row) counts)
+    ∙ capped limit.n (length (group_of t limit.cols (cells limit.cols row) rows))
 
-pub told_named : (tables : List Table) (rows : Rows) (others : List Pair) (told : Option Content) (t : ℕ) (key : List Value) (u : ℕ) (table : Table) (foreign : Foreign) (k : ℕ) → Settled told tables rows others → table ≡ table_at tables u → IsSome (group_access table (set_of foreign.cols)) → foreign.table ≡ t → MayName table t key foreign
+pub told_named : (tables : List Table) (rows : Rows) (others : List Pair) (told : Option Content) (t : ℕ) (key : List Value) (u : ℕ) (table : Table) (foreign : Foreign) (k : ℕ) → HoldsRows told tables rows others → table ≡ table_at tables u → IsSome (group_access table (set_of foreign.cols)) → foreign.table ≡ t → MayName table t key foreign
     → IfSome told (λ c. k ≡ min 1 (length (pairs_within c (group_key u table foreign.cols key) (past_code (group_key u table foreign.cols key))))) → not (eqb k 0) ≡ names_key rows t key u foreign
 told_named tables rows others told t key u table foreign k s is access refers may counts =
     let names = may refers in

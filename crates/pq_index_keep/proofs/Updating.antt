@@ -13,9 +13,8 @@ use Rattle.pq_base.specs.declared.value.ColType.TheVariants as type
 use Rattle.pq_base.specs.declared.value.Value.{Value}
 use Rattle.pq_base.specs.declared.value.Value.TheVariants as value
 use Rattle.pq_base.specs.Values.{AllFit, FitsType}
-use Rattle.pq_key_code.specs.KeyCode.{code_of, rowkey}
+use Rattle.pq_key_code.specs.KeyCode.{row_key}
 use Rattle.pq_row_code.specs.declared.changes.Change.{Change as Coded}
-use Rattle.pq_row_code.specs.RowCode.{row_code}
 use Rattle.pq_schema.specs.Definitions.{refused_if, or_ok}
 use Rattle.pq_schema.specs.Sequences.{columns_of, index_sequence}
 use Rattle.pq_schema.specs.declared.table.Column.{Column}
@@ -24,18 +23,17 @@ use Rattle.pq_schema.specs.Tables.{table_at}
 use Rattle.pq_schema.specs.declared.table.Foreign.{Foreign}
 use Rattle.pq_schema.specs.declared.table.Limit.{Limit}
 use Rattle.pq_schema.specs.declared.table.Table.{Table}
-use Rattle.pq_content.specs.Pairs.{Pair, Change, pairs, entry_changes, changed}
+use Rattle.pq_content.specs.Pairs.{Pair, Change, entry_changes, changed, content_pairs}
 use Rattle.pq_content.specs.Standing.{change_of}
-use Rattle.pq_content.specs.Tables.{Rows, Keeps, MayChange, MayName as MayRefer, types_of, value_of, values_at, values_of, key_of, row_at, rows_without, same_values}
-use Rattle.pq_content.proofs.Codes.{key_laws}
+use Rattle.pq_content.specs.Tables.{Rows, Keeps, MayChange, MayRefer, types_of, value_of, cells, values_of, key_of, row_at, rows_without, same_values, stored_code}
 use Rattle.pq_content.proofs.Keeping.{row_found}
 use Rattle.pq_content.proofs.KeepingWrites.{keeps_update}
-use Rattle.pq_content.proofs.Members.{In}
+use Rattle.pq_base.specs.Members.{In}
 use Rattle.pq_content.proofs.Updates.{update_row}
 use Rattle.pq_content.proofs.Values.{same_from_test, values_of-columns_of}
 use Rattle.pq_store.specs.Content.{Content}
 use Rattle.pq_index_keep.specs.Effects.{effect, changes_of, updated, update_of, update_refusal, parent_refusal, room_refusal, lacks_parent, lacks_room, no_parent, no_room, no_row, is_missing, is_full}
-use Rattle.pq_index_keep.specs.Promises.{Settled, MakesRows, Plans}
+use Rattle.pq_index_keep.specs.Promises.{HoldsRows, MakesRows, Plans}
 use Rattle.pq_index_keep.specs.Sound.{IsSet, IsUpdate}
 use Rattle.pq_index_keep.specs.Tested.{touches, touches_index, set_columns, scope_of, with_sets}
 use Rattle.pq_index_keep.specs.declared.plan.Planned.TheVariants as planned
@@ -45,7 +43,7 @@ use Rattle.pq_index_keep.specs.declared.write.Write.TheVariants as write
 use Rattle.pq_index_keep.proofs.Changing.{own_updates}
 use Rattle.pq_index_keep.proofs.Coding.{fit_length}
 use Rattle.pq_index_keep.proofs.Inserting.{each_is, or_none, mapped_none, not_refused, none_passes, each_weaker, there_is, has_room}
-use Rattle.pq_index_keep.proofs.Sets.{members_set}
+use Rattle.pq_base.proofs.Sets.{members_set}
 
 -- ---- the row that an UPDATE makes
 
@@ -66,10 +64,10 @@ untouched (set ∷ sets) row col none =
     untouched sets (slice_set row set.col set.value) col (λ i. none (inr i))
     ∙ get_or-set_other row set.col col set.value (value.Bool false) (λ same. none (inl (sym same)))
 
-all_untouched : (sets : List SetCol) (row : List Value) (cols : List ℕ) → ((c : ℕ) → In c cols → In c (set_columns sets) → ⊥) → values_at cols (with_sets sets row) ≡ values_at cols row
+all_untouched : (sets : List SetCol) (row : List Value) (cols : List ℕ) → ((c : ℕ) → In c cols → In c (set_columns sets) → ⊥) → cells cols (with_sets sets row) ≡ cells cols row
 all_untouched sets row [] none = refl
 all_untouched sets row (c ∷ cols) none =
-    ap (λ (x : Value). x ∷ values_at cols (with_sets sets row)) (untouched sets row c (none c (inl refl)))
+    ap (λ (x : Value). x ∷ cells cols (with_sets sets row)) (untouched sets row c (none c (inl refl)))
     ∙ ap (λ (xs : List Value). value_of row c ∷ xs) (all_untouched sets row cols (λ d i. none d (inr i)))
 
 any_member : (p : ℕ → Bool) (cols : List ℕ) (c : ℕ) → In c cols → p c ≡ true → list_any p cols ≡ true
@@ -82,7 +80,7 @@ any_member p (d ∷ cols) c (inr i) h = or_true (p d) (list_any p cols) (any_mem
     or_true false b h = h
 
 -- columns of which none is set keep their values
-pub kept_values : (sets : List SetCol) (row : List Value) (cols : List ℕ) → touches (scope_of sets) cols ≡ false → values_at cols (with_sets sets row) ≡ values_at cols row
+pub kept_values : (sets : List SetCol) (row : List Value) (cols : List ℕ) → touches (scope_of sets) cols ≡ false → cells cols (with_sets sets row) ≡ cells cols row
 kept_values sets row cols none =
     all_untouched sets row cols (λ c i j. false≢true (sym none ∙ any_member (has_col (set_of (set_columns sets))) cols c i (members_set (set_columns sets) c j)))
 
@@ -97,12 +95,12 @@ kept_key table sets row each = all_untouched sets row table.key (λ c i j. other
 -- ---- the tests
 
 may_change : (rows : Rows) (t : ℕ) (sets : List SetCol) (old : List Value) (limit : Limit) → lacks_room rows (scope_of sets) (Some old) t (with_sets sets old) limit ≡ false → MayChange t rows old (with_sets sets old) limit
-may_change rows t sets old limit h = by (touches (scope_of sets) limit.cols) refl (same_values (values_at limit.cols old) (values_at limit.cols (with_sets sets old))) refl (is_full rows t (with_sets sets old) limit) refl h
+may_change rows t sets old limit h = by (touches (scope_of sets) limit.cols) refl (same_values (cells limit.cols old) (cells limit.cols (with_sets sets old))) refl (is_full rows t (with_sets sets old) limit) refl h
   where
-    by : (a : Bool) → touches (scope_of sets) limit.cols ≡ a → (b : Bool) → same_values (values_at limit.cols old) (values_at limit.cols (with_sets sets old)) ≡ b → (c : Bool) → is_full rows t (with_sets sets old) limit ≡ c
+    by : (a : Bool) → touches (scope_of sets) limit.cols ≡ a → (b : Bool) → same_values (cells limit.cols old) (cells limit.cols (with_sets sets old)) ≡ b → (c : Bool) → is_full rows t (with_sets sets old) limit ≡ c
         → (a && not b && c) ≡ false → MayChange t rows old (with_sets sets old) limit
     by false untouched b same c full h = inl (sym (kept_values sets old limit.cols untouched))
-    by true touched true same c full h = inl (same_from_test (values_at limit.cols old) (values_at limit.cols (with_sets sets old)) same)
+    by true touched true same c full h = inl (same_from_test (cells limit.cols old) (cells limit.cols (with_sets sets old)) same)
     by true touched false same false full h = inr (has_room rows t (with_sets sets old) limit full)
     by true touched false same true full h = absurd (cc)
 
@@ -111,7 +109,7 @@ may_refer tables rows sets old foreign h = by (touches (scope_of sets) foreign.c
   where
     by : (a : Bool) → touches (scope_of sets) foreign.cols ≡ a → (b : Bool) → is_missing tables rows (with_sets sets old) foreign ≡ b → (a && b) ≡ false → MayRefer tables rows old (with_sets sets old) foreign
     by false untouched b missing h = inl (sym (kept_values sets old foreign.cols untouched))
-    by true touched false missing h = inr (there_is (row_at tables rows foreign.table (values_at foreign.cols (with_sets sets old))) missing)
+    by true touched false missing h = inr (there_is (row_at tables rows foreign.table (cells foreign.cols (with_sets sets old))) missing)
     by true touched true missing h = absurd (cc)
 
 -- ---- the effect
@@ -125,20 +123,20 @@ module _ (tables : List Table) (rows : Rows) (others : List Pair) (t : ℕ) (key
   unfolding effect
   update_refused old refusal found is = ap (updated tables rows t key sets) (sym found) ∙ ap (λ (o : Option Refusal). or_ok o ((t, with_sets sets old) ∷ rows_without tables t key rows)) (sym is)
 
-  pub update_made : (told : Option Content) (old : List Value) (changes : List Coded) → Settled told tables rows others → IsUpdate tables t key sets → Some old ≡ row_at tables rows t key → None ≡ update_refusal tables rows (scope_of sets) t old (with_sets sets old)
-      → (at : List ℕ) → at ≡ rowkey t key → map change_of changes ≡ (at, Some (row_code (with_sets sets old))) ∷ entry_changes code_of row_code t 1 (table_at tables t) (table_at tables t).indexes old (with_sets sets old) → Plans tables rows others (write.Update t key sets) (planned.Changes changes)
+  pub update_made : (told : Option Content) (old : List Value) (changes : List Coded) → HoldsRows told tables rows others → IsUpdate tables t key sets → Some old ≡ row_at tables rows t key → None ≡ update_refusal tables rows (scope_of sets) t old (with_sets sets old)
+      → (at : List ℕ) → at ≡ row_key t key → map change_of changes ≡ (at, Some (stored_code (table_at tables t) (with_sets sets old))) ∷ entry_changes t 1 (table_at tables t) (table_at tables t).indexes old (with_sets sets old) → Plans tables rows others (write.Update t key sets) (planned.Changes changes)
   unfolding effect changes_of
   update_made told old changes s w found none here is moved =
       let table = table_at tables t in
       let new = with_sets sets old in
-      let of_old = row_found row_code tables rows t key old s.keeps (sym found) in
+      let of_old = row_found tables rows t key old s.keeps (sym found) in
       let own : key_of table old ≡ key = of_old.key_is in
       let at : row_at tables rows t (key_of table old) ≡ Some old = ap (row_at tables rows t) own ∙ sym found in
       let same : key_of table old ≡ key_of table new = sym (kept_key table sets old w.each) in
-      let made = own_updates t table old new here (map change_of changes) (is ∙ ap (rowkey t) (sym own ∙ same)) moved in
+      let made = own_updates t table old new here (map change_of changes) (is ∙ ap (row_key t) (sym own ∙ same)) moved in
       let parts = or_none _ _ (sym none) in
       let tests = or_none _ _ parts.1 in
-      let short : length (row_code new) ≤ 4096 = ltb-false 4096 (length (row_code new)) (not_refused _ _ parts.0) in
+      let short : length (stored_code (table_at tables t) new) ≤ 4096 = ltb-false 4096 (length (stored_code (table_at tables t) new)) (not_refused _ _ parts.0) in
       let names : AllByRecursion (MayRefer tables rows old new) table.foreign =
       each_weaker (λ (f : Foreign). lacks_parent tables rows (scope_of sets) new f ≡ false) (MayRefer tables rows old new) (λ f h. may_refer tables rows sets old f h) table.foreign
       (none_passes (lacks_parent tables rows (scope_of sets) new) table.foreign (mapped_none (no_parent table) _ tests.0)) in
@@ -148,8 +146,8 @@ module _ (tables : List Table) (rows : Rows) (others : List Pair) (t : ℕ) (key
       let gone : List Value → Rows = λ (k : List Value). (t, new) ∷ rows_without tables t k rows in
       let makes : MakesRows tables rows others (write.Update t key sets) changes ((t, new) ∷ rows_without tables t key rows) = record {
         changes_are = made ∙ ap (update_of table t sets) found;
-        content = ap (λ (cs : List Change). changed cs (pairs code_of row_code tables rows others)) made ∙ update_row code_of row_code key_laws tables rows others t old new s.keeps s.catalog at same ∙ ap (λ (k : List Value). pairs code_of row_code tables (gone k) others) own;
-        keeps = subst (λ (k : List Value). Keeps row_code tables ((t, new) ∷ rows_without tables t k rows)) own (keeps_update row_code tables rows t old new s.keeps at same (fit_sets table sets old w.each of_old.fits) short changes_may names);
+        content = ap (λ (cs : List Change). changed cs (content_pairs tables rows others)) made ∙ update_row tables rows others t old new s.keeps s.beside at same ∙ ap (λ (k : List Value). content_pairs tables (gone k) others) own;
+        keeps = subst (λ (k : List Value). Keeps tables ((t, new) ∷ rows_without tables t k rows)) own (keeps_update tables rows t old new s.keeps at same (fit_sets table sets old w.each of_old.fits) short changes_may names);
       } in
       let effect_is : updated tables rows t key sets (row_at tables rows t key) ≡ Ok ((t, new) ∷ rows_without tables t key rows) = ap (updated tables rows t key sets) (sym found) ∙ ap (λ (o : Option Refusal). or_ok o ((t, new) ∷ rows_without tables t key rows)) (sym none) in
       subst (λ (r : Result Rows Refusal). MatchResult r (MakesRows tables rows others (write.Update t key sets) changes) (λ (refusal : Refusal). ⊥)) (sym effect_is) makes
@@ -172,7 +170,7 @@ sets_small table sets few each = each_is (λ (set : SetCol). set.col < 32) sets 
 
 abbrev by_parts : List Table → Rows → ℕ → Scope → Option (List Value) → Table → List Value → Option Refusal
 by_parts tables rows t of before table new =
-    or_else (refused_if (nat_lt 4096 (length (row_code new))) (RowLong table.name (length (row_code new))))
+    or_else (refused_if (nat_lt 4096 (length (stored_code table new))) (RowLong table.name (length (stored_code table new))))
     (or_else (parent_refusal tables rows of table new) (room_refusal rows of before t table new))
 
 pub as_update : (tables : List Table) (rows : Rows) (t : ℕ) (sets : List SetCol) (old : List Value) (of : Scope) (before : Option (List Value)) (table : Table) (new : List Value) (got : Option Refusal)

@@ -6,13 +6,12 @@ use Rattle.pq_base.specs.Values.{fits_type}
 use Rattle.pq_base.specs.declared.refusal.Refusal.{Refusal}
 use Rattle.pq_base.specs.declared.refusal.Refusal.TheVariants as refusal
 use Rattle.pq_base.specs.declared.value.Value.{Value}
-use Rattle.pq_row_code.specs.RowCode.{row_code}
 use Rattle.pq_schema.specs.Definitions.{first_repeated, no_column, repeated, refused_if, or_ok}
 use Rattle.pq_schema.specs.Schema.{Schema, find_column, find_table}
 use Rattle.pq_schema.specs.Tables.{table_at}
 use Rattle.pq_schema.specs.declared.table.Column.{Column}
 use Rattle.pq_schema.specs.declared.table.Table.{Table}
-use Rattle.pq_content.specs.Tables.{type_of}
+use Rattle.pq_content.specs.Tables.{type_of, stored_code}
 use Rattle.pq_def_read.specs.declared.statement.Assign.{Assign}
 use Rattle.pq_def_read.specs.declared.statement.Statement.{Statement}
 use Rattle.pq_def_read.specs.declared.statement.Statement.TheVariants as statement
@@ -27,7 +26,11 @@ abbrev pub IsWriting : Statement → Type 0
 IsWriting (statement.Insert table cols values) = Unit {0}
 IsWriting (statement.Update table sets key) = Unit {0}
 IsWriting (statement.Delete table key) = Unit {0}
-IsWriting _ = ⊥
+IsWriting (statement.Create def) = ⊥
+IsWriting (statement.Prepare name from) = ⊥
+IsWriting (statement.Explain from) = ⊥
+IsWriting (statement.Run name params after) = ⊥
+IsWriting statement.Show = ⊥
 
 abbrev pub assign_name : Assign → List ℕ
 assign_name assign = assign.col
@@ -95,7 +98,7 @@ abbrev pub insert_row : Table → List ℕ → List Value → List Value
 insert_row table places values = map (given places values) (all_columns table)
 
 abbrev pub long_refusal : Table → List Value → Option Refusal
-long_refusal table row = refused_if (nat_lt 4096 (length (row_code row))) (refusal.RowLong table.name (length (row_code row)))
+long_refusal table row = refused_if (nat_lt 4096 (length (stored_code table row))) (refusal.RowLong table.name (length (stored_code table row)))
 
 abbrev pub insert_values_refusal : Table → List (List ℕ) → List ℕ → List Value → Option Refusal
 insert_values_refusal table names places values =
@@ -152,9 +155,17 @@ abbrev pub in_table : List ℕ → Option ℕ → (ℕ → Result Write Refusal)
 in_table name None f = Err (refusal.NoTable name)
 in_table name (Some t) f = f t
 
+-- what stands for a statement that is no write
+abbrev pub no_write : Result Write Refusal
+no_write = Err (refusal.Syntax 0)
+
 -- the write, or the first refusal found by reading
 unfoldable pub checked : Schema → Statement → Result Write Refusal
 checked schema (statement.Insert name cols values) = in_table name (find_table schema name) (λ t. insert_checked (table_at schema.tables t) t cols values)
 checked schema (statement.Update name sets key) = in_table name (find_table schema name) (λ t. update_checked (table_at schema.tables t) t sets key)
 checked schema (statement.Delete name key) = in_table name (find_table schema name) (λ t. delete_checked (table_at schema.tables t) t key)
-checked schema _ = Err refusal.NotBuilt
+checked schema (statement.Create def) = no_write
+checked schema (statement.Prepare name from) = no_write
+checked schema (statement.Explain from) = no_write
+checked schema (statement.Run name params after) = no_write
+checked schema statement.Show = no_write

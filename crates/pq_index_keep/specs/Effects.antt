@@ -4,15 +4,13 @@ use Rattle.pq_base.specs.Answers.{or_else}
 use Rattle.pq_base.specs.declared.refusal.Refusal.{Refusal}
 use Rattle.pq_base.specs.declared.refusal.Refusal.TheVariants as refusal
 use Rattle.pq_base.specs.declared.value.Value.{Value}
-use Rattle.pq_key_code.specs.KeyCode.{code_of}
-use Rattle.pq_row_code.specs.RowCode.{row_code}
 use Rattle.pq_schema.specs.Definitions.{refused_if, or_ok}
 use Rattle.pq_schema.specs.declared.table.Foreign.{Foreign}
 use Rattle.pq_schema.specs.declared.table.Limit.{Limit}
 use Rattle.pq_schema.specs.declared.table.Table.{Table}
 use Rattle.pq_schema.specs.Tables.{table_at}
 use Rattle.pq_content.specs.Pairs.{Change, puts, removals, pairs_of_row, update_changes}
-use Rattle.pq_content.specs.Tables.{Rows, values_at, key_of, same_values, row_at, rows_without, group_of}
+use Rattle.pq_content.specs.Tables.{Rows, cells, key_of, same_values, row_at, rows_without, group_of, stored_code}
 use Rattle.pq_index_keep.specs.declared.write.Scope.{Scope}
 use Rattle.pq_index_keep.specs.declared.write.Scope.TheVariants as scope
 use Rattle.pq_index_keep.specs.declared.write.SetCol.{SetCol}
@@ -24,7 +22,7 @@ use Rattle.pq_index_keep.specs.Tested.{touches, scope_of, with_sets}
 
 -- the row that the foreign key names is not there
 abbrev pub is_missing : List Table → Rows → List Value → Foreign → Bool
-is_missing tables rows row foreign = is_none (row_at tables rows foreign.table (values_at foreign.cols row))
+is_missing tables rows row foreign = is_none (row_at tables rows foreign.table (cells foreign.cols row))
 
 abbrev pub lacks_parent : List Table → Rows → Scope → List Value → Foreign → Bool
 lacks_parent tables rows of row foreign = touches of foreign.cols && is_missing tables rows row foreign
@@ -41,11 +39,11 @@ parent_refusal tables rows of table row = option_map (no_parent table) (position
 -- the row had these values at the columns before
 abbrev pub stays : Option (List Value) → List Value → List ℕ → Bool
 stays None row cols = false
-stays (Some old) row cols = same_values (values_at cols old) (values_at cols row)
+stays (Some old) row cols = same_values (cells cols old) (cells cols row)
 
 -- n rows agree with the row at the limit's columns
 abbrev pub is_full : Rows → ℕ → List Value → Limit → Bool
-is_full rows t row limit = nat_le limit.n (length (group_of t limit.cols (values_at limit.cols row) rows))
+is_full rows t row limit = nat_le limit.n (length (group_of t limit.cols (cells limit.cols row) rows))
 
 abbrev pub lacks_room : Rows → Scope → Option (List Value) → ℕ → List Value → Limit → Bool
 lacks_room rows of old t row limit = touches of limit.cols && not (stays old row limit.cols) && is_full rows t row limit
@@ -88,7 +86,7 @@ insert_refusal tables rows t row =
 
 abbrev pub update_refusal : List Table → Rows → Scope → ℕ → List Value → List Value → Option Refusal
 update_refusal tables rows of t old new =
-    or_else (refused_if (nat_lt 4096 (length (row_code new))) (refusal.RowLong (table_at tables t).name (length (row_code new))))
+    or_else (refused_if (nat_lt 4096 (length (stored_code (table_at tables t) new))) (refusal.RowLong (table_at tables t).name (length (stored_code (table_at tables t) new))))
     (or_else (parent_refusal tables rows of (table_at tables t) new)
     (room_refusal rows of (Some old) t (table_at tables t) new))
 
@@ -114,14 +112,14 @@ effect tables rows (write.Delete t key) = deleted tables rows t key (row_at tabl
 
 abbrev pub update_of : Table → ℕ → List SetCol → Option (List Value) → List Change
 update_of table t sets None = []
-update_of table t sets (Some old) = update_changes code_of row_code t table old (with_sets sets old)
+update_of table t sets (Some old) = update_changes t table old (with_sets sets old)
 
 abbrev pub removal_of : Table → ℕ → Option (List Value) → List Change
 removal_of table t None = []
-removal_of table t (Some old) = removals (pairs_of_row code_of row_code t table old)
+removal_of table t (Some old) = removals (pairs_of_row t table old)
 
 -- the changes that a write makes where nothing refuses it
 unfoldable pub changes_of : List Table → Rows → Write → List Change
-changes_of tables rows (write.Insert t row) = puts (pairs_of_row code_of row_code t (table_at tables t) row)
+changes_of tables rows (write.Insert t row) = puts (pairs_of_row t (table_at tables t) row)
 changes_of tables rows (write.Update t key sets) = update_of (table_at tables t) t sets (row_at tables rows t key)
 changes_of tables rows (write.Delete t key) = removal_of (table_at tables t) t (row_at tables rows t key)

@@ -1,8 +1,6 @@
 -- The changes of a row's entry in one index.
 use Rattle.std.specs.Prelude.{ℕ, List, [], ◌∷◌, Some, None, if◌then◌else◌}
 use Rattle.pq_base.specs.declared.value.Value.{Value}
-use Rattle.pq_key_code.specs.KeyCode.{code_of}
-use Rattle.pq_row_code.specs.RowCode.{row_code}
 use Rattle.pq_schema.specs.declared.table.Index.{Index}
 use Rattle.pq_schema.specs.declared.table.Table.{Table}
 use Rattle.pq_schema.specs.Sequences.{index_sequence}
@@ -13,4 +11,4 @@ use Rattle.pq_content.specs.Tables.{values_of, same_values}
 abbrev pub entry_change : ℕ → ℕ → Table → Index → List Value → List Value → List Change
 entry_change t i table index old new =
     if same_values (values_of (index_sequence table index) old) (values_of (index_sequence table index) new) then []
-    else ((entry_pair code_of row_code t i (index_sequence table index) old).0, None) ∷ ((entry_pair code_of row_code t i (index_sequence table index) new).0, Some []) ∷ []
+    else ((entry_pair t i (index_sequence table index) old).0, None) ∷ ((entry_pair t i (index_sequence table index) new).0, Some []) ∷ []

@@ -5,23 +5,22 @@ use Rattle.pq_base.specs.declared.value.ColType.{ColType}
 use Rattle.pq_base.specs.declared.value.ColType.TheVariants as type
 use Rattle.pq_base.specs.declared.value.Value.{Value}
 use Rattle.pq_base.specs.Values.{FitsType, AllFit}
-use Rattle.pq_row_code.specs.RowCode.{row_code}
 use Rattle.pq_schema.specs.declared.table.Column.{Column}
 use Rattle.pq_schema.specs.declared.table.Foreign.{Foreign}
 use Rattle.pq_schema.specs.declared.table.Index.{Index}
 use Rattle.pq_schema.specs.declared.table.Table.{Table}
 use Rattle.pq_schema.specs.Sound.{IsTable, IsLinked}
 use Rattle.pq_schema.specs.Tables.{table_at}
-use Rattle.pq_content.specs.Tables.{IsTableNumber, AllOfKinds, types_of, type_of, types_at, key_types}
+use Rattle.pq_content.specs.Tables.{IsTableNumber, AllOfKinds, types_of, type_of, types_at, key_types, stored_code}
 use Rattle.pq_index_keep.specs.declared.write.SetCol.{SetCol}
 use Rattle.pq_index_keep.specs.declared.write.Write.{Write}
 use Rattle.pq_index_keep.specs.declared.write.Write.TheVariants as write
 
 -- a text has at most 1,000 bytes
-abbrev pub IsSized : ColType → Type 0
-IsSized type.Int = Unit {0}
-IsSized type.Bool = Unit {0}
-IsSized (type.Text n) = n ≤ 1000
+abbrev pub IsShortType : ColType → Type 0
+IsShortType type.Int = Unit {0}
+IsShortType type.Bool = Unit {0}
+IsShortType (type.Text n) = n ≤ 1000
 
 -- whether a column is among some columns
 abbrev pub is_among : List ℕ → ℕ → Bool
@@ -61,13 +60,13 @@ MayName table t key foreign = foreign.table ≡ t → IsKeyFor table key foreign
 pub record IsWritable (tables : List Table) (table : Table) : Type 0 where
   pub is_table : IsTable table
   pub linked : IsLinked tables table
-  pub sized : All (λ (column : Column). IsSized column.ty) table.columns
+  pub sized : All (λ (column : Column). IsShortType column.ty) table.columns
   pub few_foreign : length table.foreign ≤ 4
   pub references : All (IsReference tables table) table.foreign
   pub narrow : All (λ (index : Index). length index.cols ≤ 36) table.indexes
 
-abbrev pub IsSound : List Table → Type 0
-IsSound tables = All (IsWritable tables) tables
+abbrev pub AreWritable : List Table → Type 0
+AreWritable tables = All (IsWritable tables) tables
 
 -- a column that is none of the key gets a value that fits it
 pub record IsSet (table : Table) (set : SetCol) : Type 0 where
@@ -79,7 +78,7 @@ pub record IsSet (table : Table) (set : SetCol) : Type 0 where
 pub record IsInsert (tables : List Table) (t : ℕ) (row : List Value) : Type 0 where
   pub number : IsTableNumber tables t
   pub fits : AllFit (types_of (table_at tables t)) row
-  pub short : length (row_code row) ≤ 4096
+  pub short : length (stored_code (table_at tables t) row) ≤ 4096
 
 -- an UPDATE by a key that fits, of columns that are none of the key
 pub record IsUpdate (tables : List Table) (t : ℕ) (key : List Value) (sets : List SetCol) : Type 0 where

@@ -6,6 +6,7 @@ use Rattle.pq_base.specs.declared.value.Value.{Value}
 use Rattle.pq_base.specs.declared.value.Value.TheVariants as value
 use Rattle.pq_schema.specs.declared.table.Index.{Index}
 use Rattle.pq_schema.specs.declared.table.Table.{Table}
+pub use Rattle.pq_schema.specs.Keys.{given}
 use Rattle.pq_schema.specs.Sequences.{columns_of, index_sequence}
 use Rattle.pq_index_keep.specs.declared.write.SetCol.{SetCol}
 use Rattle.pq_index_keep.specs.declared.write.Scope.{Scope}
@@ -19,11 +20,6 @@ touches (scope.Columns set) cols = list_any (has_col set) cols
 -- whether the sequence of an index holds such a column
 abbrev pub touches_index : Scope → Table → Index → Bool
 touches_index of table index = touches of (columns_of (index_sequence table index))
-
--- the value that a column is given, where these columns are given these values
-abbrev pub given : List ℕ → List Value → ℕ → Value
-given (c ∷ cs) (x ∷ xs) col = if c == col then x else given cs xs col
-given _ _ col = value.Bool false
 
 -- the columns that an UPDATE sets
 abbrev pub set_columns : List SetCol → List ℕ

@@ -5,7 +5,7 @@ ghost use Rattle.pq_base.specs.Columns.{has_col};
 ghost use Rattle.pq_schema.specs.Sound.{AreColumns, AreParts};
 ghost use Rattle.pq_schema.specs.Tables.{table_at};
 ghost use Rattle.pq_index_keep.specs.Bounds.{tested_foreign, tested_limits, tested_n, refers, referring, tests, commit_ops, most_changes, write_tests, write_bound};
-ghost use Rattle.pq_index_keep.specs.Sound.{IsSound, IsWritable, IsWrite};
+ghost use Rattle.pq_index_keep.specs.Sound.{AreWritable, IsWritable, IsWrite};
 ghost use Rattle.pq_index_keep.specs.Tested.{touches, touches_index};
 
 use crate::write::{Scope, Write};
@@ -147,7 +147,7 @@ fn commit_ops(changes: usize) -> u128
 
 /// The greatest number of pairs that the write changes.
 fn most_changes(catalog: &Catalog, write: &Write) -> usize
-    requires sound { IsSound catalog.now.tables }
+    requires sound { AreWritable catalog.now.tables }
     requires write { IsWrite catalog.now.tables write.now }
     ensures { result ≡ most_changes catalog.now.tables write.now }
 {
@@ -163,7 +163,7 @@ fn most_changes(catalog: &Catalog, write: &Write) -> usize
 
 /// The operations and entries that the tests of the write take.
 fn write_tests(catalog: &Catalog, write: &Write) -> Bound
-    requires sound { IsSound catalog.now.tables }
+    requires sound { AreWritable catalog.now.tables }
     requires write { IsWrite catalog.now.tables write.now }
     ensures tests { result ≡ write_tests catalog.now.tables write.now }
     ensures few { result.ops < 2 ^ 80 }

@@ -1,12 +1,12 @@
 //! The changes that a write makes of the pairs of a row.
 ghost use Rattle.std.specs.Prelude.{◌≡◌, ◌≤◌, ◌<◌, ◌+◌, ◌∷◌, ◌++◌, [], All, length, map, IfOk, OnOk, Some, None};
-ghost use Rattle.pq_key_code.specs.KeyCode.{code_of};
 ghost use Rattle.pq_row_code.specs.RowCode.{row_code, IsShort};
 ghost use Rattle.pq_schema.specs.Sound.{AreColumns, AreParts};
 ghost use Rattle.pq_schema.specs.Sequences.{index_sequence};
 ghost use Rattle.pq_content.specs.Pairs.{entry_pair, entries_from, entry_changes, puts, removals};
 ghost use Rattle.pq_content.specs.Standing.{change_of};
 ghost use Rattle.pq_index_keep.specs.Moved.{entry_change};
+ghost use Rattle.pq_content.specs.Tables.{stored_code};
 
 use crate::groups::{index_prefix, index_sequence};
 use crate::rows::{same_values, values_of};
@@ -26,7 +26,7 @@ fn entry_of(
 ) -> Result<Bytes, NoMem>
     requires key { AreColumns table.now.key }
     requires parts { AreParts index.now.cols }
-    ensures { IfOk result (λ key. key ≡ (entry_pair code_of row_code number place (index_sequence table.now index.now) row.now).0) }
+    ensures { IfOk result (λ key. key ≡ (entry_pair number place (index_sequence table.now index.now) row.now).0) }
 {
     let parts = index_sequence(alloc, table, index)?;
     let values = values_of(alloc, parts.items(), row)?;
@@ -56,7 +56,7 @@ pub(crate) fn puts(
     requires few { length table.now.indexes ≤ 16 }
     requires columns { length row.now ≤ 32 }
     requires texts { All IsShort row.now }
-    ensures { IfOk result (λ changes. map change_of changes ≡ (at, Some (row_code row.now)) ∷ puts (entries_from code_of row_code number 1 table.now table.now.indexes row.now)) }
+    ensures { IfOk result (λ changes. map change_of changes ≡ (at, Some (stored_code table.now row.now)) ∷ puts (entries_from number 1 table.now table.now.indexes row.now)) }
 {
     let mut changes = List::new(alloc);
     changes.push(alloc, put_row(alloc, at, row)?)?;
@@ -83,7 +83,7 @@ fn put_entries(
     requires key { AreColumns table.now.key }
     requires parts { All (λ index. AreParts index.cols) indexes.now }
     requires few { length indexes.now ≤ 16 }
-    ensures { OnOk result (map change_of changes.new ≡ map change_of changes.old ++ puts (entries_from code_of row_code number 1 table.now indexes.now row.now)) }
+    ensures { OnOk result (map change_of changes.new ≡ map change_of changes.old ++ puts (entries_from number 1 table.now indexes.now row.now)) }
 {
     for (i, index) in indexes.iter().enumerate() {
         let key = entry_of(alloc, number, i as u8 + 1, table, index, row)?;
@@ -104,7 +104,7 @@ pub(crate) fn removals(
     requires key { AreColumns table.now.key }
     requires parts { All (λ index. AreParts index.cols) table.now.indexes }
     requires few { length table.now.indexes ≤ 16 }
-    ensures { IfOk result (λ changes. map change_of changes ≡ (at, None) ∷ removals (entries_from code_of row_code number 1 table.now table.now.indexes row.now)) }
+    ensures { IfOk result (λ changes. map change_of changes ≡ (at, None) ∷ removals (entries_from number 1 table.now table.now.indexes row.now)) }
 {
     let mut changes = List::new(alloc);
     changes.push(alloc, Change { key: at, new: None })?;
@@ -131,7 +131,7 @@ fn remove_entries(
     requires key { AreColumns table.now.key }
     requires parts { All (λ index. AreParts index.cols) indexes.now }
     requires few { length indexes.now ≤ 16 }
-    ensures { OnOk result (map change_of changes.new ≡ map change_of changes.old ++ removals (entries_from code_of row_code number 1 table.now indexes.now row.now)) }
+    ensures { OnOk result (map change_of changes.new ≡ map change_of changes.old ++ removals (entries_from number 1 table.now indexes.now row.now)) }
 {
     for (i, index) in indexes.iter().enumerate() {
         let key = entry_of(alloc, number, i as u8 + 1, table, index, row)?;
@@ -184,7 +184,7 @@ pub(crate) fn updates(
     requires few { length table.now.indexes ≤ 16 }
     requires columns { length new.now ≤ 32 }
     requires texts { All IsShort new.now }
-    ensures { IfOk result (λ changes. map change_of changes ≡ (at, Some (row_code new.now)) ∷ entry_changes code_of row_code number 1 table.now table.now.indexes old.now new.now) }
+    ensures { IfOk result (λ changes. map change_of changes ≡ (at, Some (stored_code table.now new.now)) ∷ entry_changes number 1 table.now table.now.indexes old.now new.now) }
 {
     let mut changes = List::new(alloc);
     changes.push(alloc, put_row(alloc, at, new)?)?;
@@ -212,7 +212,7 @@ fn move_entries(
     requires key { AreColumns table.now.key }
     requires parts { All (λ index. AreParts index.cols) indexes.now }
     requires few { length indexes.now ≤ 16 }
-    ensures { OnOk result (map change_of changes.new ≡ map change_of changes.old ++ entry_changes code_of row_code number 1 table.now indexes.now old.now new.now) }
+    ensures { OnOk result (map change_of changes.new ≡ map change_of changes.old ++ entry_changes number 1 table.now indexes.now old.now new.now) }
 {
     for (i, index) in indexes.iter().enumerate() {
         move_entry(alloc, number, i as u8 + 1, table, index, old, new, changes)?;

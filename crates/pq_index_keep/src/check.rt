@@ -7,10 +7,10 @@ ghost use Rattle.pq_base.specs.Values.{IsValue, AllFit};
 ghost use Rattle.pq_schema.specs.Definitions.{first_repeated, refused_if, or_ok};
 ghost use Rattle.pq_schema.specs.Schema.{find_column, find_table};
 ghost use Rattle.pq_schema.specs.Tables.{table_at};
-ghost use Rattle.pq_content.specs.Tables.{IsTableNumber, type_of, types_of};
-ghost use Rattle.pq_row_code.specs.RowCode.{row_code, IsShort};
+ghost use Rattle.pq_content.specs.Tables.{IsTableNumber, type_of, types_of, stored_code};
+ghost use Rattle.pq_row_code.specs.RowCode.{IsShort};
 ghost use Rattle.pq_index_keep.specs.Checking.{IsWriting, in_table, names_in, values_in, is_unknown, place_of, places_of, unknown_refusal, repeated_refusal, are_among, all_columns, insert_places, insert_names_refusal, is_insert_wrong, insert_row, misfit_refusal, long_refusal, insert_values_refusal, insert_checked, keyed_names_refusal, is_keyed_wrong, keyed_values_refusal, keyed_refusal, key_given, set_of_assign, update_checked, delete_checked, checked, column_names, insert_names, assigned_misfit};
-ghost use Rattle.pq_index_keep.specs.Sound.{is_among, IsSized, IsSound, IsWrite};
+ghost use Rattle.pq_index_keep.specs.Sound.{is_among, IsShortType, AreWritable, IsWrite};
 
 use crate::rows::all_given;
 use crate::write::{SetCol, Write};
@@ -309,11 +309,11 @@ fn check_insert_values(
     values: &[Value],
 ) -> Result<Row, Stopped>
     requires few { length table.now.columns ≤ 32 }
-    requires sized { All (λ column. IsSized column.ty) table.now.columns }
+    requires sized { All (λ column. IsShortType column.ty) table.now.columns }
     requires named { length names.now ≡ length places.now }
     ensures answer { Answers result (or_ok (insert_values_refusal table.now names.now places.now values.now) (insert_row table.now places.now values.now)) }
     ensures fits { IfOk result (AllFit (types_of table.now)) }
-    ensures short { IfOk result (λ row. length (row_code row) ≤ 4096) }
+    ensures short { IfOk result (λ row. length (stored_code table.now row) ≤ 4096) }
 {
     known_values(values);
     let wrong = is_insert_wrong(alloc, table, places, values)?;
@@ -331,7 +331,7 @@ fn check_insert(
     cols: &Option<List<PText>>,
     values: &[Value],
 ) -> Result<Write, Stopped>
-    requires sound { IsSound catalog.now.tables }
+    requires sound { AreWritable catalog.now.tables }
     requires number { IsTableNumber catalog.now.tables number }
     ensures answer { Answers result (insert_checked (table_at catalog.now.tables number) number cols.now values.now) }
     ensures write { IfOk result (IsWrite catalog.now.tables) }
@@ -446,7 +446,7 @@ fn check_update(
     sets: &[Assign],
     key: &[Assign],
 ) -> Result<Write, Stopped>
-    requires sound { IsSound catalog.now.tables }
+    requires sound { AreWritable catalog.now.tables }
     requires number { IsTableNumber catalog.now.tables number }
     ensures answer { Answers result (update_checked (table_at catalog.now.tables number) number sets.now key.now) }
     ensures write { IfOk result (IsWrite catalog.now.tables) }
@@ -479,7 +479,7 @@ fn check_delete(
     number: u8,
     key: &[Assign],
 ) -> Result<Write, Stopped>
-    requires sound { IsSound catalog.now.tables }
+    requires sound { AreWritable catalog.now.tables }
     requires number { IsTableNumber catalog.now.tables number }
     ensures answer { Answers result (delete_checked (table_at catalog.now.tables number) number key.now) }
     ensures write { IfOk result (IsWrite catalog.now.tables) }
@@ -506,7 +506,7 @@ fn check_into(
     cols: &Option<List<PText>>,
     values: &[Value],
 ) -> Result<Write, Stopped>
-    requires sound { IsSound catalog.now.tables }
+    requires sound { AreWritable catalog.now.tables }
     ensures answer { Answers result (in_table name.now (find_table catalog.now name.now) (λ t. insert_checked (table_at catalog.now.tables t) t cols.now values.now)) }
     ensures write { IfOk result (IsWrite catalog.now.tables) }
 {
@@ -523,7 +523,7 @@ fn check_set(
     sets: &[Assign],
     key: &[Assign],
 ) -> Result<Write, Stopped>
-    requires sound { IsSound catalog.now.tables }
+    requires sound { AreWritable catalog.now.tables }
     ensures answer { Answers result (in_table name.now (find_table catalog.now name.now) (λ t. update_checked (table_at catalog.now.tables t) t sets.now key.now)) }
     ensures write { IfOk result (IsWrite catalog.now.tables) }
 {
@@ -539,7 +539,7 @@ fn check_from(
     name: &PText,
     key: &[Assign],
 ) -> Result<Write, Stopped>
-    requires sound { IsSound catalog.now.tables }
+    requires sound { AreWritable catalog.now.tables }
     ensures answer { Answers result (in_table name.now (find_table catalog.now name.now) (λ t. delete_checked (table_at catalog.now.tables t) t key.now)) }
     ensures write { IfOk result (IsWrite catalog.now.tables) }
 {

@@ -10,13 +10,16 @@ ghost use Rattle.pq_content.specs.Pairs.{Pair};
 ghost use Rattle.pq_content.specs.Tables.{Rows};
 ghost use Rattle.pq_index_keep.specs.Bounds.{one_if};
 ghost use Rattle.pq_index_keep.specs.Effects.{names_key};
-ghost use Rattle.pq_index_keep.specs.Promises.{world, Affords, Reads, Fails, Settled};
+ghost use Rattle.pq_calls.specs.Calls.{Uses, Fails};
+ghost use Rattle.pq_calls.specs.World.{Affords, no_damage};
+ghost use Rattle.pq_index_keep.specs.Promises.{HoldsRows};
 ghost use Rattle.pq_index_keep.specs.Sound.{MayName};
 
 use crate::groups::count_group;
 use pq_base::Row;
+use pq_calls::Calls;
 use pq_schema::{Foreign, Table};
-use pq_store::{Allowance, Broke, Meter, Store};
+use pq_store::{Broke, Store};
 use std::alloc::Global;
 use std::sync::ledger::Ledger;
 
@@ -28,17 +31,15 @@ fn names_key<S: Store<L>, L: Ledger>(
     child: u8,
     table: &Table,
     foreign: &Foreign,
-    store: &mut S,
-    allowance: &mut Allowance,
-    meter: &mut Meter<L>,
+    calls: &mut Calls<S, L>,
 ) -> Result<bool, Broke>
     requires columns { AreColumns foreign.now.cols }
     requires table { IsTable table.now }
     requires access { IsSome (group_access table.now (set_of foreign.now.cols)) }
-    requires share { Affords allowance.old (one_if (foreign.now.table == number)) (one_if (foreign.now.table == number)) }
-    ensures reads { Reads (world (S.content store.old) (S.faults store.old) allowance.old meter.old) (world (S.content store.new) (S.faults store.new) allowance.new meter.new) (one_if (foreign.now.table == number)) (one_if (foreign.now.table == number)) }
-    ensures cause { IfErr result (Fails (world (S.content store.old) (S.faults store.old) allowance.old meter.old) (world (S.content store.new) (S.faults store.new) allowance.new meter.new)) }
-    ensures answer { IfOk result (λ named. (tables : List Definition) (rows : Rows) (others : List Pair) → Settled (S.content store.old) tables rows others → table.now ≡ table_at tables child →
+    requires share { Affords calls.old.allowance.now (one_if (foreign.now.table == number)) (one_if (foreign.now.table == number)) }
+    ensures uses { Uses S.content S.faults calls.old calls.new (one_if (foreign.now.table == number)) (one_if (foreign.now.table == number)) }
+    ensures cause { IfErr result (Fails no_damage S.content S.faults calls.old calls.new) }
+    ensures answer { IfOk result (λ named. (tables : List Definition) (rows : Rows) (others : List Pair) → HoldsRows (S.content calls.old.store.now) tables rows others → table.now ≡ table_at tables child →
         MayName table.now number key.now foreign.now → named ≡ names_key rows number key.now child foreign.now) }
 {
     if foreign.table != number {
@@ -51,9 +52,7 @@ fn names_key<S: Store<L>, L: Ledger>(
         foreign.cols.items(),
         key.items(),
         1,
-        store,
-        allowance,
-        meter,
+        calls,
     )?;
     Ok(count != 0)
 }
@@ -66,24 +65,20 @@ pub(crate) fn first_naming<S: Store<L>, L: Ledger>(
     child: u8,
     table: &Table,
     foreign: &[Foreign],
-    store: &mut S,
-    allowance: &mut Allowance,
-    meter: &mut Meter<L>,
+    calls: &mut Calls<S, L>,
 ) -> Result<Option<usize>, Broke>
     requires columns { All (λ f. AreColumns f.cols) foreign.now }
     requires table { IsTable table.now }
     requires access { All (λ f. IsSome (group_access table.now (set_of f.cols))) foreign.now }
-    requires share { Affords allowance.old (count_by (λ f. f.table == number) foreign.now) (count_by (λ f. f.table == number) foreign.now) }
-    ensures reads { Reads (world (S.content store.old) (S.faults store.old) allowance.old meter.old) (world (S.content store.new) (S.faults store.new) allowance.new meter.new) (count_by (λ f. f.table == number) foreign.now) (count_by (λ f. f.table == number) foreign.now) }
-    ensures cause { IfErr result (Fails (world (S.content store.old) (S.faults store.old) allowance.old meter.old) (world (S.content store.new) (S.faults store.new) allowance.new meter.new)) }
-    ensures answer { IfOk result (λ at. (tables : List Definition) (rows : Rows) (others : List Pair) → Settled (S.content store.old) tables rows others → table.now ≡ table_at tables child →
+    requires share { Affords calls.old.allowance.now (count_by (λ f. f.table == number) foreign.now) (count_by (λ f. f.table == number) foreign.now) }
+    ensures uses { Uses S.content S.faults calls.old calls.new (count_by (λ f. f.table == number) foreign.now) (count_by (λ f. f.table == number) foreign.now) }
+    ensures cause { IfErr result (Fails no_damage S.content S.faults calls.old calls.new) }
+    ensures answer { IfOk result (λ at. (tables : List Definition) (rows : Rows) (others : List Pair) → HoldsRows (S.content calls.old.store.now) tables rows others → table.now ≡ table_at tables child →
         All (MayName table.now number key.now) foreign.now → at ≡ position (names_key rows number key.now child) foreign.now) }
     ensures within { IfOk result (λ at. IfSome at (λ i. i < length foreign.now)) }
 {
     for (i, own) in foreign.iter().enumerate() {
-        if names_key(
-            alloc, number, key, child, table, own, store, allowance, meter,
-        )? {
+        if names_key(alloc, number, key, child, table, own, calls)? {
             return Ok(Some(i));
         }
     }

@@ -2,20 +2,22 @@
 //! begins with these columns.
 ghost use Rattle.std.specs.Prelude.{◌≡◌, ◌≤◌, length, min, take, count_ones, IfOk, IfErr, IfSome, IsSome};
 ghost use Rattle.pq_base.specs.Columns.{set_of};
-ghost use Rattle.pq_key_code.specs.KeyCode.{entrykey, past_code};
+ghost use Rattle.pq_key_code.specs.KeyCode.{entry_key, past_code};
 ghost use Rattle.pq_store.specs.Content.{pairs_within};
-ghost use Rattle.pq_schema.specs.Sequences.{primary_sequence, index_sequence, group_access, columns_of};
+ghost use Rattle.pq_schema.specs.Sequences.{primary_sequence, index_sequence, index_numbered, sequence_of, group_access, columns_of};
 ghost use Rattle.pq_schema.specs.Sound.{IsTable, AreColumns, AreParts};
 ghost use Rattle.pq_content.specs.Tables.{dirs_of, values_of, first_columns};
-ghost use Rattle.pq_index_keep.specs.Groups.{index_at, sequence_of, prefix_key, access_of, first_values, group_key};
-ghost use Rattle.pq_index_keep.specs.Promises.{world, Affords, Reads, Fails};
+ghost use Rattle.pq_calls.specs.Keys.{sequence_key};
+ghost use Rattle.pq_index_keep.specs.Groups.{access_of, first_values, group_key};
+ghost use Rattle.pq_calls.specs.Calls.{Uses, Fails};
+ghost use Rattle.pq_calls.specs.World.{Affords, no_damage};
 
-use crate::calls::paid_count;
 use crate::rows::all_given;
 use pq_base::{Bytes, ColSet, Dir, List, NoMem, Row, Value};
+use pq_calls::Calls;
 use pq_key_code::{entry_key, past, row_key};
 use pq_schema::{Access, Index, KeyPart, Table, columns_in, group_access};
-use pq_store::{Allowance, Broke, Meter, Store};
+use pq_store::{Broke, Store};
 use std::alloc::Global;
 use std::sync::ledger::Ledger;
 
@@ -114,7 +116,7 @@ fn primary_key(
     values: &[Value],
 ) -> Result<Bytes, NoMem>
     requires { AreColumns cols.now }
-    ensures { IfOk result (λ key. key ≡ prefix_key number table.now Access.Primary (first_values table.now Access.Primary cols.now values.now)) }
+    ensures { IfOk result (λ key. key ≡ sequence_key number table.now Access.Primary (first_values table.now Access.Primary cols.now values.now)) }
 {
     let parts = primary_sequence(alloc, table)?;
     let first = first_columns(alloc, parts.items(), ColSet::of(cols))?;
@@ -131,7 +133,7 @@ pub(crate) fn index_prefix(
     values: &Row,
 ) -> Result<Bytes, NoMem>
     requires { length values.now ≤ length parts.now }
-    ensures { IfOk result (λ key. key ≡ entrykey number index (dirs_of parts.now) values.now) }
+    ensures { IfOk result (λ key. key ≡ entry_key number index (dirs_of parts.now) values.now) }
 {
     let dirs = first_dirs(alloc, parts, values)?;
     entry_key(alloc, number, index, values, dirs.items())
@@ -150,7 +152,7 @@ fn secondary_key(
     requires table { IsTable table.now }
     requires from_one { 1 ≤ index }
     requires there { index ≤ length table.now.indexes }
-    ensures { IfOk result (λ key. key ≡ prefix_key number table.now (Access.Secondary index) (first_values table.now (Access.Secondary index) cols.now values.now)) }
+    ensures { IfOk result (λ key. key ≡ sequence_key number table.now (Access.Secondary index) (first_values table.now (Access.Secondary index) cols.now values.now)) }
 {
     let parts = index_sequence(alloc, table, &table.indexes.items()[index as usize - 1])?;
     let first = first_columns(alloc, parts.items(), ColSet::of(cols))?;
@@ -188,19 +190,17 @@ pub(crate) fn count_group<S: Store<L>, L: Ledger>(
     cols: &[u8],
     values: &[Value],
     cap: u32,
-    store: &mut S,
-    allowance: &mut Allowance,
-    meter: &mut Meter<L>,
+    calls: &mut Calls<S, L>,
 ) -> Result<u32, Broke>
     requires columns { AreColumns cols.now }
     requires table { IsTable table.now }
     requires access { IsSome (group_access table.now (set_of cols.now)) }
-    requires share { Affords allowance.old 1 cap }
-    ensures reads { Reads (world (S.content store.old) (S.faults store.old) allowance.old meter.old) (world (S.content store.new) (S.faults store.new) allowance.new meter.new) 1 cap }
-    ensures cause { IfErr result (Fails (world (S.content store.old) (S.faults store.old) allowance.old meter.old) (world (S.content store.new) (S.faults store.new) allowance.new meter.new)) }
-    ensures answer { IfOk result (λ n. IfSome (S.content store.old) (λ c. n ≡ min cap (length (pairs_within c (group_key number table.now cols.now values.now) (past_code (group_key number table.now cols.now values.now)))))) }
+    requires share { Affords calls.old.allowance.now 1 cap }
+    ensures uses { Uses S.content S.faults calls.old calls.new 1 cap }
+    ensures cause { IfErr result (Fails no_damage S.content S.faults calls.old calls.new) }
+    ensures answer { IfOk result (λ n. IfSome (S.content calls.old.store.now) (λ c. n ≡ min cap (length (pairs_within c (group_key number table.now cols.now values.now) (past_code (group_key number table.now cols.now values.now)))))) }
 {
     let low = group_key(alloc, number, table, cols, values)?;
     let high = past(alloc, Bytes::of_bytes(alloc, low.items())?)?;
-    Ok(paid_count(low.items(), high.items(), cap, store, allowance, meter)?)
+    calls.count(alloc, low.items(), high.items(), cap)
 }

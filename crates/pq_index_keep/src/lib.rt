@@ -3,7 +3,6 @@
 #![tactic(auto)]
 
 mod bound;
-mod calls;
 mod changes;
 mod check;
 mod children;

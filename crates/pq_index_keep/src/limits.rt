@@ -8,18 +8,21 @@ ghost use Rattle.pq_schema.specs.Sound.{IsTable, AreColumns};
 ghost use Rattle.pq_schema.specs.Tables.{table_at};
 ghost use Rattle.pq_schema.specs.declared.table.Table.{Table as Definition};
 ghost use Rattle.pq_content.specs.Pairs.{Pair};
-ghost use Rattle.pq_content.specs.Tables.{Rows, IsTableNumber, types_of, values_at};
+ghost use Rattle.pq_content.specs.Tables.{Rows, IsTableNumber, types_of, cells};
 ghost use Rattle.pq_index_keep.specs.Bounds.{one_if, tested_limits, tested_n};
 ghost use Rattle.pq_index_keep.specs.Effects.{stays, is_full, lacks_room};
-ghost use Rattle.pq_index_keep.specs.Promises.{world, Affords, Reads, Fails, Settled};
+ghost use Rattle.pq_calls.specs.Calls.{Uses, Fails};
+ghost use Rattle.pq_calls.specs.World.{Affords, no_damage};
+ghost use Rattle.pq_index_keep.specs.Promises.{HoldsRows};
 ghost use Rattle.pq_index_keep.specs.Tested.{touches};
 
 use crate::groups::count_group;
 use crate::rows::{same_values, values_at};
 use crate::write::Scope;
 use pq_base::{NoMem, Row};
+use pq_calls::Calls;
 use pq_schema::{Limit, Table};
-use pq_store::{Allowance, Broke, Meter, Store};
+use pq_store::{Broke, Store};
 use std::alloc::Global;
 use std::sync::ledger::Ledger;
 
@@ -44,17 +47,15 @@ fn is_full<S: Store<L>, L: Ledger>(
     table: &Table,
     limit: &Limit,
     row: &Row,
-    store: &mut S,
-    allowance: &mut Allowance,
-    meter: &mut Meter<L>,
+    calls: &mut Calls<S, L>,
 ) -> Result<bool, Broke>
     requires columns { AreColumns limit.now.cols }
     requires table { IsTable table.now }
     requires access { IsSome (group_access table.now (set_of limit.now.cols)) }
-    requires share { Affords allowance.old 1 limit.now.n }
-    ensures reads { Reads (world (S.content store.old) (S.faults store.old) allowance.old meter.old) (world (S.content store.new) (S.faults store.new) allowance.new meter.new) 1 limit.now.n }
-    ensures cause { IfErr result (Fails (world (S.content store.old) (S.faults store.old) allowance.old meter.old) (world (S.content store.new) (S.faults store.new) allowance.new meter.new)) }
-    ensures answer { IfOk result (λ full. (tables : List Definition) (rows : Rows) (others : List Pair) → Settled (S.content store.old) tables rows others → table.now ≡ table_at tables number →
+    requires share { Affords calls.old.allowance.now 1 limit.now.n }
+    ensures uses { Uses S.content S.faults calls.old calls.new 1 limit.now.n }
+    ensures cause { IfErr result (Fails no_damage S.content S.faults calls.old calls.new) }
+    ensures answer { IfOk result (λ full. (tables : List Definition) (rows : Rows) (others : List Pair) → HoldsRows (S.content calls.old.store.now) tables rows others → table.now ≡ table_at tables number →
         AllFit (types_of table.now) row.now → full ≡ is_full rows number row.now limit.now) }
 {
     let values = values_at(alloc, row.items(), limit.cols.items())?;
@@ -65,9 +66,7 @@ fn is_full<S: Store<L>, L: Ledger>(
         limit.cols.items(),
         values.items(),
         limit.n,
-        store,
-        allowance,
-        meter,
+        calls,
     )?;
     Ok(count == limit.n)
 }
@@ -81,17 +80,15 @@ fn lacks_room<S: Store<L>, L: Ledger>(
     table: &Table,
     limit: &Limit,
     row: &Row,
-    store: &mut S,
-    allowance: &mut Allowance,
-    meter: &mut Meter<L>,
+    calls: &mut Calls<S, L>,
 ) -> Result<bool, Broke>
     requires columns { AreColumns limit.now.cols }
     requires table { IsTable table.now }
     requires access { IsSome (group_access table.now (set_of limit.now.cols)) }
-    requires share { Affords allowance.old (one_if (touches scope.now limit.now.cols)) (tested_n scope.now limit.now) }
-    ensures reads { Reads (world (S.content store.old) (S.faults store.old) allowance.old meter.old) (world (S.content store.new) (S.faults store.new) allowance.new meter.new) (one_if (touches scope.now limit.now.cols)) (tested_n scope.now limit.now) }
-    ensures cause { IfErr result (Fails (world (S.content store.old) (S.faults store.old) allowance.old meter.old) (world (S.content store.new) (S.faults store.new) allowance.new meter.new)) }
-    ensures answer { IfOk result (λ lacks. (tables : List Definition) (rows : Rows) (others : List Pair) → Settled (S.content store.old) tables rows others → table.now ≡ table_at tables number →
+    requires share { Affords calls.old.allowance.now (one_if (touches scope.now limit.now.cols)) (tested_n scope.now limit.now) }
+    ensures uses { Uses S.content S.faults calls.old calls.new (one_if (touches scope.now limit.now.cols)) (tested_n scope.now limit.now) }
+    ensures cause { IfErr result (Fails no_damage S.content S.faults calls.old calls.new) }
+    ensures answer { IfOk result (λ lacks. (tables : List Definition) (rows : Rows) (others : List Pair) → HoldsRows (S.content calls.old.store.now) tables rows others → table.now ≡ table_at tables number →
         AllFit (types_of table.now) row.now → lacks ≡ lacks_room rows scope.now old.now number row.now limit.now) }
 {
     if !scope.touches(limit.cols.items()) {
@@ -100,7 +97,7 @@ fn lacks_room<S: Store<L>, L: Ledger>(
     if stays(alloc, old, row, limit.cols.items())? {
         return Ok(false);
     }
-    is_full(alloc, number, table, limit, row, store, allowance, meter)
+    is_full(alloc, number, table, limit, row, calls)
 }
 
 /// The place of the first limit that is tested, at whose columns the values change, and whose group
@@ -113,24 +110,20 @@ pub(crate) fn first_full<S: Store<L>, L: Ledger>(
     table: &Table,
     limits: &[Limit],
     row: &Row,
-    store: &mut S,
-    allowance: &mut Allowance,
-    meter: &mut Meter<L>,
+    calls: &mut Calls<S, L>,
 ) -> Result<Option<usize>, Broke>
     requires table { IsTable table.now }
     requires columns { All (λ limit. AreColumns limit.cols) limits.now }
     requires access { All (λ limit. IsSome (group_access table.now (set_of limit.cols))) limits.now }
-    requires share { Affords allowance.old (tested_limits scope.now limits.now) (sum_by (tested_n scope.now) limits.now) }
-    ensures reads { Reads (world (S.content store.old) (S.faults store.old) allowance.old meter.old) (world (S.content store.new) (S.faults store.new) allowance.new meter.new) (tested_limits scope.now limits.now) (sum_by (tested_n scope.now) limits.now) }
-    ensures cause { IfErr result (Fails (world (S.content store.old) (S.faults store.old) allowance.old meter.old) (world (S.content store.new) (S.faults store.new) allowance.new meter.new)) }
-    ensures answer { IfOk result (λ at. (tables : List Definition) (rows : Rows) (others : List Pair) → Settled (S.content store.old) tables rows others → table.now ≡ table_at tables number →
+    requires share { Affords calls.old.allowance.now (tested_limits scope.now limits.now) (sum_by (tested_n scope.now) limits.now) }
+    ensures uses { Uses S.content S.faults calls.old calls.new (tested_limits scope.now limits.now) (sum_by (tested_n scope.now) limits.now) }
+    ensures cause { IfErr result (Fails no_damage S.content S.faults calls.old calls.new) }
+    ensures answer { IfOk result (λ at. (tables : List Definition) (rows : Rows) (others : List Pair) → HoldsRows (S.content calls.old.store.now) tables rows others → table.now ≡ table_at tables number →
         AllFit (types_of table.now) row.now → at ≡ position (lacks_room rows scope.now old.now number row.now) limits.now) }
     ensures within { IfOk result (λ at. IfSome at (λ i. i < length limits.now)) }
 {
     for (i, limit) in limits.iter().enumerate() {
-        if lacks_room(
-            alloc, scope, old, number, table, limit, row, store, allowance, meter,
-        )? {
+        if lacks_room(alloc, scope, old, number, table, limit, row, calls)? {
             return Ok(Some(i));
         }
     }

@@ -4,18 +4,20 @@ ghost use Rattle.pq_schema.specs.Sound.{AreColumns};
 ghost use Rattle.pq_schema.specs.Tables.{table_at};
 ghost use Rattle.pq_schema.specs.declared.table.Table.{Table as Definition};
 ghost use Rattle.pq_content.specs.Pairs.{Pair};
-ghost use Rattle.pq_content.specs.Tables.{Rows, AllOfKinds, key_types, values_at};
+ghost use Rattle.pq_content.specs.Tables.{Rows, AllOfKinds, key_types, cells};
 ghost use Rattle.pq_index_keep.specs.Bounds.{one_if, tested_foreign};
 ghost use Rattle.pq_index_keep.specs.Effects.{is_missing, lacks_parent};
-ghost use Rattle.pq_index_keep.specs.Promises.{world, Affords, Reads, Fails, Settled};
+ghost use Rattle.pq_calls.specs.Calls.{Uses, Fails};
+ghost use Rattle.pq_calls.specs.World.{Affords, no_damage};
+ghost use Rattle.pq_index_keep.specs.Promises.{HoldsRows};
 ghost use Rattle.pq_index_keep.specs.Tested.{touches};
 
-use crate::calls::has_row;
 use crate::rows::values_at;
 use crate::write::Scope;
 use pq_base::Row;
+use pq_calls::Calls;
 use pq_schema::Foreign;
-use pq_store::{Allowance, Broke, Meter, Store};
+use pq_store::{Broke, Store};
 use std::alloc::Global;
 use std::sync::ledger::Ledger;
 
@@ -25,18 +27,16 @@ fn is_missing<S: Store<L>, L: Ledger>(
     alloc: Global,
     foreign: &Foreign,
     row: &Row,
-    store: &mut S,
-    allowance: &mut Allowance,
-    meter: &mut Meter<L>,
+    calls: &mut Calls<S, L>,
 ) -> Result<bool, Broke>
-    requires share { Affords allowance.old 1 1 }
-    ensures reads { Reads (world (S.content store.old) (S.faults store.old) allowance.old meter.old) (world (S.content store.new) (S.faults store.new) allowance.new meter.new) 1 1 }
-    ensures cause { IfErr result (Fails (world (S.content store.old) (S.faults store.old) allowance.old meter.old) (world (S.content store.new) (S.faults store.new) allowance.new meter.new)) }
-    ensures answer { IfOk result (λ missing. (tables : List Definition) (rows : Rows) (others : List Pair) → Settled (S.content store.old) tables rows others →
-        AllOfKinds (key_types (table_at tables foreign.now.table)) (values_at foreign.now.cols row.now) → missing ≡ is_missing tables rows row.now foreign.now) }
+    requires share { Affords calls.old.allowance.now 1 1 }
+    ensures uses { Uses S.content S.faults calls.old calls.new 1 1 }
+    ensures cause { IfErr result (Fails no_damage S.content S.faults calls.old calls.new) }
+    ensures answer { IfOk result (λ missing. (tables : List Definition) (rows : Rows) (others : List Pair) → HoldsRows (S.content calls.old.store.now) tables rows others →
+        AllOfKinds (key_types (table_at tables foreign.now.table)) (cells foreign.now.cols row.now) → missing ≡ is_missing tables rows row.now foreign.now) }
 {
     let key = values_at(alloc, row.items(), foreign.cols.items())?;
-    let there = has_row(alloc, foreign.table, &key, store, allowance, meter)?;
+    let there = calls.has_row(alloc, foreign.table, &key)?;
     Ok(!there)
 }
 
@@ -46,19 +46,17 @@ fn lacks_parent<S: Store<L>, L: Ledger>(
     scope: &Scope,
     foreign: &Foreign,
     row: &Row,
-    store: &mut S,
-    allowance: &mut Allowance,
-    meter: &mut Meter<L>,
+    calls: &mut Calls<S, L>,
 ) -> Result<bool, Broke>
     requires columns { AreColumns foreign.now.cols }
-    requires share { Affords allowance.old (one_if (touches scope.now foreign.now.cols)) (one_if (touches scope.now foreign.now.cols)) }
-    ensures reads { Reads (world (S.content store.old) (S.faults store.old) allowance.old meter.old) (world (S.content store.new) (S.faults store.new) allowance.new meter.new) (one_if (touches scope.now foreign.now.cols)) (one_if (touches scope.now foreign.now.cols)) }
-    ensures cause { IfErr result (Fails (world (S.content store.old) (S.faults store.old) allowance.old meter.old) (world (S.content store.new) (S.faults store.new) allowance.new meter.new)) }
-    ensures answer { IfOk result (λ lacks. (tables : List Definition) (rows : Rows) (others : List Pair) → Settled (S.content store.old) tables rows others →
-        AllOfKinds (key_types (table_at tables foreign.now.table)) (values_at foreign.now.cols row.now) → lacks ≡ lacks_parent tables rows scope.now row.now foreign.now) }
+    requires share { Affords calls.old.allowance.now (one_if (touches scope.now foreign.now.cols)) (one_if (touches scope.now foreign.now.cols)) }
+    ensures uses { Uses S.content S.faults calls.old calls.new (one_if (touches scope.now foreign.now.cols)) (one_if (touches scope.now foreign.now.cols)) }
+    ensures cause { IfErr result (Fails no_damage S.content S.faults calls.old calls.new) }
+    ensures answer { IfOk result (λ lacks. (tables : List Definition) (rows : Rows) (others : List Pair) → HoldsRows (S.content calls.old.store.now) tables rows others →
+        AllOfKinds (key_types (table_at tables foreign.now.table)) (cells foreign.now.cols row.now) → lacks ≡ lacks_parent tables rows scope.now row.now foreign.now) }
 {
     if scope.touches(foreign.cols.items()) {
-        is_missing(alloc, foreign, row, store, allowance, meter)
+        is_missing(alloc, foreign, row, calls)
     } else {
         Ok(false)
     }
@@ -70,20 +68,18 @@ pub(crate) fn first_lacking<S: Store<L>, L: Ledger>(
     scope: &Scope,
     foreign: &[Foreign],
     row: &Row,
-    store: &mut S,
-    allowance: &mut Allowance,
-    meter: &mut Meter<L>,
+    calls: &mut Calls<S, L>,
 ) -> Result<Option<usize>, Broke>
     requires columns { All (λ f. AreColumns f.cols) foreign.now }
-    requires share { Affords allowance.old (tested_foreign scope.now foreign.now) (tested_foreign scope.now foreign.now) }
-    ensures reads { Reads (world (S.content store.old) (S.faults store.old) allowance.old meter.old) (world (S.content store.new) (S.faults store.new) allowance.new meter.new) (tested_foreign scope.now foreign.now) (tested_foreign scope.now foreign.now) }
-    ensures cause { IfErr result (Fails (world (S.content store.old) (S.faults store.old) allowance.old meter.old) (world (S.content store.new) (S.faults store.new) allowance.new meter.new)) }
-    ensures answer { IfOk result (λ at. (tables : List Definition) (rows : Rows) (others : List Pair) → Settled (S.content store.old) tables rows others →
-        All (λ f. AllOfKinds (key_types (table_at tables f.table)) (values_at f.cols row.now)) foreign.now → at ≡ position (lacks_parent tables rows scope.now row.now) foreign.now) }
+    requires share { Affords calls.old.allowance.now (tested_foreign scope.now foreign.now) (tested_foreign scope.now foreign.now) }
+    ensures uses { Uses S.content S.faults calls.old calls.new (tested_foreign scope.now foreign.now) (tested_foreign scope.now foreign.now) }
+    ensures cause { IfErr result (Fails no_damage S.content S.faults calls.old calls.new) }
+    ensures answer { IfOk result (λ at. (tables : List Definition) (rows : Rows) (others : List Pair) → HoldsRows (S.content calls.old.store.now) tables rows others →
+        All (λ f. AllOfKinds (key_types (table_at tables f.table)) (cells f.cols row.now)) foreign.now → at ≡ position (lacks_parent tables rows scope.now row.now) foreign.now) }
     ensures within { IfOk result (λ at. IfSome at (λ i. i < length foreign.now)) }
 {
     for (i, key) in foreign.iter().enumerate() {
-        if lacks_parent(alloc, scope, key, row, store, allowance, meter)? {
+        if lacks_parent(alloc, scope, key, row, calls)? {
             return Ok(Some(i));
         }
     }

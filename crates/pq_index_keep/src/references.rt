@@ -4,13 +4,16 @@ ghost use Rattle.pq_content.specs.Pairs.{Pair};
 ghost use Rattle.pq_content.specs.Tables.{Rows};
 ghost use Rattle.pq_index_keep.specs.Bounds.{referring};
 ghost use Rattle.pq_index_keep.specs.Effects.{referenced, child_refusal};
-ghost use Rattle.pq_index_keep.specs.Promises.{world, Affords, Reads, Fails, Settled};
-ghost use Rattle.pq_index_keep.specs.Sound.{IsSound, MayName};
+ghost use Rattle.pq_calls.specs.Calls.{Uses, Fails};
+ghost use Rattle.pq_calls.specs.World.{Affords, no_damage};
+ghost use Rattle.pq_index_keep.specs.Promises.{HoldsRows};
+ghost use Rattle.pq_index_keep.specs.Sound.{AreWritable, MayName};
 
 use crate::children::first_naming;
 use pq_base::{NoMem, Refusal, Row};
+use pq_calls::Calls;
 use pq_schema::Table;
-use pq_store::{Allowance, Broke, Meter, Store};
+use pq_store::{Broke, Store};
 use std::alloc::Global;
 use std::sync::ledger::Ledger;
 
@@ -30,24 +33,20 @@ pub(crate) fn child_refusal<S: Store<L>, L: Ledger>(
     tables: &[Table],
     number: u8,
     key: &Row,
-    store: &mut S,
-    allowance: &mut Allowance,
-    meter: &mut Meter<L>,
+    calls: &mut Calls<S, L>,
 ) -> Result<Option<Refusal>, Broke>
     requires few { length tables.now ≤ 64 }
-    requires sound { IsSound tables.now }
+    requires sound { AreWritable tables.now }
     requires may { All (λ table. All (MayName table number key.now) table.foreign) tables.now }
-    requires share { Affords allowance.old (referring tables.now number) (referring tables.now number) }
-    ensures reads { Reads (world (S.content store.old) (S.faults store.old) allowance.old meter.old) (world (S.content store.new) (S.faults store.new) allowance.new meter.new) (referring tables.now number) (referring tables.now number) }
-    ensures cause { IfErr result (Fails (world (S.content store.old) (S.faults store.old) allowance.old meter.old) (world (S.content store.new) (S.faults store.new) allowance.new meter.new)) }
-    ensures answer { IfOk result (λ refusal. (rows : Rows) (others : List Pair) → Settled (S.content store.old) tables.now rows others → refusal ≡ child_refusal rows number key.now 1 tables.now) }
+    requires share { Affords calls.old.allowance.now (referring tables.now number) (referring tables.now number) }
+    ensures uses { Uses S.content S.faults calls.old calls.new (referring tables.now number) (referring tables.now number) }
+    ensures cause { IfErr result (Fails no_damage S.content S.faults calls.old calls.new) }
+    ensures answer { IfOk result (λ refusal. (rows : Rows) (others : List Pair) → HoldsRows (S.content calls.old.store.now) tables.now rows others → refusal ≡ child_refusal rows number key.now 1 tables.now) }
 {
     for (i, table) in tables.iter().enumerate() {
         let foreign = table.foreign.items();
         let child = i as u8 + 1;
-        let naming = first_naming(
-            alloc, number, key, child, table, foreign, store, allowance, meter,
-        )?;
+        let naming = first_naming(alloc, number, key, child, table, foreign, calls)?;
         if let Some(place) = naming {
             return Ok(Some(referenced(alloc, table, place)?));
         }

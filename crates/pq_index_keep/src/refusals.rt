@@ -3,25 +3,27 @@ ghost use Rattle.std.specs.Prelude.{◌≡◌, ◌≤◌, ◌<◌, ◌+◌, List
 ghost use Rattle.std.specs.List.{sum_by};
 ghost use Rattle.pq_base.specs.Answers.{or_else};
 ghost use Rattle.pq_base.specs.Columns.{set_of};
-ghost use Rattle.pq_key_code.specs.KeyCode.{rowkey};
+ghost use Rattle.pq_key_code.specs.KeyCode.{row_key};
 ghost use Rattle.pq_schema.specs.Sequences.{group_access};
 ghost use Rattle.pq_schema.specs.Sound.{IsTable, AreColumns};
 ghost use Rattle.pq_schema.specs.Tables.{table_at};
 ghost use Rattle.pq_schema.specs.declared.table.Table.{Table as Definition};
 ghost use Rattle.pq_content.specs.Pairs.{Pair};
-ghost use Rattle.pq_content.specs.Tables.{Rows, AllOfKinds, key_types, values_at, types_of, key_of};
+ghost use Rattle.pq_content.specs.Tables.{Rows, AllOfKinds, key_types, cells, types_of, key_of};
 ghost use Rattle.pq_base.specs.Values.{AllFit};
 ghost use Rattle.pq_index_keep.specs.Bounds.{tested_foreign, tested_limits, tested_n, tests};
 ghost use Rattle.pq_index_keep.specs.Effects.{no_parent, no_room, parent_refusal, room_refusal, insert_refusal};
-ghost use Rattle.pq_index_keep.specs.Promises.{world, Affords, Reads, Fails, Settled, IsTested};
+ghost use Rattle.pq_calls.specs.Calls.{Uses, Fails};
+ghost use Rattle.pq_calls.specs.World.{Affords, no_damage};
+ghost use Rattle.pq_index_keep.specs.Promises.{HoldsRows, IsTested};
 
-use crate::calls::has_value;
 use crate::limits::first_full;
 use crate::parents::first_lacking;
 use crate::write::Scope;
 use pq_base::{NoMem, Refusal, Row};
+use pq_calls::Calls;
 use pq_schema::Table;
-use pq_store::{Allowance, Broke, Meter, Store};
+use pq_store::{Broke, Store};
 use std::alloc::Global;
 use std::sync::ledger::Ledger;
 
@@ -53,27 +55,17 @@ fn parent_refusal<S: Store<L>, L: Ledger>(
     scope: &Scope,
     table: &Table,
     row: &Row,
-    store: &mut S,
-    allowance: &mut Allowance,
-    meter: &mut Meter<L>,
+    calls: &mut Calls<S, L>,
 ) -> Result<Option<Refusal>, Broke>
     requires columns { All (λ f. AreColumns f.cols) table.now.foreign }
     requires few { length table.now.foreign ≤ 4 }
-    requires share { Affords allowance.old (tested_foreign scope.now table.now.foreign) (tested_foreign scope.now table.now.foreign) }
-    ensures reads { Reads (world (S.content store.old) (S.faults store.old) allowance.old meter.old) (world (S.content store.new) (S.faults store.new) allowance.new meter.new) (tested_foreign scope.now table.now.foreign) (tested_foreign scope.now table.now.foreign) }
-    ensures cause { IfErr result (Fails (world (S.content store.old) (S.faults store.old) allowance.old meter.old) (world (S.content store.new) (S.faults store.new) allowance.new meter.new)) }
-    ensures answer { IfOk result (λ refusal. (tables : List Definition) (rows : Rows) (others : List Pair) → Settled (S.content store.old) tables rows others →
-        All (λ f. AllOfKinds (key_types (table_at tables f.table)) (values_at f.cols row.now)) table.now.foreign → refusal ≡ parent_refusal tables rows scope.now table.now row.now) }
+    requires share { Affords calls.old.allowance.now (tested_foreign scope.now table.now.foreign) (tested_foreign scope.now table.now.foreign) }
+    ensures uses { Uses S.content S.faults calls.old calls.new (tested_foreign scope.now table.now.foreign) (tested_foreign scope.now table.now.foreign) }
+    ensures cause { IfErr result (Fails no_damage S.content S.faults calls.old calls.new) }
+    ensures answer { IfOk result (λ refusal. (tables : List Definition) (rows : Rows) (others : List Pair) → HoldsRows (S.content calls.old.store.now) tables rows others →
+        All (λ f. AllOfKinds (key_types (table_at tables f.table)) (cells f.cols row.now)) table.now.foreign → refusal ≡ parent_refusal tables rows scope.now table.now row.now) }
 {
-    match first_lacking(
-        alloc,
-        scope,
-        table.foreign.items(),
-        row,
-        store,
-        allowance,
-        meter,
-    )? {
+    match first_lacking(alloc, scope, table.foreign.items(), row, calls)? {
         None => Ok(None),
         Some(place) => Ok(Some(no_parent(alloc, table, place)?)),
     }
@@ -88,22 +80,18 @@ fn room_refusal<S: Store<L>, L: Ledger>(
     number: u8,
     table: &Table,
     row: &Row,
-    store: &mut S,
-    allowance: &mut Allowance,
-    meter: &mut Meter<L>,
+    calls: &mut Calls<S, L>,
 ) -> Result<Option<Refusal>, Broke>
     requires table { IsTable table.now }
     requires access { All (λ limit. IsSome (group_access table.now (set_of limit.cols))) table.now.limits }
-    requires share { Affords allowance.old (tested_limits scope.now table.now.limits) (sum_by (tested_n scope.now) table.now.limits) }
-    ensures reads { Reads (world (S.content store.old) (S.faults store.old) allowance.old meter.old) (world (S.content store.new) (S.faults store.new) allowance.new meter.new) (tested_limits scope.now table.now.limits) (sum_by (tested_n scope.now) table.now.limits) }
-    ensures cause { IfErr result (Fails (world (S.content store.old) (S.faults store.old) allowance.old meter.old) (world (S.content store.new) (S.faults store.new) allowance.new meter.new)) }
-    ensures answer { IfOk result (λ refusal. (tables : List Definition) (rows : Rows) (others : List Pair) → Settled (S.content store.old) tables rows others → table.now ≡ table_at tables number →
+    requires share { Affords calls.old.allowance.now (tested_limits scope.now table.now.limits) (sum_by (tested_n scope.now) table.now.limits) }
+    ensures uses { Uses S.content S.faults calls.old calls.new (tested_limits scope.now table.now.limits) (sum_by (tested_n scope.now) table.now.limits) }
+    ensures cause { IfErr result (Fails no_damage S.content S.faults calls.old calls.new) }
+    ensures answer { IfOk result (λ refusal. (tables : List Definition) (rows : Rows) (others : List Pair) → HoldsRows (S.content calls.old.store.now) tables rows others → table.now ≡ table_at tables number →
         AllFit (types_of table.now) row.now → refusal ≡ room_refusal rows scope.now old.now number table.now row.now) }
 {
     let limits = table.limits.items();
-    match first_full(
-        alloc, scope, old, number, table, limits, row, store, allowance, meter,
-    )? {
+    match first_full(alloc, scope, old, number, table, limits, row, calls)? {
         None => Ok(None),
         Some(place) => Ok(Some(no_room(alloc, table, place)?)),
     }
@@ -117,26 +105,22 @@ pub(crate) fn tested_refusal<S: Store<L>, L: Ledger>(
     number: u8,
     table: &Table,
     row: &Row,
-    store: &mut S,
-    allowance: &mut Allowance,
-    meter: &mut Meter<L>,
+    calls: &mut Calls<S, L>,
 ) -> Result<Option<Refusal>, Broke>
     requires table { IsTable table.now }
     requires columns { All (λ f. AreColumns f.cols) table.now.foreign }
     requires few { length table.now.foreign ≤ 4 }
     requires access { All (λ limit. IsSome (group_access table.now (set_of limit.cols))) table.now.limits }
-    requires share { Affords allowance.old (tested_foreign scope.now table.now.foreign + tested_limits scope.now table.now.limits) (tested_foreign scope.now table.now.foreign + sum_by (tested_n scope.now) table.now.limits) }
-    ensures reads { Reads (world (S.content store.old) (S.faults store.old) allowance.old meter.old) (world (S.content store.new) (S.faults store.new) allowance.new meter.new) (tested_foreign scope.now table.now.foreign + tested_limits scope.now table.now.limits) (tested_foreign scope.now table.now.foreign + sum_by (tested_n scope.now) table.now.limits) }
-    ensures cause { IfErr result (Fails (world (S.content store.old) (S.faults store.old) allowance.old meter.old) (world (S.content store.new) (S.faults store.new) allowance.new meter.new)) }
-    ensures answer { IfOk result (λ refusal. (tables : List Definition) (rows : Rows) (others : List Pair) → Settled (S.content store.old) tables rows others → table.now ≡ table_at tables number →
+    requires share { Affords calls.old.allowance.now (tested_foreign scope.now table.now.foreign + tested_limits scope.now table.now.limits) (tested_foreign scope.now table.now.foreign + sum_by (tested_n scope.now) table.now.limits) }
+    ensures uses { Uses S.content S.faults calls.old calls.new (tested_foreign scope.now table.now.foreign + tested_limits scope.now table.now.limits) (tested_foreign scope.now table.now.foreign + sum_by (tested_n scope.now) table.now.limits) }
+    ensures cause { IfErr result (Fails no_damage S.content S.faults calls.old calls.new) }
+    ensures answer { IfOk result (λ refusal. (tables : List Definition) (rows : Rows) (others : List Pair) → HoldsRows (S.content calls.old.store.now) tables rows others → table.now ≡ table_at tables number →
         IsTested tables table.now row.now → refusal ≡ or_else (parent_refusal tables rows scope.now table.now row.now) (room_refusal rows scope.now old.now number table.now row.now)) }
 {
-    if let Some(refusal) = parent_refusal(alloc, scope, table, row, store, allowance, meter)? {
+    if let Some(refusal) = parent_refusal(alloc, scope, table, row, calls)? {
         return Ok(Some(refusal));
     }
-    room_refusal(
-        alloc, scope, old, number, table, row, store, allowance, meter,
-    )
+    room_refusal(alloc, scope, old, number, table, row, calls)
 }
 
 /// Why an INSERT of the row at its key is refused.
@@ -146,35 +130,23 @@ pub(crate) fn insert_refusal<S: Store<L>, L: Ledger>(
     number: u8,
     table: &Table,
     row: &Row,
-    store: &mut S,
-    allowance: &mut Allowance,
-    meter: &mut Meter<L>,
+    calls: &mut Calls<S, L>,
 ) -> Result<Option<Refusal>, Broke>
     requires table { IsTable table.now }
     requires columns { All (λ f. AreColumns f.cols) table.now.foreign }
     requires few { length table.now.foreign ≤ 4 }
     requires access { All (λ limit. IsSome (group_access table.now (set_of limit.cols))) table.now.limits }
-    requires at { at.now ≡ rowkey number (key_of table.now row.now) }
-    requires share { Affords allowance.old (tests Scope.All table.now).ops (tests Scope.All table.now).entries }
-    ensures reads { Reads (world (S.content store.old) (S.faults store.old) allowance.old meter.old) (world (S.content store.new) (S.faults store.new) allowance.new meter.new) (tests Scope.All table.now).ops (tests Scope.All table.now).entries }
-    ensures cause { IfErr result (Fails (world (S.content store.old) (S.faults store.old) allowance.old meter.old) (world (S.content store.new) (S.faults store.new) allowance.new meter.new)) }
-    ensures answer { IfOk result (λ refusal. (tables : List Definition) (rows : Rows) (others : List Pair) → Settled (S.content store.old) tables rows others → table.now ≡ table_at tables number →
+    requires at { at.now ≡ row_key number (key_of table.now row.now) }
+    requires share { Affords calls.old.allowance.now (tests Scope.All table.now).ops (tests Scope.All table.now).entries }
+    ensures uses { Uses S.content S.faults calls.old calls.new (tests Scope.All table.now).ops (tests Scope.All table.now).entries }
+    ensures cause { IfErr result (Fails no_damage S.content S.faults calls.old calls.new) }
+    ensures answer { IfOk result (λ refusal. (tables : List Definition) (rows : Rows) (others : List Pair) → HoldsRows (S.content calls.old.store.now) tables rows others → table.now ≡ table_at tables number →
         IsTested tables table.now row.now → refusal ≡ insert_refusal tables rows number row.now) }
 {
-    if has_value(alloc, at, store, allowance, meter)? {
+    if calls.has_value(alloc, at)? {
         let name = table.name.copy(alloc)?;
         return Ok(Some(Refusal::DuplicateKey { table: name }));
     }
-    let rest = tested_refusal(
-        alloc,
-        &Scope::All,
-        &None,
-        number,
-        table,
-        row,
-        store,
-        allowance,
-        meter,
-    )?;
+    let rest = tested_refusal(alloc, &Scope::All, &None, number, table, row, calls)?;
     Ok(rest)
 }

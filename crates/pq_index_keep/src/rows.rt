@@ -1,22 +1,11 @@
 //! Values of rows at columns.
 ghost use Rattle.std.specs.Prelude.{◌≡◌, map, IfOk};
-ghost use Rattle.pq_content.specs.Tables.{types_of, value_of, values_at, values_of, key_of, same_value, same_values};
+ghost use Rattle.pq_content.specs.Tables.{value_of, cells, values_of, key_of, same_value, same_values};
 ghost use Rattle.pq_index_keep.specs.Tested.{given};
 
-use pq_base::{ColType, List, NoMem, Row, Value};
+use pq_base::{List, NoMem, Row, Value};
 use pq_schema::{KeyPart, Table};
 use std::alloc::Global;
-
-/// The types of the columns.
-pub(crate) fn types_of(alloc: Global, table: &Table) -> Result<List<ColType>, NoMem>
-    ensures { IfOk result (λ types. types ≡ types_of table.now) }
-{
-    let mut types = List::new(alloc);
-    for column in table.columns.items() {
-        types.push(alloc, column.ty)?;
-    }
-    Ok(types)
-}
 
 fn value_of(alloc: Global, row: &[Value], col: u8) -> Result<Value, NoMem>
     ensures { IfOk result (λ value. value ≡ value_of row.now col) }
@@ -29,7 +18,7 @@ fn value_of(alloc: Global, row: &[Value], col: u8) -> Result<Value, NoMem>
 
 /// The values at some columns.
 pub(crate) fn values_at(alloc: Global, row: &[Value], cols: &[u8]) -> Result<Row, NoMem>
-    ensures { IfOk result (λ values. values ≡ values_at cols.now row.now) }
+    ensures { IfOk result (λ values. values ≡ cells cols.now row.now) }
 {
     let mut values = List::new(alloc);
     for col in cols {

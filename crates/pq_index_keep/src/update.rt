@@ -4,30 +4,33 @@ ghost use Rattle.std.specs.List.{count_by, sum_by};
 ghost use Rattle.pq_base.specs.Answers.{or_else};
 ghost use Rattle.pq_base.specs.Columns.{set_of};
 ghost use Rattle.pq_base.specs.Values.{AllFit};
-ghost use Rattle.pq_key_code.specs.KeyCode.{rowkey};
-ghost use Rattle.pq_row_code.specs.RowCode.{row_code, IsShort};
+ghost use Rattle.pq_key_code.specs.KeyCode.{row_key};
+ghost use Rattle.pq_row_code.specs.RowCode.{IsShort};
 ghost use Rattle.pq_schema.specs.Definitions.{refused_if};
 ghost use Rattle.pq_schema.specs.Sequences.{group_access};
 ghost use Rattle.pq_schema.specs.Sound.{IsTable, AreColumns};
 ghost use Rattle.pq_schema.specs.Tables.{table_at};
 ghost use Rattle.pq_schema.specs.declared.table.Table.{Table as Definition};
 ghost use Rattle.pq_content.specs.Pairs.{Pair};
-ghost use Rattle.pq_content.specs.Tables.{Rows, types_of, row_at};
+ghost use Rattle.pq_content.specs.Tables.{Rows, types_of, row_at, stored_code};
 ghost use Rattle.pq_index_keep.specs.Bounds.{tested_foreign, tested_limits, tested_n, tests};
 ghost use Rattle.pq_index_keep.specs.Effects.{parent_refusal, room_refusal};
-ghost use Rattle.pq_index_keep.specs.Promises.{world, Affords, Reads, Fails, Explains, Settled, IsTested, IsUndamaged, Plans, IsPlan};
-ghost use Rattle.pq_index_keep.specs.Sound.{IsSound, IsUpdate};
+ghost use Rattle.pq_calls.specs.Calls.{Uses, Fails};
+ghost use Rattle.pq_calls.specs.Evidence.{IsNoRow};
+ghost use Rattle.pq_calls.specs.World.{Affords, no_damage, where_told};
+ghost use Rattle.pq_index_keep.specs.Promises.{HoldsRows, IsTested, Plans, IsPlannedWithin, ChangesOwn};
+ghost use Rattle.pq_index_keep.specs.Sound.{AreWritable, IsUpdate};
 ghost use Rattle.pq_index_keep.specs.Tested.{touches_index, scope_of, with_sets};
 
-use crate::calls::StoredRow;
 use crate::changes::updates;
-use crate::plan::{Planned, no_row, read_row, table_of};
+use crate::plan::{Planned, find_row, no_row, table_of};
 use crate::refusals::tested_refusal;
 use crate::write::{Scope, SetCol, Write};
 use pq_base::{List, NoMem, Refusal, Row, Value};
+use pq_calls::{Calls, StoredRow};
 use pq_row_code::row_code_len;
 use pq_schema::{Catalog, Table};
-use pq_store::{Allowance, Broke, Meter, Store};
+use pq_store::{Broke, Store};
 use std::alloc::Global;
 use std::sync::ledger::Ledger;
 
@@ -71,7 +74,7 @@ fn scope_of(sets: &List<SetCol>) -> Scope
 fn long_refusal(alloc: Global, table: &Table, row: &Row) -> Result<Option<Refusal>, NoMem>
     requires columns { length row.now ≤ 32 }
     requires texts { All IsShort row.now }
-    ensures { IfOk result (λ refusal. refusal ≡ refused_if (nat_lt 4096 (length (row_code row.now))) (Refusal.RowLong table.now.name (length (row_code row.now)))) }
+    ensures { IfOk result (λ refusal. refusal ≡ refused_if (nat_lt 4096 (length (stored_code table.now row.now))) (Refusal.RowLong table.now.name (length (stored_code table.now row.now)))) }
 {
     let length = row_code_len(row);
     if 4096 < length {
@@ -89,9 +92,7 @@ fn update_refusal<S: Store<L>, L: Ledger>(
     number: u8,
     table: &Table,
     new: &Row,
-    store: &mut S,
-    allowance: &mut Allowance,
-    meter: &mut Meter<L>,
+    calls: &mut Calls<S, L>,
 ) -> Result<Option<Refusal>, Broke>
     requires table { IsTable table.now }
     requires columns { All (λ f. AreColumns f.cols) table.now.foreign }
@@ -99,20 +100,18 @@ fn update_refusal<S: Store<L>, L: Ledger>(
     requires access { All (λ limit. IsSome (group_access table.now (set_of limit.cols))) table.now.limits }
     requires long { length new.now ≤ 32 }
     requires texts { All IsShort new.now }
-    requires share { Affords allowance.old (tested_foreign scope.now table.now.foreign + tested_limits scope.now table.now.limits) (tested_foreign scope.now table.now.foreign + sum_by (tested_n scope.now) table.now.limits) }
-    ensures reads { Reads (world (S.content store.old) (S.faults store.old) allowance.old meter.old) (world (S.content store.new) (S.faults store.new) allowance.new meter.new) (tested_foreign scope.now table.now.foreign + tested_limits scope.now table.now.limits) (tested_foreign scope.now table.now.foreign + sum_by (tested_n scope.now) table.now.limits) }
-    ensures cause { IfErr result (Fails (world (S.content store.old) (S.faults store.old) allowance.old meter.old) (world (S.content store.new) (S.faults store.new) allowance.new meter.new)) }
-    ensures answer { IfOk result (λ refusal. (tables : List Definition) (rows : Rows) (others : List Pair) → Settled (S.content store.old) tables rows others → table.now ≡ table_at tables number →
-        IsTested tables table.now new.now → refusal ≡ or_else (refused_if (nat_lt 4096 (length (row_code new.now))) (Refusal.RowLong table.now.name (length (row_code new.now))))
+    requires share { Affords calls.old.allowance.now (tested_foreign scope.now table.now.foreign + tested_limits scope.now table.now.limits) (tested_foreign scope.now table.now.foreign + sum_by (tested_n scope.now) table.now.limits) }
+    ensures uses { Uses S.content S.faults calls.old calls.new (tested_foreign scope.now table.now.foreign + tested_limits scope.now table.now.limits) (tested_foreign scope.now table.now.foreign + sum_by (tested_n scope.now) table.now.limits) }
+    ensures cause { IfErr result (Fails no_damage S.content S.faults calls.old calls.new) }
+    ensures answer { IfOk result (λ refusal. (tables : List Definition) (rows : Rows) (others : List Pair) → HoldsRows (S.content calls.old.store.now) tables rows others → table.now ≡ table_at tables number →
+        IsTested tables table.now new.now → refusal ≡ or_else (refused_if (nat_lt 4096 (length (stored_code table.now new.now))) (Refusal.RowLong table.now.name (length (stored_code table.now new.now))))
         (or_else (parent_refusal tables rows scope.now table.now new.now) (room_refusal rows scope.now old.now number table.now new.now))) }
 {
     let long = long_refusal(alloc, table, new)?;
     if let Some(refusal) = long {
         return Ok(Some(refusal));
     }
-    let rest = tested_refusal(
-        alloc, scope, old, number, table, new, store, allowance, meter,
-    )?;
+    let rest = tested_refusal(alloc, scope, old, number, table, new, calls)?;
     Ok(rest)
 }
 
@@ -124,19 +123,18 @@ fn plan_change<S: Store<L>, L: Ledger>(
     key: &Row,
     sets: &List<SetCol>,
     found: StoredRow,
-    store: &mut S,
-    allowance: &mut Allowance,
-    meter: &mut Meter<L>,
+    calls: &mut Calls<S, L>,
 ) -> Result<Planned, Broke>
-    requires sound { IsSound catalog.now.tables }
+    requires sound { AreWritable catalog.now.tables }
     requires update { IsUpdate catalog.now.tables number key.now sets.now }
-    requires at { found.at ≡ rowkey number key.now }
+    requires at { found.at ≡ row_key number key.now }
     requires fits { AllFit (types_of (table_at catalog.now.tables number)) found.row }
-    requires share { Affords allowance.old (tested_foreign (scope_of sets.now) (table_at catalog.now.tables number).foreign + tested_limits (scope_of sets.now) (table_at catalog.now.tables number).limits) (tested_foreign (scope_of sets.now) (table_at catalog.now.tables number).foreign + sum_by (tested_n (scope_of sets.now)) (table_at catalog.now.tables number).limits) }
-    ensures reads { Reads (world (S.content store.old) (S.faults store.old) allowance.old meter.old) (world (S.content store.new) (S.faults store.new) allowance.new meter.new) (tested_foreign (scope_of sets.now) (table_at catalog.now.tables number).foreign + tested_limits (scope_of sets.now) (table_at catalog.now.tables number).limits) (tested_foreign (scope_of sets.now) (table_at catalog.now.tables number).foreign + sum_by (tested_n (scope_of sets.now)) (table_at catalog.now.tables number).limits) }
-    ensures cause { IfErr result (Fails (world (S.content store.old) (S.faults store.old) allowance.old meter.old) (world (S.content store.new) (S.faults store.new) allowance.new meter.new)) }
-    ensures plan { IfOk result (IsPlan (1 + 2 * count_by (touches_index (scope_of sets.now) (table_at catalog.now.tables number)) (table_at catalog.now.tables number).indexes)) }
-    ensures answer { IfOk result (λ planned. (rows : Rows) (others : List Pair) → Settled (S.content store.old) catalog.now.tables rows others →
+    requires share { Affords calls.old.allowance.now (tested_foreign (scope_of sets.now) (table_at catalog.now.tables number).foreign + tested_limits (scope_of sets.now) (table_at catalog.now.tables number).limits) (tested_foreign (scope_of sets.now) (table_at catalog.now.tables number).foreign + sum_by (tested_n (scope_of sets.now)) (table_at catalog.now.tables number).limits) }
+    ensures uses { Uses S.content S.faults calls.old calls.new (tested_foreign (scope_of sets.now) (table_at catalog.now.tables number).foreign + tested_limits (scope_of sets.now) (table_at catalog.now.tables number).limits) (tested_foreign (scope_of sets.now) (table_at catalog.now.tables number).foreign + sum_by (tested_n (scope_of sets.now)) (table_at catalog.now.tables number).limits) }
+    ensures cause { IfErr result (Fails no_damage S.content S.faults calls.old calls.new) }
+    ensures plan { IfOk result (IsPlannedWithin (1 + 2 * count_by (touches_index (scope_of sets.now) (table_at catalog.now.tables number)) (table_at catalog.now.tables number).indexes)) }
+    ensures own { IfOk result (ChangesOwn catalog.now.tables (Write.Update number key.now sets.now)) }
+    ensures answer { IfOk result (λ planned. (rows : Rows) (others : List Pair) → HoldsRows (S.content calls.old.store.now) catalog.now.tables rows others →
         Some found.row ≡ row_at catalog.now.tables rows number key.now → Plans catalog.now.tables rows others (Write.Update number key.now sets.now) planned) }
 {
     let table = table_of(catalog, number);
@@ -144,9 +142,7 @@ fn plan_change<S: Store<L>, L: Ledger>(
     let new = new_row(alloc, &found.row, sets)?;
     let copy = found.row.copy(alloc)?;
     let before = Some(copy);
-    let refusal = update_refusal(
-        alloc, &scope, &before, number, table, &new, store, allowance, meter,
-    )?;
+    let refusal = update_refusal(alloc, &scope, &before, number, table, &new, calls)?;
     match refusal {
         Some(refusal) => Ok(Planned::Refused(refusal)),
         None => {
@@ -163,29 +159,25 @@ pub(crate) fn plan_update<S: Store<L>, L: Ledger>(
     number: u8,
     key: &Row,
     sets: &List<SetCol>,
-    store: &mut S,
-    allowance: &mut Allowance,
-    meter: &mut Meter<L>,
+    calls: &mut Calls<S, L>,
 ) -> Result<Planned, Broke>
-    requires sound { IsSound catalog.now.tables }
+    requires sound { AreWritable catalog.now.tables }
     requires update { IsUpdate catalog.now.tables number key.now sets.now }
-    requires share { Affords allowance.old (tests (scope_of sets.now) (table_at catalog.now.tables number)).ops (tests (scope_of sets.now) (table_at catalog.now.tables number)).entries }
-    ensures reads { Reads (world (S.content store.old) (S.faults store.old) allowance.old meter.old) (world (S.content store.new) (S.faults store.new) allowance.new meter.new) (tests (scope_of sets.now) (table_at catalog.now.tables number)).ops (tests (scope_of sets.now) (table_at catalog.now.tables number)).entries }
-    ensures cause { IfErr result (Explains catalog.now.tables (world (S.content store.old) (S.faults store.old) allowance.old meter.old) (world (S.content store.new) (S.faults store.new) allowance.new meter.new)) }
-    ensures undamaged { IfErr result (λ error. (rows : Rows) (others : List Pair) → Settled (S.content store.old) catalog.now.tables rows others → IsUndamaged error) }
-    ensures plan { IfOk result (IsPlan (1 + 2 * count_by (touches_index (scope_of sets.now) (table_at catalog.now.tables number)) (table_at catalog.now.tables number).indexes)) }
-    ensures answer { IfOk result (λ planned. (rows : Rows) (others : List Pair) → Settled (S.content store.old) catalog.now.tables rows others → Plans catalog.now.tables rows others (Write.Update number key.now sets.now) planned) }
+    requires share { Affords calls.old.allowance.now (tests (scope_of sets.now) (table_at catalog.now.tables number)).ops (tests (scope_of sets.now) (table_at catalog.now.tables number)).entries }
+    ensures uses { Uses S.content S.faults calls.old calls.new (tests (scope_of sets.now) (table_at catalog.now.tables number)).ops (tests (scope_of sets.now) (table_at catalog.now.tables number)).entries }
+    ensures cause { IfErr result (Fails (where_told (IsNoRow catalog.now.tables)) S.content S.faults calls.old calls.new) }
+    ensures plan { IfOk result (IsPlannedWithin (1 + 2 * count_by (touches_index (scope_of sets.now) (table_at catalog.now.tables number)) (table_at catalog.now.tables number).indexes)) }
+    ensures own { IfOk result (ChangesOwn catalog.now.tables (Write.Update number key.now sets.now)) }
+    ensures answer { IfOk result (λ planned. (rows : Rows) (others : List Pair) → HoldsRows (S.content calls.old.store.now) catalog.now.tables rows others → Plans catalog.now.tables rows others (Write.Update number key.now sets.now) planned) }
 {
-    match read_row(alloc, catalog, number, key, store, allowance, meter) {
+    match find_row(alloc, catalog, number, key, calls) {
         Err(error) => Err(error),
         Ok(None) => match no_row(alloc, table_of(catalog, number)) {
             Err(NoMem) => Err(Broke::NoMem),
             Ok(refused) => Ok(refused),
         },
         Ok(Some(found)) => {
-            match plan_change(
-                alloc, catalog, number, key, sets, found, store, allowance, meter,
-            ) {
+            match plan_change(alloc, catalog, number, key, sets, found, calls) {
                 Err(error) => Err(error),
                 Ok(planned) => Ok(planned),
             }

@@ -3,16 +3,61 @@ ghost use Rattle.std.specs.Prelude.{List, IfOk, IfErr};
 ghost use Rattle.pq_content.specs.Pairs.{Pair};
 ghost use Rattle.pq_content.specs.Tables.{Rows};
 ghost use Rattle.pq_index_keep.specs.Bounds.{commit_ops, most_changes, write_tests, write_bound};
-ghost use Rattle.pq_index_keep.specs.Promises.{world, Affords, Reads, Explains, Settled, IsUndamaged, Plans, IsPlan};
-ghost use Rattle.pq_index_keep.specs.Sound.{IsSound, IsWrite};
+ghost use Rattle.pq_store.specs.Breaks.{IsUndamaged};
+ghost use Rattle.pq_calls.specs.Calls.{Uses, Fails};
+ghost use Rattle.pq_calls.specs.Evidence.{IsNoRow};
+ghost use Rattle.pq_calls.specs.World.{world, Affords, Reads, Explains, where_told};
+ghost use Rattle.pq_index_keep.specs.Promises.{HoldsRows, Plans, IsPlannedWithin, ChangesOwn};
+ghost use Rattle.pq_index_keep.specs.Sound.{AreWritable, IsWrite};
 
 use crate::plan::{Planned, plan_delete, plan_insert};
 use crate::update::plan_update;
 use crate::write::Write;
+use pq_calls::Calls;
 use pq_schema::Catalog;
 use pq_store::{Allowance, Broke, Meter, Store};
 use std::alloc::Global;
 use std::sync::ledger::Ledger;
+
+/// The changes that the write makes, or its first refusal.
+fn plan_by<S: Store<L>, L: Ledger>(
+    alloc: Global,
+    catalog: &Catalog,
+    write: &Write,
+    calls: &mut Calls<S, L>,
+) -> Result<Planned, Broke>
+    requires sound { AreWritable catalog.now.tables }
+    requires write { IsWrite catalog.now.tables write.now }
+    requires share { Affords calls.old.allowance.now (write_tests catalog.now.tables write.now).ops (write_tests catalog.now.tables write.now).entries }
+    ensures uses { Uses S.content S.faults calls.old calls.new
+        (write_tests catalog.now.tables write.now).ops (write_tests catalog.now.tables write.now).entries }
+    ensures cause { IfErr result (Fails (where_told (IsNoRow catalog.now.tables)) S.content S.faults calls.old calls.new) }
+    ensures plan { IfOk result (IsPlannedWithin (most_changes catalog.now.tables write.now)) }
+    ensures own { IfOk result (ChangesOwn catalog.now.tables write.now) }
+    ensures answer { IfOk result (λ planned. (rows : Rows) (others : List Pair) →
+        HoldsRows (S.content calls.old.store.now) catalog.now.tables rows others → Plans catalog.now.tables rows others write.now planned) }
+{
+    match write {
+        Write::Insert { table, row } => {
+            match plan_insert(alloc, catalog, *table, row, calls) {
+                Err(error) => Err(error),
+                Ok(planned) => Ok(planned),
+            }
+        }
+        Write::Update { table, key, sets } => {
+            match plan_update(alloc, catalog, *table, key, sets, calls) {
+                Err(error) => Err(error),
+                Ok(planned) => Ok(planned),
+            }
+        }
+        Write::Delete { table, key } => {
+            match plan_delete(alloc, catalog, *table, key, calls) {
+                Err(error) => Err(error),
+                Ok(planned) => Ok(planned),
+            }
+        }
+    }
+}
 
 /// The changes that the write makes, or its first refusal. It changes nothing in the store, and
 /// leaves enough of the allowance for the changes.
@@ -26,32 +71,24 @@ pub fn plan_write<S: Store<L>, L: Ledger>(
 ) -> Result<Planned, Broke>
     requires write { IsWrite catalog.now.tables write.now }
     requires share { Affords allowance.old (write_bound catalog.now.tables write.now).ops (write_bound catalog.now.tables write.now).entries }
-    ensures reads { Reads (world (S.content store.old) (S.faults store.old) allowance.old meter.old) (world (S.content store.new) (S.faults store.new) allowance.new meter.new) (write_tests catalog.now.tables write.now).ops (write_tests catalog.now.tables write.now).entries }
+    ensures reads { Reads (world (S.content store.old) (S.faults store.old) allowance.old meter.old)
+        (world (S.content store.new) (S.faults store.new) allowance.new meter.new)
+        (write_tests catalog.now.tables write.now).ops (write_tests catalog.now.tables write.now).entries }
     ensures left { Affords allowance.new (commit_ops (most_changes catalog.now.tables write.now)) 0 }
-    ensures cause { IfErr result (Explains catalog.now.tables (world (S.content store.old) (S.faults store.old) allowance.old meter.old) (world (S.content store.new) (S.faults store.new) allowance.new meter.new)) }
-    ensures undamaged { IfErr result (λ error. (rows : Rows) (others : List Pair) → Settled (S.content store.old) catalog.now.tables rows others → IsUndamaged error) }
-    ensures plan { IfOk result (IsPlan (most_changes catalog.now.tables write.now)) }
-    ensures answer { IfOk result (λ planned. (rows : Rows) (others : List Pair) → Settled (S.content store.old) catalog.now.tables rows others → Plans catalog.now.tables rows others write.now planned) }
+    ensures cause { IfErr result (Explains (where_told (IsNoRow catalog.now.tables))
+        (world (S.content store.old) (S.faults store.old) allowance.old meter.old)
+        (world (S.content store.new) (S.faults store.new) allowance.new meter.new)) }
+    ensures undamaged { IfErr result (λ error. (rows : Rows) (others : List Pair) → HoldsRows (S.content store.old) catalog.now.tables rows others → IsUndamaged error) }
+    ensures plan { IfOk result (IsPlannedWithin (most_changes catalog.now.tables write.now)) }
+    // The row's own pair is among the changes over every store, told or not.
+    ensures own { IfOk result (ChangesOwn catalog.now.tables write.now) }
+    ensures answer { IfOk result (λ planned. (rows : Rows) (others : List Pair) → HoldsRows (S.content store.old) catalog.now.tables rows others → Plans catalog.now.tables rows others write.now planned) }
 {
     catalog.known();
-    match write {
-        Write::Insert { table, row } => {
-            match plan_insert(alloc, catalog, *table, row, store, allowance, meter) {
-                Err(error) => Err(error),
-                Ok(planned) => Ok(planned),
-            }
-        }
-        Write::Update { table, key, sets } => {
-            match plan_update(alloc, catalog, *table, key, sets, store, allowance, meter) {
-                Err(error) => Err(error),
-                Ok(planned) => Ok(planned),
-            }
-        }
-        Write::Delete { table, key } => {
-            match plan_delete(alloc, catalog, *table, key, store, allowance, meter) {
-                Err(error) => Err(error),
-                Ok(planned) => Ok(planned),
-            }
-        }
-    }
+    let mut calls = Calls {
+        store,
+        allowance,
+        meter,
+    };
+    plan_by(alloc, catalog, write, &mut calls)
 }

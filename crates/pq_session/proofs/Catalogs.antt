@@ -1,20 +1,17 @@
--- The pairs of the definitions, and the tables that are built.
-use Rattle.std.proofs.Common.{◌≡◌, ℕ, suc, ◌+◌, ◌<◌, ◌≤◌, Bool, true, ◌&&◌, Some, None, List, [], ◌∷◌, length, refl, ap, arith}
+-- The pairs of the definitions.
+use Rattle.std.proofs.Common.{◌≡◌, ℕ, suc, ◌+◌, ◌<◌, ◌≤◌, Bool, true, ◌&&◌, List, [], ◌∷◌, ◌++◌, length, refl, ap, arith}
 use Rattle.pq_schema.specs.declared.made.Definition.{Definition}
 use Rattle.pq_schema.specs.declared.table.Table.{Table}
-use Rattle.std.specs.Prelude.{position, option_map}
-use Rattle.std.proofs.lemmas.Option.{same_Some, none-some}
-use Rattle.std.proofs.lemmas.List.Quantifiers.{position-Some}
-use Rattle.pq_schema.specs.Schema.{Schema, find_table, is_table, number_of}
-use Rattle.pq_schema.specs.Tables.{no_table}
+use Rattle.pq_schema.specs.Schema.{Schema}
 use Rattle.std.specs.FinMap.{is_sorted}
 use Rattle.std.specs.Ordering.{is_lt}
 use Rattle.std.specs.declared.cmp.Ordering.TheVariants.{Less}
-use Rattle.pq_key_code.specs.KeyCode.{catkey}
-use Rattle.pq_key_code.proofs.StoreKeys.{catkey_rises}
-use Rattle.pq_content.specs.Pairs.{AreCatalog, Pair, key_cmp}
-use Rattle.pq_content.specs.Tables.{IsTableNumber}
+use Rattle.pq_key_code.specs.KeyCode.{catalog_key}
+use Rattle.pq_key_code.proofs.StoreKeys.{catalog_key_rises}
+use Rattle.pq_content.specs.Pairs.{AreCatalog, Pair, AreBeside}
+use Rattle.pq_store.specs.Content.{key_cmp}
 use Rattle.pq_session.specs.Stands.{catalog_from, catalog_pairs}
+use Rattle.pq_content.proofs.Keys.{catalog_beside}
 
 catalog_after : (tables : List Table) (number : ℕ) (definitions : List Definition) → AreCatalog (catalog_from tables number definitions)
 catalog_after tables number [] = tt
@@ -23,16 +20,8 @@ catalog_after tables number (definition ∷ definitions) = (refl, catalog_after 
 pub are_catalog : (schema : Schema) → AreCatalog (catalog_pairs schema)
 are_catalog schema = catalog_after schema.tables 1 schema.definitions
 
--- a table that is found has a number
-pub found_number : (schema : Schema) (name : List ℕ) (t : ℕ) → find_table schema name ≡ Some t → IsTableNumber schema.tables t
-found_number schema name t found =
-    elim (position (is_table name) schema.tables) as (λ o. position (is_table name) schema.tables ≡ o → option_map number_of o ≡ Some t → IsTableNumber schema.tables t) [
-      | None ↦ λ is some. absurd (none-some t some)
-      | Some place ↦ λ is some.
-          let within = (position-Some (is_table name) schema.tables place no_table is).0 in
-          let same : place + 1 ≡ t = same_Some _ _ some in
-          (omega arith, omega arith)
-    ] refl found
+pub are_beside : (schema : Schema) → AreBeside (catalog_pairs schema)
+are_beside schema = catalog_beside (catalog_pairs schema) (are_catalog schema)
 
 -- the key is below those of all pairs, as the order of keys has it
 abbrev below_all : List ℕ → List Pair → Bool
@@ -40,10 +29,10 @@ below_all k [] = true
 below_all k (e ∷ es) = is_lt (key_cmp k e.0) && below_all k es
 
 -- the keys of the definitions rise
-below_from : (tables : List Table) (k number : ℕ) (definitions : List Definition) → k < number → number + length definitions ≤ 65536 → below_all (catkey k) (catalog_from tables number definitions) ≡ true
+below_from : (tables : List Table) (k number : ℕ) (definitions : List Definition) → k < number → number + length definitions ≤ 65536 → below_all (catalog_key k) (catalog_from tables number definitions) ≡ true
 below_from tables k number [] less few = refl
 below_from tables k number (definition ∷ definitions) less few =
-    let rises : key_cmp (catkey k) (catkey number) ≡ Less = catkey_rises k number less (omega arith) in
+    let rises : key_cmp (catalog_key k) (catalog_key number) ≡ Less = catalog_key_rises k number less (omega arith) in
     rw rises (below_from tables k (number + 1) definitions (omega arith) (omega arith))
 
 rises_from : (tables : List Table) (number : ℕ) (definitions : List Definition) → number + length definitions ≤ 65536 → is_sorted key_cmp (catalog_from tables number definitions) ≡ true
@@ -60,3 +49,12 @@ catalog_length tables number (definition ∷ definitions) = ap suc (catalog_leng
 
 pub pairs_length : (schema : Schema) → length (catalog_pairs schema) ≡ length schema.definitions
 pairs_length schema = catalog_length schema.tables 1 schema.definitions
+
+-- pairs of the same keys rise alike
+below_alike : (x : List ℕ) (front : List Pair) (k u v : List ℕ) → below_all x (front ++ (k, u) ∷ []) ≡ below_all x (front ++ (k, v) ∷ [])
+below_alike x [] k u v = refl
+below_alike x (e ∷ es) k u v = ap (λ b. is_lt (key_cmp x e.0) && b) (below_alike x es k u v)
+
+pub sorted_alike : (front : List Pair) (k u v : List ℕ) → is_sorted key_cmp (front ++ (k, u) ∷ []) ≡ is_sorted key_cmp (front ++ (k, v) ∷ [])
+sorted_alike [] k u v = refl
+sorted_alike (e ∷ es) k u v = λ i. below_alike e.0 es k u v i && sorted_alike es k u v i

@@ -5,87 +5,92 @@ use Rattle.std.proofs.Math.Seq.{get_or-append_seam}
 use Rattle.std.specs.FinMap.{get, insert}
 use Rattle.std.proofs.lemmas.List.{length-append}
 use Rattle.pq_base.specs.declared.number.Bound.{Bound}
-use Rattle.pq_base.specs.declared.number.Choice.TheVariants.{Whole}
+use Rattle.pq_base.specs.Answers.{Passes, Refuses}
 use Rattle.pq_base.specs.declared.refusal.Refusal.{Refusal}
+use Rattle.pq_base.specs.declared.refusal.Stopped.{Stopped}
+use Rattle.pq_base.specs.declared.refusal.Stopped.TheVariants.{Refused, NoMem}
 use Rattle.pq_schema.specs.declared.definition.TableDef.{TableDef}
 use Rattle.pq_schema.specs.declared.made.Definition.{Definition}
 use Rattle.pq_schema.specs.declared.made.Definition.TheVariants.{OfTable, OfQuery}
 use Rattle.pq_schema.specs.declared.table.Table.{Table}
 use Rattle.pq_schema.specs.declared.query.Query.{Query}
-use Rattle.pq_schema.specs.Definitions.{new_table}
+use Rattle.pq_schema.specs.Candidates.{Candidate}
+use Rattle.pq_schema.specs.Definitions.{definition_refusal, new_table, or_ok}
 use Rattle.pq_schema.specs.Schema.{Schema, with_table, with_query}
-use Rattle.pq_key_code.specs.KeyCode.{catkey}
-use Rattle.pq_row_code.specs.RowCode.{row_code}
+use Rattle.pq_key_code.specs.KeyCode.{catalog_key}
 use Rattle.pq_content.specs.Tables.{Keeps}
 use Rattle.pq_content.proofs.MoreTables.{keeps-more}
-use Rattle.pq_print.specs.Canonical.{definition_text}
 use Rattle.pq_print.specs.declared.report.Line.{Line}
-use Rattle.pq_print.specs.declared.report.Line.TheVariants as line
 use Rattle.pq_print.specs.declared.report.End.TheVariants.{Done}
 use Rattle.pq_store.specs.Content.{Content}
 use Rattle.pq_store.specs.Counts.{Counts, charged}
 use Rattle.pq_store.specs.declared.damage.Broke.{Broke}
 use Rattle.pq_store.specs.declared.damage.Broke.TheVariants as broke
-use Rattle.pq_session.specs.Evidence.{IsShown, IsPresent, ShowsPresent}
+use Rattle.pq_session.specs.Evidence.{TellsEvidence}
 use Rattle.pq_store.specs.declared.damage.Damage.{Damage}
-use Rattle.pq_schema.specs.Names.{IsTableDef}
-use Rattle.pq_session.specs.Built.{IsBuilt, IsKeyDefinition}
-use Rattle.pq_session.specs.Built.IsBuilt.{then_table, then_query}
+use Rattle.pq_schema.specs.Names.{IsName, IsTableDef}
+use Rattle.pq_schema.specs.declared.table.NewIndex.{NewIndex}
+use Rattle.pq_schema.specs.Valid.{IsValid, IsDefined}
+use Rattle.pq_schema.specs.Valid.IsValid.{then_table, then_query}
+use Rattle.pq_text.specs.declared.token.Token.{Token}
+use Rattle.pq_query_read.specs.Trying.{◌>>=◌, passed}
 use Rattle.pq_session.specs.Calls.{PutsNew, MayPut}
-use Rattle.pq_intent.specs.Errors.{IsSound}
-use Rattle.pq_session.specs.KeyQuery.{read_query}
+use Rattle.pq_store.specs.Breaks.{IfDamaged, IsPresent, IsUndamaged}
 use Rattle.pq_session.specs.Model.{Model}
 use Rattle.pq_print.specs.declared.report.Report.{Report}
 use Rattle.pq_schema.specs.Tables.{table_at, no_table}
 use Rattle.pq_session.specs.Extends.{Extends}
-use Rattle.pq_session.specs.Promise.{Done as Promised, Broken, Promises, IsWithin, bound_over}
+use Rattle.pq_session.specs.Promise.{Done as Promised, Broken, Promises, IsWithin, IsWithinFixed, fixed_of, fixed_over}
 use Rattle.pq_session.specs.Reports.{define_report}
-use Rattle.pq_session.specs.Stands.{Settled, Stands, content_of, catalog_value, last_key, last_value}
-use Rattle.pq_session.specs.declared.key_select.KeySelect.{KeySelect}
-use Rattle.pq_session.specs.Step.{Step, bound, by_key, report_of, created, created_as, prepared, prepared_as}
-use Rattle.pq_session.specs.Lines.{table_lines}
+use Rattle.pq_session.specs.Stands.{HoldsModel, Stands, content_of, value_at, last_key, last_value}
+use Rattle.pq_session.specs.Planning.{Planned, planned, plan_from, as_it_is, definable, prepared_from, explained_name, explained_from}
+use Rattle.pq_session.specs.Step.{Step, bound, report_of, refusal_report, refused_unread, created, created_as, crowded, prepared, prepared_as, prepared_over, explained_as, explained_report}
+use Rattle.pq_session.specs.Lines.{table_lines, query_lines, planned_lines}
+use Rattle.pq_session.specs.Planned.{IsComputed, IsPlanOf, IsPlanned}
+use Rattle.pq_session.specs.declared.planning.PlannedQuery.{PlannedQuery}
+use Rattle.pq_plan.specs.Cost.{cost}
 use Rattle.pq_session.proofs.Definitions.{next_absent, put_table, put_query}
 use Rattle.pq_session.proofs.Standing.{settled_opens}
-use Rattle.pq_session.proofs.Made.{made_of, made_room}
+use Rattle.pq_session.proofs.Made.{made_of, made_room, small_of}
 
 -- the model with one more definition
 abbrev pub defined : Model → ℕ → Schema → List Line → Step
-defined m number next lines = record { model = record m { schema = next }; report = report_of number lines Done (bound 1 0) }
+defined m number next lines = record { model = record m { schema = next }; report = report_of number lines Done (bound 1 0); making = None }
 
 -- a model that its next definition leads to
 pub record Leads (m : Model) (next : Schema) : Type 0 where
-  pub valid : IsBuilt next
-  pub keeps : Keeps row_code next.tables m.rows
+  pub valid : IsValid next
+  pub keeps : Keeps next.tables m.rows
   pub absent : get (content_of m) (last_key next) ≡ None
   pub put : insert (content_of m) (last_key next) (last_value next) ≡ content_of (record m { schema = next })
 
 pub one_more : (definitions : List Definition) (last : Definition) → length definitions + 1 ≡ length (definitions ++ last ∷ [])
 one_more definitions last = omega (arith, length-append definitions (last ∷ []))
 
-pub leads_table : {old : Option Content} (m : Model) (def : TableDef) (table : Table) → Settled old m → IsTableDef def → new_table m.schema def ≡ Ok table → Leads m (with_table m.schema table)
+pub leads_table : {old : Option Content} (m : Model) (def : TableDef) (table : Table) → HoldsModel old m → IsTableDef def → new_table m.schema def ≡ Ok table → Leads m (with_table m.schema table)
 leads_table m def table s is_def made =
     let few : length m.schema.definitions < 65535 = omega (arith, made_room m.schema def table made) in
-    let more : length m.schema.definitions + 1 ≡ length (with_table m.schema table).definitions = one_more m.schema.definitions (OfTable (length m.schema.tables + 1) (length table.indexes)) in
+    let more : length m.schema.definitions + 1 ≡ length (with_table m.schema table).definitions = one_more m.schema.definitions (OfTable (length m.schema.tables + 1) (length table.columns) (length table.indexes)) in
     record {
       valid = then_table m.schema def table s.valid is_def made;
-      keeps = keeps-more row_code m.schema.tables table m.rows s.keeps;
-      absent = subst (λ n. get (content_of m) (catkey n) ≡ None) more (next_absent m few);
-      put = subst (λ n. insert (content_of m) (catkey n) (catalog_value (definition_text (with_table m.schema table) n)) ≡ content_of (record m { schema = with_table m.schema table })) more (put_table m table s.valid (made_of m.schema s.valid) s.keeps few);
+      keeps = keeps-more m.schema.tables table m.rows s.keeps;
+      absent = subst (λ n. get (content_of m) (catalog_key n) ≡ None) more (next_absent m few);
+      put = subst (λ n. insert (content_of m) (catalog_key n) (value_at (with_table m.schema table) n) ≡ content_of (record m { schema = with_table m.schema table })) more (put_table m table s.valid (made_of m.schema s.valid) s.keeps few);
     }
 
-pub leads_query : {old : Option Content} (m : Model) (query : Query) → Settled old m → IsKeyDefinition m.schema query → Leads m (with_query m.schema query None)
-leads_query m query s key =
-    let few : length m.schema.definitions < 65535 = omega (arith, key.room) in
+pub leads_query : {old : Option Content} (m : Model) (query : Query) → HoldsModel old m → IsDefined m.schema query None → Leads m (with_query m.schema query None)
+leads_query m query s defined =
+    let few : length m.schema.definitions < 65535 = omega (arith, small_of m.schema s.valid) in
     let more : length m.schema.definitions + 1 ≡ length (with_query m.schema query None).definitions = one_more m.schema.definitions (OfQuery query None) in
     record {
-      valid = then_query m.schema query s.valid key;
+      valid = then_query m.schema query None s.valid defined;
       keeps = s.keeps;
-      absent = subst (λ n. get (content_of m) (catkey n) ≡ None) more (next_absent m few);
-      put = subst (λ n. insert (content_of m) (catkey n) (catalog_value (definition_text (with_query m.schema query None) n)) ≡ content_of (record m { schema = with_query m.schema query None })) more (put_query m query few);
+      absent = subst (λ n. get (content_of m) (catalog_key n) ≡ None) more (next_absent m few);
+      put = subst (λ n. insert (content_of m) (catalog_key n) (value_at (with_query m.schema query None) n) ≡ content_of (record m { schema = with_query m.schema query None })) more (put_query m query few);
     }
 
 -- a key that is no longer absent has a value
-pub present_of : (old : Option Content) (key : List ℕ) (damage : Damage) (done : Bool) → done ≡ false → damage.key ≡ key → damage.value ≡ None → IfSome old (λ pairs. done ≡ is_none (get pairs key)) → IfSome old (λ pairs. ShowsPresent key pairs (broke.Damaged damage))
+pub present_of : (old : Option Content) (key : List ℕ) (damage : Damage) (done : Bool) → done ≡ false → damage.key ≡ key → damage.value ≡ None → IfSome old (λ pairs. done ≡ is_none (get pairs key)) → IfSome old (λ pairs. IfDamaged (IsPresent key pairs) (broke.Damaged damage))
 present_of None key damage done not_done at has told = tt
 present_of (Some content) key damage done not_done at has told = by (get content key) refl
   where
@@ -94,15 +99,15 @@ present_of (Some content) key damage done not_done at has told = by (get content
     by (Some value) there = record { value = value; at = at; has = has; there = there }
 
 -- the next definition's key shows the damage
-present_shown : (old : Option Content) (schema : Schema) (broke : Broke) → IfSome old (λ pairs. ShowsPresent (catkey (length schema.definitions + 1)) pairs broke) → IfSome old (λ content. IsShown schema content broke)
+present_shown : (old : Option Content) (schema : Schema) (broke : Broke) → IfSome old (λ pairs. IfDamaged (IsPresent (catalog_key (length schema.definitions + 1)) pairs) broke) → IfSome old (λ content. TellsEvidence schema content broke)
 present_shown None schema broke shows = tt
 present_shown (Some content) schema broke.Failed shows = tt
 present_shown (Some content) schema broke.NoMem shows = tt
 present_shown (Some content) schema (broke.Damaged damage) shows = inr (inr shows)
 
 module _ (number : ℕ) (lines : List Line) (f : Model → Step) (old now : Option Content) (schema next : Schema)
-    (leads : (m : Model) → Stands old schema m → Leads m next × (f m ≡ defined m number next lines)) (one : bound 1 0 ≡ bound_over f schema) where
-  added : (m : Model) → Stands old schema m → now ≡ Some (insert (content_of m) (last_key next) (last_value next)) → Settled now (record m { schema = next })
+    (leads : (m : Model) → Stands old schema m → Leads m next × (f m ≡ defined m number next lines)) (one : fixed_over f schema ≡ Some (bound 1 0)) where
+  added : (m : Model) → Stands old schema m → now ≡ Some (insert (content_of m) (last_key next) (last_value next)) → HoldsModel now (record m { schema = next })
   added m s is =
       let l = (leads m s).0 in
       record { valid = l.valid; keeps = l.keeps; told = is ∙ ap Some l.put }
@@ -118,22 +123,22 @@ module _ (number : ℕ) (lines : List Line) (f : Model → Step) (old now : Opti
     entries = refl;
     few_ops = lit≤ tt;
     few_entries = lit≤ tt;
-    bound = one;
+    bound = rw one refl;
     refused = λ refusal. absurd refusal;
   }
 
   -- the key is absent, so that no damage is found
   pub define_broken : (before after : Counts) (broke : Broke) → MayPut (last_key next) (last_value next) old now
-      → IfSome old (λ pairs. get pairs (last_key next) ≡ None → IsSound broke) → IsWithin (bound 1 0) before after
-      → length schema.definitions + 1 ≡ length next.definitions → IfSome old (λ pairs. ShowsPresent (last_key next) pairs broke) → Broken f old now schema before after broke
+      → IfSome old (λ pairs. get pairs (last_key next) ≡ None → IsUndamaged broke) → IsWithin (bound 1 0) before after
+      → length schema.definitions + 1 ≡ length next.definitions → IfSome old (λ pairs. IfDamaged (IsPresent (last_key next) pairs) broke) → Broken f old now schema before after broke
   define_broken before after broke may sound within more shows = record {
     stopped = λ m s. elim (subst (λ o. MayPut (last_key next) (last_value next) o now) s.settled.told may) [
       | inl same ↦ inl (settled_opens (record { valid = s.settled.valid; keeps = s.settled.keeps; told = same }))
-      | inr put ↦ inr (settled_opens (subst (λ (x : Step). Settled now x.model) (sym (leads m s).1) (added m s put.1)))
+      | inr put ↦ inr (settled_opens (subst (λ (x : Step). HoldsModel now x.model) (sym (leads m s).1) (added m s put.1)))
     ];
-    sound = λ m s. subst (λ o. IfSome o (λ pairs. get pairs (last_key next) ≡ None → IsSound broke)) s.settled.told sound (leads m s).0.absent;
-    within = subst (λ (b : Bound). IsWithin b before after) one within;
-    shown = present_shown old schema broke (subst (λ n. IfSome old (λ pairs. ShowsPresent (catkey n) pairs broke)) (sym more) shows);
+    sound = λ m s. subst (λ o. IfSome o (λ pairs. get pairs (last_key next) ≡ None → IsUndamaged broke)) s.settled.told sound (leads m s).0.absent;
+    within = subst (λ (b : Option Bound). IsWithinFixed b before after) (sym one) within;
+    shown = present_shown old schema broke (subst (λ n. IfSome old (λ pairs. IfDamaged (IsPresent (catalog_key n) pairs) broke)) (sym more) shows);
   }
 
 -- ---- tables
@@ -157,53 +162,137 @@ last_table tables table t is =
     ap (λ k. get_or (tables ++ table ∷ []) k no_table) place ∙ get_or-append_seam tables table [] no_table
 
 -- what the write of a table's definition promises
-abbrev IsWritten : Option Content → Option Content → Schema → ℕ → List Line → Counts → Counts → Result (Schema × Report) Broke → Type 0
+abbrev pub IsWritten : Option Content → Option Content → Schema → ℕ → List Line → Counts → Counts → Result (Schema × Report) Broke → Type 0
 IsWritten old now next number lines before after result =
     IfOk result (λ made. (made.0 ≡ next) × (made.1 ≡ define_report number lines))
     × OnOk result (PutsNew true (last_key next) (last_value next) old now)
     × OnErr result (MayPut (last_key next) (last_value next) old now)
-    × IfErr result (λ broke. IfSome old (λ pairs. get pairs (last_key next) ≡ None → IsSound broke))
+    × IfErr result (λ broke. IfSome old (λ pairs. get pairs (last_key next) ≡ None → IsUndamaged broke))
     × OnOk result (after ≡ charged before 0)
     × IsWithin (bound 1 0) before after
-    × IfErr result (λ broke. IfSome old (λ pairs. ShowsPresent (last_key next) pairs broke))
+    × IfErr result (λ broke. IfSome old (λ pairs. IfDamaged (IsPresent (last_key next) pairs) broke))
 
 written_as : (f : Model → Step) (old now : Option Content) (schema next : Schema) (number : ℕ) (lines : List Line) (before after : Counts) (result : Result (Schema × Report) Broke)
-    → ((m : Model) → Stands old schema m → Leads m next × (f m ≡ defined m number next lines)) → bound 1 0 ≡ bound_over f schema → length schema.definitions + 1 ≡ length next.definitions → IsWritten old now next number lines before after result → Promises f old now schema before after result
+    → ((m : Model) → Stands old schema m → Leads m next × (f m ≡ defined m number next lines)) → fixed_over f schema ≡ Some (bound 1 0) → length schema.definitions + 1 ≡ length next.definitions → IsWritten old now next number lines before after result → Promises f old now schema before after result
 written_as f old now schema next number lines before after (Ok made) leads one more h =
     rw (h.0.0, h.0.1, h.4) (define_done number lines f old now schema next leads one before h.1)
 written_as f old now schema next number lines before after (Err broke) leads one more h = define_broken number lines f old now schema next leads one before after broke h.2 h.3 h.5 more h.6
 
 pub table_written : (old now : Option Content) (schema session : Schema) (number : ℕ) (def : TableDef) → IsTableDef def → (t : ℕ) (before after : Counts) (result : Result (Schema × Report) Broke)
-    → Extends schema def session (Ok t)
-    → IfOk result (λ made. (made.0 ≡ session) × (made.1 ≡ define_report number (table_lines (table_at session.tables t))))
-    → OnOk result (PutsNew true (last_key session) (last_value session) old now)
-    → OnErr result (MayPut (last_key session) (last_value session) old now)
-    → IfErr result (λ broke. IfSome old (λ pairs. get pairs (last_key session) ≡ None → IsSound broke))
-    → OnOk result (after ≡ charged before 0)
-    → IsWithin (bound 1 0) before after
-    → IfErr result (λ broke. IfSome old (λ pairs. ShowsPresent (last_key session) pairs broke))
+    → Extends schema def session (Ok t) → IsWritten old now session number (table_lines (table_at session.tables t)) before after result
     → Promises (λ m. created m number def) old now schema before after result
-table_written old now schema session number def is_def t before after result e done put stopped damage meter within shows =
+table_written old now schema session number def is_def t before after result e all =
     let table = e.0 in
     let next = with_table schema table in
-    let all : IsWritten old now session number (table_lines (table_at session.tables t)) before after result = (done, put, stopped, damage, meter, within, shows) in
     let there = subst (λ (s : Schema). IsWritten old now s number (table_lines (table_at s.tables t)) before after result) e.2 all in
     let lined = subst (λ (x : Table). IsWritten old now next number (table_lines x) before after result) (last_table schema.tables table t e.3) there in
     written_as (λ m. created m number def) old now schema next number (table_lines table) before after result (leads_created old schema number def table is_def e.1)
-    (ap (λ (x : Step). x.report.bound) (sym (created_by (record { schema = schema; rows = [] }) number schema def refl (Ok table) e.1))) (one_more schema.definitions (OfTable (length schema.tables + 1) (length table.indexes))) lined
+    (ap fixed_of (created_by (record { schema = schema; rows = [] }) number schema def refl (Ok table) e.1)) (one_more schema.definitions (OfTable (length schema.tables + 1) (length table.columns) (length table.indexes))) lined
 
 -- ---- queries
 
-abbrev pub query_lines : Query → List Line
-query_lines query = line.Query query.name Whole by_key ∷ []
+-- a query that wants no index is one write
+module _ (schema : Schema) (number : ℕ) (query : Query) (best : Candidate) where
+  abbrev plain : Planned
+  plain = planned query best None
 
-pub leads_prepared : (old : Option Content) (schema : Schema) (number : ℕ) (query : Query) → IsKeyDefinition schema query
-    → (m : Model) → Stands old schema m → Leads m (with_query schema query None) × (prepared_as m number (Some query) ≡ defined m number (with_query schema query None) (query_lines query))
-leads_prepared old schema number query key m s =
-    subst (λ (x : Schema). Leads m (with_query x query None) × (prepared_as m number (Some query) ≡ defined m number (with_query x query None) (query_lines query))) (sym s.known)
-    (leads_query m query s.settled (subst (λ (x : Schema). IsKeyDefinition x query) s.known key), refl)
+  query_made : (m : Model) → m.schema ≡ schema → prepared_over m number plain None ≡ defined m number (with_query schema query None) (query_lines schema.tables plain)
+  query_made m same = ap (λ (s : Schema). defined m number (with_query s query None) (query_lines s.tables plain)) same
 
-pub prepared_same : (m : Model) (number : ℕ) (schema : Schema) (name : List ℕ) (select : Result KeySelect ℕ) (query : Option Query) → m.schema ≡ schema → read_query schema name select ≡ query
-    → prepared_as m number query ≡ prepared m number name select
+  leads_prepared : (old : Option Content) → IsDefined schema query None → (m : Model) → Stands old schema m
+      → Leads m (with_query schema query None) × (prepared_over m number plain None ≡ defined m number (with_query schema query None) (query_lines schema.tables plain))
+  leads_prepared old is m s =
+      let here : IsDefined m.schema query None = subst (λ (x : Schema). IsDefined x query None) s.known is in
+      (subst (λ (x : Schema). Leads m (with_query x query None)) (sym s.known) (leads_query m query s.settled here), query_made m (sym s.known))
+
+  pub query_written : (old now : Option Content) (before after : Counts) (result : Result (Schema × Report) Broke) (lines : List Line) → IsDefined schema query None → lines ≡ query_lines schema.tables plain
+      → IsWritten old now (with_query schema query None) number lines before after result
+      → Promises (λ m. prepared_over m number plain None) old now schema before after result
+  query_written old now before after result lines is lined all =
+      written_as (λ m. prepared_over m number plain None) old now schema (with_query schema query None) number (query_lines schema.tables plain) before after result (leads_prepared old is)
+      refl (one_more schema.definitions (OfQuery query None))
+      (subst (λ (ls : List Line). IsWritten old now (with_query schema query None) number ls before after result) lined all)
+
+-- a query that was planned and is not refused may be defined
+pub computed_defined : (schema : Schema) (computed : PlannedQuery) (wanted : Option NewIndex) → computed.compiled.wanted ≡ wanted → IsName computed.query.name → IsComputed schema.tables computed → definition_refusal schema computed.query.name ≡ None
+    → IsDefined schema computed.query wanted
+computed_defined schema computed wanted is named are free =
+    subst (IsDefined schema computed.query) is (record {
+      name = named;
+      resolved = are.resolved;
+      chosen = record { best = are.compiled.best; chosen = are.compiled.least };
+      accepted = ap (λ (o : Option Refusal). or_ok o (with_query schema computed.query computed.compiled.wanted)) free;
+    })
+
+-- a plan as it is computed
+module _ (tables : List Table) (number : ℕ) (computed : PlannedQuery) (plan : Planned) (is : IsPlanOf computed plan) (wanted : Option NewIndex) (wants : computed.compiled.wanted ≡ wanted) where
+  pub plan_is : planned computed.query plan.chosen.best wanted ≡ plan
+  plan_is = λ i. record { query = sym is.query i; chosen = record { best = plan.chosen.best; wanted = sym (is.wanted ∙ wants) i } }
+
+  pub lines_are : planned_lines tables computed.query.name computed.compiled.choice (cost computed.compiled.plan) computed.compiled.wanted ≡ query_lines tables (planned computed.query plan.chosen.best wanted)
+  unfolding query_lines
+  lines_are = λ i. planned_lines tables computed.query.name (sym is.choice i) (sym is.bound i) (wants i)
+
+  -- the promise of the plan is that of its parts
+  pub planned_promise : (old now : Option Content) (schema : Schema) (before after : Counts) (result : Result (Schema × Report) Broke)
+      → Promises (λ m. prepared_over m number (planned computed.query plan.chosen.best wanted) (crowded m wanted)) old now schema before after result
+      → Promises (λ m. prepared_over m number plan (crowded m plan.chosen.wanted)) old now schema before after result
+  planned_promise old now schema before after result promise =
+      subst (λ (p : Planned). Promises (λ m. prepared_over m number p (crowded m p.chosen.wanted)) old now schema before after result) plan_is promise
+
+-- ---- what is spelled
+
+pub prepared_by : (m : Model) (number : ℕ) (schema : Schema) (name text : List ℕ) (tokens : List Token) (from : ℕ) (plan : Result Planned Refusal) → m.schema ≡ schema → plan_from schema name text tokens from ≡ plan
+    → prepared_as m number (plan >>= definable m.schema) ≡ prepared m number name text tokens from
+unfolding prepared prepared_from
+prepared_by m number schema name text tokens from plan is read =
+    sym (ap (λ (p : Result Planned Refusal). prepared_as m number (p >>= definable m.schema)) (ap (λ (s : Schema). plan_from s name text tokens from) is ∙ read))
+
+-- a plan that may be defined
+free_plan : (schema : Schema) (plan : Planned) → definition_refusal schema plan.query.name ≡ None → definable schema plan ≡ Ok plan
+free_plan schema plan free = ap (λ (o : Option Refusal). passed o >>= as_it_is plan) free
+
+pub prepared_free : (m : Model) (number : ℕ) (schema : Schema) (name text : List ℕ) (tokens : List Token) (from : ℕ) (plan : Planned) → m.schema ≡ schema → plan_from schema name text tokens from ≡ Ok plan → definition_refusal schema plan.query.name ≡ None
+    → prepared_over m number plan (crowded m plan.chosen.wanted) ≡ prepared m number name text tokens from
+prepared_free m number schema name text tokens from plan same is free =
+    sym (ap (prepared_as m number) (ap (λ (s : Schema). definable s plan) same ∙ free_plan schema plan free)) ∙ prepared_by m number schema name text tokens from (Ok plan) same is
+
+-- and one that is refused
+pub prepared_refused : (m : Model) (number : ℕ) (schema : Schema) (name text : List ℕ) (tokens : List Token) (from : ℕ) (why : Refusal) → m.schema ≡ schema → prepared_from schema name text tokens from ≡ Err why
+    → prepared m number name text tokens from ≡ refused_unread m number why
 unfolding prepared
-prepared_same m number schema name select query is read = sym (ap (prepared_as m number) (ap (λ (s : Schema). read_query s name select) is ∙ read))
+prepared_refused m number schema name text tokens from why same is = ap (prepared_as m number) (ap (λ (s : Schema). prepared_from s name text tokens from) same ∙ is)
+
+pub definition_refused : (schema : Schema) (name text : List ℕ) (tokens : List Token) (from : ℕ) (plan : Planned) (why : Refusal) → plan_from schema name text tokens from ≡ Ok plan → definition_refusal schema plan.query.name ≡ Some why
+    → prepared_from schema name text tokens from ≡ Err why
+unfolding prepared_from
+definition_refused schema name text tokens from plan why is refused =
+    ap (λ (p : Result Planned Refusal). p >>= definable schema) is ∙ ap (λ (o : Option Refusal). passed o >>= as_it_is plan) refused
+
+pub plan_refused : (schema : Schema) (name text : List ℕ) (tokens : List Token) (from : ℕ) (why : Refusal) → plan_from schema name text tokens from ≡ Err why → prepared_from schema name text tokens from ≡ Err why
+unfolding prepared_from
+plan_refused schema name text tokens from why is = ap (λ (p : Result Planned Refusal). p >>= definable schema) is
+
+-- a call that stops for one of them
+pub stopped_plan : (schema : Schema) (name text : List ℕ) (tokens : List Token) (from : ℕ) (stopped : Stopped) → Refuses {A = Planned} stopped (plan_from schema name text tokens from) → Refuses {A = Planned} stopped (prepared_from schema name text tokens from)
+stopped_plan schema name text tokens from (Refused why) is = plan_refused schema name text tokens from why is
+stopped_plan schema name text tokens from NoMem is = tt
+
+pub stopped_definition : (schema : Schema) (name text : List ℕ) (tokens : List Token) (from : ℕ) (computed : PlannedQuery) → IsPlanned schema name text tokens from computed
+    → (stopped : Stopped) → Passes {A = Unit {0}} (Err stopped) (definition_refusal schema computed.query.name) → Refuses {A = Planned} stopped (prepared_from schema name text tokens from)
+stopped_definition schema name text tokens from computed is (Refused why) refused =
+    definition_refused schema name text tokens from is.plan why is.is (ap (λ (q : Query). definition_refusal schema q.name) is.plan_is.query ∙ refused)
+stopped_definition schema name text tokens from computed is NoMem refused = tt
+
+-- what is explained
+pub explained_with : (schema : Schema) (number : ℕ) (text : List ℕ) (tokens : List Token) (from : ℕ) (computed : PlannedQuery) → IsPlanned schema explained_name text tokens from computed
+    → report_of number (planned_lines schema.tables computed.query.name computed.compiled.choice (cost computed.compiled.plan) computed.compiled.wanted) Done (bound 0 0) ≡ explained_report schema number text tokens from
+unfolding explained_report explained_from query_lines
+explained_with schema number text tokens from computed is =
+    (λ i. report_of number (planned_lines schema.tables (sym is.plan_is.query i).name (sym is.plan_is.choice i) (sym is.plan_is.bound i) (sym is.plan_is.wanted i)) Done (bound 0 0))
+    ∙ ap (explained_as schema.tables number) (sym is.is)
+
+pub explained_refused : (schema : Schema) (number : ℕ) (text : List ℕ) (tokens : List Token) (from : ℕ) (why : Refusal) → plan_from schema explained_name text tokens from ≡ Err why
+    → refusal_report number why (bound 0 0) ≡ explained_report schema number text tokens from
+unfolding explained_report explained_from
+explained_refused schema number text tokens from why is = ap (explained_as schema.tables number) (sym is)

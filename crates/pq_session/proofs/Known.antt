@@ -1,58 +1,57 @@
--- What is known of schemas that are built: they are valid, and so are their tables and definitions.
-use Rattle.std.proofs.Common.{◌≡◌, ℕ, ◌+◌, ◌<◌, ◌≤◌, List, [], ◌∷◌, ◌++◌, length, map, None, refl, sym, ap, ◌∙◌, subst, arith}
+-- What is known of the definitions of a valid schema: their tables are there, and their queries are ones that
+-- reading gives over the tables of now.
+use Rattle.std.proofs.Common.{ℕ, ◌+◌, ◌≤◌, List, [], ◌∷◌, ◌++◌, length, arith}
+use Rattle.std.specs.Prelude.{option_map, Option}
 use Rattle.std.specs.List.{AllByRecursion}
 use Rattle.std.proofs.lemmas.List.{length-append}
-use Rattle.pq_schema.specs.declared.table.Table.{Table}
-use Rattle.pq_schema.specs.declared.query.ColRef.{ColRef}
-use Rattle.pq_schema.specs.declared.query.Query.{Query}
+use Rattle.pq_base.proofs.Members.{each_append}
 use Rattle.pq_schema.specs.declared.made.Definition.{Definition}
 use Rattle.pq_schema.specs.declared.made.Definition.TheVariants.{OfTable, OfQuery}
-use Rattle.pq_schema.specs.Resolved.{param_type}
-use Rattle.pq_schema.specs.Schema.{Schema}
-use Rattle.pq_schema.specs.Tables.{table_at}
-use Rattle.pq_content.specs.Tables.{IsTableNumber, key_types}
-use Rattle.pq_content.proofs.MoreTables.{table_at-more}
-use Rattle.pq_plan.proofs.Members.{each_append}
-use Rattle.pq_session.specs.Built.{IsBuilt, IsByKey, key_preds}
-use Rattle.pq_session.specs.Built.IsBuilt.{empty, then_table, then_query}
+use Rattle.pq_schema.specs.declared.query.Query.{Query}
+use Rattle.pq_schema.specs.declared.table.NewIndex.{NewIndex}
+use Rattle.pq_schema.specs.declared.table.Table.{Table}
+use Rattle.pq_schema.specs.Resolved.{IsResolved}
+use Rattle.pq_schema.specs.Schema.{Schema, made_of, with_wanted}
+use Rattle.pq_schema.specs.Valid.{IsValid, IsDefined}
+use Rattle.pq_schema.specs.Valid.IsValid.{empty, then_table, then_query}
+use Rattle.pq_schema.proofs.Valid.{wanted_there}
+use Rattle.pq_content.specs.Tables.{IsTableNumber}
+use Rattle.pq_runnable.specs.Grown.{HaveGrown}
+use Rattle.pq_runnable.proofs.Growing.{grown_table, grown_wanted, resolved_stays}
 use Rattle.pq_session.proofs.Lists.{each_weaker}
 
--- a definition of a table that is there, or of a query by the key that made no index
-abbrev pub IsBuiltDefinition : List Table → Definition → Type 0
-IsBuiltDefinition tables (OfTable t made) = IsTableNumber tables t
-IsBuiltDefinition tables (OfQuery query made) = IsByKey tables query × (made ≡ None)
+abbrev pub IsKnownDefinition : List Table → Definition → Type 0
+IsKnownDefinition tables (OfTable t columns made) = IsTableNumber tables t
+IsKnownDefinition tables (OfQuery query made) = IsResolved tables query
 
-pub number-more : (tables : List Table) (table : Table) (t : ℕ) → IsTableNumber tables t → IsTableNumber (tables ++ table ∷ []) t
-number-more tables table t is = (is.0, let high = is.1 in omega (arith, length-append tables (table ∷ [])))
+-- the tables have grown with the index that the query wants
+pub grown_defined : (schema : Schema) (query : Query) (wanted : Option NewIndex) → IsDefined schema query wanted → HaveGrown schema.tables (with_wanted schema.tables wanted)
+grown_defined schema query wanted defined = grown_wanted schema.tables wanted (wanted_there schema.tables query wanted defined.resolved defined.chosen)
 
-by_key-more : (tables : List Table) (table : Table) (query : Query) → IsByKey tables query → IsByKey (tables ++ table ∷ []) query
-by_key-more tables table query k =
-    let same : table_at tables k.table ≡ table_at (tables ++ table ∷ []) k.table = sym (table_at-more tables table k.table k.number) in
-    record {
-      table = k.table;
-      alias = k.alias;
-      number = number-more tables table k.table k.number;
-      relations = k.relations;
-      some = k.some;
-      few = k.few;
-      select = subst (λ (x : Table). AllByRecursion (λ (col : ColRef). (col.rel ≡ 1) × (col.col < length x.columns)) query.select) same k.select;
-      preds = k.preds ∙ ap (λ (x : Table). key_preds 1 x.key) same;
-      order = k.order;
-      stop = k.stop;
-      params = k.params ∙ ap (λ (x : Table). map param_type (key_types x)) same;
-    }
+pub number_stays : (tables later : List Table) → HaveGrown tables later → (t : ℕ) → IsTableNumber tables t → IsTableNumber later t
+number_stays tables later grown t is = (is.0, let high = is.1 in let long = grown.long in omega arith)
 
-definition-more : (tables : List Table) (table : Table) (definition : Definition) → IsBuiltDefinition tables definition → IsBuiltDefinition (tables ++ table ∷ []) definition
-definition-more tables table (OfTable number made) built = number-more tables table number built
-definition-more tables table (OfQuery query made) built = (by_key-more tables table query built.0, built.1)
+definition_stays : (tables later : List Table) → HaveGrown tables later → (definition : Definition) → IsKnownDefinition tables definition → IsKnownDefinition later definition
+definition_stays tables later grown (OfTable t columns made) is = number_stays tables later grown t is
+definition_stays tables later grown (OfQuery query made) is = resolved_stays tables later query grown is
 
-pub definitions_of : (schema : Schema) → IsBuilt schema → AllByRecursion (IsBuiltDefinition schema.tables) schema.definitions
+-- definitions that were known, and one more
+one_more : (tables later : List Table) (definitions : List Definition) (last : Definition) → HaveGrown tables later → AllByRecursion (IsKnownDefinition tables) definitions → IsKnownDefinition later last
+    → AllByRecursion (IsKnownDefinition later) (definitions ++ last ∷ [])
+one_more tables later definitions last grown known is =
+    each_append (IsKnownDefinition later) definitions (last ∷ [])
+    (each_weaker (IsKnownDefinition tables) (IsKnownDefinition later) (definition_stays tables later grown) definitions known)
+    (is, tt)
+
+pub definitions_of : (schema : Schema) → IsValid schema → AllByRecursion (IsKnownDefinition schema.tables) schema.definitions
 definitions_of _ empty = tt
-definitions_of _ (then_table schema def table built is_def made) =
-    let more : List Table = schema.tables ++ table ∷ [] in
-    let number : length schema.tables + 1 ≤ length more = omega (arith, length-append schema.tables (table ∷ [])) in
-    each_append (IsBuiltDefinition more) schema.definitions (OfTable (length schema.tables + 1) (length table.indexes) ∷ [])
-    (each_weaker (IsBuiltDefinition schema.tables) (IsBuiltDefinition more) (definition-more schema.tables table) schema.definitions (definitions_of schema built))
-    ((omega arith, number), tt)
-definitions_of _ (then_query schema query built key) =
-    each_append (IsBuiltDefinition schema.tables) schema.definitions (OfQuery query None ∷ []) (definitions_of schema built) ((key.by_key, refl), tt)
+definitions_of _ (then_table schema def table valid is_def made) =
+    let later : List Table = schema.tables ++ table ∷ [] in
+    let last : Definition = OfTable (length schema.tables + 1) (length table.columns) (length table.indexes) in
+    let there : length schema.tables + 1 ≤ length later = omega (arith, length-append schema.tables (table ∷ [])) in
+    one_more schema.tables later schema.definitions last (grown_table schema.tables table) (definitions_of schema valid) (omega arith, there)
+definitions_of _ (then_query schema query wanted valid defined) =
+    let later : List Table = with_wanted schema.tables wanted in
+    let grown = grown_defined schema query wanted defined in
+    one_more schema.tables later schema.definitions (OfQuery query (option_map made_of wanted)) grown (definitions_of schema valid)
+    (resolved_stays schema.tables later query grown defined.resolved)

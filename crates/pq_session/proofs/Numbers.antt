@@ -1,15 +1,12 @@
 -- The number of a statement is no part of its bound.
-use Rattle.std.proofs.Common.{◌≡◌, ℕ, Bool, true, false, List, length, Option, Some, None, Result, Ok, Err, if◌then◌else◌, refl}
+use Rattle.std.proofs.Common.{◌≡◌, ℕ, Bool, true, false, List, length, Option, Result, Ok, Err, if◌then◌else◌, refl, ap, Some, None}
 use Rattle.std.specs.Prelude.{nat_le}
 use Rattle.pq_base.specs.declared.refusal.Refusal.{Refusal}
 use Rattle.pq_base.specs.declared.refusal.Refusal.TheVariants as refusal
 use Rattle.pq_base.specs.declared.value.Value.{Value}
-use Rattle.pq_base.specs.Values.{all_fit}
 use Rattle.pq_schema.specs.declared.definition.TableDef.{TableDef}
 use Rattle.pq_schema.specs.declared.table.Table.{Table}
-use Rattle.pq_schema.specs.declared.query.Query.{Query}
 use Rattle.pq_schema.specs.Definitions.{new_table}
-use Rattle.pq_schema.specs.Schema.{find_query, query_at}
 use Rattle.pq_content.specs.Tables.{Rows}
 use Rattle.pq_text.specs.declared.token.Token.{Token}
 use Rattle.pq_text.specs.declared.piece.Piece.{Piece}
@@ -18,20 +15,21 @@ use Rattle.pq_text.specs.Tokens.{tokens_of}
 use Rattle.pq_def_read.specs.declared.statement.Statement.{Statement}
 use Rattle.pq_def_read.specs.declared.statement.Statement.TheVariants as statement
 use Rattle.pq_def_read.specs.Reading.{statement_of}
-use Rattle.pq_session.specs.declared.key_select.KeySelect.{KeySelect}
-use Rattle.pq_session.specs.KeySelect.{select_from}
-use Rattle.pq_session.specs.KeyQuery.{read_query}
+use Rattle.pq_pages.specs.Running.{Running, running_of}
+use Rattle.pq_session.specs.Planning.{Planned, prepared_from, explained_from}
 use Rattle.pq_index_keep.specs.declared.write.Write.{Write}
 use Rattle.pq_index_keep.specs.Bounds.{write_bound}
 use Rattle.pq_index_keep.specs.Checking.{checked}
 use Rattle.pq_index_keep.specs.Effects.{effect}
+use Rattle.pq_base.specs.declared.number.Bound.{Bound}
 use Rattle.pq_session.specs.Model.{Model}
-use Rattle.pq_session.specs.Step.{Step, created, created_as, effected, effected_as, written, written_as, prepared, prepared_as, ran, ran_by, ran_query, not_built, refused_unread, showed, performed, read_as, text_step, step}
+use Rattle.pq_session.specs.Promise.{fixed_of}
+use Rattle.pq_session.specs.Step.{Step, created, created_as, effected, effected_as, written, written_as, prepared, prepared_as, prepared_over, crowded, explained, explained_as, explained_report, ran, ran_as, refused_unread, showed, performed, read_as, text_step, step}
 
 module _ (m : Model) (a b : ℕ) where
   -- two steps have one bound
   abbrev AreAlike : Step → Step → Type 0
-  AreAlike x y = x.report.bound ≡ y.report.bound
+  AreAlike x y = fixed_of x ≡ fixed_of y
 
   created_alike : (def : TableDef) → AreAlike (created m a def) (created m b def)
   unfolding created
@@ -57,26 +55,33 @@ module _ (m : Model) (a b : ℕ) where
       by (Ok write) = effected_alike write
       by (Err why) = refl
 
-  prepared_alike : (name : List ℕ) (select : Result KeySelect ℕ) → AreAlike (prepared m a name select) (prepared m b name select)
+  prepared_alike : (name text : List ℕ) (tokens : List Token) (from : ℕ) → AreAlike (prepared m a name text tokens from) (prepared m b name text tokens from)
   unfolding prepared
-  prepared_alike name select = by (read_query m.schema name select)
+  prepared_alike name text tokens from = by (prepared_from m.schema name text tokens from)
     where
-      by : (query : Option Query) → AreAlike (prepared_as m a query) (prepared_as m b query)
-      by None = refl
-      by (Some query) = refl
+      over : (plan : Planned) (refusal : Option Refusal) → AreAlike (prepared_over m a plan refusal) (prepared_over m b plan refusal)
+      over plan None = refl
+      over plan (Some why) = refl
 
-  ran_alike : (name : List ℕ) (params : List Value) → AreAlike (ran m a name params) (ran m b name params)
+      by : (plan : Result Planned Refusal) → AreAlike (prepared_as m a plan) (prepared_as m b plan)
+      by (Ok plan) = over plan (crowded m plan.chosen.wanted)
+      by (Err why) = refl
+
+  explained_alike : (text : List ℕ) (tokens : List Token) (from : ℕ) → AreAlike (explained m a text tokens from) (explained m b text tokens from)
+  unfolding explained_report
+  explained_alike text tokens from = ap (λ (most : Bound). Some most) (by (explained_from m.schema text tokens from))
+    where
+      by : (plan : Result Planned Refusal) → (explained_as m.schema.tables a plan).bound ≡ (explained_as m.schema.tables b plan).bound
+      by (Ok plan) = refl
+      by (Err why) = refl
+
+  ran_alike : (name : List ℕ) (params : List Value) (after : Option (List ℕ)) → AreAlike (ran m a name params after) (ran m b name params after)
   unfolding ran
-  ran_alike name params = by (find_query m.schema name)
+  ran_alike name params after = by (running_of m.schema name params after)
     where
-      fit : (query : ℕ) (fits : Bool)
-          → AreAlike (if fits then ran_query m a (query_at m.schema query) params else not_built m a) (if fits then ran_query m b (query_at m.schema query) params else not_built m b)
-      fit query true = refl
-      fit query false = refl
-
-      by : (found : Option ℕ) → AreAlike (ran_by m a params found) (ran_by m b params found)
-      by None = refl
-      by (Some query) = fit query (all_fit (query_at m.schema query).params params)
+      by : (running : Result Running Refusal) → AreAlike (ran_as m a running) (ran_as m b running)
+      by (Ok running) = refl
+      by (Err why) = refl
 
   showed_alike : AreAlike (showed m a) (showed m b)
   unfolding showed
@@ -87,10 +92,9 @@ module _ (m : Model) (a b : ℕ) where
   performed_alike text tokens (statement.Insert table cols values) = written_alike (statement.Insert table cols values)
   performed_alike text tokens (statement.Update table sets key) = written_alike (statement.Update table sets key)
   performed_alike text tokens (statement.Delete table key) = written_alike (statement.Delete table key)
-  performed_alike text tokens (statement.Prepare name from) = prepared_alike name (select_from text tokens from)
-  performed_alike text tokens (statement.Explain from) = refl
-  performed_alike text tokens (statement.Run name params None) = ran_alike name params
-  performed_alike text tokens (statement.Run name params (Some after)) = refl
+  performed_alike text tokens (statement.Prepare name from) = prepared_alike name text tokens from
+  performed_alike text tokens (statement.Explain from) = explained_alike text tokens from
+  performed_alike text tokens (statement.Run name params after) = ran_alike name params after
   performed_alike text tokens statement.Show = showed_alike
 
   text_alike : (text : List ℕ) → AreAlike (text_step m a text) (text_step m b text)

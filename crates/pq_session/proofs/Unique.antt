@@ -1,48 +1,54 @@
 -- A content stands for one schema, and for one set of rows of each table.
-use Rattle.std.proofs.Common.{◌≡◌, ℕ, Option, Some, None, refl, sym, ap, ◌∙◌, subst}
-use Rattle.std.specs.Prelude.{All, IsPermutation}
-use Rattle.std.proofs.lemmas.Result.{IfOk-at_ok}
-use Rattle.pq_base.specs.Values.{IsType}
-use Rattle.pq_key_code.specs.KeyCode.{code_of}
-use Rattle.pq_row_code.specs.RowCode.{row_code}
-use Rattle.pq_schema.specs.declared.table.Column.{Column}
-use Rattle.pq_schema.specs.Schema.{Schema, empty_schema}
-use Rattle.pq_schema.specs.Sound.{IsSized}
-use Rattle.pq_schema.specs.Tables.{table_at}
-use Rattle.pq_content.specs.Pairs.{Content, pairs}
+use Rattle.std.proofs.Common.{◌≡◌, ℕ, [], Option, Some, None, Result, Ok, refl, sym, ap, ◌∙◌, subst, inl, inr}
+use Rattle.std.specs.Prelude.{IsPermutation}
+use Rattle.pq_schema.specs.Schema.{Schema}
+use Rattle.pq_schema.specs.Valid.{IsValid}
+use Rattle.pq_builds.specs.Filling.{row_pairs_in}
+use Rattle.pq_builds.proofs.Filled.{rows_filling, one_set}
+use Rattle.pq_content.specs.Pairs.{Pair, content_pairs}
 use Rattle.pq_content.specs.Standing.{SettlesTo}
-use Rattle.pq_content.specs.Tables.{IsTableNumber, Keeps, rows_of, types_of}
+use Rattle.pq_content.specs.Tables.{IsTableNumber, Keeps, rows_of}
+use Rattle.pq_content.proofs.Keys.{catalog_beside}
 use Rattle.pq_content.proofs.Settling.{settles_once}
 use Rattle.pq_content.proofs.Unique.{one_table}
-use Rattle.pq_session.specs.Built.{IsBuilt}
+use Rattle.pq_store.specs.Content.{Content}
 use Rattle.pq_session.specs.Model.{Model}
-use Rattle.pq_session.specs.Opening.{opened, catalog_in}
-use Rattle.pq_session.specs.Stands.{Opens, content_of, catalog_pairs}
-use Rattle.pq_session.proofs.Catalogs.{are_catalog}
-use Rattle.pq_session.proofs.Lists.{each_by, each_is}
-use Rattle.pq_session.proofs.Made.{made_of}
-use Rattle.pq_session.proofs.Reopening.{catalog_tells}
-use Rattle.pq_session.proofs.Runs.{are_types}
-
-one_schema : (m n : Model) → IsBuilt m.schema → IsBuilt n.schema → content_of m ≡ content_of n → m.schema ≡ n.schema
-one_schema m n built also same = IfOk-at_ok (λ (s : Schema). m.schema ≡ s) (sym (catalog_tells m built) ∙ ap (λ c. opened empty_schema (catalog_in c)) same ∙ catalog_tells n also) refl
-
-types_at_number : (schema : Schema) (t : ℕ) → IsBuilt schema → IsTableNumber schema.tables t → All IsType (types_of (table_at schema.tables t))
-types_at_number schema t built number =
-    let table = table_at schema.tables t in
-    each_is IsType (types_of table) (are_types table.columns (each_by (λ (column : Column). IsSized column.ty) table.columns (made_of schema built t number.0 number.1).sized))
+use Rattle.pq_session.specs.Opening.{Added}
+use Rattle.pq_session.specs.Stands.{Holds, Opens, IsFillingLast, content_of, catalog_pairs, earlier_pairs, last_query}
+use Rattle.pq_session.proofs.Catalogs.{are_beside}
+use Rattle.pq_session.proofs.Lefts.{earlier_catalog}
+use Rattle.pq_session.proofs.Made.{types_at}
+use Rattle.pq_session.proofs.Reopening.{schema_in, mark_in, mark_held, held_tells}
 
 pairs_same : (m n : Model) → m.schema ≡ n.schema → content_of m ≡ content_of n
-    → pairs code_of row_code m.schema.tables m.rows (catalog_pairs m.schema) ≡ pairs code_of row_code m.schema.tables n.rows (catalog_pairs m.schema)
+    → content_pairs m.schema.tables m.rows (catalog_pairs m.schema) ≡ content_pairs m.schema.tables n.rows (catalog_pairs m.schema)
 unfolding content_of
-pairs_same m n is same = same ∙ ap (λ (s : Schema). pairs code_of row_code s.tables n.rows (catalog_pairs s)) (sym is)
+pairs_same m n is same = same ∙ ap (λ (s : Schema). content_pairs s.tables n.rows (catalog_pairs s)) (sym is)
 
-one_set_of_rows : (m n : Model) → IsBuilt m.schema → IsBuilt n.schema → Keeps row_code m.schema.tables m.rows → Keeps row_code n.schema.tables n.rows → content_of m ≡ content_of n
+one_settled_set : (m n : Model) → IsValid m.schema → Keeps m.schema.tables m.rows → Keeps n.schema.tables n.rows → m.schema ≡ n.schema → content_of m ≡ content_of n
     → (t : ℕ) → IsTableNumber m.schema.tables t → IsPermutation (rows_of t m.rows) (rows_of t n.rows)
-one_set_of_rows m n built also keeps keeps' same t number =
-    let is = one_schema m n built also same in
-    one_table m.schema.tables m.rows n.rows (catalog_pairs m.schema) (catalog_pairs m.schema) t (types_at_number m.schema t built number) keeps
-    (subst (λ (s : Schema). Keeps row_code s.tables n.rows) (sym is) keeps') (are_catalog m.schema) (are_catalog m.schema) (pairs_same m n is same)
+one_settled_set m n valid keeps keeps' is same t number =
+    one_table m.schema.tables m.rows n.rows (catalog_pairs m.schema) (catalog_pairs m.schema) t (types_at m.schema t valid number) keeps
+    (subst (λ (s : Schema). Keeps s.tables n.rows) (sym is) keeps') (are_beside m.schema) (are_beside m.schema) (pairs_same m n is same)
+
+-- while an index is being filled
+rows_left_in : (m : Model) (content : Content) (t : ℕ) → IsValid m.schema → Keeps m.schema.tables m.rows → IsFillingLast m content → row_pairs_in t content ≡ row_pairs_in t (content_pairs m.schema.tables m.rows [])
+rows_left_in m content t valid keeps f =
+    rows_filling m.schema.tables m.rows (earlier_pairs m.schema) f.made (last_query m.schema) content t keeps
+    (catalog_beside (earlier_pairs m.schema) (earlier_catalog m.schema valid f.made f.last)) refl f.filling
+
+one_left_set : (m n : Model) (content : Content) → IsValid m.schema → IsValid n.schema → Keeps m.schema.tables m.rows → Keeps n.schema.tables n.rows → m.schema ≡ n.schema → IsFillingLast m content → IsFillingLast n content
+    → (t : ℕ) → IsTableNumber m.schema.tables t → IsPermutation (rows_of t m.rows) (rows_of t n.rows)
+one_left_set m n content valid valid' keeps keeps' is f g t number =
+    one_set m.schema.tables m.rows n.rows t (types_at m.schema t valid number) keeps (subst (λ (s : Schema). Keeps s.tables n.rows) (sym is) keeps')
+    (sym (rows_left_in m content t valid keeps f) ∙ rows_left_in n content t valid' keeps' g ∙ ap (λ (s : Schema). row_pairs_in t (content_pairs s.tables n.rows [])) (sym is))
+
+one_held_set : (m n : Model) (content : Content) → IsValid m.schema → IsValid n.schema → Keeps m.schema.tables m.rows → Keeps n.schema.tables n.rows → m.schema ≡ n.schema → (h : Holds m content) → (k : Holds n content)
+    → mark_held m content h ≡ mark_held n content k → (t : ℕ) → IsTableNumber m.schema.tables t → IsPermutation (rows_of t m.rows) (rows_of t n.rows)
+one_held_set m n content valid valid' keeps keeps' is (inl a) (inl b) marks t number = one_settled_set m n valid keeps keeps' is (sym a ∙ b) t number
+one_held_set m n content valid valid' keeps keeps' is (inr f) (inr g) marks t number = one_left_set m n content valid valid' keeps keeps' is f g t number
+one_held_set m n content valid valid' keeps keeps' is (inl a) (inr g) marks t number = absurd (cc)
+one_held_set m n content valid valid' keeps keeps' is (inr f) (inl b) marks t number = absurd (cc)
 
 -- ---- the same of a content that may have an intent
 
@@ -50,14 +56,21 @@ abbrev pairs_or : Content → Option Content → Content
 pairs_or other None = other
 pairs_or other (Some pairs) = pairs
 
--- it settles to one content
-one_content : (content : Option Content) (m n : Model) → Opens content m → Opens content n → content_of m ≡ content_of n
-one_content content m n p q =
-    let same : q.settles.pairs ≡ p.settles.pairs = ap (pairs_or p.settles.pairs) (sym q.settles.told ∙ p.settles.told) in
-    settles_once p.settles.pairs (content_of m) (content_of n) p.settles.settles (subst (λ (c : Content). SettlesTo c (content_of n)) same q.settles.settles)
+module _ (content : Option Content) (m n : Model) (p : Opens content m) (q : Opens content n) where
+  -- it settles to one content
+  one_content : p.pairs ≡ q.pairs
+  one_content =
+      let same : q.settles.pairs ≡ p.settles.pairs = ap (pairs_or p.settles.pairs) (sym q.settles.told ∙ p.settles.told) in
+      settles_once p.settles.pairs p.pairs q.pairs p.settles.settles (subst (λ (c : Content). SettlesTo c q.pairs) same q.settles.settles)
 
-pub opened_schema : (content : Option Content) (m n : Model) → Opens content m → Opens content n → m.schema ≡ n.schema
-opened_schema content m n p q = one_schema m n p.valid q.valid (one_content content m n p q)
+  held : Holds n p.pairs
+  held = subst (Holds n) (sym one_content) q.holds
 
-pub opened_rows : (content : Option Content) (m n : Model) → Opens content m → Opens content n → (t : ℕ) → IsTableNumber m.schema.tables t → IsPermutation (rows_of t m.rows) (rows_of t n.rows)
-opened_rows content m n p q = one_set_of_rows m n p.valid q.valid p.keeps q.keeps (one_content content m n p q)
+  one_answer : ◌≡◌ {A = Result Added Pair} (Ok (m.schema, mark_held m p.pairs p.holds)) (Ok (n.schema, mark_held n p.pairs held))
+  one_answer = sym (held_tells m p.pairs p.valid p.holds) ∙ held_tells n p.pairs q.valid held
+
+  pub opened_schema : m.schema ≡ n.schema
+  opened_schema = ap schema_in one_answer
+
+  pub opened_rows : (t : ℕ) → IsTableNumber m.schema.tables t → IsPermutation (rows_of t m.rows) (rows_of t n.rows)
+  opened_rows t number = one_held_set m n p.pairs p.valid q.valid p.keeps q.keeps opened_schema p.holds held (ap mark_in one_answer) t number

@@ -6,7 +6,6 @@ use Rattle.pq_base.specs.declared.refusal.Refusal.{Refusal}
 use Rattle.pq_base.specs.declared.refusal.Stopped.{Stopped}
 use Rattle.pq_base.specs.declared.refusal.Stopped.TheVariants.{Refused}
 use Rattle.pq_base.specs.Answers.{Answers}
-use Rattle.pq_row_code.specs.RowCode.{row_code}
 use Rattle.pq_row_code.specs.declared.changes.Change.{Change}
 use Rattle.pq_schema.specs.Schema.{Schema}
 use Rattle.pq_schema.specs.declared.table.Table.{Table}
@@ -19,8 +18,8 @@ use Rattle.pq_store.specs.Content.{Content}
 use Rattle.pq_store.specs.Counts.{Counts, Allowed, granted, used_of}
 use Rattle.pq_store.specs.declared.damage.Broke.{Broke}
 use Rattle.pq_store.specs.declared.damage.Broke.TheVariants as broke
-use Rattle.pq_intent.specs.Errors.{IsSound, ShowsIntent}
-use Rattle.pq_session.specs.Evidence.{IsShown}
+use Rattle.pq_store.specs.Breaks.{IfDamaged, IsPresent, IsUndamaged}
+use Rattle.pq_session.specs.Evidence.{TellsEvidence}
 use Rattle.pq_intent.specs.Settling.{IsSettled, Settles}
 use Rattle.pq_intent.specs.Spending.{Spends}
 use Rattle.pq_text.specs.declared.token.Token.{Token}
@@ -34,35 +33,40 @@ use Rattle.pq_index_keep.specs.Bounds.{write_tests, write_bound}
 use Rattle.pq_index_keep.specs.Checking.{checked, IsWriting}
 use Rattle.pq_index_keep.specs.Effects.{effect}
 use Rattle.pq_index_keep.specs.Promises as keep
-use Rattle.pq_index_keep.specs.Promises.{Plans, MakesRows, Reads, Explains, world}
+use Rattle.pq_index_keep.specs.Promises.{Plans, MakesRows}
+use Rattle.pq_calls.specs.Evidence.{IsNoRow}
+use Rattle.pq_calls.specs.World.{world, Reads, Explains, where_told}
+use Rattle.pq_calls.proofs.Steps.{explained_undamaged}
+use Rattle.pq_index_keep.proofs.Deleting.{undamaged}
+use Rattle.pq_key_code.specs.KeyCode.{intent_key}
 use Rattle.pq_index_keep.specs.Sound as writable
 use Rattle.pq_index_keep.specs.Sound.{IsWrite}
 use Rattle.pq_index_keep.proofs.Few.{IsFew, few_of}
 use Rattle.pq_index_keep.proofs.FromMade.{valid_writable}
-use Rattle.pq_session.specs.Built.{IsBuilt}
+use Rattle.pq_nodes.specs.Operators.{no_row}
+use Rattle.pq_schema.specs.Valid.{IsValid}
 use Rattle.pq_session.specs.Matches.{Matches}
 use Rattle.pq_session.specs.Model.{Model}
-use Rattle.pq_session.specs.Promise.{Done, Broken, Promises, IsWithin, bound_over}
-use Rattle.pq_session.specs.Stands.{Settled, Stands, Opens, content_of, catalog_pairs}
+use Rattle.pq_session.specs.Promise.{Done, Broken, Promises, IsWithin, IsWithinFixed, fixed_of, fixed_over}
+use Rattle.pq_session.specs.Stands.{HoldsModel, Stands, Opens, content_of, catalog_pairs}
 use Rattle.pq_session.specs.Step.{Step, report_of, refusal_report, refused, refused_unread, effected, effected_as, written, written_as, performed}
-use Rattle.pq_session.proofs.Catalogs.{are_catalog}
-use Rattle.pq_session.proofs.Made.{valid_of}
+use Rattle.pq_session.proofs.Catalogs.{are_beside}
 use Rattle.pq_session.proofs.Standing.{no_intent_in, settled_opens}
 
--- rows of the tables that are built can be written
-pub writable_tables : (schema : Schema) → IsBuilt schema → writable.IsSound schema.tables
-writable_tables schema built = valid_writable (valid_of schema built)
+-- rows of the tables of a valid schema can be written
+pub writable_tables : (schema : Schema) → IsValid schema → writable.AreWritable schema.tables
+writable_tables schema built = valid_writable built
 
-pub bound_few : (schema : Schema) (write : Write) → IsBuilt schema → IsWrite schema.tables write → IsFew (write_bound schema.tables write)
-bound_few schema write built is = few_of schema.tables write (writable_tables schema built) (valid_small (valid_of schema built)).tables is
+pub bound_few : (schema : Schema) (write : Write) → IsValid schema → IsWrite schema.tables write → IsFew (write_bound schema.tables write)
+bound_few schema write built is = few_of schema.tables write (writable_tables schema built) (valid_small built).tables is
 
 -- ---- what the plan and the commit are told of the content
 
-pub settled_rows : (old : Option Content) (schema : Schema) (m : Model) → Stands old schema m → keep.Settled old schema.tables m.rows (catalog_pairs schema)
+pub settled_rows : (old : Option Content) (schema : Schema) (m : Model) → Stands old schema m → keep.HoldsRows old schema.tables m.rows (catalog_pairs schema)
 unfolding content_of
 settled_rows old schema m s = record {
-  keeps = subst (λ (x : Schema). Keeps row_code x.tables m.rows) (sym s.known) s.settled.keeps;
-  catalog = are_catalog schema;
+  keeps = subst (λ (x : Schema). Keeps x.tables m.rows) (sym s.known) s.settled.keeps;
+  beside = are_beside schema;
   is = s.settled.told ∙ ap (λ (x : Schema). Some (content_of (record { schema = x; rows = m.rows }))) (sym s.known);
 }
 
@@ -72,11 +76,11 @@ settled_for old mid schema m same s = record { told = same ∙ s.settled.told; n
 -- ---- the bound
 
 -- whatever the effect is, its bound is that of the write
-effected_bound : (number : ℕ) (write : Write) (schema : Schema) → bound_over (λ m. effected m number write) schema ≡ write_bound schema.tables write
+effected_bound : (number : ℕ) (write : Write) (schema : Schema) → fixed_over (λ m. effected m number write) schema ≡ Some (write_bound schema.tables write)
 unfolding effected
 effected_bound number write schema = by (effect schema.tables [] write)
   where
-    by : (answer : Result Rows Refusal) → (effected_as (record { schema = schema; rows = [] }) number (write_bound schema.tables write) answer).report.bound ≡ write_bound schema.tables write
+    by : (answer : Result Rows Refusal) → fixed_of (effected_as (record { schema = schema; rows = [] }) number (write_bound schema.tables write) answer) ≡ Some (write_bound schema.tables write)
     by (Ok rows) = refl
     by (Err why) = refl
 
@@ -91,7 +95,7 @@ step_refused m number write why schema known is =
 
 refused_by : (number : ℕ) (write : Write) (why : Refusal) (old now : Option Content) (schema : Schema) (f0 f1 : ℕ) (allowed : Allowed) (before after : Counts)
     → Reads (world old f0 (granted (write_bound schema.tables write).ops (write_bound schema.tables write).entries) before) (world now f1 allowed after) (write_tests schema.tables write).ops (write_tests schema.tables write).entries
-    → ((rows : Rows) (others : List Pair) → keep.Settled old schema.tables rows others → effect schema.tables rows write ≡ Err why)
+    → ((rows : Rows) (others : List Pair) → keep.HoldsRows old schema.tables rows others → effect schema.tables rows write ≡ Err why)
     → Done (λ m. effected m number write) old now schema schema before after (record (refusal_report number why (write_bound schema.tables write)) { used = used_of allowed })
 refused_by number write why old now schema f0 f1 allowed before after reads answer = record {
   matches = λ m s. subst (λ (x : Step). Matches x.report (record (refusal_report number why (write_bound schema.tables write)) { used = used_of allowed }))
@@ -104,27 +108,27 @@ refused_by number write why old now schema f0 f1 allowed before after reads answ
   entries = omega (arith, ap (λ (c : Counts). c.entries) reads.granted, reads.spent_entries, reads.rise_entries);
   few_ops = omega (arith, ap (λ (c : Counts). c.ops) reads.granted);
   few_entries = omega (arith, ap (λ (c : Counts). c.entries) reads.granted);
-  bound = sym (effected_bound number write schema);
+  bound = rw (effected_bound number write schema) refl;
   refused = λ _. (reads.same, refl);
 }
 
 pub refused_done : (number : ℕ) (write : Write) (why : Refusal) (old now : Option Content) (schema : Schema) (most : Bound) (f0 f1 : ℕ) (given allowed : Allowed) (before after : Counts) (q : Planned)
     → most ≡ write_bound schema.tables write → given ≡ granted most.ops most.entries → q ≡ planned.Refused why
     → Reads (world old f0 given before) (world now f1 allowed after) (write_tests schema.tables write).ops (write_tests schema.tables write).entries
-    → ((rows : Rows) (others : List Pair) → keep.Settled old schema.tables rows others → Plans schema.tables rows others write q)
+    → ((rows : Rows) (others : List Pair) → keep.HoldsRows old schema.tables rows others → Plans schema.tables rows others write q)
     → Done (λ m. effected m number write) old now schema schema before after (record (refusal_report number why most) { used = used_of allowed })
 refused_done number write why old now schema most f0 f1 given allowed before after q is_most is_given is reads answer =
     subst (λ (x : Bound). Done (λ m. effected m number write) old now schema schema before after (record (refusal_report number why x) { used = used_of allowed })) (sym is_most)
     (refused_by number write why old now schema f0 f1 allowed before after
     (subst (λ (a : Allowed). Reads (world old f0 a before) (world now f1 allowed after) (write_tests schema.tables write).ops (write_tests schema.tables write).entries) (is_given ∙ ap (λ (b : Bound). granted b.ops b.entries) is_most) reads)
-    (subst (λ (x : Planned). (rows : Rows) (others : List Pair) → keep.Settled old schema.tables rows others → Plans schema.tables rows others write x) is answer))
+    (subst (λ (x : Planned). (rows : Rows) (others : List Pair) → keep.HoldsRows old schema.tables rows others → Plans schema.tables rows others write x) is answer))
 
 -- ---- made
 
 planned_as : (old : Option Content) (schema : Schema) (write : Write) (q : Planned) (changes : List Change) → q ≡ planned.Changes changes
-    → ((rows : Rows) (others : List Pair) → keep.Settled old schema.tables rows others → Plans schema.tables rows others write q)
-    → (rows : Rows) (others : List Pair) → keep.Settled old schema.tables rows others → Plans schema.tables rows others write (planned.Changes changes)
-planned_as old schema write q changes is answer = subst (λ (x : Planned). (rows : Rows) (others : List Pair) → keep.Settled old schema.tables rows others → Plans schema.tables rows others write x) is answer
+    → ((rows : Rows) (others : List Pair) → keep.HoldsRows old schema.tables rows others → Plans schema.tables rows others write q)
+    → (rows : Rows) (others : List Pair) → keep.HoldsRows old schema.tables rows others → Plans schema.tables rows others write (planned.Changes changes)
+planned_as old schema write q changes is answer = subst (λ (x : Planned). (rows : Rows) (others : List Pair) → keep.HoldsRows old schema.tables rows others → Plans schema.tables rows others write x) is answer
 
 record Made (tables : List Table) (rows : Rows) (others : List Pair) (write : Write) (changes : List Change) : Type 0 where
   rows_made : Rows
@@ -137,7 +141,7 @@ made_by tables rows others write changes (Ok made) is makes = record { rows_made
 made_by tables rows others write changes (Err why) is makes = absurd makes
 
 made_of : (schema : Schema) (m : Model) (old : Option Content) (write : Write) (changes : List Change) → Stands old schema m
-    → ((rows : Rows) (others : List Pair) → keep.Settled old schema.tables rows others → Plans schema.tables rows others write (planned.Changes changes))
+    → ((rows : Rows) (others : List Pair) → keep.HoldsRows old schema.tables rows others → Plans schema.tables rows others write (planned.Changes changes))
     → Made m.schema.tables m.rows (catalog_pairs m.schema) write changes
 made_of schema m old write changes s answer =
     subst (λ (x : Schema). Made x.tables m.rows (catalog_pairs x) write changes) s.known
@@ -148,7 +152,7 @@ abbrev with_rows : Model → Rows → Model
 with_rows m rows = record m { rows = rows }
 
 step_made : (m : Model) (number : ℕ) (write : Write) (rows : Rows) → effect m.schema.tables m.rows write ≡ Ok rows
-    → effected m number write ≡ record { model = with_rows m rows; report = report_of number [] end.Done (write_bound m.schema.tables write) }
+    → effected m number write ≡ record { model = with_rows m rows; report = report_of number [] end.Done (write_bound m.schema.tables write); making = None }
 unfolding effected
 step_made m number write rows is = ap (effected_as m number (write_bound m.schema.tables write)) is
 
@@ -159,7 +163,7 @@ content_made m write changes p = p.makes.content
 
 changed_by : (number : ℕ) (write : Write) (changes : List Change) (old mid now : Option Content) (schema : Schema) (f0 f1 : ℕ) (left allowed : Allowed) (before between after : Counts)
     → Reads (world old f0 (granted (write_bound schema.tables write).ops (write_bound schema.tables write).entries) before) (world mid f1 left between) (write_tests schema.tables write).ops (write_tests schema.tables write).entries
-    → ((rows : Rows) (others : List Pair) → keep.Settled old schema.tables rows others → Plans schema.tables rows others write (planned.Changes changes))
+    → ((rows : Rows) (others : List Pair) → keep.HoldsRows old schema.tables rows others → Plans schema.tables rows others write (planned.Changes changes))
     → ((pairs : Content) → IsSettled mid pairs → now ≡ Some (changed (map change_of changes) pairs))
     → (most : ℕ) → Spends most left allowed between after
     → Done (λ m. effected m number write) old now schema schema before after (record (report_of number [] end.Done (write_bound schema.tables write)) { used = used_of allowed })
@@ -189,14 +193,14 @@ changed_by number write changes old mid now schema f0 f1 left allowed before bet
       entries = omega (arith, granted_entries, same_entries, reads.spent_entries, reads.rise_entries, spends.entries_left, spends.entries);
       few_ops = omega (arith, granted_ops, same_ops);
       few_entries = omega (arith, granted_entries, same_entries);
-      bound = sym (effected_bound number write schema);
+      bound = rw (effected_bound number write schema) refl;
       refused = λ refusal. absurd refusal;
     }
 
 pub changed_done : (number : ℕ) (write : Write) (changes : List Change) (old mid now : Option Content) (schema : Schema) (most : Bound) (f0 f1 : ℕ) (given left allowed : Allowed) (before between after : Counts) (q : Planned)
     → most ≡ write_bound schema.tables write → given ≡ granted most.ops most.entries → q ≡ planned.Changes changes
     → Reads (world old f0 given before) (world mid f1 left between) (write_tests schema.tables write).ops (write_tests schema.tables write).entries
-    → ((rows : Rows) (others : List Pair) → keep.Settled old schema.tables rows others → Plans schema.tables rows others write q)
+    → ((rows : Rows) (others : List Pair) → keep.HoldsRows old schema.tables rows others → Plans schema.tables rows others write q)
     → ((pairs : Content) → IsSettled mid pairs → now ≡ Some (changed (map change_of changes) pairs))
     → (limit : ℕ) → Spends limit left allowed between after
     → Done (λ m. effected m number write) old now schema schema before after (record (report_of number [] end.Done most) { used = used_of allowed })
@@ -209,13 +213,8 @@ changed_done number write changes old mid now schema most f0 f1 given left allow
 
 -- ---- broken off
 
-no_damage : (error : Broke) → keep.IsUndamaged error → IsSound error
-no_damage broke.Failed sound = tt
-no_damage broke.NoMem sound = tt
-no_damage (broke.Damaged damage) sound = absurd sound
-
 -- what was spent of the bound is not more than the bound
-planned_within : (most : Bound) (old mid : Option Content) (f0 f1 : ℕ) (given left : Allowed) (before after : Counts) (ops entries : ℕ) → given ≡ granted most.ops most.entries
+pub planned_within : (most : Bound) (old mid : Option Content) (f0 f1 : ℕ) (given left : Allowed) (before after : Counts) (ops entries : ℕ) → given ≡ granted most.ops most.entries
     → Reads (world old f0 given before) (world mid f1 left after) ops entries → IsWithin most before after
 planned_within most old mid f0 f1 given left before after ops entries is reads = record {
   ops = omega (arith, reads.spent_ops, ap (λ (a : Allowed). a.left.ops) is);
@@ -230,19 +229,26 @@ committed_within most old mid f0 f1 given left allowed before between after ops 
 }
 
 -- the same of the bound of the write's step
-within_effected : (number : ℕ) (write : Write) (schema : Schema) (most : Bound) (before after : Counts) → most ≡ write_bound schema.tables write → IsWithin most before after → IsWithin (bound_over (λ m. effected m number write) schema) before after
-within_effected number write schema most before after is within = subst (λ (b : Bound). IsWithin b before after) (is ∙ sym (effected_bound number write schema)) within
+within_effected : (number : ℕ) (write : Write) (schema : Schema) (most : Bound) (before after : Counts) → most ≡ write_bound schema.tables write → IsWithin most before after → IsWithinFixed (fixed_over (λ m. effected m number write) schema) before after
+within_effected number write schema most before after is within =
+    subst (λ (b : Option Bound). IsWithinFixed b before after) (ap (λ (b : Bound). Some b) is ∙ sym (effected_bound number write schema)) within
 
--- what explains damage shows it
-explained_shown : (old : Option Content) (schema : Schema) (error : Broke) (f0 f1 : ℕ) (given left : Allowed) (before after : Counts) (now : Option Content) → Explains schema.tables (world old f0 given before) (world now f1 left after) error
-    → IfSome old (λ content. IsShown schema content error)
+-- what explains damage shows it, and over what stands for a model there is none
+pub explained_shown : (old : Option Content) (schema : Schema) (error : Broke) (f0 f1 : ℕ) (given left : Allowed) (before after : Counts) (now : Option Content)
+    → Explains (where_told (IsNoRow schema.tables)) (world old f0 given before) (world now f1 left after) error → IfSome old (λ content. TellsEvidence schema content error)
 explained_shown None schema error f0 f1 given left before after now explains = tt
 explained_shown (Some content) schema broke.Failed f0 f1 given left before after now explains = tt
 explained_shown (Some content) schema broke.NoMem f0 f1 given left before after now explains = tt
-explained_shown (Some content) schema (broke.Damaged damage) f0 f1 given left before after now explains = inl explains
+explained_shown (Some content) schema (broke.Damaged damage) f0 f1 given left before after now explains = inl (no_row explains)
+
+pub explained_sound : (old : Option Content) (schema : Schema) (error : Broke) (f0 f1 : ℕ) (given left : Allowed) (before after : Counts) (now : Option Content) (m : Model) → Stands old schema m
+    → Explains (where_told (IsNoRow schema.tables)) (world old f0 given before) (world now f1 left after) error → IsUndamaged error
+explained_sound old schema error f0 f1 given left before after now m s explains =
+    explained_undamaged (where_told (IsNoRow schema.tables)) (world old f0 given before) (world now f1 left after) error
+    (undamaged schema.tables m.rows (catalog_pairs schema) old (settled_rows old schema m s)) explains
 
 -- so does an intent that is there
-intent_shown : (old : Option Content) (schema : Schema) (error : Broke) → IfSome old (λ content. ShowsIntent content error) → IfSome old (λ content. IsShown schema content error)
+intent_shown : (old : Option Content) (schema : Schema) (error : Broke) → IfSome old (λ content. IfDamaged (IsPresent intent_key content) error) → IfSome old (λ content. TellsEvidence schema content error)
 intent_shown None schema error shows = tt
 intent_shown (Some content) schema broke.Failed shows = tt
 intent_shown (Some content) schema broke.NoMem shows = tt
@@ -250,35 +256,35 @@ intent_shown (Some content) schema (broke.Damaged damage) shows = inr (inl shows
 
 pub planning_broke : (number : ℕ) (write : Write) (error : Broke) (old now : Option Content) (schema : Schema) (most : Bound) (f0 f1 : ℕ) (given left : Allowed) (before after : Counts) (ops entries : ℕ)
     → most ≡ write_bound schema.tables write → given ≡ granted most.ops most.entries → Reads (world old f0 given before) (world now f1 left after) ops entries
-    → ((rows : Rows) (others : List Pair) → keep.Settled old schema.tables rows others → keep.IsUndamaged error) → Explains schema.tables (world old f0 given before) (world now f1 left after) error
+    → Explains (where_told (IsNoRow schema.tables)) (world old f0 given before) (world now f1 left after) error
     → Broken (λ m. effected m number write) old now schema before after error
-planning_broke number write error old now schema most f0 f1 given left before after ops entries is_most is_given reads undamaged explains = record {
-  stopped = λ m s. inl (settled_opens (subst (λ o. Settled o m) (sym reads.same) s.settled));
-  sound = λ m s. no_damage error (undamaged m.rows (catalog_pairs schema) (settled_rows old schema m s));
+planning_broke number write error old now schema most f0 f1 given left before after ops entries is_most is_given reads explains = record {
+  stopped = λ m s. inl (settled_opens (subst (λ o. HoldsModel o m) (sym reads.same) s.settled));
+  sound = λ m s. explained_sound old schema error f0 f1 given left before after now m s explains;
   within = within_effected number write schema most before after is_most (planned_within most old now f0 f1 given left before after ops entries is_given reads);
   shown = explained_shown old schema error f0 f1 given left before after now explains;
 }
 
-stopped_at : (m : Model) (number : ℕ) (write : Write) (changes : List Change) (now : Option Content) → IsBuilt m.schema → Keeps row_code m.schema.tables m.rows
+stopped_at : (m : Model) (number : ℕ) (write : Write) (changes : List Change) (now : Option Content) → IsValid m.schema → Keeps m.schema.tables m.rows
     → Made m.schema.tables m.rows (catalog_pairs m.schema) write changes
     → Settles now (content_of m) ⊎ Settles now (changed (map change_of changes) (content_of m)) → Opens now m ⊎ Opens now (effected m number write).model
-stopped_at m number write changes now valid keeps p (inl settles) = inl (record { valid = valid; keeps = keeps; settles = settles })
+stopped_at m number write changes now valid keeps p (inl settles) = inl (record { valid = valid; keeps = keeps; pairs = content_of m; settles = settles; holds = inl refl })
 stopped_at m number write changes now valid keeps p (inr settles) =
     inr (subst (λ (x : Step). Opens now x.model) (sym (step_made m number write p.rows_made p.is))
-    (record { valid = valid; keeps = p.makes.keeps; settles = subst (Settles now) (content_made m write changes p) settles }))
+    (record { valid = valid; keeps = p.makes.keeps; pairs = changed (map change_of changes) (content_of m); settles = settles; holds = inl (content_made m write changes p) }))
 
 pub commit_broke : (number : ℕ) (write : Write) (changes : List Change) (error : Broke) (old mid now : Option Content) (schema : Schema) (most : Bound) (f0 f1 : ℕ) (given left allowed : Allowed) (before between after : Counts) (ops entries limit : ℕ) (q : Planned)
     → most ≡ write_bound schema.tables write → given ≡ granted most.ops most.entries → q ≡ planned.Changes changes
     → Reads (world old f0 given before) (world mid f1 left between) ops entries → Spends limit left allowed between after
-    → ((rows : Rows) (others : List Pair) → keep.Settled old schema.tables rows others → Plans schema.tables rows others write q)
+    → ((rows : Rows) (others : List Pair) → keep.HoldsRows old schema.tables rows others → Plans schema.tables rows others write q)
     → ((pairs : Content) → IsSettled mid pairs → Settles now pairs ⊎ Settles now (changed (map change_of changes) pairs))
-    → ((pairs : Content) → IsSettled mid pairs → IsSound error) → IfSome mid (λ pairs. ShowsIntent pairs error)
+    → ((pairs : Content) → IsSettled mid pairs → IsUndamaged error) → IfSome mid (λ pairs. IfDamaged (IsPresent intent_key pairs) error)
     → Broken (λ m. effected m number write) old now schema before after error
 commit_broke number write changes error old mid now schema most f0 f1 given left allowed before between after ops entries limit q is_most is_given is reads spends answer stops sound shows = record {
   stopped = λ m s. stopped_at m number write changes now s.settled.valid s.settled.keeps (made_of schema m old write changes s (planned_as old schema write q changes is answer)) (stops (content_of m) (settled_for old mid schema m reads.same s));
   sound = λ m s. sound (content_of m) (settled_for old mid schema m reads.same s);
   within = within_effected number write schema most before after is_most (committed_within most old mid f0 f1 given left allowed before between after ops entries limit is_given reads spends);
-  shown = intent_shown old schema error (subst (λ (o : Option Content). IfSome o (λ pairs. ShowsIntent pairs error)) reads.same shows);
+  shown = intent_shown old schema error (subst (λ (o : Option Content). IfSome o (λ pairs. IfDamaged (IsPresent intent_key pairs) error)) reads.same shows);
 }
 
 -- ---- the write that a statement is

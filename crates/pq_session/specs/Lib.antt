@@ -1,10 +1,8 @@
-pub mod Built
 pub mod Calls
 pub mod Evidence
 pub mod Extends
-pub mod KeyParts
-pub mod KeyQuery
-pub mod KeySelect
+pub mod Format
+pub mod Kept
 pub mod Lines
 pub mod Matches
 pub mod Model
@@ -12,7 +10,9 @@ pub mod Names
 pub mod Opened
 pub mod Opening
 pub mod Promise
-pub mod Reads
 pub mod Reports
 pub mod Stands
 pub mod Step
+pub mod Planning
+pub mod Planned
+pub mod Pages

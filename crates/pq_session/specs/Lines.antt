@@ -1,14 +1,18 @@
 -- The lines of a report that tell of definitions and indexes.
-use Rattle.std.specs.Prelude.{ℕ, ◌+◌, ◌-◌, ◌<◌, ◌≤◌, List, [], ◌∷◌, map, flat_map, take, drop, length, Some, None}
+use Rattle.std.specs.Prelude.{ℕ, ◌+◌, ◌-◌, ◌<◌, ◌≤◌, List, [], ◌∷◌, map, flat_map, take, drop, length, Option, Some, None}
 use Rattle.std.specs.List.{range_with_len, AllByRecursion}
+use Rattle.pq_base.specs.declared.number.Bound.{Bound}
+use Rattle.pq_base.specs.declared.number.Choice.{Choice}
 use Rattle.pq_schema.specs.declared.made.Def.{Def}
 use Rattle.pq_schema.specs.declared.made.Def.TheVariants as def
 use Rattle.pq_schema.specs.declared.table.Column.{Column}
 use Rattle.pq_schema.specs.declared.table.Index.{Index}
 use Rattle.pq_schema.specs.declared.table.KeyPart.{KeyPart}
+use Rattle.pq_schema.specs.declared.table.NewIndex.{NewIndex}
 use Rattle.pq_schema.specs.declared.table.Table.{Table}
 use Rattle.pq_schema.specs.Schema.{Schema, definition_at, def_of}
 use Rattle.pq_schema.specs.Tables.{table_at}
+use Rattle.pq_session.specs.Planning.{Planned}
 use Rattle.pq_content.specs.Tables.{IsTableNumber}
 use Rattle.pq_print.specs.Canonical.{column_name, definition_text}
 use Rattle.pq_print.specs.declared.report.IndexCol.{IndexCol}
@@ -44,7 +48,7 @@ IsMadeOf tables (def.Table t made) = IsTableNumber tables t
 IsMadeOf tables (def.Query None) = Unit {0}
 IsMadeOf tables (def.Query (Some made)) = IsTableNumber tables made.table × (made.index ≤ 16)
 
-pub record IsShown (schema : Schema) : Type 0 where
+pub record IsShowable (schema : Schema) : Type 0 where
   pub tables : AreShown schema.tables
   pub definitions : AllByRecursion (λ definition. IsMadeOf schema.tables (def_of definition)) schema.definitions
 
@@ -69,3 +73,22 @@ definition_lines schema number = line.Def number (definition_text schema number)
 -- of each definition in order
 unfoldable pub show_lines : Schema → List Line
 show_lines schema = flat_map (definition_lines schema) (range_with_len 1 (length schema.definitions))
+
+-- ---- planned queries
+
+-- the index that a query wants
+abbrev pub wanted_lines : List Table → Option NewIndex → List Line
+wanted_lines tables None = []
+wanted_lines tables (Some new) = index_line (table_at tables new.table) new.number new.index ∷ []
+
+-- a query's candidate with its bound, and the index that it wants
+abbrev pub planned_lines : List Table → List ℕ → Choice → Bound → Option NewIndex → List Line
+planned_lines tables name choice most wanted = line.Query name choice most ∷ wanted_lines tables wanted
+
+unfoldable pub query_lines : List Table → Planned → List Line
+query_lines tables plan = planned_lines tables plan.query.name plan.chosen.best.choice plan.chosen.best.bound plan.chosen.wanted
+
+-- the table of a wanted index is there, and so are the columns that it names
+abbrev pub IsLined : List Table → Option NewIndex → Type 0
+IsLined tables None = Unit {0}
+IsLined tables (Some new) = IsTableNumber tables new.table × AreOf (table_at tables new.table).columns new.index.cols

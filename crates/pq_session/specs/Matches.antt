@@ -12,10 +12,10 @@ pub record Matches (expected report : Report) : Type 0 where
   pub ops : report.used.ops ≤ expected.bound.ops
   pub entries : report.used.entries ≤ expected.bound.entries
 
--- the line of an opening: as many definitions as there are, the bound of two calls and those of an intent, and used
--- at most that
+-- the line of an opening: as many definitions as there are, the bound of two calls, those of an intent and those of a
+-- build that was left, and used at most that
 pub record IsOpening (content : Option Content) (m : Model) (opened : Opened) : Type 0 where
   pub defs : opened.defs ≡ length m.schema.definitions
-  pub most : IfSome content (λ pairs. IsOpeningBound pairs opened.bound)
+  pub most : IfSome content (λ pairs. IsOpeningBound m pairs opened.bound)
   pub ops : opened.used.ops ≤ opened.bound.ops
   pub entries : opened.used.entries ≤ opened.bound.entries

@@ -1,10 +1,17 @@
--- The names of statements that define something.
+-- What a statement that was read has.
+use Rattle.std.specs.Prelude.{◌≤◌, List, length}
 use Rattle.pq_schema.specs.Names.{IsName, IsTableDef}
+use Rattle.pq_text.specs.declared.token.Token.{Token}
 use Rattle.pq_def_read.specs.declared.statement.Statement.{Statement}
 use Rattle.pq_def_read.specs.declared.statement.Statement.TheVariants as statement
 
--- what a statement defines has names
-abbrev pub IsNamed : Statement → Type 0
-IsNamed (statement.Create def) = IsTableDef def
-IsNamed (statement.Prepare name from) = IsName name
-IsNamed _ = Unit {0}
+-- what it defines has names, and its query begins within the tokens
+abbrev pub IsNamed : List Token → Statement → Type 0
+IsNamed tokens (statement.Create def) = IsTableDef def
+IsNamed tokens (statement.Prepare name from) = IsName name × (from ≤ length tokens)
+IsNamed tokens (statement.Insert table cols values) = Unit {0}
+IsNamed tokens (statement.Update table sets key) = Unit {0}
+IsNamed tokens (statement.Delete table key) = Unit {0}
+IsNamed tokens (statement.Explain from) = from ≤ length tokens
+IsNamed tokens (statement.Run name params after) = Unit {0}
+IsNamed tokens statement.Show = Unit {0}

@@ -1,9 +1,10 @@
 -- What an opening answers of the pairs of a catalog.
 use Rattle.std.specs.Prelude.{◌≡◌, ℕ, List, Some, Result, Ok, Err}
 use Rattle.pq_store.specs.declared.damage.Damage.{Damage}
-use Rattle.pq_schema.specs.Schema.{Schema}
+use Rattle.pq_content.specs.Pairs.{Pair}
+use Rattle.pq_session.specs.Opening.{Added}
 
--- the definitions, or a pair as damage
-abbrev pub TellsOpened : Result Schema Damage → Result Schema (List ℕ × List ℕ) → Type 0
-TellsOpened (Ok schema) told = told ≡ Ok schema
+-- the definitions with the mark of the last one, or a pair as damage
+abbrev pub TellsOpened : Result Added Damage → Result Added Pair → Type 0
+TellsOpened (Ok added) told = told ≡ Ok added
 TellsOpened (Err damage) told = (value : List ℕ) × (damage.value ≡ Some value) × (told ≡ Err (damage.key, value))

@@ -1,38 +1,48 @@
 //! Definitions: each is one write of its pair, whose key has to be absent.
 ghost use Rattle.std.specs.Prelude.{◌≡◌, ◌≤◌, ◌<◌, ◌∷◌, [], true, None, Some, length, IfOk, IfErr, IfSome, OnOk, OnErr};
 ghost use Rattle.std.specs.FinMap.{get as value_at_key};
-ghost use Rattle.pq_key_code.specs.KeyCode.{catkey};
-ghost use Rattle.pq_print.specs.Canonical.{definition_text};
+ghost use Rattle.pq_base.specs.Answers.{Passes, Refuses};
 ghost use Rattle.pq_store.specs.Content.{HasBrokeCause};
 ghost use Rattle.pq_store.specs.Counts.{charged};
 ghost use Rattle.pq_session.specs.Calls.{PutsNew, MayPut};
-ghost use Rattle.pq_schema.specs.Schema.{with_query};
-ghost use Rattle.pq_session.specs.Built.{IsKeyDefinition};
-ghost use Rattle.pq_session.specs.Evidence.{ShowsPresent};
-ghost use Rattle.pq_session.specs.Extends.{Extends};
-ghost use Rattle.pq_session.specs.KeyQuery.{read_query};
-ghost use Rattle.pq_session.specs.KeySelect.{select_from};
-ghost use Rattle.pq_intent.specs.Errors.{IsSound};
+ghost use Rattle.pq_schema.specs.Resolved.{IsResolved};
+ghost use Rattle.pq_schema.specs.Wanted.{IsWanted};
+ghost use Rattle.pq_session.specs.Extends.{Extends, ExtendsBy};
+ghost use Rattle.pq_store.specs.Breaks.{IfDamaged, IsPresent, IsUndamaged};
 ghost use Rattle.pq_session.specs.Promise.{Promises, IsWithin};
 ghost use Rattle.pq_session.specs.Reports.{define_report};
-ghost use Rattle.pq_session.specs.Step.{bound, by_key, created, prepared, prepared_as};
-ghost use Rattle.pq_session.specs.Lines.{AreInside, table_lines};
-ghost use Rattle.pq_session.specs.Stands.{catalog_value, last_key, last_value};
+ghost use Rattle.pq_session.specs.Kept.{IsPlanWanting};
+ghost use Rattle.pq_session.specs.Planned.{IsComputed, IsPlanned, IsPlanOf};
+ghost use Rattle.pq_session.specs.Planning.{Planned, explained_name, plan_from, planned, prepared_from};
+ghost use Rattle.pq_session.specs.Stands.{new_query_of};
+ghost use Rattle.pq_schema.specs.Candidates.{Candidate};
+ghost use Rattle.pq_schema.specs.Definitions.{definition_refusal};
+ghost use Rattle.pq_schema.specs.Sound.{AreParts};
+ghost use Rattle.pq_schema.specs.Schema.{with_query};
+ghost use Rattle.pq_schema.specs.Valid.{IsDefined};
+ghost use Rattle.pq_builds.specs.Targets.{target_of};
+ghost use Rattle.pq_session.specs.Step.{bound, created, crowded, explained_report, prepared, prepared_over, report_of};
+ghost use Rattle.pq_plan.specs.Cost.{cost};
+ghost use Rattle.pq_print.specs.declared.report.End.TheVariants as End;
+ghost use Rattle.pq_session.specs.Lines.{planned_lines, query_lines, table_lines};
+ghost use Rattle.pq_session.specs.Stands.{last_key, last_value};
 ghost use Rattle.pq_schema.specs.Names.{IsName, IsTableDef};
 ghost use Rattle.pq_text.specs.Tokens.{tokens_of};
 ghost use Rattle.pq_schema.specs.Tables.{table_at};
 ghost use Rattle.pq_content.specs.Tables.{IsTableNumber};
 
-use crate::key_select::read_select;
+use crate::format::{QUERY_FORMAT, READY, last_format};
 use crate::lines::table_lines;
-use crate::reports::{not_built_report, unread_report};
+use crate::planning::{PlannedQuery, plan_query, planned_lines};
+use crate::reports::{build_report, define_report, too_many_report, unpaid_report, unread_report};
 use crate::session::Session;
-use pq_base::{Bound, Bytes, Choice, List, NoMem, PText, Refusal, Stopped, Used};
-use pq_grammar::ReadError;
+use pq_base::{Bytes, List, NoMem, PText, Refusal, Stopped, count_word};
+use pq_builds::{Built, NewQuery, Target, build_index};
+use pq_compile::Compiled;
 use pq_key_code::catalog_key;
-use pq_print::{End, Line, Report, print_definition};
-use pq_schema::{Catalog, Query, Table, TableDef};
-use pq_shape::shapes;
+use pq_plan::BoundedPlan;
+use pq_print::{Line, Report, print_definition, print_query};
+use pq_schema::{Catalog, DEFINITIONS, NewIndex, Query, TableDef};
 use pq_store::{Broke, Damage, Guard, Meter, Pair, Store};
 use pq_text::Token;
 use std::alloc::Global;
@@ -41,12 +51,12 @@ use std::sync::ledger::Ledger;
 /// The pair of the last definition: the format, the mark that it is ready, and its canonical text.
 fn last_pair(alloc: Global, catalog: &Catalog) -> Result<Pair, NoMem>
     requires { 1 ≤ length catalog.now.definitions }
-    ensures key { IfOk result (λ pair. pair.key ≡ catkey (length catalog.now.definitions)) }
-    ensures value { IfOk result (λ pair. pair.value ≡ catalog_value (definition_text catalog.now (length catalog.now.definitions))) }
+    ensures key { IfOk result (λ pair. pair.key ≡ last_key catalog.now) }
+    ensures value { IfOk result (λ pair. pair.value ≡ last_value catalog.now) }
 {
     let number = catalog.defs();
     let text = print_definition(alloc, catalog, number)?;
-    let mut value = Bytes::of_bytes(alloc, &[1, 0])?;
+    let mut value = Bytes::of_bytes(alloc, &[last_format(catalog), READY])?;
     value.extend(alloc, text.bytes())?;
     Ok(Pair {
         key: catalog_key(alloc, number)?,
@@ -71,10 +81,10 @@ fn put_absent<S: Store<L>, L: Ledger>(
 ) -> Result<(), Broke>
     ensures put { OnOk result (PutsNew true pair.key pair.value (S.content store.old) (S.content store.new)) }
     ensures stopped { OnErr result (MayPut pair.key pair.value (S.content store.old) (S.content store.new)) }
-    ensures damage { IfErr result (λ broke. IfSome (S.content store.old) (λ pairs. value_at_key pairs pair.key ≡ None → IsSound broke)) }
+    ensures damage { IfErr result (λ broke. IfSome (S.content store.old) (λ pairs. value_at_key pairs pair.key ≡ None → IsUndamaged broke)) }
     ensures meter { OnOk result (meter.new ≡ charged meter.old 0) }
     ensures within { IsWithin (bound 1 0) meter.old meter.new }
-    ensures shown { IfErr result (λ broke. IfSome (S.content store.old) (λ pairs. ShowsPresent pair.key pairs broke)) }
+    ensures shown { IfErr result (λ broke. IfSome (S.content store.old) (λ pairs. IfDamaged (IsPresent pair.key pairs) broke)) }
     ensures cause { HasBrokeCause (S.faults store.old) (S.faults store.new) result }
 {
     let Pair { key, value } = pair;
@@ -91,45 +101,21 @@ fn put_absent<S: Store<L>, L: Ledger>(
     }
 }
 
-/// The report of a table that was made.
-fn table_report(alloc: Global, number: u32, table: &Table) -> Result<Report, NoMem>
-    requires few { length table.now.indexes ≤ 16 }
-    requires inside { AreInside table.now.columns table.now.indexes }
-    ensures { IfOk result (λ report. report ≡ define_report number (table_lines table.now)) }
-{
-    Ok(Report {
-        number,
-        lines: table_lines(alloc, table)?,
-        end: End::Done,
-        bound: Bound { ops: 1, entries: 0 },
-        used: Used { ops: 1, entries: 0 },
-    })
-}
-
-/// The report of a query by its key that was prepared.
-fn query_report(alloc: Global, number: u32, name: &PText) -> Result<Report, NoMem>
-    ensures { IfOk result (λ report. report ≡ define_report number (Line.Query name.now Choice.Whole by_key ∷ [])) }
-{
-    let mut lines = List::new(alloc);
-    lines.push(
-        alloc,
-        Line::Query {
-            name: name.copy(alloc)?,
-            choice: Choice::Whole,
-            bound: Bound { ops: 1, entries: 1 },
-        },
-    )?;
-    Ok(Report {
-        number,
-        lines,
-        end: End::Done,
-        bound: Bound { ops: 1, entries: 0 },
-        used: Used { ops: 1, entries: 0 },
-    })
-}
-
-/// A definition's number, or why it is refused.
+/// A table's number, or why it is refused.
 type Numbered = Result<u8, Refusal>;
+
+/// The number of a query's definition, or why it is refused.
+type Defined = Result<u16, Refusal>;
+
+/// The name that the query of an EXPLAIN has in its report.
+fn explained_name(alloc: Global) -> Result<PText, NoMem>
+    ensures { IfOk result (λ name. name ≡ explained_name) }
+{
+    match PText::from_bytes(alloc, b"explain")? {
+        Some(name) => Ok(name),
+        None => unreachable!(),
+    }
+}
 
 impl Session {
     /// The session with the table that the definition makes, and its number; or as it was, where it
@@ -142,53 +128,77 @@ impl Session {
         requires { IsTableDef def }
         ensures { IfOk result (λ made. Extends self def made.0 made.1) }
     {
-        let Session { catalog } = self;
+        let Session { catalog, plans } = self;
         let mut catalog = catalog;
+        let mut plans = plans;
         match catalog.add_table(alloc, def) {
-            Ok(number) => Ok((Session { catalog }, Ok(number))),
-            Err(Stopped::Refused(why)) => Ok((Session { catalog }, Err(why))),
+            Ok(number) => {
+                plans.push(alloc, None)?;
+                Ok((Session { catalog, plans }, Ok(number)))
+            }
+            Err(Stopped::Refused(why)) => Ok((Session { catalog, plans }, Err(why))),
             Err(Stopped::NoMem) => Err(NoMem),
         }
     }
 
-    /// The session with this query.
-    pub(crate) fn with_query(self, alloc: Global, query: Query) -> Result<Session, NoMem>
-        requires { IsKeyDefinition self query }
-        ensures { IfOk result (λ next. next ≡ with_query self query None) }
+    /// The session with the query, its plan and the index that it wants, and the number of its
+    /// definition; or as it was, where it is refused.
+    pub(crate) fn with_query(
+        self,
+        alloc: Global,
+        query: Query,
+        plan: BoundedPlan,
+        wanted: Option<NewIndex>,
+    ) -> Result<(Session, Defined), NoMem>
+        requires name { IsName query.name }
+        requires resolved { IsResolved self.tables query }
+        requires chosen { IsWanted self.tables query wanted }
+        requires compiled { IsPlanWanting self.tables query plan wanted }
+        ensures { IfOk result (λ made. ExtendsBy self query wanted made.0 made.1) }
     {
-        let Session { catalog } = self;
+        let Session { catalog, plans } = self;
         let mut catalog = catalog;
-        match catalog.add_query(alloc, query, None) {
-            Ok(_) => Ok(Session { catalog }),
+        let mut plans = plans;
+        match catalog.add_query(alloc, query, wanted) {
+            Ok(number) => {
+                plans.push(alloc, Some(plan))?;
+                Ok((Session { catalog, plans }, Ok(number)))
+            }
+            Err(Stopped::Refused(why)) => Ok((Session { catalog, plans }, Err(why))),
             Err(Stopped::NoMem) => Err(NoMem),
-            Err(Stopped::Refused(_)) => unreachable!(),
         }
     }
 
-    /// Writes the pair of the last definition, which is a table, and reports it.
-    fn write_table<S: Store<L>, L: Ledger>(
+    /// The lines of the indexes that a table was made with.
+    fn lines_of(&self, alloc: Global, table: u8) -> Result<List<Line>, NoMem>
+        requires { IsTableNumber self.now.tables table }
+        ensures { IfOk result (λ lines. lines ≡ table_lines (table_at self.now.tables table)) }
+    {
+        table_lines(alloc, self.catalog.table(table))
+    }
+
+    /// Writes the pair of the last definition, and reports it with these lines.
+    fn write_last<S: Store<L>, L: Ledger>(
         self,
         alloc: Global,
         number: u32,
-        table: u8,
+        lines: List<Line>,
         store: &mut S,
         meter: &mut Meter<L>,
     ) -> Result<(Session, Report), Broke>
-        requires table { IsTableNumber self.tables table }
-        requires defined { 1 ≤ length self.definitions }
-        ensures done { IfOk result (λ made. (made.0 ≡ self) × (made.1 ≡ define_report number (table_lines (table_at self.tables table)))) }
+        requires { 1 ≤ length self.definitions }
+        ensures done { IfOk result (λ made. (made.0 ≡ self) × (made.1 ≡ define_report number lines)) }
         ensures put { OnOk result (PutsNew true (last_key self) (last_value self) (S.content store.old) (S.content store.new)) }
         ensures stopped { OnErr result (MayPut (last_key self) (last_value self) (S.content store.old) (S.content store.new)) }
-        ensures damage { IfErr result (λ broke. IfSome (S.content store.old) (λ pairs. value_at_key pairs (last_key self) ≡ None → IsSound broke)) }
+        ensures damage { IfErr result (λ broke. IfSome (S.content store.old) (λ pairs. value_at_key pairs (last_key self) ≡ None → IsUndamaged broke)) }
         ensures meter { OnOk result (meter.new ≡ charged meter.old 0) }
         ensures within { IsWithin (bound 1 0) meter.old meter.new }
-        ensures shown { IfErr result (λ broke. IfSome (S.content store.old) (λ pairs. ShowsPresent (last_key self) pairs broke)) }
+        ensures shown { IfErr result (λ broke. IfSome (S.content store.old) (λ pairs. IfDamaged (IsPresent (last_key self) pairs) broke)) }
         ensures cause { HasBrokeCause (S.faults store.old) (S.faults store.new) result }
     {
-        let report = table_report(alloc, number, self.catalog.table(table))?;
         let pair = last_pair(alloc, &self.catalog)?;
         put_absent(alloc, pair, store, meter)?;
-        Ok((self, report))
+        Ok((self, define_report(number, lines)))
     }
 
     /// Defines a table, where nothing refuses it.
@@ -207,57 +217,198 @@ impl Session {
         let (session, made) = self.with_table_of(alloc, def)?;
         match made {
             Err(why) => Ok((session, unread_report(alloc, number, why))),
-            Ok(table) => session.write_table(alloc, number, table, store, meter),
+            Ok(table) => {
+                let lines = session.lines_of(alloc, table)?;
+                session.write_last(alloc, number, lines, store, meter)
+            }
         }
     }
 
-    /// Defines a query by its key, where its table and columns are there.
+    /// Refuses one definition more than there may be, and a name that is taken.
+    fn check_definition(&self, alloc: Global, name: &PText) -> Result<(), Stopped>
+        ensures { Passes result (definition_refusal self.now name.now) }
+    {
+        if self.catalog.defs() as usize >= DEFINITIONS {
+            return Err(Stopped::Refused(Refusal::Count {
+                word: count_word::DEFINITIONS,
+            }));
+        }
+        if self.catalog.is_taken(name) {
+            let name = name.copy(alloc)?;
+            return Err(Stopped::Refused(Refusal::NameTaken { name }));
+        }
+        Ok(())
+    }
+
+    /// The session with a query that may be defined, with its plan and with the index that it wants.
+    fn with_defined(
+        self,
+        alloc: Global,
+        query: Query,
+        plan: BoundedPlan,
+        wanted: Option<NewIndex>,
+    ) -> Result<Session, NoMem>
+        requires defined { IsDefined self query wanted }
+        requires compiled { IsPlanWanting self.tables query plan wanted }
+        ensures { IfOk result (λ next. next ≡ with_query self query wanted) }
+    {
+        match self.with_query(alloc, query, plan, wanted)? {
+            (session, Ok(_)) => Ok(session),
+            (_, Err(_)) => unreachable!(),
+        }
+    }
+
+    /// Defines a query that wants no index.
+    fn write_query<S: Store<L>, L: Ledger>(
+        self,
+        alloc: Global,
+        number: u32,
+        lines: List<Line>,
+        query: Query,
+        plan: BoundedPlan,
+        store: &mut S,
+        meter: &mut Meter<L>,
+    ) -> Result<(Session, Report), Broke>
+        requires defined { IsDefined self query None }
+        requires compiled { IsPlanWanting self.tables query plan None }
+        ensures step { (best : Candidate) → lines ≡ query_lines self.tables (planned query best None) → Promises (λ m. prepared_over m number (planned query best None) None) (S.content store.old) (S.content store.new) self meter.old meter.new result }
+        ensures cause { HasBrokeCause (S.faults store.old) (S.faults store.new) result }
+    {
+        let session = self.with_defined(alloc, query, plan, None)?;
+        session.write_last(alloc, number, lines, store, meter)
+    }
+
+    /// What a query's definition is in the store while its index is filled.
+    fn new_query(&self, alloc: Global, query: &Query) -> Result<NewQuery, NoMem>
+        requires { length self.now.definitions < 65535 }
+        ensures { IfOk result (λ new. new ≡ new_query_of self.now query.now) }
+    {
+        Ok(NewQuery {
+            key: catalog_key(alloc, self.catalog.defs() + 1)?,
+            format: QUERY_FORMAT,
+            text: print_query(alloc, self.catalog.tables(), query)?,
+        })
+    }
+
+    /// The index that a query wants, as it is filled.
+    fn target(&self, alloc: Global, new: &NewIndex) -> Result<Target, NoMem>
+        requires { IsTableNumber self.now.tables new.now.table × AreParts new.now.index.cols }
+        ensures { IfOk result (λ target. target ≡ target_of new.now.table new.now.number (table_at self.now.tables new.now.table) new.now.index) }
+    {
+        Target::wanted(alloc, self.catalog.table(new.table), new)
+    }
+
+    /// The refusal of an index over too many rows.
+    fn too_many_rows(&self, alloc: Global, table: u8) -> Result<Refusal, NoMem>
+        requires { IsTableNumber self.now.tables table }
+        ensures { IfOk result (λ why. why ≡ Refusal.TooManyRows (table_at self.now.tables table).name) }
+    {
+        let table = self.catalog.table(table).name.copy(alloc)?;
+        Ok(Refusal::TooManyRows { table })
+    }
+
+    /// Defines a query, and makes the index that it wants: each row of its table gets its entry.
+    fn build_query<S: Store<L>, L: Ledger>(
+        self,
+        alloc: Global,
+        number: u32,
+        lines: List<Line>,
+        query: Query,
+        plan: BoundedPlan,
+        new: NewIndex,
+        store: &mut S,
+        meter: &mut Meter<L>,
+    ) -> Result<(Session, Report), Broke>
+        requires defined { IsDefined self query (Some new) }
+        requires compiled { IsPlanWanting self.tables query plan (Some new) }
+        ensures step { (best : Candidate) → lines ≡ query_lines self.tables (planned query best (Some new)) → Promises (λ m. prepared_over m number (planned query best (Some new)) (crowded m (Some new))) (S.content store.old) (S.content store.new) self meter.old meter.new result }
+        ensures cause { HasBrokeCause (S.faults store.old) (S.faults store.new) result }
+    {
+        let target = self.target(alloc, &new)?;
+        let defined = self.new_query(alloc, &query)?;
+        match build_index(alloc, &target, &defined, store, meter)? {
+            Built::TooMany => {
+                let why = self.too_many_rows(alloc, new.table)?;
+                Ok((self, too_many_report(alloc, number, why)))
+            }
+            Built::Rows(count) => {
+                let session = self.with_defined(alloc, query, plan, Some(new))?;
+                Ok((session, build_report(number, lines, count)))
+            }
+        }
+    }
+
+    /// Defines a query that was planned, with the index that it wants.
     fn define_query<S: Store<L>, L: Ledger>(
         self,
         alloc: Global,
         number: u32,
-        query: Query,
+        plan: PlannedQuery,
         store: &mut S,
         meter: &mut Meter<L>,
     ) -> Result<(Session, Report), Broke>
-        requires { IsKeyDefinition self query }
-        ensures step { Promises (λ m. prepared_as m number (Some query)) (S.content store.old) (S.content store.new) self meter.old meter.new result }
+        requires name { IsName plan.query.name }
+        requires computed { IsComputed self.tables plan }
+        requires free { definition_refusal self plan.query.name ≡ None }
+        ensures step { (spelled : Planned) → IsPlanOf plan spelled → Promises (λ m. prepared_over m number spelled (crowded m spelled.chosen.wanted)) (S.content store.old) (S.content store.new) self meter.old meter.new result }
         ensures cause { HasBrokeCause (S.faults store.old) (S.faults store.new) result }
     {
-        let report = query_report(alloc, number, &query.name)?;
-        let session = self.with_query(alloc, query)?;
-        let pair = last_pair(alloc, &session.catalog)?;
-        put_absent(alloc, pair, store, meter)?;
-        Ok((session, report))
-    }
-
-    /// The query that the tokens from a place on spell, where it is one by its key.
-    #[tactic(auto, unfolding(pq_grammar::specs::Answers::Gives))]
-    pub(crate) fn query_from(
-        &self,
-        alloc: Global,
-        name: &PText,
-        text: &PText,
-        tokens: &List<Token>,
-        from: u32,
-    ) -> Result<Option<Query>, NoMem>
-        ensures { IfOk result (λ query. query ≡ read_query self.now name.now (select_from text.now tokens.now from)) }
-    {
-        let shapes = shapes(alloc, text.bytes(), tokens.items())?;
-        let from = (from as usize).min(shapes.items().len());
-        match read_select(alloc, &shapes.items()[from..]) {
-            Ok(select) => self.key_query(alloc, name, &select),
-            Err(ReadError::NoMem) => Err(NoMem),
-            Err(ReadError::Stuck(_)) => Ok(None),
+        let lines = planned_lines(alloc, &self.catalog, &plan)?;
+        let PlannedQuery { query, compiled } = plan;
+        let Compiled {
+            plan: kept,
+            wanted,
+            ..
+        } = compiled;
+        match wanted {
+            None => self.write_query(alloc, number, lines, query, kept, store, meter),
+            Some(new) => self.build_query(alloc, number, lines, query, kept, new, store, meter),
         }
     }
 
-    /// Prepares the query that the tokens from a place on spell.
+    /// The query of this name that the tokens from a place on spell, with its plan, or the first refusal.
+    pub(crate) fn plan(
+        &self,
+        alloc: Global,
+        name: PText,
+        text: &PText,
+        tokens: &List<Token>,
+        from: u32,
+    ) -> Result<PlannedQuery, Stopped>
+        requires spelled { tokens.now ≡ tokens_of text.now }
+        requires within { from ≤ length tokens.now }
+        ensures planned { IfOk result (IsPlanned self.now name text.now tokens.now from) }
+        ensures refused { IfErr result (λ stopped. Refuses stopped (plan_from self.now name text.now tokens.now from)) }
+    {
+        plan_query(alloc, &self.catalog, name, text, tokens, from)
+    }
+
+    /// The query of this name that the tokens from a place on spell, with its plan, where it may be defined.
+    fn definable(
+        &self,
+        alloc: Global,
+        name: PText,
+        text: &PText,
+        tokens: &List<Token>,
+        from: u32,
+    ) -> Result<PlannedQuery, Stopped>
+        requires spelled { tokens.now ≡ tokens_of text.now }
+        requires within { from ≤ length tokens.now }
+        ensures planned { IfOk result (IsPlanned self.now name text.now tokens.now from) }
+        ensures free { IfOk result (λ plan. definition_refusal self.now plan.query.name ≡ None) }
+        ensures refused { IfErr result (λ stopped. Refuses stopped (prepared_from self.now name text.now tokens.now from)) }
+    {
+        let plan = self.plan(alloc, name, text, tokens, from)?;
+        self.check_definition(alloc, &plan.query.name)?;
+        Ok(plan)
+    }
+
+    /// Prepares the query that the tokens from a place on spell, where nothing refuses it.
     pub(crate) fn prepare<S: Store<L>, L: Ledger>(
         self,
         alloc: Global,
         number: u32,
-        name: &PText,
+        name: PText,
         text: &PText,
         tokens: &List<Token>,
         from: u32,
@@ -265,13 +416,46 @@ impl Session {
         meter: &mut Meter<L>,
     ) -> Result<(Session, Report), Broke>
         requires spelled { tokens.now ≡ tokens_of text.now }
-        requires name { IsName name.now }
-        ensures step { Promises (λ m. prepared m number name.now (select_from text.now tokens.now from)) (S.content store.old) (S.content store.new) self meter.old meter.new result }
+        requires within { from ≤ length tokens.now }
+        requires name { IsName name }
+        ensures step { Promises (λ m. prepared m number name text.now tokens.now from) (S.content store.old) (S.content store.new) self meter.old meter.new result }
         ensures cause { HasBrokeCause (S.faults store.old) (S.faults store.new) result }
     {
-        match self.query_from(alloc, name, text, tokens, from)? {
-            Some(query) => self.define_query(alloc, number, query, store, meter),
-            None => Ok((self, not_built_report(alloc, number))),
+        match self.definable(alloc, name, text, tokens, from) {
+            Err(Stopped::NoMem) => Err(Broke::NoMem),
+            Err(Stopped::Refused(why)) => Ok((self, unread_report(alloc, number, why))),
+            Ok(plan) => self.define_query(alloc, number, plan, store, meter),
+        }
+    }
+
+    /// The report of a plan that nothing is made of.
+    fn plan_report(&self, alloc: Global, number: u32, plan: &PlannedQuery) -> Result<Report, NoMem>
+        requires { IsComputed self.now.tables plan.now }
+        ensures { IfOk result (λ report. report ≡ report_of number (planned_lines self.now.tables plan.now.query.name
+            plan.now.compiled.choice (cost plan.now.compiled.plan) plan.now.compiled.wanted) End.Done (bound 0 0)) }
+    {
+        let lines = planned_lines(alloc, &self.catalog, plan)?;
+        Ok(unpaid_report(number, lines))
+    }
+
+    /// Explains the query that the tokens from a place on spell, under the name `explain`.
+    pub(crate) fn explain(
+        &self,
+        alloc: Global,
+        number: u32,
+        text: &PText,
+        tokens: &List<Token>,
+        from: u32,
+    ) -> Result<Report, NoMem>
+        requires spelled { tokens.now ≡ tokens_of text.now }
+        requires within { from ≤ length tokens.now }
+        ensures { IfOk result (λ report. report ≡ explained_report self.now number text.now tokens.now from) }
+    {
+        let name = explained_name(alloc)?;
+        match self.plan(alloc, name, text, tokens, from) {
+            Err(Stopped::NoMem) => Err(NoMem),
+            Err(Stopped::Refused(why)) => Ok(unread_report(alloc, number, why)),
+            Ok(plan) => self.plan_report(alloc, number, &plan),
         }
     }
 }

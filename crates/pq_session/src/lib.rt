@@ -2,11 +2,12 @@
 #![tactic(auto)]
 
 mod define;
-mod key_query;
-mod key_select;
+mod format;
+mod last;
 pub mod laws;
 mod lines;
 mod opening;
+mod planning;
 mod reports;
 mod run;
 mod session;

@@ -2,11 +2,11 @@
 ghost use Rattle.std.specs.Prelude.{◌≡◌, ◌≤◌, ◌+◌, ◌-◌, ◌++◌, length, map, take, IfOk, OnOk};
 ghost use Rattle.pq_schema.specs.Schema.{def_of, definition_at};
 ghost use Rattle.pq_schema.specs.Tables.{table_at};
-ghost use Rattle.pq_session.specs.Lines.{AreOf, AreInside, AreShown, IsMadeOf, IsShown, index_col, index_line, index_lines, table_lines, lines_at, made_lines, definition_lines, show_lines};
+ghost use Rattle.pq_session.specs.Lines.{AreOf, AreInside, AreShown, IsMadeOf, IsLined, IsShowable, index_col, index_line, index_lines, table_lines, lines_at, made_lines, definition_lines, show_lines, wanted_lines};
 
 use pq_base::{List, NoMem};
 use pq_print::{IndexCol, Line, print_definition};
-use pq_schema::{Catalog, Column, Def, Index, KeyPart, Table};
+use pq_schema::{Catalog, Column, Def, Index, KeyPart, NewIndex, Table};
 use std::alloc::Global;
 
 fn index_cols(alloc: Global, columns: &[Column], parts: &[KeyPart]) -> Result<List<IndexCol>, NoMem>
@@ -69,6 +69,25 @@ pub fn table_lines(alloc: Global, table: &Table) -> Result<List<Line>, NoMem>
     let mut lines = List::new(alloc);
     put_index_lines(alloc, table, 1, table.indexes.items(), &mut lines)?;
     Ok(lines)
+}
+
+/// Puts the line of an index that a query wants.
+pub(crate) fn put_wanted_line(
+    alloc: Global,
+    catalog: &Catalog,
+    wanted: &Option<NewIndex>,
+    lines: &mut List<Line>,
+) -> Result<(), NoMem>
+    requires { IsLined catalog.now.tables wanted.now }
+    ensures { OnOk result (lines.new ≡ lines.old ++ wanted_lines catalog.now.tables wanted.now) }
+{
+    match wanted {
+        None => Ok(()),
+        Some(new) => {
+            let line = index_line(alloc, catalog.table(new.table), new.number, &new.index)?;
+            lines.push(alloc, line)
+        }
+    }
 }
 
 /// A number from 1 as a place from 0.
@@ -138,7 +157,7 @@ fn put_definition_lines(
 
 /// The lines of all definitions in order.
 pub fn show_lines(alloc: Global, catalog: &Catalog) -> Result<List<Line>, NoMem>
-    requires { IsShown catalog.now }
+    requires { IsShowable catalog.now }
     ensures { IfOk result (λ lines. lines ≡ show_lines catalog.now) }
 {
     let mut lines = List::new(alloc);

@@ -1,17 +1,22 @@
 //! The opening of a store: what its catalog's pairs tell.
-ghost use Rattle.std.specs.Prelude.{◌≡◌, ◌≤◌, length, map, drop, Some, None, IfOk, IsTrue, if◌then◌else◌};
+ghost use Rattle.std.specs.Prelude.{◌≡◌, ◌≤◌, length, map, option_map, option_and_then, Some, IfOk, IfSome};
+ghost use Rattle.std.specs.Result.{result_ok};
 ghost use Rattle.pq_store.specs.Content.{entry};
-ghost use Rattle.pq_schema.specs.Definitions.{new_table};
+ghost use Rattle.pq_schema.specs.Definitions.{new_table, new_query};
+ghost use Rattle.pq_session.specs.Planned.{IsComputed};
 ghost use Rattle.pq_schema.specs.Names.{IsName, IsTableDef};
 ghost use Rattle.pq_text.specs.Tokens.{tokens_of};
-ghost use Rattle.pq_session.specs.KeyQuery.{read_query};
-ghost use Rattle.pq_session.specs.KeySelect.{select_from};
-ghost use Rattle.pq_session.specs.Opening.{is_marked, is_ready, has_last_text, with_made, with_read, defined_by, text_defines, text_adds, pair_adds, opened};
+ghost use Rattle.pq_session.specs.Planning.{plan_from};
+ghost use Rattle.pq_session.specs.Opening.{has_last_text, with_made, with_planned, defined_by, text_defines, text_adds, if_formatted, pair_adds, goes_on, opened};
 ghost use Rattle.pq_session.specs.Opened.{TellsOpened};
 ghost use Rattle.pq_session.specs.Names.{IsNamed};
 
+use crate::format::{Mark, has_format, marked_text};
+use crate::last::last_made;
+use crate::planning::{PlannedQuery, plan_query};
 use crate::session::Session;
 use pq_base::{Bytes, List, NoMem, PText, Stopped};
+use pq_compile::Compiled;
 use pq_def_read::{Statement, read_statement};
 use pq_key_code::catalog_key;
 use pq_print::print_definition;
@@ -23,26 +28,8 @@ use std::alloc::Global;
 /// The greatest number of bytes of a canonical text that is read.
 const TEXT_BYTES: usize = 1048576;
 
-/// Whether a value begins with the format and the mark that the definition is ready.
-fn is_marked(value: &[u8]) -> bool
-    ensures answer { result ≡ is_marked value.now }
-    ensures long { IsTrue result → 2 ≤ length value.now }
-{
-    match value {
-        [format, mark, ..] => *format == 1 && *mark == 0,
-        _ => false,
-    }
-}
-
-/// The text behind the format and the mark that the definition is ready.
-fn ready_text(alloc: Global, value: &[u8]) -> Result<Option<PText>, NoMem>
-    ensures { IfOk result (λ text. text ≡ (if is_ready value.now then Some (drop 2 value.now) else None)) }
-{
-    if !is_marked(value) {
-        return Ok(None);
-    }
-    PText::from_bytes(alloc, &value[2..])
-}
+/// A session, and the mark of its last definition.
+pub(crate) type Added = (Session, Mark);
 
 /// Whether the last definition has this canonical text.
 fn has_last_text(alloc: Global, catalog: &Catalog, text: &PText) -> Result<bool, NoMem>
@@ -64,6 +51,23 @@ fn damage_of(alloc: Global, pair: &Pair) -> Result<Damage, NoMem>
     })
 }
 
+/// The session with a mark, where a value has the format of its last definition's pair.
+fn formatted(value: &[u8], mark: Mark, next: Option<Session>) -> Option<Added>
+    requires { IfSome next (λ schema. 1 ≤ length schema.definitions) }
+    ensures { result ≡ option_map (λ schema. (schema, mark)) (option_and_then (if_formatted value.now) next) }
+{
+    match next {
+        None => None,
+        Some(next) => {
+            if has_format(value, &next.catalog) {
+                Some((next, mark))
+            } else {
+                None
+            }
+        }
+    }
+}
+
 impl Session {
     /// The session with the table that the definition makes, None where it is refused.
     fn read_table(self, alloc: Global, def: TableDef) -> Result<Option<Session>, NoMem>
@@ -76,23 +80,43 @@ impl Session {
         }
     }
 
-    /// The session with the query that the tokens from a place on spell, None where they spell none
-    /// by the key.
+    /// The session with the query that the tokens from a place on spell and the index that it wants, None
+    /// where it is refused.
     fn read_query(
         self,
         alloc: Global,
-        name: &PText,
+        name: PText,
         text: &PText,
         tokens: &List<Token>,
         from: u32,
     ) -> Result<Option<Session>, NoMem>
         requires spelled { tokens.now ≡ tokens_of text.now }
-        requires name { IsName name.now }
-        ensures { IfOk result (λ next. next ≡ with_read self (read_query self name.now (select_from text.now tokens.now from))) }
+        requires within { from ≤ length tokens.now }
+        requires name { IsName name }
+        ensures { IfOk result (λ next. next ≡ with_planned self (plan_from self name text.now tokens.now from)) }
     {
-        match self.query_from(alloc, name, text, tokens, from)? {
-            Some(query) => Ok(Some(self.with_query(alloc, query)?)),
-            None => Ok(None),
+        match plan_query(alloc, &self.catalog, name, text, tokens, from) {
+            Err(Stopped::NoMem) => Err(NoMem),
+            Err(Stopped::Refused(_)) => Ok(None),
+            Ok(plan) => self.add_planned(alloc, plan),
+        }
+    }
+
+    /// The session with a planned query and the index that it wants, None where it is refused.
+    fn add_planned(self, alloc: Global, plan: PlannedQuery) -> Result<Option<Session>, NoMem>
+        requires name { IsName plan.query.name }
+        requires computed { IsComputed self.tables plan }
+        ensures { IfOk result (λ next. next ≡ result_ok (new_query self plan.query plan.compiled.wanted)) }
+    {
+        let PlannedQuery { query, compiled } = plan;
+        let Compiled {
+            plan: kept,
+            wanted,
+            ..
+        } = compiled;
+        match self.with_query(alloc, query, kept, wanted)? {
+            (session, Ok(_)) => Ok(Some(session)),
+            (_, Err(_)) => Ok(None),
         }
     }
 
@@ -105,13 +129,13 @@ impl Session {
         statement: Statement,
     ) -> Result<Option<Session>, NoMem>
         requires spelled { tokens.now ≡ tokens_of text.now }
-        requires named { IsNamed statement }
+        requires named { IsNamed tokens.now statement }
         ensures { IfOk result (λ next. next ≡ defined_by self text.now tokens.now statement) }
     {
         match statement {
             Statement::Create(def) => self.read_table(alloc, def),
             Statement::Prepare { name, from } => {
-                self.read_query(alloc, &name, text, tokens, from)
+                self.read_query(alloc, name, text, tokens, from)
             }
             _ => Ok(None),
         }
@@ -149,36 +173,58 @@ impl Session {
         }
     }
 
-    /// The session with the definition of a pair, None where it isn't the next definition's.
+    /// The session with the definition of a pair and the definition's mark, None where it isn't the next
+    /// definition's.
     #[tactic(auto, unfolding(crate::specs::Opening::pair_adds))]
-    fn with_pair(self, alloc: Global, pair: &Pair) -> Result<Option<Session>, NoMem>
-        ensures { IfOk result (λ next. next ≡ pair_adds self (entry pair.now)) }
+    fn with_pair(self, alloc: Global, pair: &Pair) -> Result<Option<Added>, NoMem>
+        ensures { IfOk result (λ added. added ≡ pair_adds self (entry pair.now)) }
     {
         let key = catalog_key(alloc, self.catalog.defs() + 1)?;
         if pair.key.items() != key.items() {
             return Ok(None);
         }
-        match ready_text(alloc, pair.value.items())? {
-            Some(text) => self.with_text(alloc, &text),
+        match marked_text(alloc, pair.value.items())? {
+            Some((mark, text)) => {
+                let next = self.with_text(alloc, &text)?;
+                Ok(formatted(pair.value.items(), mark, next))
+            }
             None => Ok(None),
         }
     }
+}
 
-    /// The session with the definitions of the pairs, or the first pair that is none's.
-    #[tactic(auto, unfolding(crate::specs::Opening::opened))]
-    pub(crate) fn with_pairs(
-        self,
-        alloc: Global,
-        pairs: &[Pair],
-    ) -> Result<Result<Session, Damage>, NoMem>
-        ensures { IfOk result (λ answer. TellsOpened answer (opened self (map entry pairs.now))) }
-    {
-        match pairs.split_first() {
-            None => Ok(Ok(self)),
-            Some((pair, rest)) => match self.with_pair(alloc, pair)? {
-                Some(next) => next.with_pairs(alloc, rest),
-                None => Ok(Err(damage_of(alloc, pair)?)),
-            },
-        }
+/// Whether other pairs may come: the definition is ready; or it comes last, and made an index.
+fn goes_on(added: &Added, rest: &[Pair]) -> bool
+    ensures { result ≡ goes_on added.now (map entry rest.now) }
+{
+    match added.1 {
+        Mark::Ready => true,
+        Mark::Building => rest.is_empty() && last_made(&added.0.catalog).is_some(),
+    }
+}
+
+/// The session with the definitions of the pairs and the mark of the last one, or the first pair that is
+/// none's.
+#[tactic(auto, unfolding(crate::specs::Opening::opened))]
+pub(crate) fn with_pairs(
+    alloc: Global,
+    added: Added,
+    pairs: &[Pair],
+) -> Result<Result<Added, Damage>, NoMem>
+    ensures { IfOk result (λ answer. TellsOpened answer (opened added (map entry pairs.now))) }
+{
+    let (session, mark) = added;
+    match pairs.split_first() {
+        None => Ok(Ok((session, mark))),
+        Some((pair, rest)) => match session.with_pair(alloc, pair)? {
+            None => Ok(Err(damage_of(alloc, pair)?)),
+            Some(next) => {
+                if goes_on(&next, rest) {
+                    with_pairs(alloc, next, rest)
+                } else {
+                    Ok(Err(damage_of(alloc, pair)?))
+                }
+            }
+        },
     }
 }

@@ -1,9 +1,10 @@
 //! Reports that several statements make.
-ghost use Rattle.std.specs.Prelude.{◌≡◌, []};
+ghost use Rattle.std.specs.Prelude.{◌≡◌, ◌≤◌, []};
+ghost use Rattle.pq_session.specs.Reports.{build_report, define_report, too_many_report};
 ghost use Rattle.pq_session.specs.Step.{report_of, refusal_report, bound};
 
 use pq_base::{Bound, List, Refusal, Used};
-use pq_print::{End, Report};
+use pq_print::{End, Line, Report};
 use std::alloc::Global;
 
 pub const NOTHING_USED: Used = Used { ops: 0, entries: 0 };
@@ -42,9 +43,65 @@ pub fn unread_report(alloc: Global, number: u32, why: Refusal) -> Report
     refusal_report(alloc, number, why, bound, NOTHING_USED)
 }
 
-/// The report of a statement that isn't built.
-pub fn not_built_report(alloc: Global, number: u32) -> Report
-    ensures { result ≡ refusal_report number Refusal.NotBuilt (bound 0 0) }
+/// The report of a statement that is done without a call of the store.
+pub fn unpaid_report(number: u32, lines: List<Line>) -> Report
+    ensures { result ≡ report_of number lines End.Done (bound 0 0) }
 {
-    unread_report(alloc, number, Refusal::NotBuilt)
+    Report {
+        number,
+        lines,
+        end: End::Done,
+        bound: Bound { ops: 0, entries: 0 },
+        used: NOTHING_USED,
+    }
+}
+
+/// The report of a definition, which is one write.
+pub fn define_report(number: u32, lines: List<Line>) -> Report
+    ensures { result ≡ define_report number lines }
+{
+    Report {
+        number,
+        lines,
+        end: End::Done,
+        bound: Bound { ops: 1, entries: 0 },
+        used: Used { ops: 1, entries: 0 },
+    }
+}
+
+/// The report of a definition whose index was filled over so many rows.
+pub fn build_report(number: u32, lines: List<Line>, count: u32) -> Report
+    requires { count ≤ 1000000 }
+    ensures { result ≡ build_report number lines count }
+{
+    let ops = count + count / 256 + 4;
+    let entries = 2 * count;
+    Report {
+        number,
+        lines,
+        end: End::Done,
+        bound: Bound {
+            ops: ops as u128,
+            entries: entries as u128,
+        },
+        used: Used {
+            ops: ops as u64,
+            entries: entries as u64,
+        },
+    }
+}
+
+/// The report of an index that would be filled over too many rows: they were counted.
+pub fn too_many_report(alloc: Global, number: u32, why: Refusal) -> Report
+    ensures { result ≡ too_many_report number why }
+{
+    let bound = Bound {
+        ops: 1,
+        entries: 1_000_001,
+    };
+    let used = Used {
+        ops: 1,
+        entries: 1_000_001,
+    };
+    refusal_report(alloc, number, why, bound, used)
 }

@@ -1,26 +1,31 @@
 //! The session: the view of a store's definitions.
-ghost use Rattle.std.specs.Prelude.{◌≡◌, ◌≤◌, ◌<◌, ◌+◌, ◌^◌, ◌⊎◌, true, length, IfOk, IfErr, IfSome, OnErr, None, drop, ℕ};
+ghost use Rattle.std.specs.Prelude.{◌≡◌, ◌≤◌, ◌<◌, ◌+◌, ◌^◌, ◌⊎◌, true, length, IfOk, IfErr, IfSome, IsSome, OnErr, Ok, None, drop, ℕ};
+ghost use Rattle.pq_builds.specs.Stages.{Takes};
 ghost use Rattle.pq_store.specs.Content.{HasBrokeCause};
-ghost use Rattle.pq_base.specs.declared.refusal.Refusal.TheVariants.{NotBuilt};
 ghost use Rattle.pq_schema.specs.Schema.{empty_schema};
+ghost use Rattle.pq_print.specs.declared.report.End.TheVariants as End;
 ghost use Rattle.pq_text.specs.Tokens.{tokens_of};
 ghost use Rattle.pq_session.specs.Model.{Model as Tables};
 ghost use Rattle.pq_session.specs.Names.{IsNamed};
-ghost use Rattle.pq_session.specs.Opening.{opening_of, started_of, opened, catalog_in, IsStarted, TellsSchema, NamesPair, NamesFlaw};
-ghost use Rattle.pq_intent.specs.Errors.{IsSound};
+ghost use Rattle.pq_session.specs.Opening.{opening_of, started_of, none_added, opened, catalog_in, IsStarted, IsAsMarked, rows_of_mark, TellsSchema, NamesPair, NamesFlaw, ShowsMarked};
+ghost use Rattle.pq_store.specs.Breaks.{IsUndamaged};
 ghost use Rattle.pq_session.specs.Matches.{Matches, IsOpening};
-ghost use Rattle.pq_session.specs.Evidence.{IsShown};
-ghost use Rattle.pq_session.specs.Promise.{Promises, IsRefusal, IsWithin, statement_bound};
-ghost use Rattle.pq_session.specs.Stands.{Stands, Opens};
-ghost use Rattle.pq_session.specs.Step.{bound, report_of, refusal_report, performed, text_step, step};
+ghost use Rattle.pq_session.specs.Evidence.{TellsEvidence};
+ghost use Rattle.pq_session.specs.Promise.{Promises, IsRefusal, IsWithin, IsWithinFixed, statement_bound};
+ghost use Rattle.pq_session.specs.Stands.{HoldsModel, Stands, Opens, last_made};
+ghost use Rattle.pq_session.specs.Step.{bound, report_of, performed, text_step, step};
 ghost use Rattle.pq_session.specs.Lines.{show_lines};
 
+use crate::format::Mark;
+use crate::last::complete;
 use crate::lines::show_lines;
-use crate::reports::{NOTHING_USED, not_built_report, unread_report};
+use crate::opening::with_pairs;
+use crate::reports::{unpaid_report, unread_report};
 use pq_base::{Bound, List, NoMem, PText, Refusal, Stopped, Used};
 use pq_def_read::{Statement, read_statement};
 use pq_intent::{Settled, settle};
-use pq_print::{End, Report};
+use pq_plan::BoundedPlan;
+use pq_print::Report;
 use pq_schema::Catalog;
 use pq_store::{Broke, Meter, Store};
 use pq_text::{Piece, Token, tokens};
@@ -31,10 +36,13 @@ use std::sync::ledger::Ledger;
 /// The greatest number of bytes of a statement.
 pub const STATEMENT_BYTES: usize = 65536;
 
-/// What a session knows of a store: its definitions alone. Rows are read from the store each time.
+/// What a session knows of a store: its definitions, with the plan of each query. Rows are read from the
+/// store each time.
 #[derive(Debug, Drop)]
 pub struct Session {
     pub(crate) catalog: Catalog,
+    /// One for each definition, `None` for a table's.
+    pub(crate) plans: List<Option<BoundedPlan>>,
 }
 
 impl Model for Session {
@@ -42,11 +50,12 @@ impl Model for Session {
 
     ghost Value = { Schema };
 
-    ghost use Rattle.pq_session.specs.Built.{IsBuilt};
+    ghost use Rattle.pq_schema.specs.Valid.{IsValid};
+    ghost use Rattle.pq_session.specs.Kept.{ArePlans};
 
     ghost view = { λ s. s.catalog };
 
-    ghost invariant = { λ s. IsBuilt s.catalog };
+    ghost invariant = { λ s. IsValid s.catalog × ArePlans s.catalog s.plans };
 }
 
 /// A session over an opened store, with how many definitions were found.
@@ -58,25 +67,37 @@ pub struct Started {
     pub used: Used,
 }
 
-/// What was opened after a settling, by one range that found a pair for each definition.
-fn opened_by(session: Session, settled: &Settled) -> Started
+/// What one range found of a catalog: the session, and the mark of its last definition.
+#[derive(Drop)]
+pub(crate) struct Found {
+    pub session: Session,
+    pub mark: Mark,
+}
+
+/// What was opened after a settling, by one range that found a pair for each definition, and by the
+/// completion of a build over so many rows.
+fn opened_by(session: Session, settled: &Settled, rows: Option<u32>) -> Started
     requires ops { settled.now.used.ops < 2 ^ 40 }
     requires entries { settled.now.used.entries ≤ 1 }
-    ensures started { result ≡ started_of session settled.now (length session.definitions) }
+    ensures started { result ≡ started_of session settled.now (length session.definitions) rows }
     ensures few { length session.definitions ≤ 256 }
 {
     let defs = session.catalog.defs();
-    let ops = settled.used.ops + 1;
+    let (ops, entries) = match rows {
+        None => (0, 0),
+        Some(rows) => (rows as u64 + rows as u64 / 256 + 3, 2 * rows as u64),
+    };
+    let all_ops = settled.used.ops + 1 + ops;
     Started {
         defs,
         session,
         bound: Bound {
-            ops: ops as u128,
-            entries: 257,
+            ops: all_ops as u128,
+            entries: 257 + entries as u128,
         },
         used: Used {
-            ops,
-            entries: settled.used.entries + u64::from(defs),
+            ops: all_ops,
+            entries: settled.used.entries + u64::from(defs) + entries,
         },
     }
 }
@@ -88,11 +109,13 @@ impl Session {
     {
         Session {
             catalog: Catalog::new(alloc),
+            plans: List::new(alloc),
         }
     }
 
-    /// Opens a store: what an intent left is made whole, and then the catalog is read, by one range. The
-    /// first pair that is no definition's is damage, and so is an intent that is none.
+    /// Opens a store: what an intent left is made whole, the catalog is read by one range, and a build
+    /// that was left is completed. The first pair that is no definition's is damage, and so is an intent
+    /// that is none, and what stops the completion.
     pub fn start<S: Store<L>, L: Ledger>(
         alloc: Global,
         store: &mut S,
@@ -106,24 +129,23 @@ impl Session {
         // Over a told store, what its catalog says, or the first flaw that it has.
         ensures told { IfOk result (λ s. IfSome (S.content store.old) (λ pairs. TellsSchema pairs s.session)) }
         ensures flaw { IfErr result (λ broke. IfSome (S.content store.old) (λ pairs. NamesFlaw pairs broke)) }
-        ensures damage { IfErr result (λ broke. (m : Tables) → Opens (S.content store.old) m → IsSound broke) }
+        ensures damage { IfErr result (λ broke. (m : Tables) → Opens (S.content store.old) m → IsUndamaged broke) }
         ensures cause { HasBrokeCause (S.faults store.old) (S.faults store.new) result }
     {
         let settled = settle(alloc, store, meter)?;
-        Session::read_catalog(alloc, &settled, store, meter)
+        let found = Session::read_catalog(alloc, store, meter)?;
+        Session::finish_opening(alloc, found, &settled, store, meter)
     }
 
     /// Reads the definitions of a store that was settled.
     fn read_catalog<S: Store<L>, L: Ledger>(
         alloc: Global,
-        settled: &Settled,
         store: &mut S,
         meter: &mut Meter<L>,
-    ) -> Result<Started, Broke>
-        requires ops { settled.now.used.ops < 2 ^ 40 }
-        requires entries { settled.now.used.entries ≤ 1 }
-        ensures session { IfOk result (λ s. IfSome (S.content store.old) (λ pairs. opened empty_schema (catalog_in pairs) ≡ Ok s.session)) }
-        ensures started { IfOk result (λ s. IsStarted s settled.now meter.old meter.new) }
+    ) -> Result<Found, Broke>
+        ensures told { IfOk result (λ f. IfSome (S.content store.old) (λ pairs. opened none_added (catalog_in pairs) ≡ Ok (f.session, f.mark))) }
+        ensures marked { IfOk result (λ f. f.mark ≡ Mark.Building → IsSome (last_made f.session)) }
+        ensures takes { IfOk result (λ f. Takes 1 (length f.session.definitions) meter.old meter.new) }
         ensures flaw { IfErr result (λ broke. IfSome (S.content store.old) (λ pairs. NamesPair pairs broke)) }
         ensures same { S.content store.new ≡ S.content store.old }
         ensures cause { HasBrokeCause (S.faults store.old) (S.faults store.new) result }
@@ -132,9 +154,39 @@ impl Session {
             Err(error) => return Err(Broke::from(error)),
             Ok(found) => found,
         };
-        match Session::blank(alloc).with_pairs(alloc, found.items())? {
+        match with_pairs(alloc, (Session::blank(alloc), Mark::Ready), found.items())? {
             Err(damage) => Err(Broke::Damaged(damage)),
-            Ok(session) => Ok(opened_by(session, settled)),
+            Ok((session, mark)) => Ok(Found { session, mark }),
+        }
+    }
+
+    /// Completes the build that the mark tells of, where it tells of one.
+    fn finish_opening<S: Store<L>, L: Ledger>(
+        alloc: Global,
+        found: Found,
+        settled: &Settled,
+        store: &mut S,
+        meter: &mut Meter<L>,
+    ) -> Result<Started, Broke>
+        requires ops { settled.now.used.ops < 2 ^ 40 }
+        requires entries { settled.now.used.entries ≤ 1 }
+        requires marked { found.mark ≡ Mark.Building → IsSome (last_made found.session) }
+        ensures stands { IfOk result (λ s. (m : Tables) → m.schema ≡ found.session → IsAsMarked found.mark (S.content store.old) m → HoldsModel (S.content store.new) m) }
+        ensures started { IfOk result (λ s. IsStarted found.session s settled.now meter.old meter.new) }
+        ensures rows { IfOk result (λ s. (m : Tables) → m.schema ≡ found.session → IsAsMarked found.mark (S.content store.old) m
+            → s ≡ started_of found.session settled.now (length found.session.definitions) (rows_of_mark found.mark m)) }
+        ensures stopped { OnErr result ((m : Tables) → m.schema ≡ found.session → IsAsMarked found.mark (S.content store.old) m → Opens (S.content store.new) m) }
+        ensures sound { IfErr result (λ broke. (m : Tables) → m.schema ≡ found.session → IsAsMarked found.mark (S.content store.old) m → IsUndamaged broke) }
+        ensures shown { IfErr result (λ broke. IfSome (S.content store.old) (λ c. ShowsMarked found.session found.mark c broke)) }
+        ensures cause { HasBrokeCause (S.faults store.old) (S.faults store.new) result }
+    {
+        let Found { session, mark } = found;
+        match mark {
+            Mark::Ready => Ok(opened_by(session, settled, None)),
+            Mark::Building => {
+                let rows = complete(alloc, &session.catalog, store, meter)?;
+                Ok(opened_by(session, settled, Some(rows)))
+            }
         }
     }
 
@@ -150,22 +202,24 @@ impl Session {
         meter: &mut Meter<L>,
     ) -> Result<(Session, Report), Broke>
         requires spelled { tokens.now ≡ tokens_of text.now }
-        requires named { IsNamed statement }
+        requires named { IsNamed tokens.now statement }
         ensures step { Promises (λ m. performed m number text.now tokens.now statement) (S.content store.old) (S.content store.new) self meter.old meter.new result }
         ensures cause { HasBrokeCause (S.faults store.old) (S.faults store.new) result }
     {
         match statement {
             Statement::Create(def) => self.create(alloc, number, def, store, meter),
             Statement::Prepare { name, from } => {
-                self.prepare(alloc, number, &name, text, tokens, from, store, meter)
+                self.prepare(alloc, number, name, text, tokens, from, store, meter)
+            }
+            Statement::Explain { from } => {
+                let report = self.explain(alloc, number, text, tokens, from)?;
+                Ok((self, report))
             }
             Statement::Run {
                 name,
                 values,
-                after: None,
-            } => self.run(alloc, number, &name, &values, store, meter),
-            Statement::Run { after: Some(_), .. } => Ok(self.not_built(alloc, number)),
-            Statement::Explain { .. } => Ok(self.not_built(alloc, number)),
+                after,
+            } => self.run(alloc, number, &name, &values, after.as_ref(), store, meter),
             Statement::Show => Ok(self.show(alloc, number)?),
             written @ (Statement::Insert { .. }
             | Statement::Update { .. }
@@ -173,27 +227,12 @@ impl Session {
         }
     }
 
-    /// What a statement that is not built makes: nothing.
-    fn not_built(self, alloc: Global, number: u32) -> (Session, Report)
-        ensures { result ≡ (self, refusal_report number NotBuilt (bound 0 0)) }
-    {
-        (self, not_built_report(alloc, number))
-    }
-
     /// Shows the definitions, and the indexes that each of them made.
     fn show(self, alloc: Global, number: u32) -> Result<(Session, Report), NoMem>
         ensures { IfOk result (λ made. made ≡ (self, report_of number (show_lines self) End.Done (bound 0 0))) }
     {
         let lines = show_lines(alloc, &self.catalog)?;
-        let bound = Bound { ops: 0, entries: 0 };
-        let report = Report {
-            number,
-            lines,
-            end: End::Done,
-            bound,
-            used: NOTHING_USED,
-        };
-        Ok((self, report))
+        Ok((self, unpaid_report(number, lines)))
     }
 
     /// Makes the statement of a text.
@@ -235,16 +274,18 @@ impl Session {
         ensures entries { IfOk result (λ p. meter.new.entries ≡ meter.old.entries + p.1.used.entries) }
         // Over every store, told or not: the bound is fixed by the schema and the piece alone, what is used
         // is within it, also where the step breaks off, and a refused statement changes nothing.
-        ensures bound { IfOk result (λ p. p.1.bound ≡ statement_bound self piece.now) }
-        ensures within { IsWithin (statement_bound self piece.now) meter.old meter.new }
+        // Where an index is made, there is none: the build's depends on the rows.
+        ensures bound { IfOk result (λ p. IfSome (statement_bound self piece.now) (λ most. p.1.bound ≡ most)) }
+        ensures within { IfSome (statement_bound self piece.now) (λ most. IsWithin most meter.old meter.new) }
+        ensures building { OnErr result (IsWithinFixed (statement_bound self piece.now) meter.old meter.new) }
         ensures few_ops { IfOk result (λ p. p.1.used.ops ≤ p.1.bound.ops) }
         ensures few_entries { IfOk result (λ p. p.1.used.entries ≤ p.1.bound.entries) }
         ensures refused { IfOk result (λ p. IsRefusal p.1.end → (S.content store.new ≡ S.content store.old) × (p.0 ≡ self)) }
         ensures stopped { OnErr result ((m : Tables) → Stands (S.content store.old) self m
             → Opens (S.content store.new) m ⊎ Opens (S.content store.new) (step m number piece.now).model) }
-        ensures damage { IfErr result (λ broke. (m : Tables) → Stands (S.content store.old) self m → IsSound broke) }
+        ensures damage { IfErr result (λ broke. (m : Tables) → Stands (S.content store.old) self m → IsUndamaged broke) }
         // Damage is told with what shows it in the content that was there.
-        ensures shown { IfErr result (λ broke. IfSome (S.content store.old) (λ content. IsShown self content broke)) }
+        ensures shown { IfErr result (λ broke. IfSome (S.content store.old) (λ content. TellsEvidence self content broke)) }
         ensures cause { HasBrokeCause (S.faults store.old) (S.faults store.new) result }
     {
         self.piece(alloc, number, piece, store, meter)

@@ -7,13 +7,15 @@ use Rattle.pq_store.specs.Content.{Content}
 use Rattle.pq_store.specs.declared.damage.Damage.{Damage}
 use Rattle.pq_store.specs.declared.damage.Broke.{Broke}
 use Rattle.pq_store.specs.declared.damage.Broke.TheVariants.{Failed, NoMem, Damaged}
-use Rattle.pq_schema.specs.Schema.{Schema, empty_schema}
+use Rattle.pq_schema.specs.Schema.{Schema}
 use Rattle.pq_print.specs.Report.{damage_line}
-use Rattle.pq_content.specs.Standing.{intent_key, SettlesTo}
+use Rattle.pq_content.specs.Standing.{SettlesTo}
+use Rattle.pq_key_code.specs.KeyCode.{intent_key}
 use Rattle.pq_content.proofs.Settling.{settles_once}
 use Rattle.pq_intent.specs.Settling.{IsNoIntent}
 use Rattle.pq_intent.proofs.Ends.{no_settling}
-use Rattle.pq_session.specs.Opening.{opened, catalog_in, TellsSchema, NamesFlaw}
+use Rattle.pq_session.specs.declared.format.Mark.TheVariants.{Building}
+use Rattle.pq_session.specs.Opening.{Added, none_added, opened, catalog_in, TellsSchema, ShowsFlaw, NamesFlaw}
 use Rattle.pq_shell.specs.Flaw.{IsFlaw, HaltsAtFlaw, StopsAtFlaw, EndsAtFlaw}
 use Rattle.pq_shell.specs.Run.{Closes}
 use Rattle.pq_shell.specs.Stops.{stop_of}
@@ -26,20 +28,20 @@ use Rattle.pq_shell.specs.declared.stop.Stop.TheVariants as stops
 abbrev Flaw : Type 0
 Flaw = List ℕ × List ℕ
 
-abbrev key_or : List ℕ → Result Schema Flaw → List ℕ
-key_or other (Ok schema) = other
+abbrev key_or : List ℕ → Result Added Flaw → List ℕ
+key_or other (Ok added) = other
 key_or other (Err flaw) = flaw.0
 
-abbrev IsErrAnswer : Result Schema Flaw → Type 0
-IsErrAnswer (Ok schema) = ⊥
+abbrev IsErrAnswer : Result Added Flaw → Type 0
+IsErrAnswer (Ok added) = ⊥
 IsErrAnswer (Err flaw) = Unit {0}
 
 -- a value that is no intent settles to nothing
 no_intent_settles : (c settled : Content) (value : List ℕ) → get c intent_key ≡ Some value → IsNoIntent value → SettlesTo c settled → ⊥
 no_intent_settles c settled value found none settles = no_settling c settled value (Some c) refl found none (record { pairs = c; told = refl; settles = settles })
 
-same_flaw : (c : Content) (key : List ℕ) (damage : Damage) → IsFlaw c key → NamesFlaw c (Damaged damage) → damage.key ≡ key
-same_flaw c key damage flaw named =
+one_flaw : (c : Content) (key : List ℕ) (damage : Damage) → IsFlaw c key → ShowsFlaw c damage → damage.key ≡ key
+one_flaw c key damage flaw named =
     elim flaw.1.2 [
       | inl a ↦ elim named.2 [
         | inl b ↦ b.0 ∙ sym a.0
@@ -47,16 +49,24 @@ same_flaw c key damage flaw named =
       ]
       | inr a ↦ elim named.2 [
         | inl b ↦ absurd (no_intent_settles c a.0 named.0 b.1 b.2 a.1)
-        | inr b ↦ ap (key_or []) (sym b.2 ∙ ap (λ (s : Content). opened empty_schema (catalog_in s)) (settles_once c b.0 a.0 b.1 a.1) ∙ a.2)
+        | inr b ↦ ap (key_or []) (sym b.2 ∙ ap (λ (s : Content). opened none_added (catalog_in s)) (settles_once c b.0 a.0 b.1 a.1) ∙ a.2)
       ]
     ]
 
-no_flaw : (c : Content) (schema : Schema) (key : List ℕ) → TellsSchema c schema → IsFlaw c key → ⊥
-no_flaw c schema key told flaw =
+-- what settles to definitions has no flaw
+no_flaw_in : (c settled : Content) (added : Added) (key : List ℕ) → SettlesTo c settled → opened none_added (catalog_in settled) ≡ Ok added → IsFlaw c key → ⊥
+no_flaw_in c settled added key settles is flaw =
     elim flaw.1.2 [
-      | inl a ↦ no_intent_settles c told.settled flaw.1.0 a.1 a.2 told.settles
-      | inr a ↦ subst IsErrAnswer (sym a.2 ∙ ap (λ (s : Content). opened empty_schema (catalog_in s)) (settles_once c a.0 told.settled a.1 told.settles) ∙ told.opened) tt
+      | inl a ↦ no_intent_settles c settled flaw.1.0 a.1 a.2 settles
+      | inr a ↦ subst IsErrAnswer (sym a.2 ∙ ap (λ (s : Content). opened none_added (catalog_in s)) (settles_once c a.0 settled a.1 settles) ∙ is) tt
     ]
+
+same_flaw : (c : Content) (key : List ℕ) (damage : Damage) → IsFlaw c key → NamesFlaw c (Damaged damage) → damage.key ≡ key
+same_flaw c key damage flaw (inl named) = one_flaw c key damage flaw named
+same_flaw c key damage flaw (inr left) = absurd (no_flaw_in c left.settled (left.schema, Building) key left.settles left.left flaw)
+
+no_flaw : (c : Content) (schema : Schema) (key : List ℕ) → TellsSchema c schema → IsFlaw c key → ⊥
+no_flaw c schema key told flaw = no_flaw_in c told.settled (schema, told.mark) key told.settles told.opened flaw
 
 -- ---- the opening
 

@@ -13,7 +13,7 @@ use Rattle.pq_print.specs.declared.report.Opened.{Opened}
 use Rattle.pq_print.specs.Report.{opening_line, is_refusal}
 use Rattle.pq_session.specs.Model.{Model}
 use Rattle.pq_session.specs.Matches.{Matches, IsOpening}
-use Rattle.pq_intent.specs.Errors.{IsSound}
+use Rattle.pq_store.specs.Breaks.{IsUndamaged}
 use Rattle.pq_shell.specs.Stops.{stop_of, CutsOff}
 use Rattle.pq_shell.specs.Fold.{Way, after, Reported, Folds, Made, Served, BeforeOrAfter, Halts, Stopped, Opening, StoppedOpening, Ran, StoppedLater}
 use Rattle.pq_shell.specs.declared.stop.Stop.{Stop}
@@ -169,13 +169,13 @@ Stopped-writing f stops.NoMem n item h h' report matches made cut = Stopped-at f
 Stopped-writing f stops.WriteFailed n item h h' report matches made cut = Stopped-at f stops.WriteFailed n (item ∷ []) h h' cut.0 cut.2 (λ m s. (report, matches m s, cut.1, made m s))
 
 -- the session broke off at this item
-pub Stopped-broke : {I : Type 0} (f : Way I) (error : Broke) {a b : Model → Type 0} (n : ℕ) (item : I) (h : Option (List ℕ)) → ((m : Model) → a m → b m ⊎ b (f.step m n item).model) → ((m : Model) → a m → IsSound error) → Stopped f (stop_of error) a b n (item ∷ []) h h
+pub Stopped-broke : {I : Type 0} (f : Way I) (error : Broke) {a b : Model → Type 0} (n : ℕ) (item : I) (h : Option (List ℕ)) → ((m : Model) → a m → b m ⊎ b (f.step m n item).model) → ((m : Model) → a m → IsUndamaged error) → Stopped f (stop_of error) a b n (item ∷ []) h h
 Stopped-broke f broke.Failed n item h kept sound = Stopped-at f stops.StoreFailed n (item ∷ []) h h [] (sym (append_known-none h)) (λ m s. (refl, kept m s))
 Stopped-broke f broke.NoMem n item h kept sound = Stopped-at f stops.NoMem n (item ∷ []) h h [] (sym (append_known-none h)) (λ m s. (refl, kept m s))
 Stopped-broke f (broke.Damaged damage) n item h kept sound = Stopped-at f (stops.Damaged damage) n (item ∷ []) h h [] (sym (append_known-none h)) (λ m s. absurd (sound m s))
 
 -- the session broke off at the opening
-pub Opening-broke : (k : Option Content) (error : Broke) (a b : Model → Type 0) (h : Option (List ℕ)) → ((m : Model) → a m → b m) → ((m : Model) → a m → IsSound error) → StoppedOpening k (stop_of error) a b h h
+pub Opening-broke : (k : Option Content) (error : Broke) (a b : Model → Type 0) (h : Option (List ℕ)) → ((m : Model) → a m → b m) → ((m : Model) → a m → IsUndamaged error) → StoppedOpening k (stop_of error) a b h h
 Opening-broke k broke.Failed a b h kept sound = record { part = []; text = sym (append_known-none h); stands = λ m s. (kept m s, refl) }
 Opening-broke k broke.NoMem a b h kept sound = record { part = []; text = sym (append_known-none h); stands = λ m s. (kept m s, refl) }
 Opening-broke k (broke.Damaged damage) a b h kept sound = record { part = []; text = sym (append_known-none h); stands = λ m s. absurd (sound m s) }

@@ -2,9 +2,8 @@
 use Rattle.std.specs.Prelude.{◌≡◌, ℕ, List, Option, Some, Result, Ok, Err}
 use Rattle.std.specs.Io.KnownBytes.{append_known}
 use Rattle.pq_store.specs.Content.{Content}
-use Rattle.pq_store.specs.declared.damage.Broke.TheVariants.{Damaged}
 use Rattle.pq_print.specs.Report.{damage_line}
-use Rattle.pq_session.specs.Opening.{NamesFlaw}
+use Rattle.pq_session.specs.Opening.{ShowsFlaw}
 use Rattle.pq_shell.specs.declared.status.Status.{Status}
 use Rattle.pq_shell.specs.declared.status.Status.TheVariants as status
 use Rattle.pq_shell.specs.declared.stop.Stop.{Stop}
@@ -12,7 +11,7 @@ use Rattle.pq_shell.specs.declared.stop.Stop.TheVariants as stops
 
 -- the key of the content's first flaw
 abbrev pub IsFlaw : Content → List ℕ → Type 0
-IsFlaw content key = (value : List ℕ) × NamesFlaw content (Damaged (record { key = key; value = Some value }))
+IsFlaw content key = (value : List ℕ) × ShowsFlaw content (record { key = key; value = Some value })
 
 -- the run stopped: for the flaw, with nothing written; or a call failed, or there was no memory
 abbrev pub HaltsAtFlaw : List ℕ → Stop → Option (List ℕ) → Option (List ℕ) → Type 0

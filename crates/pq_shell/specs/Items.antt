@@ -1,5 +1,5 @@
 -- What of a script is run: its pieces, and its rest where that is unfinished.
-use Rattle.std.specs.Prelude.{ℕ, Bool, true, false, List, [], ◌∷◌, ◌++◌, map}
+use Rattle.std.specs.Prelude.{ℕ, Bool, true, false, List, [], ◌∷◌, ◌++◌, map, None}
 use Rattle.pq_base.specs.declared.refusal.Refusal.TheVariants.{Unfinished}
 use Rattle.pq_text.specs.declared.piece.Piece.{Piece}
 use Rattle.pq_text.specs.Pieces.{pieces_of, rest_of, is_unfinished}
@@ -41,7 +41,7 @@ rest_report number = record {
 
 abbrev pub item_step : Model → ℕ → Item → Step
 item_step m number (Cut piece) = step m number piece
-item_step m number Rest = record { model = m; report = rest_report number }
+item_step m number Rest = record { model = m; report = rest_report number; making = None }
 
 -- each report is written whole
 abbrev pub run_way : Way Item

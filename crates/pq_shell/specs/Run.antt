@@ -5,7 +5,7 @@ use Rattle.pq_store.specs.Content.{Content}
 use Rattle.pq_store.specs.Counts.{Counts}
 use Rattle.pq_print.specs.Report.{damage_line}
 use Rattle.pq_session.specs.Model.{Model}
-use Rattle.pq_session.specs.Stands.{Settled, Opens}
+use Rattle.pq_session.specs.Stands.{HoldsModel, Opens}
 use Rattle.pq_shell.specs.Fold.{Ran, StoppedOpening, StoppedLater}
 use Rattle.pq_shell.specs.Items.{items_of, run_way}
 use Rattle.pq_shell.specs.Reading.{Took}
@@ -28,7 +28,7 @@ pub record World : Type 0 where
 pub record Finished (ending : Ending) (refused : Bool) (before now : World) : Type 0 where
   pub bytes : List ℕ
   pub took : Took ending before.left now.left bytes
-  pub ran : Ran before.content run_way (Opens before.content) (Settled now.content) (items_of ending bytes) before.held now.held before.counts now.counts refused
+  pub ran : Ran before.content run_way (Opens before.content) (HoldsModel now.content) (items_of ending bytes) before.held now.held before.counts now.counts refused
 
 -- a script was read so, and the run stopped among its items
 pub record StoppedReading (stop : Stop) (before now : World) : Type 0 where

@@ -10,8 +10,6 @@ mod serving;
 mod standard;
 mod status;
 mod stop;
-#[cfg(test)]
-mod tests;
 mod writing;
 
 pub use command_line::{WordsErr, read_words};

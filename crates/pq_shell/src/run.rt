@@ -3,7 +3,7 @@ ghost use Rattle.std.specs.Prelude.{◌≡◌, ◌≢◌, ◌⊎◌, ◌↔◌, 
 ghost use Rattle.std.specs.Io.KnownBytes.{prepend_known};
 ghost use Rattle.pq_store.specs.Content.{HasRisen};
 ghost use Rattle.pq_session.specs.Model.{Model};
-ghost use Rattle.pq_session.specs.Stands.{Opens, Settled, Stands};
+ghost use Rattle.pq_session.specs.Stands.{Opens, HoldsModel, Stands};
 ghost use Rattle.pq_shell.specs.Flaw.{IsFlaw, StopsAtFlaw, EndsAtFlaw};
 ghost use Rattle.pq_shell.specs.Fold.{Opening, StoppedOpening};
 ghost use Rattle.pq_shell.specs.Reading.{script_limit};
@@ -69,7 +69,7 @@ fn run_source<S: Store<L>, I: Source, O: Sink, L: Ledger>(
     sink: &mut O,
 ) -> Result<Ending, Stop>
     requires { progress.old.tally.count + script_limit < 2 ^ 32 }
-    ensures ok { IfOk result (λ ending. Consumed ending (I.left source.old) (I.left source.new) (Stands (S.content store.old) session) (Settled (S.content store.new)) progress.old progress.new
+    ensures ok { IfOk result (λ ending. Consumed ending (I.left source.old) (I.left source.new) (Stands (S.content store.old) session) (HoldsModel (S.content store.new)) progress.old progress.new
         (O.held sink.old) (O.held sink.new) meter.old meter.new) }
     ensures err { IfErr result (λ stop. StoppedAmong stop (I.left source.old) (I.left source.new) (Stands (S.content store.old) session) (Opens (S.content store.new)) progress.old
         (O.held sink.old) (O.held sink.new)) }

@@ -1,7 +1,6 @@
 use Rattle.std.proofs.Common.{length}
-use Rattle.pq_row_code.specs.RowCode.{row_code}
 use Rattle.pq_base.specs.Values.{AllFit}
-use Rattle.pq_content.specs.Tables.{types_of}
+use Rattle.pq_content.specs.Tables.{types_of, stored_code}
 use Rattle.pq_index_keep.proofs.Coding.{short_texts, few_values}
 use Rattle.pq_index_keep.proofs.Fitting.{insert_ok, short_code}
 use Rattle.pq_index_keep.proofs.check.check_insert_values.Goals as goal
@@ -21,4 +20,4 @@ returns-clause-fits c =
     rw c.in_ok-row.ensures (insert_ok c.args.table.now c.args.names.now c.args.places.now c.args.values.now c.in_ok-wrong.wrong _ c.in_ok-wrong.ensures c.in_ok-refuse_columns.ensures c.in_ok-check_fit.ensures c.requires.named c.known_values.ensures)
 
 pub returns-clause-short : goal.returns-clause-short
-returns-clause-short c = short_code (length (row_code c.in_ok-row.row)) _ c.in_ok-check_length.ensures
+returns-clause-short c = short_code (length (stored_code c.args.table.now c.in_ok-row.row)) _ c.in_ok-check_length.ensures

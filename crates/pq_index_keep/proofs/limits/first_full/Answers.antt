@@ -4,22 +4,23 @@ use Rattle.pq_index_keep.specs.Bounds.{one_if, tested_n}
 use Rattle.pq_index_keep.specs.Tested.{touches}
 use Rattle.pq_index_keep.specs.declared.write.Scope.{Scope}
 use Rattle.pq_index_keep.specs.Effects.{lacks_room}
-use Rattle.pq_index_keep.proofs.Steps.{position_here, settled_later, share_next, reads_stop}
+use Rattle.pq_calls.proofs.Steps.{share_next, uses_stop}
+use Rattle.pq_index_keep.proofs.Steps.{position_here, settled_later}
 use Rattle.pq_index_keep.proofs.limits.first_full.Goals as goal
 
 pub returns-then-branch-clause-answer : goal.returns-then-branch-clause-answer
 returns-then-branch-clause-answer g c = λ tables rows others s is fits.
     position_here (lacks_room rows c.args.scope.now c.args.old.now c.args.number c.args.row.now) c.args.limits.now c.loop-i.i c.index-limits-i.result c.loop-i-test.true c.index-limits-i.is (c.loop-i.invariant.none tables rows others s is fits)
-    (sym (c.in_ok-lacks_room.ensures.answer tables rows others (settled_later _ _ _ _ tables rows others c.loop-i.invariant.reads s) is fits) ∙ c.if-branch.true)
+    (sym (c.in_ok-lacks_room.ensures.answer tables rows others (settled_later _ _ _ _ tables rows others c.loop-i.invariant.uses.reads s) is fits) ∙ c.if-branch.true)
 
 abbrev operations : Scope → Limit → ℕ
 operations of limit = one_if (touches of limit.cols)
 
 pub lacks_room-requires-clause-share : goal.lacks_room-requires-clause-share
-lacks_room-requires-clause-share g c = share_next (operations c.args.scope.now) (tested_n c.args.scope.now) c.args.limits.now c.loop-i.i c.index-limits-i.result c.loop-i-test.true c.index-limits-i.is _ _ c.loop-i.invariant.reads c.requires.share
+lacks_room-requires-clause-share g c = share_next g.S.Store.content g.S.Store.faults (operations c.args.scope.now) (tested_n c.args.scope.now) c.args.limits.now c.loop-i.i c.index-limits-i.result c.loop-i-test.true c.index-limits-i.is _ _ c.loop-i.invariant.uses c.requires.share
 
-pub returns-in_err-lacks_room-clause-reads : goal.returns-in_err-lacks_room-clause-reads
-returns-in_err-lacks_room-clause-reads g c = reads_stop (operations c.args.scope.now) (tested_n c.args.scope.now) c.args.limits.now c.loop-i.i c.index-limits-i.result c.loop-i-test.true c.index-limits-i.is _ _ _ c.loop-i.invariant.reads c.lacks_room.ensures.reads
+pub returns-in_err-lacks_room-clause-uses : goal.returns-in_err-lacks_room-clause-uses
+returns-in_err-lacks_room-clause-uses g c = uses_stop g.S.Store.content g.S.Store.faults (operations c.args.scope.now) (tested_n c.args.scope.now) c.args.limits.now c.loop-i.i c.index-limits-i.result c.loop-i-test.true c.index-limits-i.is _ _ _ c.loop-i.invariant.uses c.lacks_room.ensures.uses
 
-pub returns-then-branch-clause-reads : goal.returns-then-branch-clause-reads
-returns-then-branch-clause-reads g c = reads_stop (operations c.args.scope.now) (tested_n c.args.scope.now) c.args.limits.now c.loop-i.i c.index-limits-i.result c.loop-i-test.true c.index-limits-i.is _ _ _ c.loop-i.invariant.reads c.lacks_room.ensures.reads
+pub returns-then-branch-clause-uses : goal.returns-then-branch-clause-uses
+returns-then-branch-clause-uses g c = uses_stop g.S.Store.content g.S.Store.faults (operations c.args.scope.now) (tested_n c.args.scope.now) c.args.limits.now c.loop-i.i c.index-limits-i.result c.loop-i-test.true c.index-limits-i.is _ _ _ c.loop-i.invariant.uses c.lacks_room.ensures.uses

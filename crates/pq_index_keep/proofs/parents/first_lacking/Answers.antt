@@ -1,7 +1,7 @@
 use Rattle.std.proofs.Common.{sym, ◌∙◌}
 use Rattle.pq_schema.specs.declared.table.Foreign.{Foreign}
 use Rattle.pq_schema.specs.Tables.{table_at}
-use Rattle.pq_content.specs.Tables.{AllOfKinds, key_types, values_at}
+use Rattle.pq_content.specs.Tables.{AllOfKinds, key_types, cells}
 use Rattle.pq_index_keep.specs.Effects.{lacks_parent}
 use Rattle.pq_index_keep.proofs.Steps.{position_here, item_has, settled_later}
 use Rattle.pq_index_keep.proofs.parents.first_lacking.Goals as goal
@@ -9,5 +9,5 @@ use Rattle.pq_index_keep.proofs.parents.first_lacking.Goals as goal
 pub returns-then-branch-clause-answer : goal.returns-then-branch-clause-answer
 returns-then-branch-clause-answer g c = λ tables rows others s kinds.
     position_here (lacks_parent tables rows c.args.scope.now c.args.row.now) c.args.foreign.now c.loop-i.i c.index-foreign-i.result c.loop-i-test.true c.index-foreign-i.is (c.loop-i.invariant.none tables rows others s kinds)
-    (sym (c.in_ok-lacks_parent.ensures.answer tables rows others (settled_later _ _ _ _ tables rows others c.loop-i.invariant.reads s)
-    (item_has (λ (f : Foreign). AllOfKinds (key_types (table_at tables f.table)) (values_at f.cols c.args.row.now)) c.args.foreign.now c.loop-i.i c.index-foreign-i.result kinds c.loop-i-test.true c.index-foreign-i.is)) ∙ c.if-branch.true)
+    (sym (c.in_ok-lacks_parent.ensures.answer tables rows others (settled_later _ _ _ _ tables rows others c.loop-i.invariant.uses.reads s)
+    (item_has (λ (f : Foreign). AllOfKinds (key_types (table_at tables f.table)) (cells f.cols c.args.row.now)) c.args.foreign.now c.loop-i.i c.index-foreign-i.result kinds c.loop-i-test.true c.index-foreign-i.is)) ∙ c.if-branch.true)

@@ -11,8 +11,8 @@ use Rattle.pq_index_keep.specs.declared.write.Write.TheVariants.{Delete}
 use Rattle.pq_index_keep.proofs.Deleting.{none_read, delete_absent}
 use Rattle.pq_index_keep.proofs.plan.plan_delete.Goals as goal
 
-pub read_row-requires-clause-kinds : goal.read_row-requires-clause-kinds
-read_row-requires-clause-kinds g c = kinds_from_fit _ _ c.requires.delete.fits
+pub find_row-requires-clause-kinds : goal.find_row-requires-clause-kinds
+find_row-requires-clause-kinds g c = kinds_from_fit _ _ c.requires.delete.fits
 
 pub returns-in-Ok-clause-answer : goal.returns-in-Ok-clause-answer
 returns-in-Ok-clause-answer g c = λ rows others s.

@@ -35,3 +35,7 @@ returns-in_ok-changes-in-None-clause-answer g c = λ rows others s.
     insert_made tables rows others c.args.number c.args.row.now _ c.in_ok-changes-in-None.changes s c.requires.insert
     (sym c.in-None.is ∙ c.in_ok-refusal.ensures.answer tables rows others s c.table_of-table.ensures.table tested)
     (rw (← c.table_of-table.ensures.table) (own_puts c.args.number c.table_of-table.result.now c.args.row.now c.in_ok-at.at _ c.in_ok-at.ensures c.in_ok-changes-in-None.ensures))
+
+pub returns-in_ok-changes-in-None-clause-own : goal.returns-in_ok-changes-in-None-clause-own
+returns-in_ok-changes-in-None-clause-own g c =
+    rw (← c.table_of-table.ensures.table) (own_puts c.args.number c.table_of-table.result.now c.args.row.now c.in_ok-at.at _ c.in_ok-at.ensures c.in_ok-changes-in-None.ensures)

@@ -1,6 +1,7 @@
 use Rattle.std.proofs.Common.{◌∙◌, sym}
 use Rattle.pq_schema.specs.Tables.{table_at}
 use Rattle.pq_content.proofs.Values.{kinds_from_fit}
+use Rattle.pq_index_keep.proofs.Changing.{own_removal}
 use Rattle.pq_index_keep.proofs.Coding.{delete_planned}
 use Rattle.pq_index_keep.proofs.Deleting.{may_name, delete_refused, delete_made}
 use Rattle.pq_index_keep.proofs.Inserting.{writable_at}
@@ -26,3 +27,7 @@ returns-in_ok-changes-in-None-clause-answer g c = λ rows others s found.
     let answer = rw c.tables-tables.ensures.tables at c.in_ok-refusal.ensures.answer in
     delete_made c.args.catalog.now.tables rows others c.args.number c.args.key.now _ c.args.found.row c.in_ok-changes-in-None.changes s found (sym c.in-None.is ∙ answer rows others s) c.args.found.at c.requires.at
     (rw (← c.table_of-table.ensures.table) c.in_ok-changes-in-None.ensures)
+
+pub returns-in_ok-changes-in-None-clause-own : goal.returns-in_ok-changes-in-None-clause-own
+returns-in_ok-changes-in-None-clause-own g c =
+    own_removal c.args.number c.args.key.now c.args.found.at _ _ c.requires.at c.in_ok-changes-in-None.ensures

@@ -44,4 +44,4 @@ returns-clause-answer g c = λ tables rows others s is tested.
     as_insert tables rows c.args.number row table _ is
     (refused_later (is_some (row_at tables rows c.args.number (key_of table row))) (DuplicateKey table.name) _ (or_else (parent_refusal tables rows All table row) (room_refusal rows All None c.args.number table row))
     (sym c.if-branch.false ∙ told_own tables rows others _ c.args.number table row c.args.at.now _ s is tested.fits c.requires.at c.in_ok-has_value.ensures.answer)
-    (c.in_ok-rest.ensures.answer tables rows others (settled_later _ _ _ _ tables rows others c.has_value.ensures.reads s) is tested))
+    (c.in_ok-rest.ensures.answer tables rows others (settled_later _ _ _ _ tables rows others c.has_value.ensures.uses.reads s) is tested))

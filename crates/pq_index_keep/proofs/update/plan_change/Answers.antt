@@ -4,6 +4,7 @@ use Rattle.pq_schema.specs.Tables.{table_at}
 use Rattle.pq_index_keep.specs.Promises.{IsTested}
 use Rattle.pq_index_keep.specs.Sound.{IsWritable}
 use Rattle.pq_index_keep.specs.Tested.{with_sets, scope_of}
+use Rattle.pq_index_keep.proofs.Changing.{own_change}
 use Rattle.pq_index_keep.proofs.Coding.{fit_texts, fit_columns, update_planned}
 use Rattle.pq_index_keep.proofs.Inserting.{writable_at, is_tested}
 use Rattle.pq_index_keep.proofs.Updating.{fit_sets, sets_inside, sets_small, as_update, kept_sequence, update_refused, update_made}
@@ -73,3 +74,7 @@ returns-in_ok-changes-in-None-clause-answer g c = λ rows others s found.
     (c.in_ok-refusal.ensures.answer tables rows others s c.table_of-table.ensures.table tested))
     c.args.found.at c.requires.at
     (rw (← c.table_of-table.ensures.table, ← c.in_ok-new.ensures) c.in_ok-changes-in-None.ensures)
+
+pub returns-in_ok-changes-in-None-clause-own : goal.returns-in_ok-changes-in-None-clause-own
+returns-in_ok-changes-in-None-clause-own g c =
+    own_change c.args.number c.args.key.now c.args.found.at _ _ _ c.requires.at c.in_ok-changes-in-None.ensures

@@ -2,7 +2,7 @@ use Rattle.pq_session.proofs.Rereading.{table_read, query_read}
 use Rattle.pq_session.proofs.laws.reading_back_law.Goals as goal
 
 pub returns-clause-tables : goal.returns-clause-tables
-returns-clause-tables c schema def table built is made = (table_read schema def table built is made).defines
+returns-clause-tables c schema def table valid is made = (table_read schema def table valid is made).defines
 
 pub returns-clause-queries : goal.returns-clause-queries
-returns-clause-queries c schema query built is = (query_read schema query built is).defines
+returns-clause-queries c schema query wanted valid defined = (query_read schema query wanted valid defined).defines

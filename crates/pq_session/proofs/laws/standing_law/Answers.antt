@@ -1,5 +1,9 @@
+use Rattle.pq_session.proofs.Standing.{empty_opens}
 use Rattle.pq_session.proofs.Unique.{opened_schema, opened_rows}
 use Rattle.pq_session.proofs.laws.standing_law.Goals as goal
+
+pub returns-clause-empty : goal.returns-clause-empty
+returns-clause-empty c = empty_opens
 
 pub returns-clause-schema : goal.returns-clause-schema
 returns-clause-schema c = opened_schema

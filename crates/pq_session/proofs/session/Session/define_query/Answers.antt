@@ -1,43 +1,45 @@
-use Rattle.std.proofs.Common.{◌≡◌, refl, ◌∙◌, ap, None}
+use Rattle.std.proofs.Common.{◌≡◌, Some, None, sym, ◌∙◌, subst}
 use Rattle.std.proofs.lemmas.Result.{err_from_is_err_and}
-use Rattle.pq_schema.specs.declared.made.Definition.TheVariants.{OfQuery}
-use Rattle.pq_schema.specs.Schema.{with_query}
-use Rattle.pq_session.specs.Stands.{last_key, last_value}
-use Rattle.pq_session.proofs.Defining.{one_more, query_lines, leads_prepared, define_done, define_broken}
+use Rattle.pq_plan.specs.Cost.{cost}
+use Rattle.pq_schema.specs.Schema.{Schema}
+use Rattle.pq_session.specs.Lines.{planned_lines}
+use Rattle.pq_session.specs.Planned.{IsComputed}
+use Rattle.pq_session.proofs.Defining.{computed_defined, planned_promise, lines_are}
+use Rattle.pq_session.proofs.Kept.{computed_wanting}
 use Rattle.pq_session.proofs.Promises.{broken_same}
+use Rattle.pq_session.proofs.Shown.{is_lined}
 use Rattle.pq_session.proofs.session.Session.define_query.Goals as goal
 
-pub returns-in_err-put_absent-clause-step : goal.returns-in_err-put_absent-clause-step
-returns-in_err-put_absent-clause-step g c =
-    let p = err_from_is_err_and c.from_residual-in_err-put_absent.result c.from_residual-in_err-put_absent.ensures.1 in
-    let next = with_query c.args.self c.args.query None in
-    let is : c.session.inside.catalog ≡ next = c.session.view_is ∙ c.in_ok-session.ensures in
-    let key : c.in_ok-pair.pair.key ≡ last_key next = c.in_ok-pair.ensures.key ∙ ap last_key is in
-    let value : c.in_ok-pair.pair.value ≡ last_value next = c.in_ok-pair.ensures.value ∙ ap last_value is in
-    rw (p.1, p.2) (define_broken c.args.number (query_lines c.args.query) _ _ _ c.args.self next (leads_prepared _ c.args.self c.args.number c.args.query c.requires) refl _ _ _
-    (rw (← key, ← value) c.in_err-put_absent.ensures.stopped) (rw (← key) c.in_err-put_absent.ensures.damage) c.in_err-put_absent.ensures.within
-    (one_more c.args.self.definitions (OfQuery c.args.query None)) (rw (← key) c.in_err-put_absent.ensures.shown))
+pub planned_lines-requires : goal.planned_lines-requires
+planned_lines-requires g c =
+    let is = subst (λ (s : Schema). IsComputed s.tables c.args.plan) (sym c.self.view_is) c.requires.computed in
+    is_lined c.self.inside.catalog.tables c.args.plan.query c.args.plan.compiled.wanted is.resolved (record { best = is.compiled.best; chosen = is.compiled.least })
 
-pub returns-clause-step : goal.returns-clause-step
-returns-clause-step g c =
-    let next = with_query c.args.self c.args.query None in
-    let is : c.session.inside.catalog ≡ next = c.session.view_is ∙ c.in_ok-session.ensures in
-    let key : c.in_ok-pair.pair.key ≡ last_key next = c.in_ok-pair.ensures.key ∙ ap last_key is in
-    let value : c.in_ok-pair.pair.value ≡ last_value next = c.in_ok-pair.ensures.value ∙ ap last_value is in
-    rw (c.in_ok-report.ensures, c.in_ok-session.ensures, c.in_ok-put_absent.ensures.meter) (define_done c.args.number (query_lines c.args.query) _ _ _ c.args.self next (leads_prepared _ c.args.self c.args.number c.args.query c.requires) refl _
-    (rw (← key, ← value) c.in_ok-put_absent.ensures.put))
-
-pub returns-in_err-report-clause-step : goal.returns-in_err-report-clause-step
-returns-in_err-report-clause-step g c =
+pub returns-in_err-lines-clause-step : goal.returns-in_err-lines-clause-step
+returns-in_err-lines-clause-step g c spelled is =
     let p = err_from_is_err_and c.from_residual.result c.from_residual.ensures.1 in
     rw (p.1, p.2) (broken_same _ _ c.args.self _ _ tt)
 
-pub returns-in_err-session-clause-step : goal.returns-in_err-session-clause-step
-returns-in_err-session-clause-step g c =
-    let p = err_from_is_err_and c.from_residual-in_err-session.result c.from_residual-in_err-session.ensures.1 in
-    rw (p.1, p.2) (broken_same _ _ c.args.self _ _ tt)
+pub returns-in-None-clause-step : goal.returns-in-None-clause-step
+returns-in-None-clause-step g c spelled is =
+    let lined = subst (λ (x : Schema). c.in_ok-lines.lines ≡ planned_lines x.tables c.args.plan.query.name c.args.plan.compiled.choice (cost c.args.plan.compiled.plan) c.args.plan.compiled.wanted) c.self.view_is c.in_ok-lines.ensures in
+    planned_promise c.args.self.tables c.args.number c.args.plan spelled is None c.in-None.is _ _ c.args.self _ _ c.write_query.result
+    (c.write_query.ensures.step spelled.chosen.best (lined ∙ lines_are c.args.self.tables c.args.number c.args.plan spelled is None c.in-None.is))
 
-pub returns-in_err-pair-clause-step : goal.returns-in_err-pair-clause-step
-returns-in_err-pair-clause-step g c =
-    let p = err_from_is_err_and c.from_residual-in_err-pair.result c.from_residual-in_err-pair.ensures.1 in
-    rw (p.1, p.2) (broken_same _ _ c.args.self _ _ tt)
+pub returns-in-Some-clause-step : goal.returns-in-Some-clause-step
+returns-in-Some-clause-step g c spelled is =
+    let lined = subst (λ (x : Schema). c.in_ok-lines.lines ≡ planned_lines x.tables c.args.plan.query.name c.args.plan.compiled.choice (cost c.args.plan.compiled.plan) c.args.plan.compiled.wanted) c.self.view_is c.in_ok-lines.ensures in
+    planned_promise c.args.self.tables c.args.number c.args.plan spelled is (Some c.in-Some.new) c.in-Some.is _ _ c.args.self _ _ c.build_query.result
+    (c.build_query.ensures.step spelled.chosen.best (lined ∙ lines_are c.args.self.tables c.args.number c.args.plan spelled is (Some c.in-Some.new) c.in-Some.is))
+
+pub write_query-requires-clause-defined : goal.write_query-requires-clause-defined
+write_query-requires-clause-defined g c = computed_defined c.args.self c.args.plan None c.in-None.is c.requires.name c.requires.computed c.requires.free
+
+pub build_query-requires-clause-defined : goal.build_query-requires-clause-defined
+build_query-requires-clause-defined g c = computed_defined c.args.self c.args.plan (Some c.in-Some.new) c.in-Some.is c.requires.name c.requires.computed c.requires.free
+
+pub write_query-requires-clause-compiled : goal.write_query-requires-clause-compiled
+write_query-requires-clause-compiled g c = computed_wanting c.args.self.tables c.args.plan None c.in-None.is c.requires.computed
+
+pub build_query-requires-clause-compiled : goal.build_query-requires-clause-compiled
+build_query-requires-clause-compiled g c = computed_wanting c.args.self.tables c.args.plan (Some c.in-Some.new) c.in-Some.is c.requires.computed

@@ -4,17 +4,17 @@ use Rattle.pq_session.proofs.session.Session.make_write.Goals as goal
 
 pub grant-allowance-requires-clause-ops : goal.grant-allowance-requires-clause-ops
 grant-allowance-requires-clause-ops g c =
-    rw c.write_bound-bound.ensures ((bound_few c.self.inside.catalog c.args.write.now c.self.invariant (rw c.self.view_is c.requires)).ops)
+    rw c.write_bound-bound.ensures ((bound_few c.self.inside.catalog c.args.write.now c.self.invariant.0 (rw c.self.view_is c.requires)).ops)
 
 pub grant-allowance-requires-clause-entries : goal.grant-allowance-requires-clause-entries
 grant-allowance-requires-clause-entries g c =
-    rw c.write_bound-bound.ensures ((bound_few c.self.inside.catalog c.args.write.now c.self.invariant (rw c.self.view_is c.requires)).entries)
+    rw c.write_bound-bound.ensures ((bound_few c.self.inside.catalog c.args.write.now c.self.invariant.0 (rw c.self.view_is c.requires)).entries)
 
 pub returns-in_err-why-clause-step : goal.returns-in_err-why-clause-step
 returns-in_err-why-clause-step g c =
     let p = err_from_is_err_and c.from_residual.result c.from_residual.ensures.1 in
     rw (p.1, p.2, ← c.self.view_is) (planning_broke c.args.number c.args.write.now c.in_err-why.field-0.0 _ _ c.self.inside.catalog c.write_bound-bound.result _ _ _ _ _ _ _ _
-    c.write_bound-bound.ensures c.grant-allowance.ensures c.in_err-why.ensures.reads c.in_err-why.ensures.undamaged c.in_err-why.ensures.cause)
+    c.write_bound-bound.ensures c.grant-allowance.ensures c.in_err-why.ensures.reads c.in_err-why.ensures.cause)
 
 pub returns-in_err-commit-in-Changes-clause-step : goal.returns-in_err-commit-in-Changes-clause-step
 returns-in_err-commit-in-Changes-clause-step g c =

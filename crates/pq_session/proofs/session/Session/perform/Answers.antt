@@ -1,13 +1,13 @@
 use Rattle.std.proofs.Common.{sym, subst, inl, inr}
 use Rattle.pq_index_keep.specs.Checking.{IsWriting}
 use Rattle.std.proofs.lemmas.Result.{err_from_is_err_and}
-use Rattle.pq_session.proofs.Promises.{broken_same, shown_as}
+use Rattle.pq_session.proofs.Promises.{broken_same, shown_as, explained_done}
 use Rattle.pq_session.proofs.Writing.{written_as_performed}
 use Rattle.pq_session.proofs.session.Session.perform.Goals as goal
 
 pub returns-in_err-show-in-Show-clause-step : goal.returns-in_err-show-in-Show-clause-step
 returns-in_err-show-in-Show-clause-step g c =
-    let p = err_from_is_err_and c.from_residual.result c.from_residual.ensures.1 in
+    let p = err_from_is_err_and c.from_residual-in_err-show-in-Show.result c.from_residual-in_err-show-in-Show.ensures.1 in
     rw (p.1, p.2) (broken_same _ _ c.args.self _ _ tt)
 
 pub returns-in_ok-show-in-Show-clause-step : goal.returns-in_ok-show-in-Show-clause-step
@@ -31,5 +31,14 @@ returns-in-Create-clause-step g c = rw c.in-Create.is c.create.ensures.step
 pub returns-in-Prepare-clause-step : goal.returns-in-Prepare-clause-step
 returns-in-Prepare-clause-step g c = rw c.in-Prepare.is c.prepare.ensures.step
 
-pub returns-in-Run-default-default-None-clause-step : goal.returns-in-Run-default-default-None-clause-step
-returns-in-Run-default-default-None-clause-step g c = rw (c.in-Run-default-default-None.is, c.in-Run-default-default-None.after-is) c.run.ensures.step
+pub returns-in-Run-clause-step : goal.returns-in-Run-clause-step
+returns-in-Run-clause-step g c = rw (c.in-Run.is, ← c.as_ref.ensures.value) c.run.ensures.step
+
+pub returns-in_err-report-in-Explain-clause-step : goal.returns-in_err-report-in-Explain-clause-step
+returns-in_err-report-in-Explain-clause-step g c =
+    let p = err_from_is_err_and c.from_residual.result c.from_residual.ensures.1 in
+    rw (p.1, p.2) (broken_same _ _ c.args.self _ _ tt)
+
+pub returns-in_ok-report-in-Explain-clause-step : goal.returns-in_ok-report-in-Explain-clause-step
+returns-in_ok-report-in-Explain-clause-step g c =
+    rw (c.in-Explain.is, c.in_ok-report-in-Explain.ensures) (explained_done c.args.number c.args.text.now c.args.tokens.now c.in-Explain.from _ c.args.self _)

@@ -1,10 +1,11 @@
-use Rattle.std.proofs.Common.{◌∙◌, sym, ap}
-use Rattle.pq_session.specs.KeyQuery.{read_query}
-use Rattle.pq_session.specs.KeySelect.{select_from}
-use Rattle.pq_session.proofs.KeyQueries.{read_definition}
+use Rattle.std.proofs.Common.{◌∙◌, sym, subst}
+use Rattle.std.proofs.lemmas.Result.{IfOk-weaker}
+use Rattle.pq_schema.specs.Schema.{Schema}
+use Rattle.pq_session.specs.Planned.{IsPlanned}
+use Rattle.pq_session.proofs.Openings.{planned_adds}
 use Rattle.pq_session.proofs.session.Session.read_query.Goals as goal
 
-pub with_query-requires : goal.with_query-requires
-with_query-requires c =
-    read_definition c.args.self c.args.text.now c.args.name.now c.args.from c.in-Some.query c.requires.name
-    (ap (λ ts. read_query c.args.self c.args.name.now (select_from c.args.text.now ts c.args.from)) (sym c.requires.spelled) ∙ sym c.in_ok-query.ensures ∙ c.in-Some.is)
+pub returns : goal.returns
+returns c =
+    let planned = subst (λ (s : Schema). IsPlanned s c.args.name c.args.text.now c.args.tokens.now c.args.from c.in-Ok.plan) c.self.view_is c.in-Ok.ensures.planned in
+    IfOk-weaker c.add_planned.result _ _ (λ next is. is ∙ sym (planned_adds c.args.self c.args.name c.args.text.now c.args.tokens.now c.args.from c.in-Ok.plan planned)) c.add_planned.ensures

@@ -1,7 +1,10 @@
-use Rattle.std.proofs.lemmas.Result.{err_from_is_err_and}
-use Rattle.pq_session.specs.Stands.{content_of}
-use Rattle.pq_session.proofs.Openings.{opens_kept}
-use Rattle.pq_session.proofs.Starting.{start_kept, start_stands, start_opened, start_told, start_flaw, start_sound}
+use Rattle.std.proofs.Common.{sym, ap, subst, Option}
+use Rattle.std.proofs.lemmas.Result.{IfOk-weaker, IfErr-weaker, on_err_weaker, err_from_is_err_and}
+use Rattle.pq_store.specs.Content.{Content}
+use Rattle.pq_session.specs.declared.session.Started.{Started}
+use Rattle.pq_session.specs.Stands.{Opens}
+use Rattle.pq_session.proofs.Standing.{settled_opens}
+use Rattle.pq_session.proofs.Starting.{opens_kept, opens_rests, rests_opens, rests_sound, read_mid, read_now, finished_stands, opens_as, tells_schema, settle_flaw, read_flaw, build_flaw, both_ok, either_way}
 use Rattle.pq_session.proofs.session.Session.start.Goals as goal
 
 pub returns-in_err-settled-clause-kept : goal.returns-in_err-settled-clause-kept
@@ -10,22 +13,61 @@ returns-in_err-settled-clause-kept g c = λ m opens. opens_kept _ _ c.in_err-set
 pub returns-in_err-settled-clause-damage : goal.returns-in_err-settled-clause-damage
 returns-in_err-settled-clause-damage g c =
     let p = err_from_is_err_and c.from_residual.result c.from_residual.ensures.1 in
-    rw (p.1, p.2) (λ m opens. c.in_err-settled.ensures.sound (content_of m) opens.settles)
+    rw (p.1, p.2) (λ m opens. c.in_err-settled.ensures.sound opens.pairs opens.settles)
+
+pub returns-in_err-settled-clause-flaw : goal.returns-in_err-settled-clause-flaw
+returns-in_err-settled-clause-flaw g c =
+    let p = err_from_is_err_and c.from_residual.result c.from_residual.ensures.1 in
+    rw (p.1, p.2) (settle_flaw (g.S.Store.content c.args.store.now) _ c.in_err-settled.ensures.damage)
+
+pub returns-in_err-found-clause-kept : goal.returns-in_err-found-clause-kept
+returns-in_err-found-clause-kept g c = λ m opens.
+    subst (λ (o : Option Content). Opens o m) (sym c.read_catalog.ensures.same) (rests_opens (g.S.Store.content c.settle.new.store) m (opens_rests (g.S.Store.content c.args.store.now) (g.S.Store.content c.settle.new.store) c.in_ok-settled.ensures.made m opens))
+
+pub returns-in_err-found-clause-damage : goal.returns-in_err-found-clause-damage
+returns-in_err-found-clause-damage g c =
+    let p = err_from_is_err_and c.from_residual-in_err-found.result c.from_residual-in_err-found.ensures.1 in
+    rw (p.1, p.2) (λ m opens. rests_sound (g.S.Store.content c.settle.new.store) m _ (opens_rests (g.S.Store.content c.args.store.now) (g.S.Store.content c.settle.new.store) c.in_ok-settled.ensures.made m opens) c.in_err-found.ensures.flaw)
+
+pub returns-in_err-found-clause-flaw : goal.returns-in_err-found-clause-flaw
+returns-in_err-found-clause-flaw g c =
+    let p = err_from_is_err_and c.from_residual-in_err-found.result c.from_residual-in_err-found.ensures.1 in
+    rw (p.1, p.2) (read_flaw (g.S.Store.content c.args.store.now) (g.S.Store.content c.settle.new.store) _ c.in_ok-settled.ensures.settles c.in_err-found.ensures.flaw)
 
 pub returns-clause-kept : goal.returns-clause-kept
-returns-clause-kept g c = λ m opens. start_kept _ _ _ c.in_ok-settled.settled c.settle.new.meter c.read_catalog.new.meter c.read_catalog.result c.in_ok-settled.ensures.made c.read_catalog.ensures.same m opens
+returns-clause-kept g c = λ m opens.
+    let k = read_now (g.S.Store.content c.args.store.now) (g.S.Store.content c.settle.new.store) (g.S.Store.content c.read_catalog.new.store) c.in_ok-settled.ensures.made c.read_catalog.ensures.same c.in_ok-found.found.session c.in_ok-found.found.mark c.in_ok-found.ensures.told m opens in
+    either_way c.finish_opening.result (IfOk-weaker c.finish_opening.result _ _ (λ s stands. settled_opens (stands m (sym k.0) k.1)) c.finish_opening.ensures.stands)
+    (on_err_weaker c.finish_opening.result (λ stopped. stopped m (sym k.0) k.1) c.finish_opening.ensures.stopped)
 
 pub returns-clause-stands : goal.returns-clause-stands
-returns-clause-stands g c = start_stands _ _ _ c.in_ok-settled.settled c.settle.new.meter c.read_catalog.new.meter c.read_catalog.result c.in_ok-settled.ensures.made c.read_catalog.ensures.same c.read_catalog.ensures.session
+returns-clause-stands g c =
+    IfOk-weaker c.finish_opening.result _ _ (λ s h m opens.
+    finished_stands (g.S.Store.content c.args.store.now) (g.S.Store.content c.settle.new.store) (g.S.Store.content c.read_catalog.new.store) c.in_ok-settled.ensures.made c.read_catalog.ensures.same c.in_ok-found.found.session c.in_ok-found.found.mark c.in_ok-found.ensures.told m opens
+    (g.S.Store.content c.finish_opening.new.store) c.in_ok-settled.settled c.read_catalog.new.meter c.finish_opening.new.meter s h.1 h.0)
+    (both_ok c.finish_opening.result _ _ c.finish_opening.ensures.stands c.finish_opening.ensures.started)
 
 pub returns-clause-opened : goal.returns-clause-opened
-returns-clause-opened g c = start_opened _ _ _ c.in_ok-settled.settled c.settle.new.meter c.read_catalog.new.meter c.read_catalog.result c.in_ok-settled.ensures.made c.read_catalog.ensures.same c.in_ok-settled.ensures.counts c.in_ok-settled.ensures.numbers c.read_catalog.ensures.session c.read_catalog.ensures.started
+returns-clause-opened g c =
+    IfOk-weaker c.finish_opening.result _ _ (λ s h m opens.
+    let k = read_mid (g.S.Store.content c.args.store.now) (g.S.Store.content c.settle.new.store) (g.S.Store.content c.read_catalog.new.store) c.in_ok-settled.ensures.made c.read_catalog.ensures.same c.in_ok-found.found.session c.in_ok-found.found.mark c.in_ok-found.ensures.told m opens in
+    let n = read_now (g.S.Store.content c.args.store.now) (g.S.Store.content c.settle.new.store) (g.S.Store.content c.read_catalog.new.store) c.in_ok-settled.ensures.made c.read_catalog.ensures.same c.in_ok-found.found.session c.in_ok-found.found.mark c.in_ok-found.ensures.told m opens in
+    opens_as (g.S.Store.content c.args.store.now) (g.S.Store.content c.settle.new.store) c.in_ok-settled.settled m c.in_ok-found.found.mark s c.in_ok-found.found.session c.in_ok-settled.ensures.counts c.in_ok-settled.ensures.numbers c.in_ok-settled.ensures.made opens k.0 k.1 h.1.few (h.0 m (sym n.0) n.1))
+    (both_ok c.finish_opening.result _ _ c.finish_opening.ensures.rows c.finish_opening.ensures.started)
 
 pub returns-clause-told : goal.returns-clause-told
-returns-clause-told g c = start_told _ _ _ c.in_ok-settled.settled c.settle.new.meter c.read_catalog.new.meter c.read_catalog.result c.in_ok-settled.ensures.made c.read_catalog.ensures.same c.in_ok-settled.ensures.settles c.read_catalog.ensures.session
-
-pub returns-clause-flaw : goal.returns-clause-flaw
-returns-clause-flaw g c = start_flaw _ _ _ c.in_ok-settled.settled c.settle.new.meter c.read_catalog.new.meter c.read_catalog.result c.in_ok-settled.ensures.made c.read_catalog.ensures.same c.in_ok-settled.ensures.settles c.read_catalog.ensures.flaw
+returns-clause-told g c =
+    IfOk-weaker c.finish_opening.result _ _ (λ s started.
+    tells_schema (g.S.Store.content c.args.store.now) (g.S.Store.content c.settle.new.store) c.in_ok-found.found.session s.session c.in_ok-found.found.mark c.in_ok-settled.ensures.settles c.in_ok-found.ensures.told (ap (λ (x : Started). x.session) started.is))
+    c.finish_opening.ensures.started
 
 pub returns-clause-damage : goal.returns-clause-damage
-returns-clause-damage g c = start_sound _ _ _ c.in_ok-settled.settled c.settle.new.meter c.read_catalog.new.meter c.read_catalog.result c.in_ok-settled.ensures.made c.read_catalog.ensures.same c.read_catalog.ensures.flaw
+returns-clause-damage g c =
+    IfErr-weaker c.finish_opening.result _ _ (λ broke sound m opens.
+    let k = read_now (g.S.Store.content c.args.store.now) (g.S.Store.content c.settle.new.store) (g.S.Store.content c.read_catalog.new.store) c.in_ok-settled.ensures.made c.read_catalog.ensures.same c.in_ok-found.found.session c.in_ok-found.found.mark c.in_ok-found.ensures.told m opens in
+    sound m (sym k.0) k.1)
+    c.finish_opening.ensures.sound
+
+pub returns-clause-flaw : goal.returns-clause-flaw
+returns-clause-flaw g c =
+    IfErr-weaker c.finish_opening.result _ _ (λ broke shows. build_flaw (g.S.Store.content c.args.store.now) (g.S.Store.content c.settle.new.store) (g.S.Store.content c.read_catalog.new.store) c.in_ok-found.found.session c.in_ok-found.found.mark broke c.read_catalog.ensures.same c.in_ok-settled.ensures.settles c.in_ok-found.ensures.told shows) c.finish_opening.ensures.shown

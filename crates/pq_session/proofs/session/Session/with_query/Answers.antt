@@ -1,19 +1,26 @@
-use Rattle.std.proofs.Common.{sym, subst}
+use Rattle.std.proofs.Common.{◌∙◌, Ok, sym, subst, ap}
+use Rattle.pq_schema.specs.Resolved.{IsResolved}
 use Rattle.pq_schema.specs.Schema.{Schema}
-use Rattle.pq_session.specs.Built.{IsBuilt, IsKeyDefinition}
-use Rattle.pq_session.specs.Built.IsBuilt.{then_query}
-use Rattle.pq_session.proofs.Made.{made_of, key_defined}
+use Rattle.pq_schema.specs.Valid.{IsDefined, IsValid}
+use Rattle.pq_schema.specs.Valid.IsValid.{then_query}
+use Rattle.pq_schema.specs.Wanted.{IsWanted}
+use Rattle.pq_session.specs.Kept.{IsPlanWanting}
+use Rattle.pq_session.proofs.Kept.{query_kept}
 use Rattle.pq_session.proofs.session.Session.with_query.Goals as goal
 
 pub invariant_of-result : goal.invariant_of-result
 invariant_of-result c =
-    subst IsBuilt (sym c.in-Ok.ensures.added.added)
-    (then_query c.self.inside.catalog c.args.query c.self.invariant (subst (λ (s : Schema). IsKeyDefinition s c.args.query) (sym c.self.view_is) c.requires))
-
-pub add_query-requires-clause-resolved : goal.add_query-requires-clause-resolved
-add_query-requires-clause-resolved c =
-    (key_defined c.self.inside.catalog c.args.query (made_of c.self.inside.catalog c.self.invariant) (subst (λ (s : Schema). IsKeyDefinition s c.args.query) (sym c.self.view_is) c.requires)).resolved
-
-pub add_query-requires-clause-chosen : goal.add_query-requires-clause-chosen
-add_query-requires-clause-chosen c =
-    (key_defined c.self.inside.catalog c.args.query (made_of c.self.inside.catalog c.self.invariant) (subst (λ (s : Schema). IsKeyDefinition s c.args.query) (sym c.self.view_is) c.requires)).chosen
+    let a = c.in-Ok.ensures.added in
+    let before : Schema = c.self.inside.catalog in
+    let defined : IsDefined before c.args.query c.args.wanted =
+    record {
+      name = c.requires.name;
+      resolved = subst (λ (s : Schema). IsResolved s.tables c.args.query) (sym c.self.view_is) c.requires.resolved;
+      chosen = subst (λ (s : Schema). IsWanted s.tables c.args.query c.args.wanted) (sym c.self.view_is) c.requires.chosen;
+      accepted = a.made ∙ ap Ok a.added;
+    } in
+    let wanting : IsPlanWanting before.tables c.args.query c.args.plan c.args.wanted =
+    subst (λ (s : Schema). IsPlanWanting s.tables c.args.query c.args.plan c.args.wanted) (sym c.self.view_is) c.requires.compiled in (
+      subst IsValid (sym a.added) (then_query before c.args.query c.args.wanted c.self.invariant.0 defined),
+      rw (a.added, c.in_ok-push-in-Ok.ensures.ok) (query_kept before c.self.inside.plans c.args.query c.args.plan c.args.wanted c.self.invariant.0 c.self.invariant.1 defined wanting),
+    )

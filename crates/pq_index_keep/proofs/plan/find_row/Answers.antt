@@ -1,0 +1,16 @@
+use Rattle.std.specs.Prelude.{option_map}
+use Rattle.pq_calls.specs.Calls.{seen}
+use Rattle.pq_calls.specs.declared.rows.StoredRow.{StoredRow}
+use Rattle.pq_calls.proofs.Shown.{no_row_explains}
+use Rattle.pq_index_keep.proofs.Deleting.{told_row}
+use Rattle.pq_index_keep.proofs.plan.find_row.Goals as goal
+
+pub returns-in-Err-clause-cause : goal.returns-in-Err-clause-cause
+returns-in-Err-clause-cause g c =
+    no_row_explains c.args.catalog.now.tables c.args.number c.args.key.now c.requires.number c.requires.kinds
+    (seen g.S.Store.content g.S.Store.faults c.args.calls.now) (seen g.S.Store.content g.S.Store.faults c.row.new.self) c.in-Err.error
+    (rw c.table_of.ensures.table at c.in-Err.ensures.cause)
+
+pub returns-in-Ok-clause-answer : goal.returns-in-Ok-clause-answer
+returns-in-Ok-clause-answer g c = λ rows others s.
+    told_row c.args.catalog.now.tables rows others _ c.args.number c.args.key.now s c.requires.sound c.requires.number c.requires.kinds (option_map (λ (stored : StoredRow). stored.row) c.in-Ok.found) (rw c.table_of.ensures.table at c.in-Ok.ensures.read)

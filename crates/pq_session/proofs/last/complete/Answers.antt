@@ -1,0 +1,18 @@
+use Rattle.std.proofs.Common.{sym, subst}
+use Rattle.std.proofs.lemmas.Result.{IfErr-weaker, on_err_weaker}
+use Rattle.pq_schema.specs.Schema.{Schema}
+use Rattle.pq_intent.proofs.Steps.{on_err_holds}
+use Rattle.pq_session.specs.Opening.{IsLeft}
+use Rattle.pq_session.proofs.Lefts.{filling_in_opens}
+use Rattle.pq_session.proofs.Starting.{marked_shown}
+use Rattle.pq_session.proofs.last.complete.Goals as goal
+
+pub returns-in_err-target-clause-stopped : goal.returns-in_err-target-clause-stopped
+returns-in_err-target-clause-stopped g c = on_err_holds c.from_residual.result (λ m is f. filling_in_opens (g.S.Store.content c.args.store.now) m f)
+
+pub returns-clause-stopped : goal.returns-clause-stopped
+returns-clause-stopped g c =
+    on_err_weaker c.complete_left.result (λ all m is f. all m (subst (λ (x : Schema). IsLeft x c.in_ok-target.target c.in_ok-target.query) (sym is) c.in_ok-target.ensures) f) c.complete_left.ensures.stopped
+
+pub returns-clause-shown : goal.returns-clause-shown
+returns-clause-shown g c = IfErr-weaker c.complete_left.result _ _ (λ broke shows. marked_shown c.args.catalog.now c.in_ok-target.target c.in_ok-target.query (g.S.Store.content c.args.store.now) broke c.in_ok-target.ensures shows) c.complete_left.ensures.shown

@@ -1,0 +1,8 @@
+use Rattle.pq_session.proofs.Paging.{pages_all, pages_end}
+use Rattle.pq_session.proofs.laws.page_law.Goals as goal
+
+pub returns-clause-all : goal.returns-clause-all
+returns-clause-all c m query params k pages paged are = pages_all m query params k paged pages are
+
+pub returns-clause-ends : goal.returns-clause-ends
+returns-clause-ends c = pages_end
