@@ -1,0 +1,4 @@
+pub mod Laws
+pub mod Script
+pub mod Summary
+pub mod Words
