@@ -1,5 +1,5 @@
 -- The clauses of a build over contents of rows, from those over any content that is told.
-use Rattle.std.proofs.Common.{◌≡◌, ℕ, ◌≤◌, ◌<◌, length, Option, Some, sym, ◌∙◌, subst, arith, inl, inr}
+use Rattle.std.proofs.Common.{◌≡◌, ℕ, ◌≤◌, ◌<◌, length, Option, sym, ◌∙◌, subst, arith, inl, inr}
 use Rattle.std.specs.Prelude.{IfSome}
 use Rattle.std.proofs.lemmas.Option.{none-some}
 use Rattle.pq_store.specs.Breaks.{IsUndamaged}
@@ -74,7 +74,7 @@ module _ (target : Target) (query : NewQuery) (old now : Option Content) (origin
         let more = large.many in
         let few = h.filling.few in
         absurd (omega arith)
-    left_at (Damaged damage) (inr broken) = absurd (sound_filling origin target query h.new h.target_is h.content damage h.filling broken)
+    left_at (Damaged damage) (inr broken) = absurd (sound_filling origin target query h.new h.target_is h.content damage h.filling broken.no_row)
 
     pub left_sound_of : (broke : Broke) → IfSome old (λ c. ShowsLeft target query c broke) → IsUndamaged broke
     left_sound_of broke r = left_at broke (subst (λ (o : Option Content). IfSome o (λ c. ShowsLeft target query c broke)) h.is r)

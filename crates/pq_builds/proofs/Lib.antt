@@ -4,4 +4,5 @@ pub mod Finals
 pub mod Following
 pub mod Standing
 pub mod Ranges
+pub mod Reading
 pub mod Staging

@@ -12,7 +12,7 @@ use Rattle.pq_store.specs.declared.damage.Broke.{Broke}
 use Rattle.pq_store.specs.declared.damage.Broke.TheVariants.{Failed, NoMem, Damaged}
 use Rattle.pq_store.specs.Counts.{Counts}
 use Rattle.pq_store.specs.Breaks.{IfDamaged, IsPresent}
-use Rattle.pq_content.specs.Pairs.{Pair, is_in_space, is_of_rows}
+use Rattle.pq_content.specs.Pairs.{Pair, is_of_rows}
 use Rattle.pq_intent.specs.Changing.{MayChange}
 use Rattle.pq_builds.specs.declared.target.NewQuery.{NewQuery}
 use Rattle.pq_builds.specs.declared.target.Target.{Target}

@@ -11,7 +11,6 @@ use Rattle.pq_base.specs.declared.value.ColType.{ColType}
 use Rattle.pq_base.specs.declared.value.Value.{Value}
 use Rattle.pq_base.specs.Order.{position_cmp}
 use Rattle.pq_base.specs.Values.{IsType, AllFit}
-use Rattle.pq_key_code.specs.KeyCode.{code_of}
 use Rattle.pq_row_code.specs.RowCode.{row_code}
 use Rattle.pq_row_code.proofs.Rows.{row_code_injective}
 use Rattle.pq_schema.specs.declared.table.Table.{Table}

@@ -86,10 +86,15 @@ pub record HasTooMany (target : Target) (query : NewQuery) (content : Content) (
   pub has : damage.value ≡ None
   pub many : 1000000 < length (row_pairs_in target.table content)
 
--- in a build that was left: that, or a pair of the table's rows that is no row's
+-- a pair of the table's rows that is no row's, where these are few enough
+pub record HasNoRow (target : Target) (content : Content) (damage : Damage) : Type 0 where
+  pub few : length (row_pairs_in target.table content) ≤ 1000000
+  pub no_row : IsNoRowAmong target.types (row_pairs_in target.table content) damage
+
+-- in a build that was left: the definition's key, where there are too many rows; and else a pair that is no row's
 abbrev pub ShowsLeft : Target → NewQuery → Content → Broke → Type 0
 ShowsLeft target query content = IfDamaged (λ damage.
-    HasTooMany target query content damage ⊎ IsNoRowAmong target.types (row_pairs_in target.table content) damage)
+    HasTooMany target query content damage ⊎ HasNoRow target content damage)
 
 -- ---- numbers
 

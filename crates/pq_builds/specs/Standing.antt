@@ -17,7 +17,7 @@ use Rattle.pq_builds.specs.declared.build.Built.{Built}
 use Rattle.pq_builds.specs.declared.build.Built.TheVariants as built
 use Rattle.pq_builds.specs.declared.target.NewQuery.{NewQuery}
 use Rattle.pq_builds.specs.declared.target.Target.{Target}
-use Rattle.pq_builds.specs.Stages.{marked_value, ready_value, building_value}
+use Rattle.pq_builds.specs.Stages.{ready_value, building_value}
 
 -- ---- an index that is being filled
 

@@ -3,9 +3,11 @@ ghost use Rattle.std.specs.Prelude.{◌≡◌, ◌≤◌, ◌+◌, ◌*◌, ◌�
 ghost use Rattle.pq_content.specs.Pairs.{is_of_rows};
 ghost use Rattle.pq_store.specs.Breaks.{IfDamaged, IsPresent, IsUndamaged};
 ghost use Rattle.pq_store.specs.Content.{HasBrokeCause, Content};
+ghost use Rattle.pq_intent.specs.Spending.{TakesAtMost};
+ghost use Rattle.pq_builds.specs.Bounds.{left_bound};
 ghost use Rattle.pq_builds.specs.Filling.{row_pairs_in, IsNoRowAmong, NamesKey, fill_ops};
 ghost use Rattle.pq_builds.specs.Stages.{marked_value, IsMarked, IsReady, IsBuilt, StopsFilling, StopsBuilding, ShowsBuild, ShowsLeft, Ran, Takes, TakesBuild, IsFew, IsWithin, build_ops, left_ops};
-ghost use Rattle.pq_builds.specs.Standing.{Origin, HoldsOrigin, HoldsFilling, IsMarkedOrReady, Makes, Leaves};
+ghost use Rattle.pq_builds.specs.Standing.{Origin, HoldsOrigin, HoldsFilling, IsMarkedOrReady, Makes, Leaves, rows_in};
 
 use crate::count::count_rows;
 use crate::entries::put;
@@ -91,6 +93,8 @@ fn finish<S: Store<L>, L: Ledger>(
     ensures takes { OnOk result (Takes (fill_ops count + 1) count meter.old meter.new) }
     ensures few_ops { meter.new.ops ≤ meter.old.ops + (fill_ops count + 1) }
     ensures few_entries { meter.new.entries ≤ meter.old.entries + (count + 256) }
+    ensures told { OnErr result (IfSome (S.content store.old) (λ c.
+        length (row_pairs_in target.now.table c) ≡ count → meter.new.entries ≤ meter.old.entries + count)) }
     ensures cause { HasBrokeCause (S.faults store.old) (S.faults store.new) result }
 {
     let value = value_of(alloc, query, READY)?;
@@ -175,9 +179,12 @@ fn run_completion<S: Store<L>, L: Ledger>(
     ensures names { IfErr result (NamesKey query.now.key) }
     ensures takes { IfOk result (λ count. Takes (left_ops count) (2 * count) meter.old meter.new) }
     ensures within { OnErr result (IsWithin left_ops meter.old meter.new) }
+    ensures within_own { OnErr result (IfSome (S.content store.old) (λ c.
+        TakesAtMost (left_bound (length (row_pairs_in target.now.table c))) meter.old meter.new)) }
     ensures cause { HasBrokeCause (S.faults store.old) (S.faults store.new) result }
 {
-    match count_rows(alloc, target.table, store, meter)? {
+    let counted = count_rows(alloc, target.table, store, meter)?;
+    match counted {
         None => Err(Broke::Damaged(miscounted(alloc, query.key.items())?)),
         Some(count) => {
             finish(alloc, target, query, count, store, meter)?;
@@ -238,6 +245,8 @@ pub fn complete_index<S: Store<L>, L: Ledger>(
         → IsMarkedOrReady origin target.now query.now (S.content store.new)) }
     ensures sound { IfErr result (λ broke. (origin : Origin)
         → HoldsFilling origin target.now query.now (S.content store.old) → IsUndamaged broke) }
+    ensures bounded { OnErr result ((origin : Origin) → HoldsFilling origin target.now query.now (S.content store.old)
+        → TakesAtMost (left_bound (rows_in origin target.now)) meter.old meter.new) }
     // Over any content that is told.
     ensures ready { IfOk result (λ count. IfSome (S.content store.old) (λ c.
         (length (row_pairs_in target.now.table c) ≡ count) × IsReady target.now query.now c (S.content store.new))) }
@@ -245,7 +254,9 @@ pub fn complete_index<S: Store<L>, L: Ledger>(
         StopsFilling target.now query.now c (S.content store.new))) }
     ensures shown { IfErr result (λ broke. IfSome (S.content store.old) (λ c.
         ShowsLeft target.now query.now c broke)) }
-    // Over every store, told or not.
+    ensures within_own { OnErr result (IfSome (S.content store.old) (λ c.
+        TakesAtMost (left_bound (length (row_pairs_in target.now.table c))) meter.old meter.new)) }
+    // Over every store, told or not. A store may give other rows than it counts, and with them one range more.
     ensures few { IfOk result (λ count. count ≤ 1000000) }
     ensures names { IfErr result (NamesKey query.now.key) }
     ensures takes { IfOk result (λ count. Takes (left_ops count) (2 * count) meter.old meter.new) }

@@ -77,6 +77,9 @@ fn fill_next<S: Store<L>, L: Ledger>(
     ensures each_entry { OnOk result (meter.new.entries ≡ meter.old.entries + number) }
     ensures few { meter.new.ops ≤ meter.old.ops + (number + 1) }
     ensures few_entries { meter.new.entries ≤ meter.old.entries + 256 }
+    // Over a told content, at most the pairs that are there.
+    ensures told { IfSome (S.content store.old) (λ c.
+        meter.new.entries ≤ meter.old.entries + length (pairs_within c low (past_key target.now.table))) }
     ensures cause { HasBrokeCause (S.faults store.old) (S.faults store.new) result }
 {
     let high = past_key(alloc, target.table)?;
@@ -116,6 +119,8 @@ pub(crate) fn fill_rows<S: Store<L>, L: Ledger>(
     ensures each_entry { OnOk result (meter.new.entries ≡ meter.old.entries + count) }
     ensures few { meter.new.ops ≤ meter.old.ops + fill_ops count }
     ensures few_entries { meter.new.entries ≤ meter.old.entries + (count + 256) }
+    ensures told { OnErr result (IfSome (S.content store.old) (λ c.
+        length (row_pairs_in target.now.table c) ≡ count → meter.new.entries ≤ meter.old.entries + count)) }
     ensures cause { HasBrokeCause (S.faults store.old) (S.faults store.new) result }
 {
     let mut low = first_key(alloc, target.table)?;

@@ -4,6 +4,7 @@
 //! which the index is being filled, and the same build may be made again over it.
 #![tactic(auto)]
 
+mod bounds;
 mod build;
 mod count;
 mod entries;
@@ -11,5 +12,6 @@ mod fill;
 pub mod laws;
 mod target;
 
+pub use bounds::{build_ops, left_ops};
 pub use build::{Built, build_index, complete_index};
 pub use target::{NewQuery, Target};

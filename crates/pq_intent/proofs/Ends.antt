@@ -3,7 +3,6 @@ use Rattle.std.proofs.Common.{◌≡◌, ℕ, ◌≤◌, ◌<◌, length, get_or
 use Rattle.std.specs.Prelude.{MatchOption, Bool, false, is_none, IfSome}
 use Rattle.std.proofs.lemmas.Bool.{false≢true}
 use Rattle.pq_store.specs.declared.store.Guard.TheVariants.{Absent}
-use Rattle.pq_store.specs.declared.damage.Broke.TheVariants.{Damaged}
 use Rattle.pq_store.specs.Content.{admits, Content}
 use Rattle.pq_store.specs.Breaks.{IsPresent}
 use Rattle.std.proofs.lemmas.Option.{same_Some, none-some}

@@ -1,5 +1,5 @@
 pub mod Changing
-pub mod Spending
 pub mod Settling
 pub mod Errors
 pub mod Counting
+pub mod Spending

@@ -1,6 +1,9 @@
--- What calls that write spend of an allowance.
-use Rattle.std.specs.Prelude.{◌≡◌, ℕ, ◌+◌, ◌≤◌, ◌==◌, if◌then◌else◌}
+-- What calls that write spend of an allowance, and what a settling takes at most.
+use Rattle.std.specs.Prelude.{◌≡◌, ℕ, ◌+◌, ◌≤◌, ◌<◌, ◌==◌, if◌then◌else◌, Option, Some, None}
+use Rattle.pq_base.specs.declared.number.Bound.{Bound}
+use Rattle.pq_store.specs.Content.{Content}
 use Rattle.pq_store.specs.Counts.{Counts, Allowed}
+use Rattle.pq_intent.specs.Counting.{HasChanges}
 
 -- at most so many operations and no entries, and exactly those that the meter rose by are spent
 pub record Spends (limit : ℕ) (before after : Allowed) (counts now : Counts) : Type 0 where
@@ -14,3 +17,26 @@ pub record Spends (limit : ℕ) (before after : Allowed) (counts now : Counts) :
 -- the operations of a commit: one change is one write, and more have an intent, which is written and removed
 abbrev pub write_ops : ℕ → ℕ
 write_ops changes = if changes == 1 then 1 else changes + 2
+
+-- ---- a settling
+
+-- the meter has risen by at most a bound
+pub record TakesAtMost (most : Bound) (before after : Counts) : Type 0 where
+  pub ops : after.ops ≤ before.ops + most.ops
+  pub entries : after.entries ≤ before.entries + most.entries
+
+-- without an intent one read, which finds nothing; and with one of so many changes one read with its entry, the changes, and
+-- the removal of the intent
+abbrev pub settling_bound : Option ℕ → Bound
+settling_bound None = record { ops = 1; entries = 0 }
+settling_bound (Some changes) = record { ops = changes + 2; entries = 1 }
+
+-- within the settling of some number of changes that an intent may hold
+pub record IsWithinSettling (before after : Counts) : Type 0 where
+  pub changes : ℕ
+  pub few : changes < 65536
+  pub takes : TakesAtMost (settling_bound (Some changes)) before after
+
+-- within the settling of what this content has at the intent's key
+abbrev pub IsWithinSettlingOf : Counts → Counts → Content → Type 0
+IsWithinSettlingOf before after content = (changes : Option ℕ) → HasChanges content changes → TakesAtMost (settling_bound changes) before after

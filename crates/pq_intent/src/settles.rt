@@ -1,5 +1,5 @@
 //! Settling: the changes of an intent that was left are made, and it is removed.
-ghost use Rattle.std.specs.Prelude.{◌≡◌, ◌⊎◌, ◌+◌, ◌<◌, ◌^◌, ◌++◌, ◌∷◌, [], None, Some, length, map, IfOk, IfErr, IfSome, OnOk, OnErr};
+ghost use Rattle.std.specs.Prelude.{◌≡◌, ◌⊎◌, ◌+◌, ◌≤◌, ◌<◌, ◌^◌, ◌++◌, ◌∷◌, [], None, Some, length, map, IfOk, IfErr, IfSome, OnOk, OnErr};
 ghost use Rattle.pq_row_code.specs.declared.changes.Change.{Change as Coded};
 ghost use Rattle.pq_content.specs.Standing.{change_of};
 ghost use Rattle.pq_key_code.specs.KeyCode.{intent_key};
@@ -9,6 +9,7 @@ ghost use Rattle.pq_intent.specs.Counting.{nothing_settled, settled_changes, Cou
 ghost use Rattle.pq_store.specs.Breaks.{IsUndamaged};
 ghost use Rattle.pq_intent.specs.Errors.{ShowsNoIntent};
 ghost use Rattle.pq_intent.specs.Settling.{IsIntentOf, IsNoIntent, IsSettled, Settles, LeavesSettled};
+ghost use Rattle.pq_intent.specs.Spending.{IsWithinSettling, IsWithinSettlingOf};
 
 use crate::intent::intent_of;
 use crate::write::finish;
@@ -49,7 +50,8 @@ fn settle_changes<S: Store<L>, L: Ledger>(
     ensures sound { IfErr result IsUndamaged }
     ensures counts { IfOk result (λ settled. settled ≡ settled_changes (length changes.now)) }
     ensures ops { IfOk result (λ settled. meter.new.ops + 1 ≡ meter.old.ops + settled.used.ops) }
-    ensures entries { OnOk result (meter.new.entries ≡ meter.old.entries) }
+    ensures few { meter.new.ops ≤ meter.old.ops + (length changes.now + 1) }
+    ensures entries { meter.new.entries ≡ meter.old.entries }
     ensures cause { HasBrokeCause (S.faults store.old) (S.faults store.new) result }
 {
     let number = changes.items().len() as u32;
@@ -87,6 +89,9 @@ pub fn settle<S: Store<L>, L: Ledger>(
     ensures numbers { IfOk result HasNumbers }
     ensures ops { IfOk result (λ settled. meter.new.ops ≡ meter.old.ops + settled.used.ops) }
     ensures entries { IfOk result (λ settled. meter.new.entries ≡ meter.old.entries + settled.used.entries) }
+    // Where it gives up, it is within the settling of some number of changes; over a told content, within its own.
+    ensures within { OnErr result (IsWithinSettling meter.old meter.new) }
+    ensures within_own { OnErr result (IfSome (S.content store.old) (IsWithinSettlingOf meter.old meter.new)) }
     ensures cause { HasBrokeCause (S.faults store.old) (S.faults store.new) result }
 {
     let key = intent_key(alloc)?;

@@ -1,4 +1,4 @@
-use Rattle.std.proofs.Common.{◌≡◌, ◌∙◌, sym, ap, subst, map, length, List}
+use Rattle.std.proofs.Common.{◌≡◌, ◌∙◌, sym, ap, subst, map, length, List, arith}
 use Rattle.std.proofs.lemmas.List.{length-map}
 use Rattle.std.proofs.lemmas.Result.{err_from_is_err_and}
 use Rattle.pq_store.specs.Content.{entry}
@@ -6,6 +6,7 @@ use Rattle.pq_store.specs.declared.store.Pair.{Pair as Stored}
 use Rattle.pq_intent.proofs.Steps.{on_err_holds}
 use Rattle.pq_builds.specs.Filling.{past_key, IsPast}
 use Rattle.pq_builds.proofs.Following.{answer_at, part_at, follows_from, stops_from, no_row_from, next_space}
+use Rattle.pq_builds.proofs.Reading.{range_told, some_same}
 use Rattle.pq_builds.proofs.fill.fill_next.Goals as goal
 
 pub returns-in_err-write_entries-clause-stopped : goal.returns-in_err-write_entries-clause-stopped
@@ -34,3 +35,21 @@ returns-clause-next g c =
     let high = past_key c.args.target.now.table in
     let within = part_at (map entry c.in-Ok.found) (map entry c.items-4.result.now) c.items.result.now c.items-2.result.now c.args.low high c.items.ensures (c.items-2.ensures ∙ c.in_ok-high.ensures) (ap (map entry) c.items-4.ensures) c.in-Ok.ensures.part.within in
     next_space c.args.low c.args.target.now.table 256 (map entry c.items-4.result.now) c.in_ok-next.next c.requires.low within c.in_ok-next.ensures
+
+pub returns-in_err-miscounted-clause-told : goal.returns-in_err-miscounted-clause-told
+returns-in_err-miscounted-clause-told g c = range_told c.args.target.now.table c.args.low c.items.result.now c.items-2.result.now (g.S.Store.content c.args.store.now) c.in-Ok.found c.args.meter.now c.range.new.meter _ c.items.ensures (c.items-2.ensures ∙ c.in_ok-high.ensures) c.in-Ok.ensures.answer c.in-Ok.ensures.meter (omega arith)
+
+pub returns-then-items-number-clause-told : goal.returns-then-items-number-clause-told
+returns-then-items-number-clause-told g c = range_told c.args.target.now.table c.args.low c.items.result.now c.items-2.result.now (g.S.Store.content c.args.store.now) c.in-Ok.found c.args.meter.now c.range.new.meter _ c.items.ensures (c.items-2.ensures ∙ c.in_ok-high.ensures) c.in-Ok.ensures.answer c.in-Ok.ensures.meter (omega arith)
+
+pub returns-in_err-next-clause-told : goal.returns-in_err-next-clause-told
+returns-in_err-next-clause-told g c = range_told c.args.target.now.table c.args.low c.items.result.now c.items-2.result.now (g.S.Store.content c.args.store.now) c.in-Ok.found c.args.meter.now c.range.new.meter _ c.items.ensures (c.items-2.ensures ∙ c.in_ok-high.ensures) c.in-Ok.ensures.answer c.in-Ok.ensures.meter (omega arith)
+
+pub returns-in_err-write_entries-clause-told : goal.returns-in_err-write_entries-clause-told
+returns-in_err-write_entries-clause-told g c = range_told c.args.target.now.table c.args.low c.items.result.now c.items-2.result.now (g.S.Store.content c.args.store.now) c.in-Ok.found c.args.meter.now c.range.new.meter _ c.items.ensures (c.items-2.ensures ∙ c.in_ok-high.ensures) c.in-Ok.ensures.answer c.in-Ok.ensures.meter (omega (arith, c.write_entries.ensures.entries))
+
+pub returns-clause-told : goal.returns-clause-told
+returns-clause-told g c = range_told c.args.target.now.table c.args.low c.items.result.now c.items-2.result.now (g.S.Store.content c.args.store.now) c.in-Ok.found c.args.meter.now c.range.new.meter _ c.items.ensures (c.items-2.ensures ∙ c.in_ok-high.ensures) c.in-Ok.ensures.answer c.in-Ok.ensures.meter (omega (arith, c.write_entries.ensures.entries))
+
+pub returns-then-items-number-clause-stopped : goal.returns-then-items-number-clause-stopped
+returns-then-items-number-clause-stopped g c = some_same c.args.target.now c.args.target.now.table c.args.low (g.S.Store.content c.args.store.now) _ c.range.ensures.same

@@ -4,6 +4,7 @@ use Rattle.std.proofs.lemmas.Result.{err_from_is_err_and}
 use Rattle.pq_intent.proofs.Steps.{on_err_holds}
 use Rattle.pq_builds.specs.Filling.{first_key, Follows}
 use Rattle.pq_builds.proofs.Following.{follows_more, follows_stops, follows_damage, follows_all, counted_full, counted_last, one_full, all_full}
+use Rattle.pq_builds.proofs.Reading.{follows_read}
 use Rattle.pq_builds.proofs.fill.fill_rows.Goals as goal
 
 pub returns-in_err-low-2-clause-stopped : goal.returns-in_err-low-2-clause-stopped
@@ -41,3 +42,7 @@ returns-clause-enters g c =
     let full : c.loop-full.full ≡ c.args.count / 256 = omega arith in
     follows_all c.args.target.now _ c.args.count (g.S.Store.content c.args.store.now) _ _ (all_full c.loop-full.full c.args.count full)
     (follows_more c.args.target.now (first_key c.args.target.now.table) (256 * c.loop-full.full) _ (g.S.Store.content c.args.store.now) _ _ c.loop-full.low _ c.loop-full.invariant.space c.in_ok-fill_next.ensures.next c.loop-full.invariant.follows c.in_ok-fill_next.ensures.follows)
+
+pub returns-in_err-fill_next-clause-told : goal.returns-in_err-fill_next-clause-told
+returns-in_err-fill_next-clause-told g c =
+    on_err_holds c.from_residual-in_err-fill_next.result (follows_read c.args.target.now (256 * c.loop-full.full) c.args.count (g.S.Store.content c.args.store.now) _ c.loop-full.low c.args.meter.now.entries c.loop-full.meter.entries _ c.loop-full.invariant.space c.loop-full.invariant.follows c.fill_next-2.ensures.told c.loop-full.invariant.entries)

@@ -45,4 +45,5 @@ returns-in-Some-clause-stopped g c =
 
 pub returns-in-Some-clause-numbers : goal.returns-in-Some-clause-numbers
 returns-in-Some-clause-numbers g c =
-    IfOk-weaker c.settle_changes.result (λ settled. settled ≡ settled_changes (length c.in-Some.changes)) HasNumbers (λ settled counts. (Some (length c.in-Some.changes), counts)) c.settle_changes.ensures.counts
+    let intent = rw c.in-Some.is at c.in_ok-intent_of.ensures.found in
+    IfOk-weaker c.settle_changes.result (λ settled. settled ≡ settled_changes (length c.in-Some.changes)) HasNumbers (λ settled counts. record { changes = Some (length c.in-Some.changes); few = intent.coded.few; is = counts }) c.settle_changes.ensures.counts
