@@ -3,6 +3,8 @@ pub mod Columns
 pub mod Ends
 pub mod Filtered
 pub mod Merged
+pub mod Merging
+pub mod Permuted
 pub mod Reading
 pub mod Running
 pub mod Steps

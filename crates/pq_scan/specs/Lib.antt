@@ -1,4 +1,5 @@
 pub mod Candidates
 pub mod Ends
 pub mod Inputs
+pub mod Merging
 pub mod Prepared

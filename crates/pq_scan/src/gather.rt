@@ -11,6 +11,7 @@ ghost use Rattle.pq_scan.specs.Candidates.{IsCandidate, AreCandidates, place_of_
 ghost use Rattle.pq_scan.specs.Prepared.{IsScannable};
 
 use crate::candidates::Candidate;
+use crate::merge::Merge;
 use crate::prepared::Scan;
 use crate::reads::scan_input;
 use pq_base::{List, NoMem, Row};
@@ -59,20 +60,13 @@ pub(crate) fn gather<S: Store<L>, L: Ledger>(
     Ok(found)
 }
 
-/// Puts candidates in the order of their positions; those of one position keep their order.
-fn sort_candidates(items: &mut Vec<Candidate>) -> Result<(), NoMem>
-    ensures { OnOk result (items.new.items ≡ sort_by key_cmp place_of_candidate items.old.items) }
-{
-    items.sort_by(|a, b| a.place.items().cmp(b.place.items()))?;
-    Ok(())
-}
-
 /// The first candidates by position, at most `k`; of one position those of the earlier input first.
-pub(crate) fn first_few(found: List<Candidate>, k: usize) -> Result<List<Candidate>, NoMem>
+pub(crate) fn first_few(
+    alloc: Global,
+    found: List<Candidate>,
+    k: usize,
+) -> Result<List<Candidate>, NoMem>
     ensures { IfOk result (λ first. first ≡ take k (sort_by key_cmp place_of_candidate found)) }
 {
-    let mut items = found.into_vec();
-    sort_candidates(&mut items)?;
-    items.truncate(k);
-    Ok(List::from_vec(items))
+    Merge::over(alloc, found)?.first(alloc, k)
 }

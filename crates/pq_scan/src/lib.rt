@@ -2,14 +2,15 @@
 //!
 //! A scan is prepared once for all inputs of its node. For one input the predicates on tied columns are
 //! tested first; then one range is read, from the highest lower bound up to the lowest upper one, with
-//! the cursor's start among the lower ones. What is found for all inputs is put in the order of positions
-//! and cut, and then the rows of entries are fetched.
+//! the cursor's start among the lower ones. What is found for all inputs is merged by position, through a
+//! heap with the head of each list that rises, and cut, and then the rows of entries are fetched.
 #![tactic(auto)]
 
 mod candidates;
 mod fetch;
 mod gather;
 mod keys;
+mod merge;
 mod passing;
 mod places;
 mod prepared;

@@ -45,7 +45,7 @@ fn run<S: Store<L>, L: Ledger>(
         (option_copied after.entry) inputs.now (stop_scan scan.now.rel k scan.now.access)) }
 {
     let found = gather(alloc, scan, inputs, after, k as u32, calls)?;
-    let first = first_few(found, k as usize)?;
+    let first = first_few(alloc, found, k as usize)?;
     Ok(combos_of(alloc, scan, inputs, first.items(), calls)?)
 }
 

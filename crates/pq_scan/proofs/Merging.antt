@@ -1,0 +1,235 @@
+-- What was found, cut into lists that rise, and those merged.
+use Rattle.std.proofs.Common.{◌≡◌, ℕ, ◌+◌, ◌<◌, ◌≤◌, ◌==◌, true, false, cond, List, [], ◌∷◌, ◌++◌, length, map, IsPermutation, refl, sym, ap, ◌∙◌, subst, arith, true≢false, append_assoc, append-nil, take, zero, suc}
+use Rattle.std.specs.declared.cmp.Ordering.{Ordering}
+use Rattle.std.specs.declared.cmp.Ordering.TheVariants.{Less, Equal, Greater}
+use Rattle.std.specs.BinaryHeap.{KeepsHeap, PopsGreatest, IsHeap}
+use Rattle.std.specs.Cmp.{upto}
+use Rattle.std.specs.FinMap.{IsAntisymmetric, nat_cmp-IsAntisymmetric, slice_cmp-IsAntisymmetric}
+use Rattle.std.specs.List.{AllByRecursion}
+use Rattle.std.specs.Ordering.{nat_cmp, is_eq, is_lt, is_gt, ordering_then, ordering_reverse, eq_by_cmp}
+use Rattle.std.proofs.lemmas.List.Sorted.{IsPermutation-refl, IsPermutation-sym, IsPermutation-trans, IsPermutation-cons, IsPermutation-to_front, IsPermutation-append_left, IsPermutation-append_right, Contains-permutation}
+use Rattle.std.proofs.Math.Seq.{take-append_seam}
+use Rattle.std.proofs.lemmas.Bool.{ltb-false}
+use lib.Dec.{ltb}
+use Rattle.pq_base.specs.Members.{Apart}
+use Rattle.pq_base.specs.Sorting.{placed, sort_by}
+use Rattle.pq_base.proofs.Members.{each_in, each_by_in, each_append, each_weaker, each_flat_map, in_from_contains, contained}
+use Rattle.pq_base.proofs.Sorts.{each-sort_by}
+use Rattle.pq_plan.proofs.Orders.{placed_first, apart_permuted, sort_by-IsPermutation}
+use Rattle.pq_store.specs.Content.{key_cmp}
+use Rattle.pq_scan.specs.declared.candidates.Candidate.{Candidate}
+use Rattle.pq_scan.specs.declared.merge.Numbered.{Numbered}
+use Rattle.pq_scan.specs.declared.merge.Rising.{Rising}
+use Rattle.pq_scan.specs.Candidates.{place_of_candidate}
+use Rattle.pq_scan.specs.Merging.{turn_cmp, turn_total, turn_of, candidate_of, numbered, head_cmp, listed, waiting, IsUpTo, Falls, IsRising, IsMerge, merged, PutsBack}
+use Rattle.pq_scan.proofs.Permuted.{IsPermutation-flat_map}
+
+-- ---- turns
+both_tied : (a b : Ordering) → ordering_then a b ≡ Equal → (a ≡ Equal) × (b ≡ Equal)
+both_tied Less b e = absurd (true≢false (ap is_lt e))
+both_tied Equal b e = (refl, e)
+both_tied Greater b e = absurd (true≢false (ap is_gt e))
+
+exact_turn : IsAntisymmetric turn_cmp
+exact_turn x y e =
+    let b = both_tied (key_cmp x.0 y.0) (nat_cmp x.1 y.1) e in
+    let p : x.0 ≡ y.0 = slice_cmp-IsAntisymmetric nat_cmp-IsAntisymmetric x.0 y.0 b.0 in
+    let q : x.1 ≡ y.1 = nat_cmp-IsAntisymmetric x.1 y.1 b.1 in
+    ap (λ (a : List ℕ). (a, x.1)) p ∙ ap (λ (n : ℕ). (y.0, n)) q
+
+earlier : (n m : ℕ) → n < m → nat_cmp n m ≡ Less
+earlier n m l = elim (ltb n m) as (λ b. ltb n m ≡ b → cond b Less (cond (n == m) Equal Greater) ≡ Less) [
+  | true ↦ λ _. refl
+  | false ↦ λ e. absurd (omega (arith, ltb-false n m e, l))
+] refl
+
+gt_then_less : (r : Ordering) → is_gt (ordering_then r Less) ≡ is_gt r
+gt_then_less Less = refl
+gt_then_less Equal = refl
+gt_then_less Greater = refl
+
+apart_by_less : (r : Ordering) → is_eq (ordering_then r Less) ≡ false
+apart_by_less Less = refl
+apart_by_less Equal = refl
+apart_by_less Greater = refl
+
+not_above : (r : Ordering) → is_lt (ordering_reverse r) ≡ false → is_gt r ≡ false
+not_above Less h = refl
+not_above Equal h = refl
+not_above Greater h = absurd cc
+
+-- ---- numbers
+abbrev NotBefore : ℕ → Numbered → Type 0
+NotBefore n item = n ≤ item.number
+
+numbers_from : (low n : ℕ) (xs : List Candidate) → low ≤ n → AllByRecursion (NotBefore low) (numbered n xs)
+numbers_from low n [] h = tt
+numbers_from low n (c ∷ cs) h = (h, numbers_from low (n + 1) cs (omega (arith, h)))
+
+pub numbered_apart : (n : ℕ) (xs : List Candidate) → Apart turn_cmp turn_of (numbered n xs)
+numbered_apart n [] = tt
+numbered_apart n (c ∷ cs) = (
+  each_weaker (NotBefore (n + 1)) (λ m. eq_by_cmp turn_cmp (c.place, n) (turn_of m) ≡ false)
+      (λ m l. ap (λ r. is_eq (ordering_then (key_cmp c.place m.candidate.place) r)) (earlier n m.number (omega (arith, l))) ∙ apart_by_less (key_cmp c.place m.candidate.place))
+      (numbered (n + 1) cs) (numbers_from (n + 1) (n + 1) cs (omega arith)),
+  numbered_apart (n + 1) cs,
+)
+
+placed_alike : (c : Candidate) (n : ℕ) (ms : List Numbered) → AllByRecursion (NotBefore (n + 1)) ms → map candidate_of (placed turn_cmp turn_of (record { candidate = c; number = n }) ms) ≡ placed key_cmp place_of_candidate c (map candidate_of ms)
+placed_alike c n [] h = refl
+placed_alike c n (m ∷ ms) h =
+    let x : Numbered = record { candidate = c; number = n } in
+    let r = key_cmp c.place m.candidate.place in
+    let behind = placed turn_cmp turn_of x ms in
+    let same : is_gt (turn_cmp (turn_of x) (turn_of m)) ≡ is_gt r = ap (λ s. is_gt (ordering_then r s)) (earlier n m.number (omega (arith, h.0))) ∙ gt_then_less r in
+    ap (λ b. map candidate_of (cond b (m ∷ behind) (x ∷ m ∷ ms))) same
+    ∙ elim (is_gt r) as (λ b. map candidate_of (cond b (m ∷ behind) (x ∷ m ∷ ms)) ≡ cond b (m.candidate ∷ placed key_cmp place_of_candidate c (map candidate_of ms)) (c ∷ m.candidate ∷ map candidate_of ms)) [
+      | true ↦ ap (λ l. m.candidate ∷ l) (placed_alike c n ms h.1)
+      | false ↦ refl
+    ]
+
+-- in the order of their turns, they are in that of their positions, and those of one position stay
+pub numbered_sorted : (n : ℕ) (xs : List Candidate) → map candidate_of (sort_by turn_cmp turn_of (numbered n xs)) ≡ sort_by key_cmp place_of_candidate xs
+numbered_sorted n [] = refl
+numbered_sorted n (c ∷ cs) =
+    placed_alike c n (sort_by turn_cmp turn_of (numbered (n + 1) cs)) (each-sort_by turn_cmp turn_of (NotBefore (n + 1)) (numbered (n + 1) cs) (numbers_from (n + 1) (n + 1) cs (omega arith)))
+    ∙ ap (placed key_cmp place_of_candidate c) (numbered_sorted (n + 1) cs)
+
+pub numbered_behind : (n : ℕ) (xs : List Candidate) (c : Candidate) → numbered n (xs ++ c ∷ []) ≡ numbered n xs ++ record { candidate = c; number = n + length xs } ∷ []
+numbered_behind n [] c = let e : n ≡ n + 0 = omega arith in ap (λ (m : ℕ). (record { candidate = c; number = m }) ∷ []) e
+numbered_behind n (x ∷ xs) c =
+    let e : n + 1 + length xs ≡ n + length (x ∷ xs) = omega arith in
+    ap (λ l. (record { candidate = x; number = n }) ∷ l) (numbered_behind (n + 1) xs c ∙ ap (λ (m : ℕ). numbered (n + 1) xs ++ (record { candidate = c; number = m }) ∷ []) e)
+
+-- ---- lists
+permuted_each : {X : Type 0} (P : X → Type 0) (xs ys : List X) → IsPermutation xs ys → AllByRecursion P xs → AllByRecursion P ys
+permuted_each P xs ys p h = each_by_in P ys (λ v i. each_in P xs h v (in_from_contains xs v (Contains-permutation ys xs v (IsPermutation-sym xs ys p) (contained v ys i))))
+
+each_split : {X : Type 0} (P : X → Type 0) (xs : List X) (x : X) → AllByRecursion P (xs ++ x ∷ []) → AllByRecursion P xs × P x
+each_split P [] x h = (tt, h.0)
+each_split P (y ∷ ys) x h = let r = each_split P ys x h.1 in ((h.0, r.0), r.1)
+
+falls_behind : (xs : List Numbered) (x : Numbered) → Falls xs → AllByRecursion (IsUpTo x) xs → Falls (xs ++ x ∷ [])
+falls_behind [] x h u = (tt, tt)
+falls_behind (y ∷ ys) x h u = (each_append (λ z. IsUpTo z y) ys (x ∷ []) h.0 (u.0, tt), falls_behind ys x h.1 u.1)
+
+falls_front : (xs : List Numbered) (x : Numbered) → Falls (xs ++ x ∷ []) → Falls xs × AllByRecursion (IsUpTo x) xs
+falls_front [] x h = (tt, tt)
+falls_front (y ∷ ys) x h =
+    let front = each_split (λ z. IsUpTo z y) ys x h.0 in
+    let rest = falls_front ys x h.1 in
+    ((front.0, rest.0), (front.1, rest.1))
+
+up_through : (x y : Numbered) (zs : List Numbered) → IsUpTo x y → AllByRecursion (IsUpTo y) zs → AllByRecursion (IsUpTo x) zs
+up_through x y zs h all = each_weaker (IsUpTo y) (IsUpTo x) (λ z k. upto turn_total (turn_of x) (turn_of y) (turn_of z) h k) zs all
+
+-- one more before a list
+pub rises_before : (item : Numbered) (list made : Rising) → IsRising list → IsUpTo item list.head → made.head ≡ item → made.behind.items ≡ list.behind.items ++ list.head ∷ [] → IsRising made
+rises_before item list made h up first rest = record {
+  head = subst (λ (x : Numbered). AllByRecursion (IsUpTo x) made.behind.items) (sym first) (subst (λ l. AllByRecursion (IsUpTo item) l) (sym rest) (each_append (IsUpTo item) list.behind.items (list.head ∷ []) (up_through item list.head list.behind.items up h.head) (up, tt)));
+  behind = subst Falls (sym rest) (falls_behind list.behind.items list.head h.behind h.head);
+}
+
+-- a list set aside, and another begun
+pub set_aside : (item : Numbered) (list : Rising) (lists : List Rising) → IsPermutation (item ∷ (listed list ++ waiting lists)) (item ∷ waiting (lists ++ list ∷ []))
+set_aside item list lists =
+    IsPermutation-cons item (listed list ++ waiting lists) (waiting (lists ++ list ∷ [])) (IsPermutation-flat_map listed (list ∷ lists) (lists ++ list ∷ []) (IsPermutation-sym (lists ++ list ∷ []) (list ∷ lists) (IsPermutation-to_front lists list)))
+
+pub moved_before : (item : Numbered) (list : Rising) (behind more : List Numbered) → behind ≡ list.behind.items ++ list.head ∷ [] → IsPermutation (item ∷ (listed list ++ more)) (item ∷ (behind ++ more))
+moved_before item list behind more e =
+    IsPermutation-cons item (listed list ++ more) (behind ++ more) (IsPermutation-append_left more (listed list) behind
+    (subst (λ l. IsPermutation (listed list) l) (sym e) (IsPermutation-sym (list.behind.items ++ list.head ∷ []) (listed list) (IsPermutation-to_front list.behind.items list.head))))
+
+-- the last that was found goes before the lists
+pub one_more : (all : List Numbered) (found front : List Candidate) (c : Candidate) (n : ℕ) (before now : List Numbered) → found ≡ front ++ c ∷ [] → n ≡ length front → IsPermutation all (numbered 0 found ++ before) → IsPermutation ((record { candidate = c; number = n }) ∷ before) now → IsPermutation all (numbered 0 front ++ now)
+one_more all found front c n before now e long p q =
+    let kept = numbered 0 front in
+    let x : Numbered = record { candidate = c; number = n } in
+    let l : 0 + length front ≡ n = omega (arith, long) in
+    let parts : numbered 0 found ≡ kept ++ x ∷ [] = ap (numbered 0) e ∙ numbered_behind 0 front c ∙ ap (λ (m : ℕ). kept ++ (record { candidate = c; number = m }) ∷ []) l in
+    let moved : numbered 0 found ++ before ≡ kept ++ x ∷ before = ap (λ k. k ++ before) parts ∙ append_assoc kept (x ∷ []) before in
+    IsPermutation-trans all (kept ++ x ∷ before) (kept ++ now) (subst (λ k. IsPermutation all k) moved p) (IsPermutation-append_right kept (x ∷ before) now q)
+
+pub alone : (list : Rising) → list.behind.items ≡ [] → IsRising list
+alone list e = record { head = subst (AllByRecursion (IsUpTo list.head)) (sym e) tt; behind = subst Falls (sym e) tt }
+
+-- the last that was found begins a list
+pub first_one : (found front : List Candidate) (c : Candidate) (n : ℕ) (behind : List Numbered) (lists : List Rising) → found ≡ front ++ c ∷ [] → n ≡ length front → behind ≡ [] → lists ≡ [] → IsPermutation (numbered 0 found) (numbered 0 front ++ (record { candidate = c; number = n }) ∷ (behind ++ waiting lists))
+first_one found front c n behind lists e long none empty =
+    let x : Numbered = record { candidate = c; number = n } in
+    let all = numbered 0 found in
+    subst (λ (l : List Numbered). IsPermutation all (numbered 0 front ++ x ∷ (l ++ waiting lists))) (sym none)
+    (subst (λ (l : List Rising). IsPermutation all (numbered 0 front ++ x ∷ waiting l)) (sym empty)
+    (one_more all found front c n [] (x ∷ []) e long (subst (λ l. IsPermutation all l) (sym (append-nil all)) (IsPermutation-refl all)) (IsPermutation-refl (x ∷ []))))
+
+-- none is left, and the last list joins the others
+pub all_listed : (all : List Numbered) (found : List Candidate) (list : Rising) (lists now : List Rising) → found ≡ [] → now ≡ lists ++ list ∷ [] → IsPermutation all (numbered 0 found ++ (listed list ++ waiting lists)) → IsPermutation all (waiting now)
+all_listed all found list lists now none e p =
+    IsPermutation-trans all (listed list ++ waiting lists) (waiting now) (subst (λ (l : List Candidate). IsPermutation all (numbered 0 l ++ (listed list ++ waiting lists))) none p)
+    (IsPermutation-flat_map listed (list ∷ lists) now (subst (λ (l : List Rising). IsPermutation (list ∷ lists) l) (sym e) (IsPermutation-sym (lists ++ list ∷ []) (list ∷ lists) (IsPermutation-to_front lists list))))
+
+-- ---- the merge
+pub put_back_made : (list : List Numbered) (made : Rising) (before now : List Rising) → list ≡ made.behind.items ++ made.head ∷ [] → KeepsHeap head_cmp before now → IsPermutation (made ∷ before) now → PutsBack list before now
+put_back_made list made before now e keeps p = record {
+  heap = keeps;
+  rise = λ f all. permuted_each IsRising (made ∷ before) now p (let s = falls_front made.behind.items made.head (subst Falls e f) in record { head = s.1; behind = s.0 }, all);
+  same = IsPermutation-trans (list ++ waiting before) (listed made ++ waiting before) (waiting now)
+      (IsPermutation-append_left (waiting before) list (listed made) (subst (λ l. IsPermutation l (listed made)) (sym e) (IsPermutation-to_front made.behind.items made.head)))
+      (IsPermutation-flat_map listed (made ∷ before) now p);
+}
+
+pub put_back_none : (list : List Numbered) (lists : List Rising) → list ≡ [] → PutsBack list lists lists
+put_back_none list lists e = record {
+  heap = λ h. h;
+  rise = λ f all. all;
+  same = subst (λ l. IsPermutation (l ++ waiting lists) (waiting lists)) (sym e) (IsPermutation-refl (waiting lists));
+}
+
+pub next_made : (old popped now : List Rising) (r : Rising) → IsMerge old → IsPermutation old (r ∷ popped) → PopsGreatest head_cmp old r popped → PutsBack r.behind.items popped now → IsMerge now × (merged old ≡ r.head.candidate ∷ merged now)
+next_made old popped now r is p pops back =
+    let greatest = pops is.heap in
+    let parts : AllByRecursion IsRising (r ∷ popped) = permuted_each IsRising old (r ∷ popped) p is.rise in
+    let highest = permuted_each (λ s. is_lt (head_cmp r s) ≡ false) old (r ∷ popped) p greatest.1 in
+    let whole : IsPermutation (waiting old) (r.head ∷ waiting now) =
+    IsPermutation-trans (waiting old) (waiting (r ∷ popped)) (r.head ∷ waiting now) (IsPermutation-flat_map listed old (r ∷ popped) p)
+    (IsPermutation-cons r.head (r.behind.items ++ waiting popped) (waiting now) back.same) in
+    let apart : Apart turn_cmp turn_of (r.head ∷ waiting now) = apart_permuted turn_cmp turn_of turn_total exact_turn (waiting old) (r.head ∷ waiting now) whole is.apart in
+    let others : AllByRecursion (IsUpTo r.head) (waiting popped) = each_flat_map (IsUpTo r.head) listed popped (λ s i.
+    let low : IsUpTo r.head s.head = ap is_gt (turn_total.antisymm (turn_of r.head) (turn_of s.head)) ∙ not_gt (turn_cmp (turn_of s.head) (turn_of r.head)) (each_in (λ t. is_lt (head_cmp r t) ≡ false) popped highest.1 s i) in
+    (low, up_through r.head s.head s.behind.items low (each_in IsRising popped parts.1 s i).head)) in
+    let all : AllByRecursion (IsUpTo r.head) (waiting now) = permuted_each (IsUpTo r.head) (r.behind.items ++ waiting popped) (waiting now) back.same (each_append (IsUpTo r.head) r.behind.items (waiting popped) parts.0.head others) in (
+      record { heap = back.heap greatest.0; rise = back.rise parts.0.behind parts.1; apart = apart.1 },
+      ap (map candidate_of) (sort_by-IsPermutation turn_cmp turn_of turn_total exact_turn (waiting old) (r.head ∷ waiting now) whole is.apart
+          ∙ placed_first turn_cmp turn_of r.head (sort_by turn_cmp turn_of (waiting now)) (each-sort_by turn_cmp turn_of (IsUpTo r.head) (waiting now) all)),
+    )
+  where
+    not_gt : (s : Ordering) → is_lt s ≡ false → is_gt (ordering_reverse s) ≡ false
+    not_gt Less h = absurd cc
+    not_gt Equal h = refl
+    not_gt Greater h = refl
+
+pub merge_made : (found : List Candidate) (lists heap : List Rising) → AllByRecursion IsRising lists → IsPermutation (numbered 0 found) (waiting lists) → IsPermutation lists heap → IsHeap head_cmp heap → IsMerge heap × (merged heap ≡ sort_by key_cmp place_of_candidate found)
+merge_made found lists heap rise same p is =
+    let all = numbered 0 found in
+    let whole : IsPermutation all (waiting heap) = IsPermutation-trans all (waiting lists) (waiting heap) same (IsPermutation-flat_map listed lists heap p) in (
+      record { heap = is; rise = permuted_each IsRising lists heap p rise; apart = apart_permuted turn_cmp turn_of turn_total exact_turn all (waiting heap) whole (numbered_apart 0 found) },
+      ap (map candidate_of) (sym (sort_by-IsPermutation turn_cmp turn_of turn_total exact_turn all (waiting heap) whole (numbered_apart 0 found))) ∙ numbered_sorted 0 found,
+    )
+
+-- ---- the first few
+pub one_taken : {X : Type 0} (whole first now : List X) (x : X) (rest left : List X) → whole ≡ first ++ rest → rest ≡ x ∷ left → now ≡ first ++ x ∷ [] → whole ≡ now ++ left
+one_taken whole first now x rest left e r n = e ∙ ap (λ l. first ++ l) r ∙ sym (append_assoc first (x ∷ []) left) ∙ ap (λ l. l ++ left) (sym n)
+
+few_taken : {X : Type 0} (k : ℕ) (xs : List X) → length xs ≤ k → take k xs ≡ xs
+few_taken zero [] h = refl
+few_taken zero (x ∷ xs) h = absurd (omega (arith, h))
+few_taken (suc k) [] h = refl
+few_taken (suc k) (x ∷ xs) h = ap (λ l. x ∷ l) (few_taken k xs (omega (arith, h)))
+
+pub fewer_taken : {X : Type 0} (k : ℕ) (whole first rest : List X) → whole ≡ first ++ rest → rest ≡ [] → length first ≤ k → first ≡ take k whole
+fewer_taken k whole first rest e none few =
+    let is : whole ≡ first = e ∙ ap (λ l. first ++ l) none ∙ append-nil first in
+    sym (ap (take k) is ∙ few_taken k first few)
+
+pub just_taken : {X : Type 0} (k : ℕ) (whole first rest : List X) → whole ≡ first ++ rest → length first ≡ k → first ≡ take k whole
+just_taken k whole first rest e long = sym (ap (take k) e ∙ ap (λ n. take n (first ++ rest)) (sym long) ∙ take-append_seam first rest)

@@ -1,0 +1,89 @@
+-- A merge of lists that rise.
+use Rattle.std.specs.Prelude.{◌≡◌, ℕ, ◌+◌, false, List, [], ◌∷◌, ◌++◌, map, Option, IsPermutation}
+use Rattle.std.specs.declared.cmp.Ordering.{Ordering}
+use Rattle.std.specs.declared.option.Option.TheVariants.{None, Some}
+use Rattle.std.specs.BinaryHeap.{IsHeap}
+use Rattle.std.specs.Cmp.{IsTotalOrder, then_total, on_total, back_total, nat_cmp_total}
+use Rattle.std.specs.Cmp.Lexicographic.{nat_list_cmp_total}
+use Rattle.std.specs.List.{AllByRecursion, flat_map}
+use Rattle.std.specs.Ordering.{nat_cmp, is_gt, then_cmp, on, flip_args}
+use Rattle.pq_base.specs.Members.{Apart}
+use Rattle.pq_base.specs.Sorting.{sort_by}
+use Rattle.pq_store.specs.Content.{key_cmp}
+use Rattle.pq_scan.specs.declared.candidates.Candidate.{Candidate}
+use Rattle.pq_scan.specs.declared.merge.Numbered.{Numbered}
+use Rattle.pq_scan.specs.declared.merge.Rising.{Rising}
+
+-- when a candidate comes: by the code of its position, and at one position by its number
+abbrev pub Turn : Type 0
+Turn = List ℕ × ℕ
+
+abbrev pub turn_cmp : Turn → Turn → Ordering
+turn_cmp = then_cmp (on (λ t. t.0) key_cmp) (on (λ t. t.1) nat_cmp)
+
+pub turn_total : IsTotalOrder turn_cmp
+turn_total = then_total (on_total (λ (t : Turn). t.0) nat_list_cmp_total) (on_total (λ (t : Turn). t.1) nat_cmp_total)
+
+abbrev pub turn_of : Numbered → Turn
+turn_of item = (item.candidate.place, item.number)
+
+abbrev pub candidate_of : Numbered → Candidate
+candidate_of item = item.candidate
+
+-- with their numbers, from one on
+abbrev pub numbered : ℕ → List Candidate → List Numbered
+numbered n [] = []
+numbered n (c ∷ cs) = record { candidate = c; number = n } ∷ numbered (n + 1) cs
+
+-- ---- lists
+
+abbrev pub head_turn : Rising → Turn
+head_turn list = turn_of list.head
+
+-- the list whose head comes first is the greatest
+abbrev pub head_cmp : Rising → Rising → Ordering
+head_cmp = flip_args (on head_turn turn_cmp)
+
+pub head_total : IsTotalOrder head_cmp
+head_total = back_total (on_total head_turn turn_total)
+
+-- all of a list, and of lists
+abbrev pub listed : Rising → List Numbered
+listed list = list.head ∷ list.behind.items
+
+abbrev pub waiting : List Rising → List Numbered
+waiting = flat_map listed
+
+-- x doesn't come behind y
+abbrev pub IsUpTo : Numbered → Numbered → Type 0
+IsUpTo x y = is_gt (turn_cmp (turn_of x) (turn_of y)) ≡ false
+
+-- none comes behind one that stands before it
+abbrev pub Falls : List Numbered → Type 0
+Falls [] = Unit {0}
+Falls (x ∷ xs) = AllByRecursion (λ y. IsUpTo y x) xs × Falls xs
+
+pub record IsRising (list : Rising) : Type 0 where
+  pub head : AllByRecursion (IsUpTo list.head) list.behind.items
+  pub behind : Falls list.behind.items
+
+-- ---- the merge
+
+pub record IsMerge (lists : List Rising) : Type 0 where
+  pub heap : IsHeap head_cmp lists
+  pub rise : AllByRecursion IsRising lists
+  pub apart : Apart turn_cmp turn_of (waiting lists)
+
+-- what the lists have, in order
+abbrev pub merged : List Rising → List Candidate
+merged lists = map candidate_of (sort_by turn_cmp turn_of (waiting lists))
+
+-- what is left of a list joins the others
+pub record PutsBack (list : List Numbered) (before now : List Rising) : Type 0 where
+  pub heap : IsHeap head_cmp before → IsHeap head_cmp now
+  pub rise : Falls list → AllByRecursion IsRising before → AllByRecursion IsRising now
+  pub same : IsPermutation (list ++ waiting before) (waiting now)
+
+abbrev pub GivesNext : List Candidate → List Candidate → Option Candidate → Type 0
+GivesNext before now None = before ≡ []
+GivesNext before now (Some candidate) = before ≡ candidate ∷ now
