@@ -5,10 +5,7 @@ use Rattle.std.proofs.Math.Seq.{get_or-append_seam}
 use Rattle.std.specs.FinMap.{get, insert}
 use Rattle.std.proofs.lemmas.List.{length-append}
 use Rattle.pq_base.specs.declared.number.Bound.{Bound}
-use Rattle.pq_base.specs.Answers.{Passes, Refuses}
 use Rattle.pq_base.specs.declared.refusal.Refusal.{Refusal}
-use Rattle.pq_base.specs.declared.refusal.Stopped.{Stopped}
-use Rattle.pq_base.specs.declared.refusal.Stopped.TheVariants.{Refused, NoMem}
 use Rattle.pq_schema.specs.declared.definition.TableDef.{TableDef}
 use Rattle.pq_schema.specs.declared.made.Definition.{Definition}
 use Rattle.pq_schema.specs.declared.made.Definition.TheVariants.{OfTable, OfQuery}
@@ -32,21 +29,21 @@ use Rattle.pq_schema.specs.Names.{IsName, IsTableDef}
 use Rattle.pq_schema.specs.declared.table.NewIndex.{NewIndex}
 use Rattle.pq_schema.specs.Valid.{IsValid, IsDefined}
 use Rattle.pq_schema.specs.Valid.IsValid.{then_table, then_query}
-use Rattle.pq_text.specs.declared.token.Token.{Token}
-use Rattle.pq_query_read.specs.Trying.{◌>>=◌, passed}
 use Rattle.pq_session.specs.Calls.{PutsNew, MayPut}
 use Rattle.pq_store.specs.Breaks.{IfDamaged, IsPresent, IsUndamaged}
 use Rattle.pq_session.specs.Model.{Model}
 use Rattle.pq_print.specs.declared.report.Report.{Report}
 use Rattle.pq_schema.specs.Tables.{table_at, no_table}
 use Rattle.pq_session.specs.Extends.{Extends}
-use Rattle.pq_session.specs.Promise.{Done as Promised, Broken, Promises, IsWithin, IsWithinFixed, fixed_of, fixed_over}
+use Rattle.pq_session.specs.Promise.{Done as Promised, Broken, Promises, IsBound, IsWithin, IsWithinFixed}
 use Rattle.pq_session.specs.Reports.{define_report}
 use Rattle.pq_session.specs.Stands.{HoldsModel, Stands, content_of, value_at, last_key, last_value}
-use Rattle.pq_session.specs.Planning.{Planned, planned, plan_from, as_it_is, definable, prepared_from, explained_name, explained_from}
-use Rattle.pq_session.specs.Step.{Step, bound, report_of, refusal_report, refused_unread, created, created_as, crowded, prepared, prepared_as, prepared_over, explained_as, explained_report}
+use Rattle.pq_builds.specs.Bounds.{bound}
+use Rattle.pq_session.specs.Actions.{Action, Creates, Prepares, action_bound, action_schema, asking}
+use Rattle.pq_session.specs.Planning.{Planned, planned}
+use Rattle.pq_session.specs.Step.{Step, report_of, acted, created, prepared_over, explanation}
 use Rattle.pq_session.specs.Lines.{table_lines, query_lines, planned_lines}
-use Rattle.pq_session.specs.Planned.{IsComputed, IsPlanOf, IsPlanned}
+use Rattle.pq_session.specs.Planned.{IsComputed, IsPlanOf}
 use Rattle.pq_session.specs.declared.planning.PlannedQuery.{PlannedQuery}
 use Rattle.pq_plan.specs.Cost.{cost}
 use Rattle.pq_session.proofs.Definitions.{next_absent, put_table, put_query}
@@ -55,7 +52,7 @@ use Rattle.pq_session.proofs.Made.{made_of, made_room, small_of}
 
 -- the model with one more definition
 abbrev pub defined : Model → ℕ → Schema → List Line → Step
-defined m number next lines = record { model = record m { schema = next }; report = report_of number lines Done (bound 1 0); making = None }
+defined m number next lines = record { model = record m { schema = next }; report = report_of number lines Done (bound 1 0) }
 
 -- a model that its next definition leads to
 pub record Leads (m : Model) (next : Schema) : Type 0 where
@@ -105,15 +102,16 @@ present_shown (Some content) schema broke.Failed shows = tt
 present_shown (Some content) schema broke.NoMem shows = tt
 present_shown (Some content) schema (broke.Damaged damage) shows = inr (inr shows)
 
-module _ (number : ℕ) (lines : List Line) (f : Model → Step) (old now : Option Content) (schema next : Schema)
-    (leads : (m : Model) → Stands old schema m → Leads m next × (f m ≡ defined m number next lines)) (one : fixed_over f schema ≡ Some (bound 1 0)) where
+module _ (number : ℕ) (lines : List Line) (action : Action) (old now : Option Content) (schema next : Schema)
+    (leads : (m : Model) → Stands old schema m → Leads m next × (acted m number action ≡ defined m number next lines))
+    (one : action_bound schema action ≡ Some (bound 1 0)) (behind : next ≡ action_schema schema action) where
   added : (m : Model) → Stands old schema m → now ≡ Some (insert (content_of m) (last_key next) (last_value next)) → HoldsModel now (record m { schema = next })
   added m s is =
       let l = (leads m s).0 in
       record { valid = l.valid; keeps = l.keeps; told = is ∙ ap Some l.put }
 
   pub define_done : (before : Counts) → PutsNew true (last_key next) (last_value next) old now
-      → Promised f old now schema next before (charged before 0) (define_report number lines)
+      → Promised number (Ok action) old now schema next before (charged before 0) (define_report number lines)
   define_done before puts = record {
     matches = λ m s. rw (leads m s).1 (record { same = refl; ops = lit≤ tt; entries = lit≤ tt });
     made = λ m s.
@@ -123,14 +121,17 @@ module _ (number : ℕ) (lines : List Line) (f : Model → Step) (old now : Opti
     entries = refl;
     few_ops = lit≤ tt;
     few_entries = lit≤ tt;
-    bound = rw one refl;
+    bound = subst (λ (o : Option Bound). IsBound o (bound 1 0)) (sym one) refl;
     refused = λ refusal. absurd refusal;
+    accepted = λ _. behind;
+    numbered = refl;
+    unread = tt;
   }
 
   -- the key is absent, so that no damage is found
   pub define_broken : (before after : Counts) (broke : Broke) → MayPut (last_key next) (last_value next) old now
       → IfSome old (λ pairs. get pairs (last_key next) ≡ None → IsUndamaged broke) → IsWithin (bound 1 0) before after
-      → length schema.definitions + 1 ≡ length next.definitions → IfSome old (λ pairs. IfDamaged (IsPresent (last_key next) pairs) broke) → Broken f old now schema before after broke
+      → length schema.definitions + 1 ≡ length next.definitions → IfSome old (λ pairs. IfDamaged (IsPresent (last_key next) pairs) broke) → Broken number (Ok action) old now schema before after broke
   define_broken before after broke may sound within more shows = record {
     stopped = λ m s. elim (subst (λ o. MayPut (last_key next) (last_value next) o now) s.settled.told may) [
       | inl same ↦ inl (settled_opens (record { valid = s.settled.valid; keeps = s.settled.keeps; told = same }))
@@ -143,17 +144,12 @@ module _ (number : ℕ) (lines : List Line) (f : Model → Step) (old now : Opti
 
 -- ---- tables
 
-module _ (m : Model) (number : ℕ) (schema : Schema) (def : TableDef) (is : m.schema ≡ schema) where
-  pub created_by : (answer : Result Table Refusal) → new_table schema def ≡ answer → created m number def ≡ created_as m number answer
-  unfolding created
-  created_by answer made = ap (created_as m number) (ap (λ (s : Schema). new_table s def) is ∙ made)
-
-pub leads_created : (old : Option Content) (schema : Schema) (number : ℕ) (def : TableDef) (table : Table) → IsTableDef def → new_table schema def ≡ Ok table
-    → (m : Model) → Stands old schema m → Leads m (with_table schema table) × (created m number def ≡ defined m number (with_table schema table) (table_lines table))
+leads_created : (old : Option Content) (schema : Schema) (number : ℕ) (def : TableDef) (table : Table) → IsTableDef def → new_table schema def ≡ Ok table
+    → (m : Model) → Stands old schema m → Leads m (with_table schema table) × (created m number table ≡ defined m number (with_table schema table) (table_lines table))
 leads_created old schema number def table is_def made m s =
     let here : new_table m.schema def ≡ Ok table = ap (λ (x : Schema). new_table x def) (sym s.known) ∙ made in
-    subst (λ (x : Schema). Leads m (with_table x table) × (created m number def ≡ defined m number (with_table x table) (table_lines table))) (sym s.known)
-    (leads_table m def table s.settled is_def here, created_by m number schema def (sym s.known) (Ok table) made)
+    subst (λ (x : Schema). Leads m (with_table x table) × (created m number table ≡ defined m number (with_table x table) (table_lines table))) (sym s.known)
+    (leads_table m def table s.settled is_def here, refl)
 
 -- the last table has the number behind the others
 last_table : (tables : List Table) (table : Table) (t : ℕ) → t ≡ length tables + 1 → table_at (tables ++ table ∷ []) t ≡ table
@@ -172,22 +168,25 @@ IsWritten old now next number lines before after result =
     × IsWithin (bound 1 0) before after
     × IfErr result (λ broke. IfSome old (λ pairs. IfDamaged (IsPresent (last_key next) pairs) broke))
 
-written_as : (f : Model → Step) (old now : Option Content) (schema next : Schema) (number : ℕ) (lines : List Line) (before after : Counts) (result : Result (Schema × Report) Broke)
-    → ((m : Model) → Stands old schema m → Leads m next × (f m ≡ defined m number next lines)) → fixed_over f schema ≡ Some (bound 1 0) → length schema.definitions + 1 ≡ length next.definitions → IsWritten old now next number lines before after result → Promises f old now schema before after result
-written_as f old now schema next number lines before after (Ok made) leads one more h =
-    rw (h.0.0, h.0.1, h.4) (define_done number lines f old now schema next leads one before h.1)
-written_as f old now schema next number lines before after (Err broke) leads one more h = define_broken number lines f old now schema next leads one before after broke h.2 h.3 h.5 more h.6
+written_as : (action : Action) (old now : Option Content) (schema next : Schema) (number : ℕ) (lines : List Line) (before after : Counts) (result : Result (Schema × Report) Broke)
+    → ((m : Model) → Stands old schema m → Leads m next × (acted m number action ≡ defined m number next lines)) → action_bound schema action ≡ Some (bound 1 0) → next ≡ action_schema schema action
+    → length schema.definitions + 1 ≡ length next.definitions → IsWritten old now next number lines before after result → Promises number (Ok action) old now schema before after result
+written_as action old now schema next number lines before after (Ok made) leads one behind more h =
+    rw (h.0.0, h.0.1, h.4) (define_done number lines action old now schema next leads one behind before h.1)
+written_as action old now schema next number lines before after (Err broke) leads one behind more h =
+    define_broken number lines action old now schema next leads one behind before after broke h.2 h.3 h.5 more h.6
 
 pub table_written : (old now : Option Content) (schema session : Schema) (number : ℕ) (def : TableDef) → IsTableDef def → (t : ℕ) (before after : Counts) (result : Result (Schema × Report) Broke)
     → Extends schema def session (Ok t) → IsWritten old now session number (table_lines (table_at session.tables t)) before after result
-    → Promises (λ m. created m number def) old now schema before after result
+    → Promises number (asking Creates (new_table schema def)) old now schema before after result
 table_written old now schema session number def is_def t before after result e all =
     let table = e.0 in
     let next = with_table schema table in
     let there = subst (λ (s : Schema). IsWritten old now s number (table_lines (table_at s.tables t)) before after result) e.2 all in
     let lined = subst (λ (x : Table). IsWritten old now next number (table_lines x) before after result) (last_table schema.tables table t e.3) there in
-    written_as (λ m. created m number def) old now schema next number (table_lines table) before after result (leads_created old schema number def table is_def e.1)
-    (ap fixed_of (created_by (record { schema = schema; rows = [] }) number schema def refl (Ok table) e.1)) (one_more schema.definitions (OfTable (length schema.tables + 1) (length table.columns) (length table.indexes))) lined
+    subst (λ (r : Result Table Refusal). Promises number (asking Creates r) old now schema before after result) (sym e.1)
+    (written_as (Creates table) old now schema next number (table_lines table) before after result (leads_created old schema number def table is_def e.1)
+    refl refl (one_more schema.definitions (OfTable (length schema.tables + 1) (length table.columns) (length table.indexes))) lined)
 
 -- ---- queries
 
@@ -207,10 +206,10 @@ module _ (schema : Schema) (number : ℕ) (query : Query) (best : Candidate) whe
 
   pub query_written : (old now : Option Content) (before after : Counts) (result : Result (Schema × Report) Broke) (lines : List Line) → IsDefined schema query None → lines ≡ query_lines schema.tables plain
       → IsWritten old now (with_query schema query None) number lines before after result
-      → Promises (λ m. prepared_over m number plain None) old now schema before after result
+      → Promises number (Ok (Prepares plain)) old now schema before after result
   query_written old now before after result lines is lined all =
-      written_as (λ m. prepared_over m number plain None) old now schema (with_query schema query None) number (query_lines schema.tables plain) before after result (leads_prepared old is)
-      refl (one_more schema.definitions (OfQuery query None))
+      written_as (Prepares plain) old now schema (with_query schema query None) number (query_lines schema.tables plain) before after result (leads_prepared old is)
+      refl refl (one_more schema.definitions (OfQuery query None))
       (subst (λ (ls : List Line). IsWritten old now (with_query schema query None) number ls before after result) lined all)
 
 -- a query that was planned and is not refused may be defined
@@ -235,64 +234,11 @@ module _ (tables : List Table) (number : ℕ) (computed : PlannedQuery) (plan : 
 
   -- the promise of the plan is that of its parts
   pub planned_promise : (old now : Option Content) (schema : Schema) (before after : Counts) (result : Result (Schema × Report) Broke)
-      → Promises (λ m. prepared_over m number (planned computed.query plan.chosen.best wanted) (crowded m wanted)) old now schema before after result
-      → Promises (λ m. prepared_over m number plan (crowded m plan.chosen.wanted)) old now schema before after result
+      → Promises number (Ok (Prepares (planned computed.query plan.chosen.best wanted))) old now schema before after result
+      → Promises number (Ok (Prepares plan)) old now schema before after result
   planned_promise old now schema before after result promise =
-      subst (λ (p : Planned). Promises (λ m. prepared_over m number p (crowded m p.chosen.wanted)) old now schema before after result) plan_is promise
+      subst (λ (p : Planned). Promises number (Ok (Prepares p)) old now schema before after result) plan_is promise
 
--- ---- what is spelled
-
-pub prepared_by : (m : Model) (number : ℕ) (schema : Schema) (name text : List ℕ) (tokens : List Token) (from : ℕ) (plan : Result Planned Refusal) → m.schema ≡ schema → plan_from schema name text tokens from ≡ plan
-    → prepared_as m number (plan >>= definable m.schema) ≡ prepared m number name text tokens from
-unfolding prepared prepared_from
-prepared_by m number schema name text tokens from plan is read =
-    sym (ap (λ (p : Result Planned Refusal). prepared_as m number (p >>= definable m.schema)) (ap (λ (s : Schema). plan_from s name text tokens from) is ∙ read))
-
--- a plan that may be defined
-free_plan : (schema : Schema) (plan : Planned) → definition_refusal schema plan.query.name ≡ None → definable schema plan ≡ Ok plan
-free_plan schema plan free = ap (λ (o : Option Refusal). passed o >>= as_it_is plan) free
-
-pub prepared_free : (m : Model) (number : ℕ) (schema : Schema) (name text : List ℕ) (tokens : List Token) (from : ℕ) (plan : Planned) → m.schema ≡ schema → plan_from schema name text tokens from ≡ Ok plan → definition_refusal schema plan.query.name ≡ None
-    → prepared_over m number plan (crowded m plan.chosen.wanted) ≡ prepared m number name text tokens from
-prepared_free m number schema name text tokens from plan same is free =
-    sym (ap (prepared_as m number) (ap (λ (s : Schema). definable s plan) same ∙ free_plan schema plan free)) ∙ prepared_by m number schema name text tokens from (Ok plan) same is
-
--- and one that is refused
-pub prepared_refused : (m : Model) (number : ℕ) (schema : Schema) (name text : List ℕ) (tokens : List Token) (from : ℕ) (why : Refusal) → m.schema ≡ schema → prepared_from schema name text tokens from ≡ Err why
-    → prepared m number name text tokens from ≡ refused_unread m number why
-unfolding prepared
-prepared_refused m number schema name text tokens from why same is = ap (prepared_as m number) (ap (λ (s : Schema). prepared_from s name text tokens from) same ∙ is)
-
-pub definition_refused : (schema : Schema) (name text : List ℕ) (tokens : List Token) (from : ℕ) (plan : Planned) (why : Refusal) → plan_from schema name text tokens from ≡ Ok plan → definition_refusal schema plan.query.name ≡ Some why
-    → prepared_from schema name text tokens from ≡ Err why
-unfolding prepared_from
-definition_refused schema name text tokens from plan why is refused =
-    ap (λ (p : Result Planned Refusal). p >>= definable schema) is ∙ ap (λ (o : Option Refusal). passed o >>= as_it_is plan) refused
-
-pub plan_refused : (schema : Schema) (name text : List ℕ) (tokens : List Token) (from : ℕ) (why : Refusal) → plan_from schema name text tokens from ≡ Err why → prepared_from schema name text tokens from ≡ Err why
-unfolding prepared_from
-plan_refused schema name text tokens from why is = ap (λ (p : Result Planned Refusal). p >>= definable schema) is
-
--- a call that stops for one of them
-pub stopped_plan : (schema : Schema) (name text : List ℕ) (tokens : List Token) (from : ℕ) (stopped : Stopped) → Refuses {A = Planned} stopped (plan_from schema name text tokens from) → Refuses {A = Planned} stopped (prepared_from schema name text tokens from)
-stopped_plan schema name text tokens from (Refused why) is = plan_refused schema name text tokens from why is
-stopped_plan schema name text tokens from NoMem is = tt
-
-pub stopped_definition : (schema : Schema) (name text : List ℕ) (tokens : List Token) (from : ℕ) (computed : PlannedQuery) → IsPlanned schema name text tokens from computed
-    → (stopped : Stopped) → Passes {A = Unit {0}} (Err stopped) (definition_refusal schema computed.query.name) → Refuses {A = Planned} stopped (prepared_from schema name text tokens from)
-stopped_definition schema name text tokens from computed is (Refused why) refused =
-    definition_refused schema name text tokens from is.plan why is.is (ap (λ (q : Query). definition_refusal schema q.name) is.plan_is.query ∙ refused)
-stopped_definition schema name text tokens from computed is NoMem refused = tt
-
--- what is explained
-pub explained_with : (schema : Schema) (number : ℕ) (text : List ℕ) (tokens : List Token) (from : ℕ) (computed : PlannedQuery) → IsPlanned schema explained_name text tokens from computed
-    → report_of number (planned_lines schema.tables computed.query.name computed.compiled.choice (cost computed.compiled.plan) computed.compiled.wanted) Done (bound 0 0) ≡ explained_report schema number text tokens from
-unfolding explained_report explained_from query_lines
-explained_with schema number text tokens from computed is =
-    (λ i. report_of number (planned_lines schema.tables (sym is.plan_is.query i).name (sym is.plan_is.choice i) (sym is.plan_is.bound i) (sym is.plan_is.wanted i)) Done (bound 0 0))
-    ∙ ap (explained_as schema.tables number) (sym is.is)
-
-pub explained_refused : (schema : Schema) (number : ℕ) (text : List ℕ) (tokens : List Token) (from : ℕ) (why : Refusal) → plan_from schema explained_name text tokens from ≡ Err why
-    → refusal_report number why (bound 0 0) ≡ explained_report schema number text tokens from
-unfolding explained_report explained_from
-explained_refused schema number text tokens from why is = ap (explained_as schema.tables number) (sym is)
+  -- and so are the lines of its explanation
+  pub explained_lines : report_of number (planned_lines tables computed.query.name computed.compiled.choice (cost computed.compiled.plan) computed.compiled.wanted) Done (bound 0 0) ≡ explanation tables number plan
+  explained_lines = ap (λ (lines : List Line). report_of number lines Done (bound 0 0)) (lines_are ∙ ap (query_lines tables) plan_is)

@@ -18,7 +18,9 @@ use Rattle.pq_schema.specs.Tables.{table_at, no_table}
 use Rattle.pq_schema.specs.Valid.{IsValid, IsDefined}
 use Rattle.pq_schema.specs.Valid.IsValid.{empty, then_table, then_query}
 use Rattle.pq_schema.proofs.Soundness.{valid_tables}
+use Rattle.pq_intent.specs.Spending.{TakesAtMost}
 use Rattle.pq_store.specs.Breaks.{IsUndamaged}
+use Rattle.pq_store.specs.Counts.{Counts}
 use Rattle.pq_store.specs.Content.{key_cmp, Content}
 use Rattle.pq_store.specs.declared.damage.Broke.{Broke}
 use Rattle.pq_content.specs.Pairs.{Pair, AreCatalog}
@@ -29,7 +31,8 @@ use Rattle.pq_builds.specs.declared.build.Built.TheVariants.{Rows as Filled}
 use Rattle.pq_builds.specs.declared.target.NewQuery.{NewQuery}
 use Rattle.pq_builds.specs.declared.target.Target.{Target}
 use Rattle.pq_builds.specs.Stages.{ready_value, building_value}
-use Rattle.pq_builds.specs.Standing.{Origin, HoldsFilling, IsFilling, FillsIndex, IsMarkedOrReady, Makes}
+use Rattle.pq_builds.specs.Bounds.{left_bound}
+use Rattle.pq_builds.specs.Standing.{Origin, HoldsFilling, IsFilling, FillsIndex, IsMarkedOrReady, Makes, rows_in}
 use Rattle.pq_builds.specs.Targets.{target_of}
 use Rattle.pq_builds.proofs.Filled.{catalog_filling, intent_filling}
 use Rattle.pq_session.specs.Model.{Model}
@@ -213,6 +216,12 @@ module _ (schema : Schema) (query : Query) (new : NewIndex) (rows : Rows) (valid
       marked_opens (model_of schema rows) query new valid keeps defined
       (subst (λ (t : Target). IsMarkedOrReady origin t (last_query next) now) target_now (subst (λ (q : NewQuery). IsMarkedOrReady origin target q now) left.query_is (all origin holds_filling)))
 
+  next_within : (before after : Counts) → ((origin : Origin) → HoldsFilling origin target made old → TakesAtMost (left_bound (rows_in origin target)) before after) → TakesAtMost (left_bound (rows_left (model_of next rows))) before after
+  next_within before after all =
+      subst (λ (n : ℕ). TakesAtMost (left_bound n) before after)
+      (ap (λ (t : Target). rows_in origin t) target_now ∙ ap (λ (o : Option Made). rows_of_made o rows) (sym (last_made_next schema query new valid defined)))
+      (all origin holds_filling)
+
   next_sound : (broke : Broke) → ((origin : Origin) → HoldsFilling origin target made old → IsUndamaged broke) → IsUndamaged broke
   next_sound broke all = all origin holds_filling
 
@@ -228,6 +237,12 @@ module _ (target : Target) (made : NewQuery) (old now : Option Content) (m : Mod
       let w = came m.schema f.valid left.made left.last in
       subst (λ (x : Schema). IsLeft x target made → IsFillingIn old (model_of x m.rows) → Opens now (model_of x m.rows)) (sym w.is)
       (λ left f. next_stopped w.earlier w.query w.new m.rows w.valid w.defined target made left old f now all) left f
+
+  pub left_within : (before after : Counts) → ((origin : Origin) → HoldsFilling origin target made old → TakesAtMost (left_bound (rows_in origin target)) before after) → TakesAtMost (left_bound (rows_left m)) before after
+  left_within before after all =
+      let w = came m.schema f.valid left.made left.last in
+      subst (λ (x : Schema). IsLeft x target made → IsFillingIn old (model_of x m.rows) → TakesAtMost (left_bound (rows_left (model_of x m.rows))) before after) (sym w.is)
+      (λ left f. next_within w.earlier w.query w.new m.rows w.valid w.defined target made left old f before after all) left f
 
   pub left_sound : (broke : Broke) → ((origin : Origin) → HoldsFilling origin target made old → IsUndamaged broke) → IsUndamaged broke
   left_sound broke all =

@@ -1,16 +1,16 @@
+pub mod Asked
 pub mod Building
 pub mod Built
 pub mod Catalogs
+pub mod Checked
 pub mod Defining
 pub mod Definitions
-pub mod Fits
 pub mod Kept
 pub mod Known
 pub mod Lefts
 pub mod Lists
 pub mod Made
 pub mod Next
-pub mod Numbers
 pub mod Openings
 pub mod Paging
 pub mod Plans
@@ -26,3 +26,4 @@ pub mod Statements
 pub mod Texts
 pub mod Unique
 pub mod Writing
+pub mod Within

@@ -1,5 +1,5 @@
 -- What preparing a query makes where its index is filled, and where that breaks off.
-use Rattle.std.proofs.Common.{lit≤, ◌≡◌, ℕ, ◌+◌, ◌-◌, ◌*◌, ◌<◌, ◌≤◌, ◌⊎◌, Bool, true, false, List, [], ◌∷◌, length, Option, Some, refl, sym, ap, ◌∙◌, subst, arith, inl, inr}
+use Rattle.std.proofs.Common.{lit≤, ◌≡◌, ℕ, ◌+◌, ◌-◌, ◌*◌, ◌<◌, ◌≤◌, ◌⊎◌, Bool, true, false, List, [], ◌∷◌, length, Option, Some, Ok, refl, sym, ap, ◌∙◌, subst, arith, inl, inr}
 use Rattle.std.specs.Prelude.{not, nat_le, IfSome, if◌then◌else◌}
 use Rattle.pq_schema.specs.Definitions.{refused_if}
 use Rattle.std.proofs.lemmas.List.{length-append}
@@ -45,7 +45,9 @@ use Rattle.pq_session.specs.Planning.{Planned, planned}
 use Rattle.pq_session.specs.Promise.{Done, Broken}
 use Rattle.pq_session.specs.Reports.{build_report, too_many_report, used}
 use Rattle.pq_session.specs.Stands.{Stands, Opens, last_query, new_query_of}
-use Rattle.pq_session.specs.Step.{Step, bound, report_of, refusal_report, crowded, prepared_over}
+use Rattle.pq_builds.specs.Bounds.{bound, build_bound}
+use Rattle.pq_session.specs.Actions.{Prepares}
+use Rattle.pq_session.specs.Step.{Step, report_of, refusal_report, crowded, prepared_over}
 use Rattle.pq_session.proofs.Building.{next_schema, next_model, origin_of, target_for, at_end, holds_origin, new_in, target_is, leaves_opens, makes_next, before_holds}
 use Rattle.pq_session.proofs.Promises.{broken_kept, sound_shown}
 use Rattle.pq_session.proofs.Standing.{settled_opens}
@@ -85,6 +87,10 @@ le_true n most few = grind arith
 le_false : (n most : ℕ) → most < n → nat_le n most ≡ false
 le_false n most many = grind arith
 
+-- the bound over rows that are not too many
+filled_bound : (rows : ℕ) → rows ≤ 1000000 → bound (build_ops rows) (2 * rows) ≡ build_bound rows
+filled_bound rows few = sym (ap (λ (b : Bool). if b then bound (build_ops rows) (2 * rows) else bound 1 1000001) (le_true rows 1000000 few))
+
 module _ (number : ℕ) (query : Query) (new : NewIndex) (best : Candidate) where
   abbrev plan : Planned
   plan = planned query best (Some new)
@@ -104,22 +110,20 @@ module _ (number : ℕ) (query : Query) (new : NewIndex) (best : Candidate) wher
   few_step : (m : Model) → rows_at m ≤ 1000000 → build_step m ≡ record {
     model = next_model m query new;
     report = report_of number (query_lines m.schema.tables plan) End.Done (bound (build_ops (rows_at m)) (2 * rows_at m));
-    making = Some new;
   }
   few_step m few =
       let le = le_true (rows_at m) 1000000 few in
       ap (λ (b : Bool). prepared_over m number plan (refused_if (not b) (too_many m))) le
-      ∙ ap (λ (b : Bool). record { model = next_model m query new; report = report_of number (query_lines m.schema.tables plan) End.Done (bound_at m b); making = Some new }) le
+      ∙ ap (λ (b : Bool). record { model = next_model m query new; report = report_of number (query_lines m.schema.tables plan) End.Done (bound_at m b) }) le
 
   many_step : (m : Model) → 1000000 < rows_at m → build_step m ≡ record {
     model = m;
     report = refusal_report number (refusal.TooManyRows (table_at m.schema.tables new.table).name) (bound 1 1000001);
-    making = Some new;
   }
   many_step m many =
       let gt = le_false (rows_at m) 1000000 many in
       ap (λ (b : Bool). prepared_over m number plan (refused_if (not b) (too_many m))) gt
-      ∙ ap (λ (b : Bool). record { model = m; report = refusal_report number (too_many m) (bound_at m b); making = Some new }) gt
+      ∙ ap (λ (b : Bool). record { model = m; report = refusal_report number (too_many m) (bound_at m b) }) gt
 
   -- ---- over a schema
 
@@ -147,7 +151,7 @@ module _ (number : ℕ) (query : Query) (new : NewIndex) (best : Candidate) wher
     pub build_done : (old now : Option Content) (before after : Counts) (count : ℕ) (lines : List Line) → count ≤ 1000000 → lines ≡ query_lines schema.tables plan
         → ((origin : Origin) → HoldsOrigin origin target written old → Makes origin target written (Filled count) now)
         → TakesBuild (Filled count) before after
-        → Done build_step old now schema (with_query schema query (Some new)) before after (build_report number lines count)
+        → Done number (Ok (Prepares plan)) old now schema (with_query schema query (Some new)) before after (build_report number lines count)
     build_done old now before after count lines few lined makes takes =
         let made_at : (m : Model) → Stands old schema m → Makes (origin_of m new) (target_for m new) (last_query (next_schema m.schema query new)) (Filled count) now =
         λ m s. at_model (λ o t q. Makes o t q (Filled count) now) old m s makes in
@@ -171,14 +175,17 @@ module _ (number : ℕ) (query : Query) (new : NewIndex) (best : Candidate) wher
           entries = takes.entries_are;
           few_ops = omega arith;
           few_entries = omega arith;
-          bound = tt;
+          bound = (count, filled_bound count few);
           refused = λ refusal. absurd refusal;
+          accepted = λ _. refl;
+          numbered = refl;
+          unread = tt;
         }
 
     pub too_many_done : (old now : Option Content) (before after : Counts) (why : Refusal) → why ≡ refusal.TooManyRows (table_at schema.tables new.table).name
         → ((origin : Origin) → HoldsOrigin origin target written old → Makes origin target written TooMany now)
         → now ≡ old → TakesBuild TooMany before after
-        → Done build_step old now schema schema before after (too_many_report number why)
+        → Done number (Ok (Prepares plan)) old now schema schema before after (too_many_report number why)
     too_many_done old now before after why is makes same takes = record {
       matches = λ m s.
           let made = at_model (λ o t q. Makes o t q TooMany now) old m s makes in
@@ -195,8 +202,11 @@ module _ (number : ℕ) (query : Query) (new : NewIndex) (best : Candidate) wher
       entries = takes.entries_are;
       few_ops = lit≤ tt;
       few_entries = lit≤ tt;
-      bound = tt;
+      bound = (1000001, refl);
       refused = λ _. (same, refl);
+      accepted = λ not. absurd (not tt);
+      numbered = refl;
+      unread = tt;
     }
 
     -- wherever it breaks off
@@ -228,7 +238,7 @@ module _ (number : ℕ) (query : Query) (new : NewIndex) (best : Candidate) wher
         → IfSome old (λ c. StopsBuilding target written c now)
         → IfSome old (λ content. TellsEvidence schema content broke)
         → BuildsWithin build_ops before after
-        → Broken build_step old now schema before after broke
+        → Broken number (Ok (Prepares plan)) old now schema before after broke
     build_broken old now before after broke leaves sound ended shown within = record {
       stopped = λ m s. stopped_at old now m s leaves ended;
       sound = λ m s. at_model (λ o t q. IsUndamaged broke) old m s sound;
@@ -240,7 +250,7 @@ module _ (number : ℕ) (query : Query) (new : NewIndex) (best : Candidate) wher
     pub build_lost : (old now : Option Content) (before after : Counts) (count : ℕ) → count ≤ 1000000
         → ((origin : Origin) → HoldsOrigin origin target written old → Makes origin target written (Filled count) now)
         → TakesBuild (Filled count) before after
-        → Broken build_step old now schema before after broke.NoMem
+        → Broken number (Ok (Prepares plan)) old now schema before after broke.NoMem
     build_lost old now before after count few makes takes = record {
       stopped = λ m s.
           let made = at_model (λ o t q. Makes o t q (Filled count) now) old m s makes in
@@ -251,9 +261,9 @@ module _ (number : ℕ) (query : Query) (new : NewIndex) (best : Candidate) wher
     }
 
     -- want of memory behind a count of too many rows
-    pub too_many_lost : (old now : Option Content) (before after : Counts) → now ≡ old → TakesBuild TooMany before after → Broken build_step old now schema before after broke.NoMem
+    pub too_many_lost : (old now : Option Content) (before after : Counts) → now ≡ old → TakesBuild TooMany before after → Broken number (Ok (Prepares plan)) old now schema before after broke.NoMem
     too_many_lost old now before after same takes =
-        broken_kept build_step old now schema before after broke.NoMem same (λ m s. tt)
+        broken_kept number (Ok (Prepares plan)) old now schema before after broke.NoMem same (λ m s. tt)
         (record { count = 1000000; few = lit≤ tt; ops = omega (arith, takes.ops_are, one_of_many); entries = omega (arith, takes.entries_are) })
         (sound_shown old schema broke.NoMem tt)
 

@@ -5,12 +5,12 @@ use Rattle.std.proofs.lemmas.Option.{same_Some, none-some}
 use Rattle.std.proofs.lemmas.List.{length-map}
 use Rattle.std.proofs.lemmas.List.Quantifiers.{position-Some}
 use Rattle.std.proofs.lemmas.Simd.{map-map}
-use Rattle.pq_base.specs.Answers.{Answers}
+use Rattle.pq_base.specs.Answers.{Answers, Refuses}
 use Rattle.pq_base.specs.declared.number.Bound.{Bound}
 use Rattle.pq_base.specs.declared.refusal.Refusal.{Refusal}
 use Rattle.pq_base.specs.declared.refusal.Refusal.TheVariants as refusal
 use Rattle.pq_base.specs.declared.refusal.Stopped.{Stopped}
-use Rattle.pq_base.specs.declared.refusal.Stopped.TheVariants.{Refused}
+use Rattle.pq_base.specs.declared.refusal.Stopped.TheVariants.{Refused, NoMem}
 use Rattle.pq_base.specs.declared.value.Value.{Value}
 use Rattle.pq_schema.specs.Schema.{Schema, IsQueryDefinition, find_query, is_query, no_definition, number_of, query_at}
 use Rattle.pq_schema.specs.declared.made.Definition.{Definition}
@@ -34,7 +34,8 @@ use Rattle.pq_session.specs.Model.{Model}
 use Rattle.pq_session.specs.Promise.{Broken, Done, IsWithin}
 use Rattle.pq_session.specs.Reports.{page_report}
 use Rattle.pq_session.specs.Stands.{Stands, catalog_pairs}
-use Rattle.pq_session.specs.Step.{Step, ran, ran_as, refused_unread, rows_report}
+use Rattle.pq_session.specs.Actions.{Runs}
+use Rattle.pq_session.specs.Step.{page_of}
 use Rattle.pq_session.proofs.Promises.{broken_kept}
 use Rattle.pq_session.proofs.Writing.{settled_rows}
 
@@ -65,7 +66,7 @@ found_query schema name n found =
 
 -- the report of the page is the step's, with what was used
 page_reported : (m : Model) (number : ℕ) (run : Running) (page : Page) → IsPageOver m.schema.tables m.rows run page → page.bound ≡ query_bound m.schema.tables run.query
-    → record (rows_report m number run (page_combos m.schema.tables m.rows run)) { used = page.used } ≡ page_report number page
+    → record (page_of m number run) { used = page.used } ≡ page_report number page
 page_reported m number run page is most =
     let combos = page_combos m.schema.tables m.rows run in
     let lines : map (λ (combo : List (List Value)). Row (selected run.query combo)) combos ≡ map Row page.rows = sym (map-map Row (selected run.query) combos) ∙ ap (map Row) (sym is.rows) in
@@ -74,96 +75,76 @@ page_reported m number run page is most =
     let bound : query_bound m.schema.tables run.query ≡ page.bound = sym most in
     (λ i. record { number = number; lines = lines i; end = RowsEnd (many i) (next i); bound = bound i; used = page.used })
 
-module _ (number query : ℕ) (params : List Value) (after : Option (List Value)) where
-  -- the query over a schema
-  abbrev run_over : Schema → Running
-  run_over s = running query (query_at s query) params after
+module _ (number : ℕ) (run : Running) (schema : Schema) where
+  abbrev most : Bound
+  most = query_bound schema.tables run.query
 
-  -- the step of a run that is not refused
-  abbrev pub run_step : Model → Step
-  run_step m = ran_as m number (Ok (run_over m.schema))
+  within_run : (before later : Counts) → RisesWithin most before later → IsWithin most before later
+  within_run before later rises = record { ops = rises.few_ops; entries = rises.few_entries }
 
-  module _ (schema : Schema) where
-    abbrev most : Bound
-    most = query_bound schema.tables (query_at schema query)
+  page_matches : (m : Model) (page : Page) → schema ≡ m.schema → IsPageOver schema.tables m.rows run page → page.bound ≡ most → page.used.ops ≤ page.bound.ops → page.used.entries ≤ page.bound.entries
+      → Matches (page_of m number run) (page_report number page)
+  page_matches m page known is bound few_ops few_entries =
+      let bound_is : page.bound ≡ query_bound m.schema.tables run.query = bound ∙ ap (λ (x : Schema). query_bound x.tables run.query) known in
+      let most_ops = ap (λ (b : Bound). b.ops) bound_is in
+      let most_entries = ap (λ (b : Bound). b.entries) bound_is in
+      record {
+        same = page_reported m number run page (subst (λ (x : Schema). IsPageOver x.tables m.rows run page) known is) bound_is;
+        ops = omega (arith, few_ops, most_ops);
+        entries = omega (arith, few_entries, most_entries);
+      }
 
-    within_run : (before later : Counts) → RisesWithin most before later → IsWithin most before later
-    within_run before later rises = record { ops = rises.few_ops; entries = rises.few_entries }
+  -- a page of the rows, on the query's bound
+  pub page_done : (old now : Option Content) (before later : Counts) (page : Page) → IsPageOf old schema.tables run page → page.bound ≡ most
+      → RisesBy page.used before later → RisesWithin most before later → now ≡ old → Done number (Ok (Runs run)) old now schema schema before later (page_report number page)
+  page_done old now before later page is bound used rises same =
+      let most_ops = ap (λ (b : Bound). b.ops) bound in
+      let most_entries = ap (λ (b : Bound). b.entries) bound in
+      let few_ops : page.used.ops ≤ page.bound.ops = omega (arith, used.ops, rises.few_ops, most_ops) in
+      let few_entries : page.used.entries ≤ page.bound.entries = omega (arith, used.entries, rises.few_entries, most_entries) in
+      record {
+        matches = λ m s. page_matches m page s.known (is m.rows (catalog_pairs schema) (settled_rows old schema m s)) bound few_ops few_entries;
+        made = λ m s. subst (λ (o : Option Content). Stands o schema m) (sym same) s;
+        ops = used.ops;
+        entries = used.entries;
+        few_ops = few_ops;
+        few_entries = few_entries;
+        bound = bound;
+        refused = λ refusal. absurd refusal;
+        accepted = λ _. refl;
+        numbered = refl;
+        unread = tt;
+      }
 
-    page_matches : (m : Model) (page : Page) → schema ≡ m.schema → IsPageOver schema.tables m.rows (run_over schema) page → page.bound ≡ most → page.used.ops ≤ page.bound.ops → page.used.entries ≤ page.bound.entries
-        → Matches (run_step m).report (page_report number page)
-    page_matches m page known is bound few_ops few_entries =
-        let bound_is : page.bound ≡ query_bound m.schema.tables (query_at m.schema query) = bound ∙ ap (λ (x : Schema). query_bound x.tables (query_at x query)) known in
-        let most_ops = ap (λ (b : Bound). b.ops) bound_is in
-        let most_entries = ap (λ (b : Bound). b.entries) bound_is in
-        record {
-          same = page_reported m number (run_over m.schema) page (subst (λ (x : Schema). IsPageOver x.tables m.rows (run_over x) page) known is) bound_is;
-          ops = omega (arith, few_ops, most_ops);
-          entries = omega (arith, few_entries, most_entries);
-        }
+  -- damage that a read shows is evidence
+  read_shown : (old : Option Content) (error : Broke) → IfDamaged (where_told (ShowsRead schema.tables) old) error → IfSome old (λ content. TellsEvidence schema content error)
+  read_shown None error shows = tt
+  read_shown (Some content) broke.Failed shows = tt
+  read_shown (Some content) broke.NoMem shows = tt
+  read_shown (Some content) (broke.Damaged damage) shows = inl shows
 
-    -- a page of the rows, on the query's bound
-    pub page_done : (old now : Option Content) (before later : Counts) (page : Page) → IsPageOf old schema.tables (run_over schema) page → page.bound ≡ most
-        → RisesBy page.used before later → RisesWithin most before later → now ≡ old → Done run_step old now schema schema before later (page_report number page)
-    page_done old now before later page is bound used rises same =
-        let most_ops = ap (λ (b : Bound). b.ops) bound in
-        let most_entries = ap (λ (b : Bound). b.entries) bound in
-        let few_ops : page.used.ops ≤ page.bound.ops = omega (arith, used.ops, rises.few_ops, most_ops) in
-        let few_entries : page.used.entries ≤ page.bound.entries = omega (arith, used.entries, rises.few_entries, most_entries) in
-        record {
-          matches = λ m s. page_matches m page s.known (is m.rows (catalog_pairs schema) (settled_rows old schema m s)) bound few_ops few_entries;
-          made = λ m s. subst (λ (o : Option Content). Stands o schema m) (sym same) s;
-          ops = used.ops;
-          entries = used.entries;
-          few_ops = few_ops;
-          few_entries = few_entries;
-          bound = bound;
-          refused = λ refusal. absurd refusal;
-        }
-
-    -- damage that a read shows is evidence
-    read_shown : (old : Option Content) (error : Broke) → IfDamaged (where_told (ShowsRead schema.tables) old) error → IfSome old (λ content. TellsEvidence schema content error)
-    read_shown None error shows = tt
-    read_shown (Some content) broke.Failed shows = tt
-    read_shown (Some content) broke.NoMem shows = tt
-    read_shown (Some content) (broke.Damaged damage) shows = inl shows
-
-    -- a run that broke off
-    pub page_broke : (old now : Option Content) (before later : Counts) (error : Broke) → IsSoundOverRows old schema.tables error → IfDamaged (where_told (ShowsRead schema.tables) old) error
-        → RisesWithin most before later → now ≡ old → Broken run_step old now schema before later error
-    page_broke old now before later error sound shows rises same =
-        broken_kept run_step old now schema before later error same
-        (λ m s. sound m.rows (catalog_pairs schema) (settled_rows old schema m s))
-        (within_run before later rises) (read_shown old error shows)
+  -- a run that broke off
+  pub page_broke : (old now : Option Content) (before later : Counts) (error : Broke) → IsSoundOverRows old schema.tables error → IfDamaged (where_told (ShowsRead schema.tables) old) error
+      → RisesWithin most before later → now ≡ old → Broken number (Ok (Runs run)) old now schema before later error
+  page_broke old now before later error sound shows rises same =
+      broken_kept number (Ok (Runs run)) old now schema before later error same
+      (λ m s. sound m.rows (catalog_pairs schema) (settled_rows old schema m s))
+      (within_run before later rises) (read_shown old error shows)
 
 -- ---- RUN
 
-module _ (schema : Schema) (m : Model) (number : ℕ) (name : List ℕ) (params : List Value) (after : Option (List ℕ)) (is : m.schema ≡ schema) where
-  as_running : (said : Result Running Refusal) → running_of schema name params after ≡ said → ran m number name params after ≡ ran_as m number said
-  unfolding ran
-  as_running said found = ap (ran_as m number) (ap (λ (s : Schema). running_of s name params after) is ∙ found)
-
-  of_number : (query : ℕ) (start : Result (Option (List Value)) Refusal) → find_query schema name ≡ Some query → begins schema.tables query (query_at schema query) params after ≡ start
+module _ (schema : Schema) (name : List ℕ) (params : List Value) (after : Option (List ℕ)) where
+  pub of_number : (query : ℕ) (start : Result (Option (List Value)) Refusal) → find_query schema name ≡ Some query → begins schema.tables query (query_at schema query) params after ≡ start
       → running_of schema name params after ≡ running_as query (query_at schema query) params start
   unfolding running_of
   of_number query start found begun = ap (running_at schema name params after) found ∙ ap (running_as query (query_at schema query) params) begun
 
-  none_of : find_query schema name ≡ None → running_of schema name params after ≡ Err (refusal.NoQuery name)
+  pub no_such_query : find_query schema name ≡ None → running_of schema name params after ≡ Err (refusal.NoQuery name)
   unfolding running_of
-  none_of none = ap (running_at schema name params after) none
-
-  pub no_such_query : find_query schema name ≡ None → ran m number name params after ≡ refused_unread m number (refusal.NoQuery name)
-  no_such_query none = as_running (Err (refusal.NoQuery name)) (none_of none)
+  no_such_query none = ap (running_at schema name params after) none
 
   -- what a page is refused for
-  pub run_refused : (query : ℕ) (why : Refusal) → find_query schema name ≡ Some query → begins schema.tables query (query_at schema query) params after ≡ Err why → ran m number name params after ≡ refused_unread m number why
-  run_refused query why found refused = as_running (Err why) (of_number query (Err why) found refused)
-
-  -- and otherwise the page behind its position
-  pub run_taken : (query : ℕ) (start : Option (List Value)) → find_query schema name ≡ Some query → begins schema.tables query (query_at schema query) params after ≡ Ok start → run_step number query params start m ≡ ran m number name params after
-  run_taken query start found begun =
-      ap (λ (s : Schema). ran_as m number (Ok (running query (query_at s query) params start))) is
-      ∙ sym (as_running (Ok (running query (query_at schema query) params start)) (of_number query (Ok start) found begun))
-
-pub refusal_said : (stopped : Stopped) (why : Refusal) (said : Result (Option (List Value)) Refusal) → stopped ≡ Refused why → Answers {A = Option (List Value)} (Err stopped) said → said ≡ Err why
-refusal_said stopped why said is told = subst (λ (x : Stopped). Answers {A = Option (List Value)} (Err x) said) is told
+  pub run_refused : (query : ℕ) (stopped : Stopped) → find_query schema name ≡ Some query → Answers {A = Option (List Value)} (Err stopped) (begins schema.tables query (query_at schema query) params after)
+      → Refuses stopped (running_of schema name params after)
+  run_refused query (Refused why) found refused = of_number query (Err why) found refused
+  run_refused query NoMem found refused = tt

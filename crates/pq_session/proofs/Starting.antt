@@ -13,10 +13,11 @@ use Rattle.pq_content.specs.Tables.{Keeps}
 use Rattle.pq_store.specs.Content.{Content}
 use Rattle.pq_key_code.specs.KeyCode.{intent_key}
 use Rattle.pq_builds.specs.Bounds.{bound}
+use Rattle.pq_builds.specs.Filling.{row_pairs_in}
 use Rattle.pq_builds.specs.Stages.{ShowsLeft}
 use Rattle.pq_builds.specs.declared.target.NewQuery.{NewQuery}
 use Rattle.pq_builds.specs.declared.target.Target.{Target}
-use Rattle.pq_intent.specs.Counting.{Counts as CountsOf, CountsIntent, HasNumbers, nothing_settled, settled_changes}
+use Rattle.pq_intent.specs.Counting.{Counts as CountsOf, CountsIntent, HasNumbers, IsIntentOfMany, nothing_settled, settled_of}
 use Rattle.pq_intent.specs.Errors.{ShowsNoIntent}
 use Rattle.pq_store.specs.Breaks.{IsUndamaged}
 use Rattle.pq_intent.specs.Settling.{IsSettled, Settles, LeavesSettled}
@@ -29,8 +30,8 @@ use Rattle.pq_session.specs.declared.format.Mark.TheVariants.{Ready, Building}
 use Rattle.pq_session.specs.declared.session.Started.{Started}
 use Rattle.pq_session.specs.Matches.{IsOpening}
 use Rattle.pq_session.specs.Model.{Model}
-use Rattle.pq_session.specs.Opening.{Added, none_added, opening_of, started_of, completion_bound, opened, catalog_in, IsStarted, IsLeft, IsAsMarked, rows_of_made, rows_left, rows_of_mark, TellsSchema, NamesPair, NamesFlaw, ShowsMarked, IsIntentOfMany, intent_ops, HasBuild, IsOpeningBound}
-use Rattle.pq_session.specs.Stands.{HoldsModel, Stands, Opens, Holds, IsFillingLast, content_of}
+use Rattle.pq_session.specs.Opening.{Added, none_added, opening_of, started_of, completion_bound, opened, catalog_in, IsStarted, IsLeft, IsAsMarked, rows_of_made, rows_left, rows_of_mark, TellsSchema, NamesPair, NamesFlaw, HasFewRows, HasFewLeft, ShowsMarked, intent_ops, HasBuild, IsOpeningBound}
+use Rattle.pq_session.specs.Stands.{HoldsModel, Stands, Opens, Holds, IsFillingLast, content_of, last_made}
 use Rattle.pq_session.proofs.Lefts.{filling_in_opens}
 use Rattle.pq_session.proofs.Reopening.{schema_in, mark_in, mark_held, held_tells}
 use Rattle.pq_session.proofs.Standing.{settled_opens}
@@ -101,7 +102,7 @@ module _ (old mid now : Option Content) (made : (settled : Content) → Settles 
 
 -- ---- the line of an opening
 
-changes_of : (o : Option (List ℕ)) (n : Settled) → MatchOption o (n ≡ nothing_settled) (λ value. CountsIntent value n)
+pub changes_of : (o : Option (List ℕ)) (n : Settled) → MatchOption o (n ≡ nothing_settled) (λ value. CountsIntent value n)
     → (changes : Option ℕ) × MatchOption o (changes ≡ None) (λ value. IsIntentOfMany value changes) × (n.used.ops + 1 ≡ 2 + intent_ops changes)
 changes_of None n is = (None, refl, omega (arith, ap (λ (x : Settled). x.used.ops) is))
 changes_of (Some value) n is = (Some (length is.changes), record { changes = is.changes; intent = is.intent; many_are = refl }, omega (arith, ap (λ (x : Settled). x.used.ops) is.counts))
@@ -114,7 +115,7 @@ build_of_mark : (mark : Mark) (content : Option Content) (m : Model) (settled : 
 build_of_mark Ready content m settled is s = same_Some settled (content_of m) (sym is ∙ s.told)
 build_of_mark Building content m settled is f = build_over m settled f.pairs f.filling (same_Some f.pairs settled (sym f.told ∙ is))
 
-bound_as : (c : Content) (mid : Option Content) (n : Settled) (m : Model) (mark : Mark) (most : Bound)
+pub bound_as : (c : Content) (mid : Option Content) (n : Settled) (m : Model) (mark : Mark) (most : Bound)
     → CountsOf c n → ((settled : Content) → Settles (Some c) settled → IsSettled mid settled) → Opens (Some c) m → IsAsMarked mark mid m
     → most ≡ bound (n.used.ops + 1 + (completion_bound (rows_of_mark mark m)).ops) (257 + (completion_bound (rows_of_mark mark m)).entries) → IsOpeningBound m c most
 bound_as c mid n m mark most counts made opens stands is =
@@ -138,12 +139,12 @@ pub most_as : (old mid : Option Content) (n : Settled) (m : Model) (mark : Mark)
 most_as None mid n m mark s schema found counts made opens stands is = tt
 most_as (Some c) mid n m mark s schema found counts made opens stands is = bound_as c mid n m mark s.bound counts made opens stands (ap (λ (x : Started). x.bound) is)
 
-some_entries : (o : Option ℕ) (n : Settled) → MatchOption o (n ≡ nothing_settled) (λ changes. n ≡ settled_changes changes) → n.used.entries ≤ 1
+some_entries : (o : Option ℕ) (n : Settled) → n ≡ settled_of o → n.used.entries ≤ 1
 some_entries None n is = omega (arith, ap (λ (x : Settled). x.used.entries) is)
 some_entries (Some changes) n is = omega (arith, ap (λ (x : Settled). x.used.entries) is)
 
 pub few_settled : (n : Settled) → HasNumbers n → n.used.entries ≤ 1
-few_settled n h = some_entries h.0 n h.1
+few_settled n h = some_entries h.changes n h.is
 
 pub opens_as : (old mid : Option Content) (n : Settled) (m : Model) (mark : Mark) (s : Started) (schema : Schema)
     → IfSome old (λ pairs. CountsOf pairs n) → HasNumbers n → ((settled : Content) → Settles old settled → IsSettled mid settled) → Opens old m → schema ≡ m.schema → IsAsMarked mark mid m → length schema.definitions ≤ 256
@@ -163,15 +164,37 @@ opens_as old mid n m mark s schema counts numbers made opens same stands few is 
 
 -- ---- what the catalog tells
 
-pub tells_schema : (old mid : Option Content) (schema session : Schema) (mark : Mark) → IfSome old (λ pairs. LeavesSettled pairs mid) → IfSome mid (λ pairs. opened none_added (catalog_in pairs) ≡ Ok (schema, mark)) → session ≡ schema
-    → IfSome old (λ pairs. TellsSchema pairs session)
-tells_schema None mid schema session mark are read same = tt
-tells_schema (Some c) mid schema session mark are read same = record {
+pub tells_schema : (old mid now : Option Content) (schema session : Schema) (mark : Mark) → now ≡ mid → IfSome old (λ pairs. LeavesSettled pairs mid) → IfSome mid (λ pairs. opened none_added (catalog_in pairs) ≡ Ok (schema, mark))
+    → IfSome now (HasFewLeft schema mark) → session ≡ schema → IfSome old (λ pairs. TellsSchema pairs session)
+tells_schema None mid now schema session mark at are read few same = tt
+tells_schema (Some c) mid now schema session mark at are read few same = record {
   settled = are.settled;
   settles = are.settles;
   mark = mark;
   opened = subst (λ (o : Option Content). IfSome o (λ pairs. opened none_added (catalog_in pairs) ≡ Ok (schema, mark))) are.stands.told read ∙ ap (λ (x : Schema). Ok (x, mark)) (sym same);
+  few = subst (λ (x : Schema). HasFewLeft x mark are.settled) (sym same) (subst (λ (o : Option Content). IfSome o (HasFewLeft schema mark)) (at ∙ are.stands.told) few);
 }
+
+-- few enough rows, where so many were completed
+
+pub few_completed : (t : ℕ) (Q : Content → Type 0) (old : Option Content) (r : Result ℕ Broke) → IfOk r (λ count. IfSome old (λ c. (length (row_pairs_in t c) ≡ count) × Q c)) → IfOk r (λ count. count ≤ 1000000)
+    → OnOk r (IfSome old (λ c. length (row_pairs_in t c) ≤ 1000000))
+few_completed t Q old (Err e) ready few = tt
+few_completed t Q None (Ok count) ready few = tt
+few_completed t Q (Some c) (Ok count) ready few = let many = ready.0 in omega (arith, many, few)
+
+pub few_left : (schema : Schema) (target : Target) (query : NewQuery) (old : Option Content) → IsLeft schema target query → IfSome old (λ c. length (row_pairs_in target.table c) ≤ 1000000) → IfSome old (HasFewRows (last_made schema))
+few_left schema target query None left few = tt
+few_left schema target query (Some c) left few =
+    subst (λ (o : Option Made). HasFewRows o c) (sym left.last) (subst (λ (t : Target). length (row_pairs_in t.table c) ≤ 1000000) left.target_is few)
+
+pub few_marked : (schema session : Schema) (mark : Mark) (old : Option Content) → mark ≡ Building → session ≡ schema → IfSome old (HasFewRows (last_made session)) → IfSome old (HasFewLeft schema mark)
+few_marked schema session mark old is same few =
+    subst (λ (k : Mark). IfSome old (HasFewLeft schema k)) (sym is) (subst (λ (x : Schema). IfSome old (HasFewRows (last_made x))) same few)
+
+pub few_ready : (schema : Schema) (mark : Mark) (old : Option Content) → mark ≡ Ready → IfSome old (HasFewLeft schema mark)
+few_ready schema mark None is = tt
+few_ready schema mark (Some c) is = subst (λ (k : Mark). HasFewLeft schema k c) (sym is) tt
 
 -- ---- flaws
 

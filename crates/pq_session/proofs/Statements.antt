@@ -1,17 +1,21 @@
--- The step of a piece, by what its text spells.
-use Rattle.std.proofs.Common.{◌≡◌, ℕ, ◌-◌, ◌<◌, ◌≤◌, Bool, true, false, cond, List, length, Ok, Err, refl, sym, ap, ◌∙◌, arith}
-use Rattle.std.specs.Prelude.{nat_le}
+-- What a piece asks for, by what its text spells.
+use Rattle.std.proofs.Common.{◌≡◌, ℕ, ◌-◌, ◌<◌, ◌≤◌, Bool, true, false, cond, List, length, Result, Err, refl, sym, ap, ◌∙◌, arith}
+use Rattle.std.specs.Prelude.{nat_le, Ok}
 use Rattle.std.proofs.lemmas.Bool.{leb-true, leb-false}
+use Rattle.pq_base.specs.Answers.{Refuses}
+use Rattle.pq_base.specs.declared.refusal.Stopped.{Stopped}
+use Rattle.pq_base.specs.declared.refusal.Stopped.TheVariants.{Refused, NoMem}
+use Rattle.pq_base.specs.declared.refusal.Refusal.{Refusal}
 use Rattle.pq_base.specs.declared.refusal.Refusal.TheVariants.{StatementLong, NotUtf8, Syntax}
-use Rattle.pq_shape.specs.Faults.{offset_at}
+use Rattle.pq_schema.specs.Schema.{Schema}
+use Rattle.pq_shape.specs.Faults.{IsRefusalOf, offset_at}
 use Rattle.pq_text.specs.declared.token.Token.{Token}
 use Rattle.pq_text.specs.declared.piece.Piece.{Piece}
 use Rattle.pq_text.specs.declared.piece.Piece.TheVariants as piece
 use Rattle.pq_text.specs.Tokens.{tokens_of}
 use Rattle.pq_def_read.specs.declared.statement.Statement.{Statement}
 use Rattle.pq_def_read.specs.Reading.{statement_of}
-use Rattle.pq_session.specs.Model.{Model}
-use Rattle.pq_session.specs.Step.{refused_unread, read_as, performed, text_step, step}
+use Rattle.pq_session.specs.Actions.{Action, asked, asked_by, asked_of, asked_text}
 
 short : (n : ℕ) → n ≤ 65536 → nat_le n 65536 ≡ true
 short n few =
@@ -27,34 +31,43 @@ long n many =
       | false ↦ λ is. is
     ] refl
 
-module _ (m : Model) (number : ℕ) (text : List ℕ) where
-  by_length : (b : Bool) → nat_le (length text) 65536 ≡ b → text_step m number text ≡ cond b (read_as m number text (tokens_of text) (statement_of text (tokens_of text))) (refused_unread m number StatementLong)
-  unfolding text_step
-  by_length b is = ap (λ c. cond c (read_as m number text (tokens_of text) (statement_of text (tokens_of text))) (refused_unread m number StatementLong)) is
+module _ (schema : Schema) (text : List ℕ) where
+  abbrev read_all : Result Action Refusal
+  read_all = asked_of schema text (tokens_of text) (statement_of text (tokens_of text))
 
-  pub too_long : 65536 < length text → text_step m number text ≡ refused_unread m number StatementLong
+  by_length : (b : Bool) → nat_le (length text) 65536 ≡ b → asked_text schema text ≡ cond b read_all (Err StatementLong)
+  unfolding asked_text
+  by_length b is = ap (λ c. cond c read_all (Err StatementLong)) is
+
+  pub too_long : 65536 < length text → asked_text schema text ≡ Err StatementLong
   too_long many = by_length false (long (length text) many)
 
-  pub read_step : (tokens : List Token) (read : Statement) → length text ≤ 65536 → tokens ≡ tokens_of text → statement_of text tokens ≡ Ok read → performed m number text tokens read ≡ text_step m number text
-  read_step tokens read few found is =
-      sym (by_length true (short (length text) few)
-      ∙ ap (λ ts. read_as m number text ts (statement_of text ts)) (sym found)
-      ∙ ap (read_as m number text tokens) is)
+  by_tokens : (tokens : List Token) → length text ≤ 65536 → tokens ≡ tokens_of text → asked_text schema text ≡ asked_of schema text tokens (statement_of text tokens)
+  by_tokens tokens few found = by_length true (short (length text) few) ∙ ap (λ ts. asked_of schema text ts (statement_of text ts)) (sym found)
 
-  pub not_read : (tokens : List Token) (left : ℕ) → length text ≤ 65536 → tokens ≡ tokens_of text → statement_of text tokens ≡ Err left → text_step m number text ≡ refused_unread m number (Syntax (offset_at text tokens (length tokens - left)))
-  not_read tokens left few found is =
-      by_length true (short (length text) few)
-      ∙ ap (λ ts. read_as m number text ts (statement_of text ts)) (sym found)
-      ∙ ap (read_as m number text tokens) is
+  pub asked_read : (tokens : List Token) (read : Statement) → length text ≤ 65536 → tokens ≡ tokens_of text → statement_of text tokens ≡ Ok read → asked_text schema text ≡ asked_by schema text tokens read
+  asked_read tokens read few found is = by_tokens tokens few found ∙ ap (asked_of schema text tokens) is
 
-pub text_piece : (m : Model) (number : ℕ) (text : List ℕ) (p : Piece) → p ≡ piece.Statement text → text_step m number text ≡ step m number p
-unfolding step
-text_piece m number text p is = sym (ap (step m number) is)
+  pub not_read : (tokens : List Token) (left : ℕ) → length text ≤ 65536 → tokens ≡ tokens_of text → statement_of text tokens ≡ Err left
+      → asked_text schema text ≡ Err (Syntax (offset_at text tokens (length tokens - left)))
+  not_read tokens left few found is = by_tokens tokens few found ∙ ap (asked_of schema text tokens) is
 
-pub other_piece : (m : Model) (number : ℕ) (p : Piece) → p ≡ piece.NotUtf8 → step m number p ≡ refused_unread m number NotUtf8
-unfolding step
-other_piece m number p is = ap (step m number) is
+  pub text_piece : (p : Piece) → p ≡ piece.Statement text → asked schema p ≡ asked_text schema text
+  unfolding asked
+  text_piece p is = ap (asked schema) is
 
-pub long_piece : (m : Model) (number : ℕ) (p : Piece) → p ≡ piece.TooLong → step m number p ≡ refused_unread m number StatementLong
-unfolding step
-long_piece m number p is = ap (step m number) is
+pub other_piece : (schema : Schema) (p : Piece) → p ≡ piece.NotUtf8 → asked schema p ≡ Err NotUtf8
+unfolding asked
+other_piece schema p is = ap (asked schema) is
+
+pub long_piece : (schema : Schema) (p : Piece) → p ≡ piece.TooLong → asked schema p ≡ Err StatementLong
+unfolding asked
+long_piece schema p is = ap (asked schema) is
+
+-- reading stops for the place of the fault, or for want of memory
+pub stopped_reading : (schema : Schema) (text : List ℕ) (tokens : List Token) (stopped : Stopped) → length text ≤ 65536 → tokens ≡ tokens_of text → IsRefusalOf text tokens (statement_of text tokens) stopped → Refuses stopped (asked_text schema text)
+stopped_reading schema text tokens (Refused why) few found stops = not_read schema text tokens stops.0 few found stops.1 ∙ ap (λ (r : Refusal). Err r) (sym (same_refused _ _ stops.2))
+  where
+    same_refused : (r s : Refusal) → Refused r ≡ Refused s → r ≡ s
+    same_refused r s e = cc
+stopped_reading schema text tokens NoMem few found stops = tt

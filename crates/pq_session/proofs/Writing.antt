@@ -47,9 +47,10 @@ use Rattle.pq_nodes.specs.Operators.{no_row}
 use Rattle.pq_schema.specs.Valid.{IsValid}
 use Rattle.pq_session.specs.Matches.{Matches}
 use Rattle.pq_session.specs.Model.{Model}
-use Rattle.pq_session.specs.Promise.{Done, Broken, Promises, IsWithin, IsWithinFixed, fixed_of, fixed_over}
+use Rattle.pq_session.specs.Actions.{Writes}
+use Rattle.pq_session.specs.Promise.{Done, Broken, IsWithin}
 use Rattle.pq_session.specs.Stands.{HoldsModel, Stands, Opens, content_of, catalog_pairs}
-use Rattle.pq_session.specs.Step.{Step, report_of, refusal_report, refused, refused_unread, effected, effected_as, written, written_as, performed}
+use Rattle.pq_session.specs.Step.{Step, report_of, refusal_report, refused, effected, effected_as}
 use Rattle.pq_session.proofs.Catalogs.{are_beside}
 use Rattle.pq_session.proofs.Standing.{no_intent_in, settled_opens}
 
@@ -73,17 +74,6 @@ settled_rows old schema m s = record {
 pub settled_for : (old mid : Option Content) (schema : Schema) (m : Model) → mid ≡ old → Stands old schema m → IsSettled mid (content_of m)
 settled_for old mid schema m same s = record { told = same ∙ s.settled.told; no_intent = no_intent_in m }
 
--- ---- the bound
-
--- whatever the effect is, its bound is that of the write
-effected_bound : (number : ℕ) (write : Write) (schema : Schema) → fixed_over (λ m. effected m number write) schema ≡ Some (write_bound schema.tables write)
-unfolding effected
-effected_bound number write schema = by (effect schema.tables [] write)
-  where
-    by : (answer : Result Rows Refusal) → fixed_of (effected_as (record { schema = schema; rows = [] }) number (write_bound schema.tables write) answer) ≡ Some (write_bound schema.tables write)
-    by (Ok rows) = refl
-    by (Err why) = refl
-
 -- ---- refused
 
 step_refused : (m : Model) (number : ℕ) (write : Write) (why : Refusal) (schema : Schema) → schema ≡ m.schema → effect schema.tables m.rows write ≡ Err why
@@ -96,7 +86,7 @@ step_refused m number write why schema known is =
 refused_by : (number : ℕ) (write : Write) (why : Refusal) (old now : Option Content) (schema : Schema) (f0 f1 : ℕ) (allowed : Allowed) (before after : Counts)
     → Reads (world old f0 (granted (write_bound schema.tables write).ops (write_bound schema.tables write).entries) before) (world now f1 allowed after) (write_tests schema.tables write).ops (write_tests schema.tables write).entries
     → ((rows : Rows) (others : List Pair) → keep.HoldsRows old schema.tables rows others → effect schema.tables rows write ≡ Err why)
-    → Done (λ m. effected m number write) old now schema schema before after (record (refusal_report number why (write_bound schema.tables write)) { used = used_of allowed })
+    → Done number (Ok (Writes write)) old now schema schema before after (record (refusal_report number why (write_bound schema.tables write)) { used = used_of allowed })
 refused_by number write why old now schema f0 f1 allowed before after reads answer = record {
   matches = λ m s. subst (λ (x : Step). Matches x.report (record (refusal_report number why (write_bound schema.tables write)) { used = used_of allowed }))
       (sym (step_refused m number write why schema s.known (answer m.rows (catalog_pairs schema) (settled_rows old schema m s))))
@@ -108,17 +98,20 @@ refused_by number write why old now schema f0 f1 allowed before after reads answ
   entries = omega (arith, ap (λ (c : Counts). c.entries) reads.granted, reads.spent_entries, reads.rise_entries);
   few_ops = omega (arith, ap (λ (c : Counts). c.ops) reads.granted);
   few_entries = omega (arith, ap (λ (c : Counts). c.entries) reads.granted);
-  bound = rw (effected_bound number write schema) refl;
+  bound = refl;
   refused = λ _. (reads.same, refl);
+  accepted = λ _. refl;
+  numbered = refl;
+  unread = tt;
 }
 
 pub refused_done : (number : ℕ) (write : Write) (why : Refusal) (old now : Option Content) (schema : Schema) (most : Bound) (f0 f1 : ℕ) (given allowed : Allowed) (before after : Counts) (q : Planned)
     → most ≡ write_bound schema.tables write → given ≡ granted most.ops most.entries → q ≡ planned.Refused why
     → Reads (world old f0 given before) (world now f1 allowed after) (write_tests schema.tables write).ops (write_tests schema.tables write).entries
     → ((rows : Rows) (others : List Pair) → keep.HoldsRows old schema.tables rows others → Plans schema.tables rows others write q)
-    → Done (λ m. effected m number write) old now schema schema before after (record (refusal_report number why most) { used = used_of allowed })
+    → Done number (Ok (Writes write)) old now schema schema before after (record (refusal_report number why most) { used = used_of allowed })
 refused_done number write why old now schema most f0 f1 given allowed before after q is_most is_given is reads answer =
-    subst (λ (x : Bound). Done (λ m. effected m number write) old now schema schema before after (record (refusal_report number why x) { used = used_of allowed })) (sym is_most)
+    subst (λ (x : Bound). Done number (Ok (Writes write)) old now schema schema before after (record (refusal_report number why x) { used = used_of allowed })) (sym is_most)
     (refused_by number write why old now schema f0 f1 allowed before after
     (subst (λ (a : Allowed). Reads (world old f0 a before) (world now f1 allowed after) (write_tests schema.tables write).ops (write_tests schema.tables write).entries) (is_given ∙ ap (λ (b : Bound). granted b.ops b.entries) is_most) reads)
     (subst (λ (x : Planned). (rows : Rows) (others : List Pair) → keep.HoldsRows old schema.tables rows others → Plans schema.tables rows others write x) is answer))
@@ -152,7 +145,7 @@ abbrev with_rows : Model → Rows → Model
 with_rows m rows = record m { rows = rows }
 
 step_made : (m : Model) (number : ℕ) (write : Write) (rows : Rows) → effect m.schema.tables m.rows write ≡ Ok rows
-    → effected m number write ≡ record { model = with_rows m rows; report = report_of number [] end.Done (write_bound m.schema.tables write); making = None }
+    → effected m number write ≡ record { model = with_rows m rows; report = report_of number [] end.Done (write_bound m.schema.tables write) }
 unfolding effected
 step_made m number write rows is = ap (effected_as m number (write_bound m.schema.tables write)) is
 
@@ -166,7 +159,7 @@ changed_by : (number : ℕ) (write : Write) (changes : List Change) (old mid now
     → ((rows : Rows) (others : List Pair) → keep.HoldsRows old schema.tables rows others → Plans schema.tables rows others write (planned.Changes changes))
     → ((pairs : Content) → IsSettled mid pairs → now ≡ Some (changed (map change_of changes) pairs))
     → (most : ℕ) → Spends most left allowed between after
-    → Done (λ m. effected m number write) old now schema schema before after (record (report_of number [] end.Done (write_bound schema.tables write)) { used = used_of allowed })
+    → Done number (Ok (Writes write)) old now schema schema before after (record (report_of number [] end.Done (write_bound schema.tables write)) { used = used_of allowed })
 changed_by number write changes old mid now schema f0 f1 left allowed before between after reads answer commits most spends =
     let granted_ops = ap (λ (c : Counts). c.ops) reads.granted in
     let granted_entries = ap (λ (c : Counts). c.entries) reads.granted in
@@ -193,8 +186,11 @@ changed_by number write changes old mid now schema f0 f1 left allowed before bet
       entries = omega (arith, granted_entries, same_entries, reads.spent_entries, reads.rise_entries, spends.entries_left, spends.entries);
       few_ops = omega (arith, granted_ops, same_ops);
       few_entries = omega (arith, granted_entries, same_entries);
-      bound = rw (effected_bound number write schema) refl;
+      bound = refl;
       refused = λ refusal. absurd refusal;
+      accepted = λ _. refl;
+      numbered = refl;
+      unread = tt;
     }
 
 pub changed_done : (number : ℕ) (write : Write) (changes : List Change) (old mid now : Option Content) (schema : Schema) (most : Bound) (f0 f1 : ℕ) (given left allowed : Allowed) (before between after : Counts) (q : Planned)
@@ -203,9 +199,9 @@ pub changed_done : (number : ℕ) (write : Write) (changes : List Change) (old m
     → ((rows : Rows) (others : List Pair) → keep.HoldsRows old schema.tables rows others → Plans schema.tables rows others write q)
     → ((pairs : Content) → IsSettled mid pairs → now ≡ Some (changed (map change_of changes) pairs))
     → (limit : ℕ) → Spends limit left allowed between after
-    → Done (λ m. effected m number write) old now schema schema before after (record (report_of number [] end.Done most) { used = used_of allowed })
+    → Done number (Ok (Writes write)) old now schema schema before after (record (report_of number [] end.Done most) { used = used_of allowed })
 changed_done number write changes old mid now schema most f0 f1 given left allowed before between after q is_most is_given is reads answer commits limit spends =
-    subst (λ (x : Bound). Done (λ m. effected m number write) old now schema schema before after (record (report_of number [] end.Done x) { used = used_of allowed })) (sym is_most)
+    subst (λ (x : Bound). Done number (Ok (Writes write)) old now schema schema before after (record (report_of number [] end.Done x) { used = used_of allowed })) (sym is_most)
     (changed_by number write changes old mid now schema f0 f1 left allowed before between after
     (subst (λ (a : Allowed). Reads (world old f0 a before) (world mid f1 left between) (write_tests schema.tables write).ops (write_tests schema.tables write).entries) (is_given ∙ ap (λ (b : Bound). granted b.ops b.entries) is_most) reads)
     (planned_as old schema write q changes is answer)
@@ -229,9 +225,8 @@ committed_within most old mid f0 f1 given left allowed before between after ops 
 }
 
 -- the same of the bound of the write's step
-within_effected : (number : ℕ) (write : Write) (schema : Schema) (most : Bound) (before after : Counts) → most ≡ write_bound schema.tables write → IsWithin most before after → IsWithinFixed (fixed_over (λ m. effected m number write) schema) before after
-within_effected number write schema most before after is within =
-    subst (λ (b : Option Bound). IsWithinFixed b before after) (ap (λ (b : Bound). Some b) is ∙ sym (effected_bound number write schema)) within
+within_effected : (write : Write) (schema : Schema) (most : Bound) (before after : Counts) → most ≡ write_bound schema.tables write → IsWithin most before after → IsWithin (write_bound schema.tables write) before after
+within_effected write schema most before after is within = subst (λ (b : Bound). IsWithin b before after) is within
 
 -- what explains damage shows it, and over what stands for a model there is none
 pub explained_shown : (old : Option Content) (schema : Schema) (error : Broke) (f0 f1 : ℕ) (given left : Allowed) (before after : Counts) (now : Option Content)
@@ -257,11 +252,11 @@ intent_shown (Some content) schema (broke.Damaged damage) shows = inr (inl shows
 pub planning_broke : (number : ℕ) (write : Write) (error : Broke) (old now : Option Content) (schema : Schema) (most : Bound) (f0 f1 : ℕ) (given left : Allowed) (before after : Counts) (ops entries : ℕ)
     → most ≡ write_bound schema.tables write → given ≡ granted most.ops most.entries → Reads (world old f0 given before) (world now f1 left after) ops entries
     → Explains (where_told (IsNoRow schema.tables)) (world old f0 given before) (world now f1 left after) error
-    → Broken (λ m. effected m number write) old now schema before after error
+    → Broken number (Ok (Writes write)) old now schema before after error
 planning_broke number write error old now schema most f0 f1 given left before after ops entries is_most is_given reads explains = record {
   stopped = λ m s. inl (settled_opens (subst (λ o. HoldsModel o m) (sym reads.same) s.settled));
   sound = λ m s. explained_sound old schema error f0 f1 given left before after now m s explains;
-  within = within_effected number write schema most before after is_most (planned_within most old now f0 f1 given left before after ops entries is_given reads);
+  within = within_effected write schema most before after is_most (planned_within most old now f0 f1 given left before after ops entries is_given reads);
   shown = explained_shown old schema error f0 f1 given left before after now explains;
 }
 
@@ -279,35 +274,10 @@ pub commit_broke : (number : ℕ) (write : Write) (changes : List Change) (error
     → ((rows : Rows) (others : List Pair) → keep.HoldsRows old schema.tables rows others → Plans schema.tables rows others write q)
     → ((pairs : Content) → IsSettled mid pairs → Settles now pairs ⊎ Settles now (changed (map change_of changes) pairs))
     → ((pairs : Content) → IsSettled mid pairs → IsUndamaged error) → IfSome mid (λ pairs. IfDamaged (IsPresent intent_key pairs) error)
-    → Broken (λ m. effected m number write) old now schema before after error
+    → Broken number (Ok (Writes write)) old now schema before after error
 commit_broke number write changes error old mid now schema most f0 f1 given left allowed before between after ops entries limit q is_most is_given is reads spends answer stops sound shows = record {
   stopped = λ m s. stopped_at m number write changes now s.settled.valid s.settled.keeps (made_of schema m old write changes s (planned_as old schema write q changes is answer)) (stops (content_of m) (settled_for old mid schema m reads.same s));
   sound = λ m s. sound (content_of m) (settled_for old mid schema m reads.same s);
-  within = within_effected number write schema most before after is_most (committed_within most old mid f0 f1 given left allowed before between after ops entries limit is_given reads spends);
+  within = within_effected write schema most before after is_most (committed_within most old mid f0 f1 given left allowed before between after ops entries limit is_given reads spends);
   shown = intent_shown old schema error (subst (λ (o : Option Content). IfSome o (λ pairs. IfDamaged (IsPresent intent_key pairs) error)) reads.same shows);
 }
-
--- ---- the write that a statement is
-
-pub written_ok : (m : Model) (number : ℕ) (read : Statement) (made : Write) (schema : Schema) → checked schema read ≡ Ok made → m.schema ≡ schema → effected m number made ≡ written m number read
-unfolding written
-written_ok m number read made schema is known = sym (ap (written_as m number) (ap (λ (x : Schema). checked x read) known ∙ is))
-
-pub written_err : (m : Model) (number : ℕ) (read : Statement) (why : Refusal) (schema : Schema) → checked schema read ≡ Err why → m.schema ≡ schema → written m number read ≡ refused_unread m number why
-unfolding written
-written_err m number read why schema is known = ap (written_as m number) (ap (λ (x : Schema). checked x read) known ∙ is)
-
-pub refusal_told : (left : Stopped) (why : Refusal) (said : Result Write Refusal) → left ≡ Refused why → Answers {A = Write} (Err left) said → said ≡ Err why
-refusal_told left why said is told = subst (λ (x : Stopped). Answers {A = Write} (Err x) said) is told
-
-pub written_as_performed : (number : ℕ) (text : List ℕ) (tokens : List Token) (read : Statement) → IsWriting read
-    → (old now : Option Content) (schema : Schema) (before after : Counts) (result : Result (Schema × Report) Broke)
-    → Promises (λ m. written m number read) old now schema before after result → Promises (λ m. performed m number text tokens read) old now schema before after result
-written_as_performed number text tokens (statement.Insert table cols values) is old now schema before after result p = p
-written_as_performed number text tokens (statement.Update table sets key) is old now schema before after result p = p
-written_as_performed number text tokens (statement.Delete table key) is old now schema before after result p = p
-written_as_performed number text tokens (statement.Create def) is old now schema before after result p = absurd is
-written_as_performed number text tokens (statement.Prepare name from) is old now schema before after result p = absurd is
-written_as_performed number text tokens (statement.Explain from) is old now schema before after result p = absurd is
-written_as_performed number text tokens (statement.Run name params after) is old now schema before later result p = absurd is
-written_as_performed number text tokens statement.Show is old now schema before after result p = absurd is

@@ -1,4 +1,6 @@
+pub mod Actions
 pub mod Calls
+pub mod Checks
 pub mod Evidence
 pub mod Extends
 pub mod Format
@@ -9,10 +11,12 @@ pub mod Model
 pub mod Names
 pub mod Opened
 pub mod Opening
+pub mod Pages
+pub mod Planned
+pub mod Planning
 pub mod Promise
 pub mod Reports
+pub mod Requests
 pub mod Stands
 pub mod Step
-pub mod Planning
-pub mod Planned
-pub mod Pages
+pub mod Within

@@ -1,5 +1,5 @@
 -- The opening of a store: what the pairs of its catalog tell, and what shows that they are none of a store.
-use Rattle.std.specs.Prelude.{◌≡◌, ℕ, ◌+◌, ◌⊎◌, ◌≤◌, Bool, true, false, nat_le, List, [], ◌∷◌, length, take, Option, Some, None, is_some, option_map, option_and_then, Result, Ok, Err, if◌then◌else◌, MatchOption}
+use Rattle.std.specs.Prelude.{◌≡◌, ℕ, ◌+◌, ◌⊎◌, ◌≤◌, Bool, true, false, nat_le, List, [], ◌∷◌, length, take, Option, Some, None, is_some, option_map, option_and_then, Result, Ok, Err, IfSome, if◌then◌else◌}
 use Rattle.std.specs.FinMap.{get}
 use Rattle.std.specs.Result.{result_ok}
 use Rattle.std.specs.Str.{bytes_eq}
@@ -11,7 +11,6 @@ use Rattle.pq_def_read.specs.declared.statement.Statement.{Statement}
 use Rattle.pq_def_read.specs.declared.statement.Statement.TheVariants as statement
 use Rattle.pq_def_read.specs.Reading.{statement_of}
 use Rattle.pq_key_code.specs.KeyCode.{catalog_key, intent_key}
-use Rattle.pq_row_code.specs.declared.changes.Change.{Change as Coded}
 use Rattle.pq_schema.specs.declared.table.Table.{Table}
 use Rattle.pq_schema.specs.Definitions.{new_table, new_query}
 use Rattle.pq_schema.specs.Schema.{Schema, empty_schema, with_table}
@@ -29,9 +28,11 @@ use Rattle.pq_content.specs.Pairs.{Pair}
 use Rattle.pq_content.specs.Tables.{Rows, rows_of, Keeps}
 use Rattle.pq_print.specs.Canonical.{definition_text}
 use Rattle.pq_print.specs.declared.report.Opened.{Opened}
-use Rattle.pq_intent.specs.Settling.{IsNoIntent, IsIntentOf}
+use Rattle.pq_intent.specs.Counting.{HasChanges}
+use Rattle.pq_intent.specs.Settling.{IsNoIntent}
 use Rattle.pq_intent.specs.declared.settles.Settled.{Settled}
 use Rattle.pq_builds.specs.Bounds.{bound, left_bound}
+use Rattle.pq_builds.specs.Filling.{row_pairs_in}
 use Rattle.pq_builds.specs.Stages.{Takes, ShowsLeft}
 use Rattle.pq_builds.specs.Targets.{target_of}
 use Rattle.pq_builds.specs.declared.target.NewQuery.{NewQuery}
@@ -64,9 +65,14 @@ started_of schema settled found rows = record {
   used = record { ops = settled.used.ops + 1 + (completion_bound rows).ops; entries = settled.used.entries + found + (completion_bound rows).entries };
 }
 
+-- so many rows, where there are any, are few enough for an index to be filled
+abbrev pub AreFewRows : Option ℕ → Type 0
+AreFewRows rows = IfSome rows (λ many. many ≤ 1000000)
+
 -- it was opened over so many rows, whose build took just what is told
 pub record IsStarted (schema : Schema) (started : Started) (settled : Settled) (before after : Counts) : Type 0 where
   pub rows : Option ℕ
+  pub few_rows : AreFewRows rows
   pub is : started ≡ started_of schema settled (length schema.definitions) rows
   pub few : length schema.definitions ≤ 256
   pub takes : Takes (completion_bound rows).ops (completion_bound rows).entries before after
@@ -153,13 +159,23 @@ none_added = (empty_schema, Ready)
 abbrev pub catalog_in : Content → List Pair
 catalog_in content = take 257 (pairs_within content (1 ∷ []) (2 ∷ []))
 
+-- the table of an index has few enough rows for it to be filled
+abbrev pub HasFewRows : Option Made → Content → Type 0
+HasFewRows made content = IfSome made (λ index. length (row_pairs_in index.table content) ≤ 1000000)
+
+-- where a mark tells that the last definition's index is being filled
+abbrev pub HasFewLeft : Schema → Mark → Content → Type 0
+HasFewLeft schema Ready content = Unit {0}
+HasFewLeft schema Building content = HasFewRows (last_made schema) content
+
 -- what the content settles to has a catalog that tells this schema, whose last definition may have an index that is
--- being filled
+-- being filled, of a table with few enough rows
 pub record TellsSchema (content : Content) (schema : Schema) : Type 0 where
   pub settled : Content
   pub settles : SettlesTo content settled
   pub mark : Mark
   pub opened : opened none_added (catalog_in settled) ≡ Ok (schema, mark)
+  pub few : HasFewLeft schema mark settled
 
 -- ---- a build that was left
 
@@ -248,16 +264,6 @@ intent_ops (Some changes) = changes + 1
 
 abbrev pub opening_bound : Option ℕ → Option ℕ → Bound
 opening_bound changes rows = bound (2 + intent_ops changes + (completion_bound rows).ops) (257 + (completion_bound rows).entries)
-
--- an intent with so many changes
-pub record IsIntentOfMany (value : List ℕ) (many : Option ℕ) : Type 0 where
-  pub changes : List Coded
-  pub intent : IsIntentOf changes value
-  pub many_are : many ≡ Some (length changes)
-
--- or none
-abbrev pub HasChanges : Content → Option ℕ → Type 0
-HasChanges content many = MatchOption (get content intent_key) (many ≡ None) (λ value. IsIntentOfMany value many)
 
 -- a build over so many rows, or none
 abbrev pub HasBuild : Model → Content → Option ℕ → Type 0

@@ -8,7 +8,8 @@ use Rattle.pq_print.specs.declared.report.Report.{Report}
 use Rattle.pq_pages.specs.declared.page.Page.{Page}
 use Rattle.pq_base.specs.declared.refusal.Refusal.{Refusal}
 use Rattle.pq_builds.specs.Stages.{build_ops}
-use Rattle.pq_session.specs.Step.{bound, refusal_report, report_of}
+use Rattle.pq_builds.specs.Bounds.{bound}
+use Rattle.pq_session.specs.Step.{refusal_report, report_of}
 
 abbrev pub used : ℕ → ℕ → Used
 used ops entries = record { ops = ops; entries = entries }

@@ -1,7 +1,7 @@
 //! Definitions: each is one write of its pair, whose key has to be absent.
-ghost use Rattle.std.specs.Prelude.{◌≡◌, ◌≤◌, ◌<◌, ◌∷◌, [], true, None, Some, length, IfOk, IfErr, IfSome, OnOk, OnErr};
+ghost use Rattle.std.specs.Prelude.{◌≡◌, ◌≤◌, ◌<◌, ◌+◌, true, None, Some, Ok, Result, length, IfOk, IfErr, IfSome, OnOk, OnErr};
 ghost use Rattle.std.specs.FinMap.{get as value_at_key};
-ghost use Rattle.pq_base.specs.Answers.{Passes, Refuses};
+ghost use Rattle.pq_base.specs.declared.refusal.Refusal.{Refusal};
 ghost use Rattle.pq_store.specs.Content.{HasBrokeCause};
 ghost use Rattle.pq_store.specs.Counts.{charged};
 ghost use Rattle.pq_session.specs.Calls.{PutsNew, MayPut};
@@ -12,39 +12,42 @@ ghost use Rattle.pq_store.specs.Breaks.{IfDamaged, IsPresent, IsUndamaged};
 ghost use Rattle.pq_session.specs.Promise.{Promises, IsWithin};
 ghost use Rattle.pq_session.specs.Reports.{define_report};
 ghost use Rattle.pq_session.specs.Kept.{IsPlanWanting};
-ghost use Rattle.pq_session.specs.Planned.{IsComputed, IsPlanned, IsPlanOf};
-ghost use Rattle.pq_session.specs.Planning.{Planned, explained_name, plan_from, planned, prepared_from};
+ghost use Rattle.pq_session.specs.Actions.{Action, Creates, Prepares, asking};
+ghost use Rattle.pq_session.specs.Planned.{IsComputed};
+ghost use Rattle.pq_session.specs.Planning.{planned};
+ghost use Rattle.pq_session.specs.Requests.{IsDefinable, IsPlanFor};
 ghost use Rattle.pq_session.specs.Stands.{new_query_of};
 ghost use Rattle.pq_schema.specs.Candidates.{Candidate};
-ghost use Rattle.pq_schema.specs.Definitions.{definition_refusal};
+ghost use Rattle.pq_schema.specs.Definitions.{new_table};
 ghost use Rattle.pq_schema.specs.Sound.{AreParts};
 ghost use Rattle.pq_schema.specs.Schema.{with_query};
 ghost use Rattle.pq_schema.specs.Valid.{IsDefined};
 ghost use Rattle.pq_builds.specs.Targets.{target_of};
-ghost use Rattle.pq_session.specs.Step.{bound, created, crowded, explained_report, prepared, prepared_over, report_of};
+ghost use Rattle.pq_builds.specs.Bounds.{bound};
+ghost use Rattle.pq_session.specs.Step.{report_of};
 ghost use Rattle.pq_plan.specs.Cost.{cost};
 ghost use Rattle.pq_print.specs.declared.report.End.TheVariants as End;
 ghost use Rattle.pq_session.specs.Lines.{planned_lines, query_lines, table_lines};
 ghost use Rattle.pq_session.specs.Stands.{last_key, last_value};
 ghost use Rattle.pq_schema.specs.Names.{IsName, IsTableDef};
-ghost use Rattle.pq_text.specs.Tokens.{tokens_of};
 ghost use Rattle.pq_schema.specs.Tables.{table_at};
 ghost use Rattle.pq_content.specs.Tables.{IsTableNumber};
 
 use crate::format::{QUERY_FORMAT, READY, last_format};
 use crate::lines::table_lines;
-use crate::planning::{PlannedQuery, plan_query, planned_lines};
-use crate::reports::{build_report, define_report, too_many_report, unpaid_report, unread_report};
+use crate::planning::{PlannedQuery, planned_lines};
+use crate::reports::{
+    NO_CALLS, build_report, define_report, too_many_report, unpaid_report, unread_report,
+};
 use crate::session::Session;
-use pq_base::{Bytes, List, NoMem, PText, Refusal, Stopped, count_word};
+use pq_base::{Bytes, List, NoMem, Refusal, Stopped};
 use pq_builds::{Built, NewQuery, Target, build_index};
 use pq_compile::Compiled;
 use pq_key_code::catalog_key;
 use pq_plan::BoundedPlan;
 use pq_print::{Line, Report, print_definition, print_query};
-use pq_schema::{Catalog, DEFINITIONS, NewIndex, Query, TableDef};
+use pq_schema::{Catalog, NewIndex, Query, TableDef};
 use pq_store::{Broke, Damage, Guard, Meter, Pair, Store};
-use pq_text::Token;
 use std::alloc::Global;
 use std::sync::ledger::Ledger;
 
@@ -107,16 +110,6 @@ type Numbered = Result<u8, Refusal>;
 /// The number of a query's definition, or why it is refused.
 type Defined = Result<u16, Refusal>;
 
-/// The name that the query of an EXPLAIN has in its report.
-fn explained_name(alloc: Global) -> Result<PText, NoMem>
-    ensures { IfOk result (λ name. name ≡ explained_name) }
-{
-    match PText::from_bytes(alloc, b"explain")? {
-        Some(name) => Ok(name),
-        None => unreachable!(),
-    }
-}
-
 impl Session {
     /// The session with the table that the definition makes, and its number; or as it was, where it
     /// is refused.
@@ -170,7 +163,7 @@ impl Session {
     }
 
     /// The lines of the indexes that a table was made with.
-    fn lines_of(&self, alloc: Global, table: u8) -> Result<List<Line>, NoMem>
+    pub(crate) fn lines_of(&self, alloc: Global, table: u8) -> Result<List<Line>, NoMem>
         requires { IsTableNumber self.now.tables table }
         ensures { IfOk result (λ lines. lines ≡ table_lines (table_at self.now.tables table)) }
     {
@@ -211,7 +204,7 @@ impl Session {
         meter: &mut Meter<L>,
     ) -> Result<(Session, Report), Broke>
         requires { IsTableDef def }
-        ensures step { Promises (λ m. created m number def) (S.content store.old) (S.content store.new) self meter.old meter.new result }
+        ensures step { Promises number (asking Creates (new_table self def)) (S.content store.old) (S.content store.new) self meter.old meter.new result }
         ensures cause { HasBrokeCause (S.faults store.old) (S.faults store.new) result }
     {
         let (session, made) = self.with_table_of(alloc, def)?;
@@ -224,24 +217,8 @@ impl Session {
         }
     }
 
-    /// Refuses one definition more than there may be, and a name that is taken.
-    fn check_definition(&self, alloc: Global, name: &PText) -> Result<(), Stopped>
-        ensures { Passes result (definition_refusal self.now name.now) }
-    {
-        if self.catalog.defs() as usize >= DEFINITIONS {
-            return Err(Stopped::Refused(Refusal::Count {
-                word: count_word::DEFINITIONS,
-            }));
-        }
-        if self.catalog.is_taken(name) {
-            let name = name.copy(alloc)?;
-            return Err(Stopped::Refused(Refusal::NameTaken { name }));
-        }
-        Ok(())
-    }
-
     /// The session with a query that may be defined, with its plan and with the index that it wants.
-    fn with_defined(
+    pub(crate) fn with_defined(
         self,
         alloc: Global,
         query: Query,
@@ -271,7 +248,8 @@ impl Session {
     ) -> Result<(Session, Report), Broke>
         requires defined { IsDefined self query None }
         requires compiled { IsPlanWanting self.tables query plan None }
-        ensures step { (best : Candidate) → lines ≡ query_lines self.tables (planned query best None) → Promises (λ m. prepared_over m number (planned query best None) None) (S.content store.old) (S.content store.new) self meter.old meter.new result }
+        ensures step { (best : Candidate) → lines ≡ query_lines self.tables (planned query best None)
+            → Promises number (Ok (Prepares (planned query best None))) (S.content store.old) (S.content store.new) self meter.old meter.new result }
         ensures cause { HasBrokeCause (S.faults store.old) (S.faults store.new) result }
     {
         let session = self.with_defined(alloc, query, plan, None)?;
@@ -321,7 +299,8 @@ impl Session {
     ) -> Result<(Session, Report), Broke>
         requires defined { IsDefined self query (Some new) }
         requires compiled { IsPlanWanting self.tables query plan (Some new) }
-        ensures step { (best : Candidate) → lines ≡ query_lines self.tables (planned query best (Some new)) → Promises (λ m. prepared_over m number (planned query best (Some new)) (crowded m (Some new))) (S.content store.old) (S.content store.new) self meter.old meter.new result }
+        ensures step { (best : Candidate) → lines ≡ query_lines self.tables (planned query best (Some new))
+            → Promises number (Ok (Prepares (planned query best (Some new)))) (S.content store.old) (S.content store.new) self meter.old meter.new result }
         ensures cause { HasBrokeCause (S.faults store.old) (S.faults store.new) result }
     {
         let target = self.target(alloc, &new)?;
@@ -339,7 +318,7 @@ impl Session {
     }
 
     /// Defines a query that was planned, with the index that it wants.
-    fn define_query<S: Store<L>, L: Ledger>(
+    pub(crate) fn define_query<S: Store<L>, L: Ledger>(
         self,
         alloc: Global,
         number: u32,
@@ -347,10 +326,9 @@ impl Session {
         store: &mut S,
         meter: &mut Meter<L>,
     ) -> Result<(Session, Report), Broke>
-        requires name { IsName plan.query.name }
-        requires computed { IsComputed self.tables plan }
-        requires free { definition_refusal self plan.query.name ≡ None }
-        ensures step { (spelled : Planned) → IsPlanOf plan spelled → Promises (λ m. prepared_over m number spelled (crowded m spelled.chosen.wanted)) (S.content store.old) (S.content store.new) self meter.old meter.new result }
+        requires { IsDefinable self plan }
+        ensures step { (asked : Result Action Refusal) → IsPlanFor Prepares asked plan
+            → Promises number asked (S.content store.old) (S.content store.new) self meter.old meter.new result }
         ensures cause { HasBrokeCause (S.faults store.old) (S.faults store.new) result }
     {
         let lines = planned_lines(alloc, &self.catalog, &plan)?;
@@ -366,96 +344,18 @@ impl Session {
         }
     }
 
-    /// The query of this name that the tokens from a place on spell, with its plan, or the first refusal.
-    pub(crate) fn plan(
+    /// The report of a plan that nothing is made of.
+    pub(crate) fn plan_report(
         &self,
-        alloc: Global,
-        name: PText,
-        text: &PText,
-        tokens: &List<Token>,
-        from: u32,
-    ) -> Result<PlannedQuery, Stopped>
-        requires spelled { tokens.now ≡ tokens_of text.now }
-        requires within { from ≤ length tokens.now }
-        ensures planned { IfOk result (IsPlanned self.now name text.now tokens.now from) }
-        ensures refused { IfErr result (λ stopped. Refuses stopped (plan_from self.now name text.now tokens.now from)) }
-    {
-        plan_query(alloc, &self.catalog, name, text, tokens, from)
-    }
-
-    /// The query of this name that the tokens from a place on spell, with its plan, where it may be defined.
-    fn definable(
-        &self,
-        alloc: Global,
-        name: PText,
-        text: &PText,
-        tokens: &List<Token>,
-        from: u32,
-    ) -> Result<PlannedQuery, Stopped>
-        requires spelled { tokens.now ≡ tokens_of text.now }
-        requires within { from ≤ length tokens.now }
-        ensures planned { IfOk result (IsPlanned self.now name text.now tokens.now from) }
-        ensures free { IfOk result (λ plan. definition_refusal self.now plan.query.name ≡ None) }
-        ensures refused { IfErr result (λ stopped. Refuses stopped (prepared_from self.now name text.now tokens.now from)) }
-    {
-        let plan = self.plan(alloc, name, text, tokens, from)?;
-        self.check_definition(alloc, &plan.query.name)?;
-        Ok(plan)
-    }
-
-    /// Prepares the query that the tokens from a place on spell, where nothing refuses it.
-    pub(crate) fn prepare<S: Store<L>, L: Ledger>(
-        self,
         alloc: Global,
         number: u32,
-        name: PText,
-        text: &PText,
-        tokens: &List<Token>,
-        from: u32,
-        store: &mut S,
-        meter: &mut Meter<L>,
-    ) -> Result<(Session, Report), Broke>
-        requires spelled { tokens.now ≡ tokens_of text.now }
-        requires within { from ≤ length tokens.now }
-        requires name { IsName name }
-        ensures step { Promises (λ m. prepared m number name text.now tokens.now from) (S.content store.old) (S.content store.new) self meter.old meter.new result }
-        ensures cause { HasBrokeCause (S.faults store.old) (S.faults store.new) result }
-    {
-        match self.definable(alloc, name, text, tokens, from) {
-            Err(Stopped::NoMem) => Err(Broke::NoMem),
-            Err(Stopped::Refused(why)) => Ok((self, unread_report(alloc, number, why))),
-            Ok(plan) => self.define_query(alloc, number, plan, store, meter),
-        }
-    }
-
-    /// The report of a plan that nothing is made of.
-    fn plan_report(&self, alloc: Global, number: u32, plan: &PlannedQuery) -> Result<Report, NoMem>
+        plan: &PlannedQuery,
+    ) -> Result<Report, NoMem>
         requires { IsComputed self.now.tables plan.now }
         ensures { IfOk result (λ report. report ≡ report_of number (planned_lines self.now.tables plan.now.query.name
             plan.now.compiled.choice (cost plan.now.compiled.plan) plan.now.compiled.wanted) End.Done (bound 0 0)) }
     {
         let lines = planned_lines(alloc, &self.catalog, plan)?;
-        Ok(unpaid_report(number, lines))
-    }
-
-    /// Explains the query that the tokens from a place on spell, under the name `explain`.
-    pub(crate) fn explain(
-        &self,
-        alloc: Global,
-        number: u32,
-        text: &PText,
-        tokens: &List<Token>,
-        from: u32,
-    ) -> Result<Report, NoMem>
-        requires spelled { tokens.now ≡ tokens_of text.now }
-        requires within { from ≤ length tokens.now }
-        ensures { IfOk result (λ report. report ≡ explained_report self.now number text.now tokens.now from) }
-    {
-        let name = explained_name(alloc)?;
-        match self.plan(alloc, name, text, tokens, from) {
-            Err(Stopped::NoMem) => Err(NoMem),
-            Err(Stopped::Refused(why)) => Ok(unread_report(alloc, number, why)),
-            Ok(plan) => self.plan_report(alloc, number, &plan),
-        }
+        Ok(unpaid_report(number, lines, NO_CALLS))
     }
 }

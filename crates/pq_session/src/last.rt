@@ -1,8 +1,11 @@
 //! What is built for the last definition of a catalog, and its completion.
-ghost use Rattle.std.specs.Prelude.{◌≡◌, ◌≤◌, ◌*◌, length, IfOk, IfErr, IfSome, IsSome, OnErr};
-ghost use Rattle.pq_builds.specs.Stages.{ShowsLeft, Takes, left_ops};
+ghost use Rattle.std.specs.Prelude.{◌≡◌, ◌≤◌, ◌*◌, length, IfOk, IfErr, IfSome, IsSome, OnOk, OnErr};
+ghost use Rattle.pq_builds.specs.Bounds.{left_bound};
+ghost use Rattle.pq_builds.specs.Filling.{row_pairs_in};
+ghost use Rattle.pq_builds.specs.Stages.{ShowsLeft, Takes, IsWithin, left_ops};
+ghost use Rattle.pq_intent.specs.Spending.{TakesAtMost};
 ghost use Rattle.pq_session.specs.Model.{Model};
-ghost use Rattle.pq_session.specs.Opening.{IsLeft, IsFillingIn, rows_left, ShowsMarked};
+ghost use Rattle.pq_session.specs.Opening.{IsLeft, IsFillingIn, rows_left, HasFewRows, ShowsMarked};
 ghost use Rattle.pq_session.specs.Stands.{HoldsModel, Opens, last_made, last_query};
 ghost use Rattle.pq_store.specs.Breaks.{IsUndamaged};
 ghost use Rattle.pq_store.specs.Content.{HasBrokeCause};
@@ -74,6 +77,12 @@ fn complete_left<S: Store<L>, L: Ledger>(
     ensures sound { IfErr result (λ broke. (m : Model) → IsLeft m.schema target.now query.now
         → IsFillingIn (S.content store.old) m → IsUndamaged broke) }
     ensures shown { IfErr result (λ broke. IfSome (S.content store.old) (λ c. ShowsLeft target.now query.now c broke)) }
+    ensures few { IfOk result (λ rows. rows ≤ 1000000) }
+    ensures few_left { OnOk result (IfSome (S.content store.old) (λ c.
+        length (row_pairs_in target.now.table c) ≤ 1000000)) }
+    ensures within { OnErr result (IsWithin left_ops meter.old meter.new) }
+    ensures within_own { OnErr result ((m : Model) → IsLeft m.schema target.now query.now
+        → IsFillingIn (S.content store.old) m → TakesAtMost (left_bound (rows_left m)) meter.old meter.new) }
     ensures takes { IfOk result (λ rows. Takes (left_ops rows) (2 * rows) meter.old meter.new) }
     ensures cause { HasBrokeCause (S.faults store.old) (S.faults store.new) result }
 {
@@ -95,6 +104,11 @@ pub(crate) fn complete<S: Store<L>, L: Ledger>(
     ensures sound { IfErr result (λ broke. (m : Model) → m.schema ≡ catalog.now → IsFillingIn (S.content store.old) m
         → IsUndamaged broke) }
     ensures shown { IfErr result (λ broke. IfSome (S.content store.old) (λ c. ShowsMarked catalog.now Mark.Building c broke)) }
+    ensures few { IfOk result (λ rows. rows ≤ 1000000) }
+    ensures few_left { OnOk result (IfSome (S.content store.old) (HasFewRows (last_made catalog.now))) }
+    ensures within { OnErr result (IsWithin left_ops meter.old meter.new) }
+    ensures within_own { OnErr result ((m : Model) → m.schema ≡ catalog.now → IsFillingIn (S.content store.old) m
+        → TakesAtMost (left_bound (rows_left m)) meter.old meter.new) }
     ensures takes { IfOk result (λ rows. Takes (left_ops rows) (2 * rows) meter.old meter.new) }
     ensures cause { HasBrokeCause (S.faults store.old) (S.faults store.new) result }
 {

@@ -1,6 +1,7 @@
 //! Statements over a store: each makes one step of the model.
 #![tactic(auto)]
 
+mod checking;
 mod define;
 mod format;
 mod last;
@@ -9,6 +10,7 @@ mod lines;
 mod opening;
 mod planning;
 mod reports;
+mod requests;
 mod run;
 mod session;
 mod write;

@@ -1,13 +1,18 @@
 //! Reports that several statements make.
 ghost use Rattle.std.specs.Prelude.{◌≡◌, ◌≤◌, []};
 ghost use Rattle.pq_session.specs.Reports.{build_report, define_report, too_many_report};
-ghost use Rattle.pq_session.specs.Step.{report_of, refusal_report, bound};
+ghost use Rattle.pq_builds.specs.Bounds.{bound};
+ghost use Rattle.pq_session.specs.Step.{report_of, refusal_report};
 
 use pq_base::{Bound, List, Refusal, Used};
+use pq_builds::build_ops;
 use pq_print::{End, Line, Report};
 use std::alloc::Global;
 
 pub const NOTHING_USED: Used = Used { ops: 0, entries: 0 };
+
+/// The bound of a statement that makes no call of the store.
+pub const NO_CALLS: Bound = Bound { ops: 0, entries: 0 };
 
 /// The report of a refusal.
 pub fn refusal_report(alloc: Global, number: u32, why: Refusal, bound: Bound, used: Used) -> Report
@@ -39,19 +44,18 @@ pub fn done_report(alloc: Global, number: u32, bound: Bound, used: Used) -> Repo
 pub fn unread_report(alloc: Global, number: u32, why: Refusal) -> Report
     ensures { result ≡ refusal_report number why (bound 0 0) }
 {
-    let bound = Bound { ops: 0, entries: 0 };
-    refusal_report(alloc, number, why, bound, NOTHING_USED)
+    refusal_report(alloc, number, why, NO_CALLS, NOTHING_USED)
 }
 
 /// The report of a statement that is done without a call of the store.
-pub fn unpaid_report(number: u32, lines: List<Line>) -> Report
-    ensures { result ≡ report_of number lines End.Done (bound 0 0) }
+pub fn unpaid_report(number: u32, lines: List<Line>, bound: Bound) -> Report
+    ensures { result ≡ report_of number lines End.Done bound }
 {
     Report {
         number,
         lines,
         end: End::Done,
-        bound: Bound { ops: 0, entries: 0 },
+        bound,
         used: NOTHING_USED,
     }
 }
@@ -74,7 +78,7 @@ pub fn build_report(number: u32, lines: List<Line>, count: u32) -> Report
     requires { count ≤ 1000000 }
     ensures { result ≡ build_report number lines count }
 {
-    let ops = count + count / 256 + 4;
+    let ops = build_ops(count);
     let entries = 2 * count;
     Report {
         number,

@@ -5,15 +5,14 @@ ghost use Rattle.pq_schema.specs.Schema.{query_at};
 ghost use Rattle.pq_store.specs.Content.{HasBrokeCause};
 ghost use Rattle.pq_nodes.specs.Operators.{IsCursor};
 ghost use Rattle.pq_pages.specs.Running.{IsQueryNumber, running};
+ghost use Rattle.pq_session.specs.Actions.{Runs};
 ghost use Rattle.pq_session.specs.Kept.{IsKeptPlan};
 ghost use Rattle.pq_session.specs.Promise.{Promises};
 ghost use Rattle.pq_session.specs.Reports.{page_report};
-ghost use Rattle.pq_session.specs.Step.{ran, ran_as};
 
-use crate::reports::unread_report;
 use crate::session::Session;
-use pq_base::{List, NoMem, PText, Refusal, Row, Stopped};
-use pq_pages::{Page, begin, run_page};
+use pq_base::{List, NoMem, Row};
+use pq_pages::{Page, run_page};
 use pq_plan::BoundedPlan;
 use pq_print::{End, Line, Report};
 use pq_store::{Broke, Meter, Store};
@@ -54,7 +53,7 @@ fn page_report(alloc: Global, number: u32, page: Page) -> Result<Report, NoMem>
 
 impl Session {
     /// The plan of the query of this definition's number.
-    fn kept_plan(&self, query: u16) -> &BoundedPlan
+    pub(crate) fn kept_plan(&self, query: u16) -> &BoundedPlan
         requires { IsQueryNumber self.now query }
         ensures { IsKeptPlan self.now.tables (query_at self.now query) result.now }
     {
@@ -65,7 +64,7 @@ impl Session {
     }
 
     /// Runs the query of this definition's number, whose parameters fit, behind a position.
-    fn run_query<S: Store<L>, L: Ledger>(
+    pub(crate) fn run_query<S: Store<L>, L: Ledger>(
         self,
         alloc: Global,
         number: u32,
@@ -78,7 +77,7 @@ impl Session {
         requires number { IsQueryNumber self query }
         requires fits { AllFit (query_at self query).params params.now }
         requires cursor { IsCursor self.tables (query_at self query) (option_copied after) }
-        ensures step { Promises (λ m. ran_as m number (Ok (running query (query_at m.schema query) params.now (option_copied after.entry)))) (S.content store.old) (S.content store.new) self meter.old meter.new result }
+        ensures step { Promises number (Ok (Runs (running query (query_at self query) params.now (option_copied after.entry)))) (S.content store.old) (S.content store.new) self meter.old meter.new result }
         ensures cause { HasBrokeCause (S.faults store.old) (S.faults store.new) result }
     {
         let plan = self.kept_plan(query);
@@ -94,33 +93,5 @@ impl Session {
         )?;
         let report = page_report(alloc, number, page)?;
         Ok((self, report))
-    }
-
-    /// Runs the query of this name, where nothing refuses it.
-    pub(crate) fn run<S: Store<L>, L: Ledger>(
-        self,
-        alloc: Global,
-        number: u32,
-        name: &PText,
-        params: &Row,
-        after: Option<&PText>,
-        store: &mut S,
-        meter: &mut Meter<L>,
-    ) -> Result<(Session, Report), Broke>
-        ensures step { Promises (λ m. ran m number name.now params.now (option_copied after.entry)) (S.content store.old) (S.content store.new) self meter.old meter.new result }
-        ensures cause { HasBrokeCause (S.faults store.old) (S.faults store.new) result }
-    {
-        let Some(query) = self.catalog.find_query(name) else {
-            let name = name.copy(alloc)?;
-            return Ok((
-                self,
-                unread_report(alloc, number, Refusal::NoQuery { name }),
-            ));
-        };
-        match begin(alloc, &self.catalog, query, params, after) {
-            Err(Stopped::NoMem) => Err(Broke::NoMem),
-            Err(Stopped::Refused(why)) => Ok((self, unread_report(alloc, number, why))),
-            Ok(after) => self.run_query(alloc, number, query, params, after.as_ref(), store, meter),
-        }
     }
 }

@@ -1,40 +1,42 @@
 //! The session: the view of a store's definitions.
-ghost use Rattle.std.specs.Prelude.{◌≡◌, ◌≤◌, ◌<◌, ◌+◌, ◌^◌, ◌⊎◌, true, length, IfOk, IfErr, IfSome, IsSome, OnErr, Ok, None, drop, ℕ};
-ghost use Rattle.pq_builds.specs.Stages.{Takes};
+ghost use Rattle.std.specs.Prelude.{◌≡◌, ◌≤◌, ◌<◌, ◌+◌, ◌^◌, ◌⊎◌, length, IfOk, IfErr, IfSome, IsSome, OnOk, OnErr, Ok, None, Result};
+ghost use Rattle.pq_builds.specs.Stages.{Takes, IsWithin as BuildsWithin, left_ops};
+ghost use Rattle.pq_intent.specs.Spending.{TakesAtMost};
 ghost use Rattle.pq_store.specs.Content.{HasBrokeCause};
 ghost use Rattle.pq_schema.specs.Schema.{empty_schema};
 ghost use Rattle.pq_print.specs.declared.report.End.TheVariants as End;
-ghost use Rattle.pq_text.specs.Tokens.{tokens_of};
+ghost use Rattle.pq_base.specs.declared.refusal.Refusal.{Refusal};
 ghost use Rattle.pq_session.specs.Model.{Model as Tables};
-ghost use Rattle.pq_session.specs.Names.{IsNamed};
-ghost use Rattle.pq_session.specs.Opening.{opening_of, started_of, none_added, opened, catalog_in, IsStarted, IsAsMarked, rows_of_mark, TellsSchema, NamesPair, NamesFlaw, ShowsMarked};
+ghost use Rattle.pq_session.specs.Opening.{opening_of, started_of, none_added, opened, catalog_in, completion_bound, AreFewRows, HasFewLeft, IsStarted, IsAsMarked, rows_of_mark, TellsSchema, NamesPair, NamesFlaw, ShowsMarked};
+ghost use Rattle.pq_session.specs.Within.{IsBounded, StopsWithin, IsWithinOpening};
 ghost use Rattle.pq_store.specs.Breaks.{IsUndamaged};
 ghost use Rattle.pq_session.specs.Matches.{Matches, IsOpening};
 ghost use Rattle.pq_session.specs.Evidence.{TellsEvidence};
-ghost use Rattle.pq_session.specs.Promise.{Promises, IsRefusal, IsWithin, IsWithinFixed, statement_bound};
+ghost use Rattle.pq_session.specs.Actions.{Action, asked, schema_after, statement_bound};
+ghost use Rattle.pq_session.specs.Promise.{Promises, IsBound, IsRefusal, IsWithin, IsWithinFixed};
+ghost use Rattle.pq_session.specs.Requests.{Asks, IsRequest};
 ghost use Rattle.pq_session.specs.Stands.{HoldsModel, Stands, Opens, last_made};
-ghost use Rattle.pq_session.specs.Step.{bound, report_of, performed, text_step, step};
+ghost use Rattle.pq_builds.specs.Bounds.{bound};
+ghost use Rattle.pq_session.specs.Step.{report_of, step, unread_report};
 ghost use Rattle.pq_session.specs.Lines.{show_lines};
 
 use crate::format::Mark;
 use crate::last::complete;
 use crate::lines::show_lines;
 use crate::opening::with_pairs;
-use crate::reports::{unpaid_report, unread_report};
-use pq_base::{Bound, List, NoMem, PText, Refusal, Stopped, Used};
-use pq_def_read::{Statement, read_statement};
+use crate::reports::{NO_CALLS, unpaid_report, unread_report};
+use crate::requests::Request;
+use pq_base::{Bound, List, NoMem, Stopped, Used};
+use pq_builds::left_ops;
 use pq_intent::{Settled, settle};
 use pq_plan::BoundedPlan;
 use pq_print::Report;
 use pq_schema::Catalog;
 use pq_store::{Broke, Meter, Store};
-use pq_text::{Piece, Token, tokens};
+use pq_text::Piece;
 use std::alloc::Global;
 use std::marker::Model;
 use std::sync::ledger::Ledger;
-
-/// The greatest number of bytes of a statement.
-pub const STATEMENT_BYTES: usize = 65536;
 
 /// What a session knows of a store: its definitions, with the plan of each query. Rows are read from the
 /// store each time.
@@ -79,13 +81,14 @@ pub(crate) struct Found {
 fn opened_by(session: Session, settled: &Settled, rows: Option<u32>) -> Started
     requires ops { settled.now.used.ops < 2 ^ 40 }
     requires entries { settled.now.used.entries ≤ 1 }
+    requires rows { AreFewRows rows }
     ensures started { result ≡ started_of session settled.now (length session.definitions) rows }
     ensures few { length session.definitions ≤ 256 }
 {
     let defs = session.catalog.defs();
     let (ops, entries) = match rows {
         None => (0, 0),
-        Some(rows) => (rows as u64 + rows as u64 / 256 + 3, 2 * rows as u64),
+        Some(rows) => (u64::from(left_ops(rows)), u64::from(2 * rows)),
     };
     let all_ops = settled.used.ops + 1 + ops;
     Started {
@@ -126,7 +129,14 @@ impl Session {
         ensures kept { (m : Tables) → Opens (S.content store.old) m → Opens (S.content store.new) m }
         ensures ops { IfOk result (λ s. meter.new.ops ≡ meter.old.ops + s.used.ops) }
         ensures entries { IfOk result (λ s. meter.new.entries ≡ meter.old.entries + s.used.entries) }
-        // Over a told store, what its catalog says, or the first flaw that it has.
+        // Over every store: the bound is one of an opening, and what is used is at most it. Where it breaks off, the
+        // meter rose by at most such a bound and one range more; over a store that opens to a model, by its own.
+        ensures bounded { IfOk result IsBounded }
+        ensures within { OnErr result (StopsWithin meter.old meter.new) }
+        ensures within_own { OnErr result ((m : Tables) → Opens (S.content store.old) m
+            → IfSome (S.content store.old) (IsWithinOpening m meter.old meter.new)) }
+        // Over a told store, what its catalog says, or the first flaw that it has. A build over too many rows
+        // isn't completed, and the definition's key is named.
         ensures told { IfOk result (λ s. IfSome (S.content store.old) (λ pairs. TellsSchema pairs s.session)) }
         ensures flaw { IfErr result (λ broke. IfSome (S.content store.old) (λ pairs. NamesFlaw pairs broke)) }
         ensures damage { IfErr result (λ broke. (m : Tables) → Opens (S.content store.old) m → IsUndamaged broke) }
@@ -146,6 +156,10 @@ impl Session {
         ensures told { IfOk result (λ f. IfSome (S.content store.old) (λ pairs. opened none_added (catalog_in pairs) ≡ Ok (f.session, f.mark))) }
         ensures marked { IfOk result (λ f. f.mark ≡ Mark.Building → IsSome (last_made f.session)) }
         ensures takes { IfOk result (λ f. Takes 1 (length f.session.definitions) meter.old meter.new) }
+        ensures few { IfOk result (λ f. length f.session.definitions ≤ 256) }
+        ensures within { OnErr result (TakesAtMost (bound 1 257) meter.old meter.new) }
+        ensures within_own { OnErr result (IfSome (S.content store.old) (λ pairs.
+            TakesAtMost (bound 1 (length (catalog_in pairs))) meter.old meter.new)) }
         ensures flaw { IfErr result (λ broke. IfSome (S.content store.old) (λ pairs. NamesPair pairs broke)) }
         ensures same { S.content store.new ≡ S.content store.old }
         ensures cause { HasBrokeCause (S.faults store.old) (S.faults store.new) result }
@@ -178,6 +192,11 @@ impl Session {
         ensures stopped { OnErr result ((m : Tables) → m.schema ≡ found.session → IsAsMarked found.mark (S.content store.old) m → Opens (S.content store.new) m) }
         ensures sound { IfErr result (λ broke. (m : Tables) → m.schema ≡ found.session → IsAsMarked found.mark (S.content store.old) m → IsUndamaged broke) }
         ensures shown { IfErr result (λ broke. IfSome (S.content store.old) (λ c. ShowsMarked found.session found.mark c broke)) }
+        ensures few_left { OnOk result (IfSome (S.content store.old) (HasFewLeft found.session found.mark)) }
+        ensures within { OnErr result (BuildsWithin left_ops meter.old meter.new) }
+        ensures within_own { OnErr result ((m : Tables) → m.schema ≡ found.session
+            → IsAsMarked found.mark (S.content store.old) m
+            → TakesAtMost (completion_bound (rows_of_mark found.mark m)) meter.old meter.new) }
         ensures cause { HasBrokeCause (S.faults store.old) (S.faults store.new) result }
     {
         let Found { session, mark } = found;
@@ -190,72 +209,12 @@ impl Session {
         }
     }
 
-    /// Makes what a statement of a text asks for.
-    fn perform<S: Store<L>, L: Ledger>(
-        self,
-        alloc: Global,
-        number: u32,
-        text: &PText,
-        tokens: &List<Token>,
-        statement: Statement,
-        store: &mut S,
-        meter: &mut Meter<L>,
-    ) -> Result<(Session, Report), Broke>
-        requires spelled { tokens.now ≡ tokens_of text.now }
-        requires named { IsNamed tokens.now statement }
-        ensures step { Promises (λ m. performed m number text.now tokens.now statement) (S.content store.old) (S.content store.new) self meter.old meter.new result }
-        ensures cause { HasBrokeCause (S.faults store.old) (S.faults store.new) result }
-    {
-        match statement {
-            Statement::Create(def) => self.create(alloc, number, def, store, meter),
-            Statement::Prepare { name, from } => {
-                self.prepare(alloc, number, name, text, tokens, from, store, meter)
-            }
-            Statement::Explain { from } => {
-                let report = self.explain(alloc, number, text, tokens, from)?;
-                Ok((self, report))
-            }
-            Statement::Run {
-                name,
-                values,
-                after,
-            } => self.run(alloc, number, &name, &values, after.as_ref(), store, meter),
-            Statement::Show => Ok(self.show(alloc, number)?),
-            written @ (Statement::Insert { .. }
-            | Statement::Update { .. }
-            | Statement::Delete { .. }) => self.write(alloc, number, &written, store, meter),
-        }
-    }
-
     /// Shows the definitions, and the indexes that each of them made.
-    fn show(self, alloc: Global, number: u32) -> Result<(Session, Report), NoMem>
+    pub(crate) fn show(self, alloc: Global, number: u32) -> Result<(Session, Report), NoMem>
         ensures { IfOk result (λ made. made ≡ (self, report_of number (show_lines self) End.Done (bound 0 0))) }
     {
         let lines = show_lines(alloc, &self.catalog)?;
-        Ok((self, unpaid_report(number, lines)))
-    }
-
-    /// Makes the statement of a text.
-    fn text_statement<S: Store<L>, L: Ledger>(
-        self,
-        alloc: Global,
-        number: u32,
-        text: &PText,
-        store: &mut S,
-        meter: &mut Meter<L>,
-    ) -> Result<(Session, Report), Broke>
-        ensures step { Promises (λ m. text_step m number text.now) (S.content store.old) (S.content store.new) self meter.old meter.new result }
-        ensures cause { HasBrokeCause (S.faults store.old) (S.faults store.new) result }
-    {
-        if text.bytes().len() > STATEMENT_BYTES {
-            return Ok((self, unread_report(alloc, number, Refusal::StatementLong)));
-        }
-        let found = tokens(alloc, text)?;
-        match read_statement(alloc, text, &found) {
-            Err(Stopped::NoMem) => Err(Broke::NoMem),
-            Err(Stopped::Refused(why)) => Ok((self, unread_report(alloc, number, why))),
-            Ok(statement) => self.perform(alloc, number, text, &found, statement, store, meter),
-        }
+        Ok((self, unpaid_report(number, lines, NO_CALLS)))
     }
 
     /// Makes one step of the model: the statement of a piece of the script, with its number. On an
@@ -272,15 +231,19 @@ impl Session {
         ensures made { IfOk result (λ p. (m : Tables) → Stands (S.content store.old) self m → Stands (S.content store.new) p.0 (step m number piece.now).model) }
         ensures ops { IfOk result (λ p. meter.new.ops ≡ meter.old.ops + p.1.used.ops) }
         ensures entries { IfOk result (λ p. meter.new.entries ≡ meter.old.entries + p.1.used.entries) }
-        // Over every store, told or not: the bound is fixed by the schema and the piece alone, what is used
+        // Over every store, told or not: the bound is fixed by the definitions and the piece alone, what is used
         // is within it, also where the step breaks off, and a refused statement changes nothing.
-        // Where an index is made, there is none: the build's depends on the rows.
-        ensures bound { IfOk result (λ p. IfSome (statement_bound self piece.now) (λ most. p.1.bound ≡ most)) }
+        // Where an index is made, the bound is that of a build over some number of rows.
+        ensures bound { IfOk result (λ p. IsBound (statement_bound self piece.now) p.1.bound) }
         ensures within { IfSome (statement_bound self piece.now) (λ most. IsWithin most meter.old meter.new) }
         ensures building { OnErr result (IsWithinFixed (statement_bound self piece.now) meter.old meter.new) }
         ensures few_ops { IfOk result (λ p. p.1.used.ops ≤ p.1.bound.ops) }
         ensures few_entries { IfOk result (λ p. p.1.used.entries ≤ p.1.bound.entries) }
         ensures refused { IfOk result (λ p. IsRefusal p.1.end → (S.content store.new ≡ S.content store.old) × (p.0 ≡ self)) }
+        // What is refused before any call is reported as just that; and so are the definitions behind each report fixed.
+        ensures number { IfOk result (λ p. p.1.number ≡ number) }
+        ensures unread { IfOk result (λ p. IfErr (asked self piece.now) (λ why. p.1 ≡ unread_report number why)) }
+        ensures next { IfOk result (λ p. p.0 ≡ schema_after self piece.now p.1) }
         ensures stopped { OnErr result ((m : Tables) → Stands (S.content store.old) self m
             → Opens (S.content store.new) m ⊎ Opens (S.content store.new) (step m number piece.now).model) }
         ensures damage { IfErr result (λ broke. (m : Tables) → Stands (S.content store.old) self m → IsUndamaged broke) }
@@ -291,6 +254,7 @@ impl Session {
         self.piece(alloc, number, piece, store, meter)
     }
 
+    /// Makes what a piece asks for.
     fn piece<S: Store<L>, L: Ledger>(
         self,
         alloc: Global,
@@ -299,13 +263,50 @@ impl Session {
         store: &mut S,
         meter: &mut Meter<L>,
     ) -> Result<(Session, Report), Broke>
-        ensures step { Promises (λ m. step m number piece.now) (S.content store.old) (S.content store.new) self meter.old meter.new result }
+        ensures step { Promises number (asked self piece.now) (S.content store.old) (S.content store.new) self meter.old meter.new result }
         ensures cause { HasBrokeCause (S.faults store.old) (S.faults store.new) result }
     {
-        match piece {
-            Piece::Statement(text) => self.text_statement(alloc, number, text, store, meter),
-            Piece::NotUtf8 => Ok((self, unread_report(alloc, number, Refusal::NotUtf8))),
-            Piece::TooLong => Ok((self, unread_report(alloc, number, Refusal::StatementLong))),
+        match self.asked(alloc, piece) {
+            Err(Stopped::NoMem) => Err(Broke::NoMem),
+            Err(Stopped::Refused(why)) => Ok((self, unread_report(alloc, number, why))),
+            Ok(request) => self.act(alloc, number, request, store, meter),
+        }
+    }
+
+    /// Makes what was asked for.
+    fn act<S: Store<L>, L: Ledger>(
+        self,
+        alloc: Global,
+        number: u32,
+        request: Request,
+        store: &mut S,
+        meter: &mut Meter<L>,
+    ) -> Result<(Session, Report), Broke>
+        requires { IsRequest self request }
+        ensures step { (asked : Result Action Refusal) → Asks self request asked
+            → Promises number asked (S.content store.old) (S.content store.new) self meter.old meter.new result }
+        ensures cause { HasBrokeCause (S.faults store.old) (S.faults store.new) result }
+    {
+        match request {
+            Request::Create(def) => self.create(alloc, number, def, store, meter),
+            Request::Write(write) => self.make_write(alloc, number, &write, store, meter),
+            Request::Prepare(plan) => self.define_query(alloc, number, plan, store, meter),
+            Request::Explain(plan) => {
+                let report = self.plan_report(alloc, number, &plan)?;
+                Ok((self, report))
+            }
+            Request::Run(run) => {
+                self.run_query(
+                    alloc,
+                    number,
+                    run.query,
+                    &run.params,
+                    run.after.as_ref(),
+                    store,
+                    meter,
+                )
+            }
+            Request::Show => Ok(self.show(alloc, number)?),
         }
     }
 }

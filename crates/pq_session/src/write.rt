@@ -1,16 +1,13 @@
 //! INSERT, UPDATE and DELETE.
-ghost use Rattle.std.specs.Prelude.{◌≡◌};
+ghost use Rattle.std.specs.Prelude.{Ok};
 ghost use Rattle.pq_store.specs.Content.{HasBrokeCause};
-ghost use Rattle.pq_index_keep.specs.Checking.{IsWriting};
 ghost use Rattle.pq_index_keep.specs.Sound.{IsWrite};
+ghost use Rattle.pq_session.specs.Actions.{Writes};
 ghost use Rattle.pq_session.specs.Promise.{Promises};
-ghost use Rattle.pq_session.specs.Step.{effected, written};
 
-use crate::reports::{done_report, refusal_report, unread_report};
+use crate::reports::{done_report, refusal_report};
 use crate::session::Session;
-use pq_base::Stopped;
-use pq_def_read::Statement;
-use pq_index_keep::{Planned, Write, check_write, plan_write, write_bound};
+use pq_index_keep::{Planned, Write, plan_write, write_bound};
 use pq_intent::commit;
 use pq_print::Report;
 use pq_store::{Allowance, Broke, Meter, Store};
@@ -18,28 +15,8 @@ use std::alloc::Global;
 use std::sync::ledger::Ledger;
 
 impl Session {
-    /// Makes the write of a statement, where nothing refuses it.
-    pub(crate) fn write<S: Store<L>, L: Ledger>(
-        self,
-        alloc: Global,
-        number: u32,
-        statement: &Statement,
-        store: &mut S,
-        meter: &mut Meter<L>,
-    ) -> Result<(Session, Report), Broke>
-        requires { IsWriting statement.now }
-        ensures step { Promises (λ m. written m number statement.now) (S.content store.old) (S.content store.new) self meter.old meter.new result }
-        ensures cause { HasBrokeCause (S.faults store.old) (S.faults store.new) result }
-    {
-        match check_write(alloc, &self.catalog, statement) {
-            Err(Stopped::NoMem) => Err(Broke::NoMem),
-            Err(Stopped::Refused(why)) => Ok((self, unread_report(alloc, number, why))),
-            Ok(write) => self.make_write(alloc, number, &write, store, meter),
-        }
-    }
-
     /// Makes a write, within its bound.
-    fn make_write<S: Store<L>, L: Ledger>(
+    pub(crate) fn make_write<S: Store<L>, L: Ledger>(
         self,
         alloc: Global,
         number: u32,
@@ -48,7 +25,7 @@ impl Session {
         meter: &mut Meter<L>,
     ) -> Result<(Session, Report), Broke>
         requires { IsWrite self.tables write.now }
-        ensures step { Promises (λ m. effected m number write.now) (S.content store.old) (S.content store.new) self meter.old meter.new result }
+        ensures step { Promises number (Ok (Writes write.now)) (S.content store.old) (S.content store.new) self meter.old meter.new result }
         ensures cause { HasBrokeCause (S.faults store.old) (S.faults store.new) result }
     {
         let bound = write_bound(&self.catalog, write);

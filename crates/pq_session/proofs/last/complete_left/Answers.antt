@@ -1,5 +1,5 @@
 use Rattle.std.proofs.lemmas.Result.{IfOk-weaker, IfErr-weaker, on_err_weaker}
-use Rattle.pq_session.proofs.Lefts.{left_made, left_stopped, left_sound}
+use Rattle.pq_session.proofs.Lefts.{left_made, left_stopped, left_sound, left_within}
 use Rattle.pq_session.proofs.last.complete_left.Goals as goal
 
 pub returns-clause-made : goal.returns-clause-made
@@ -10,3 +10,6 @@ returns-clause-stopped g c = on_err_weaker c.complete_index.result (λ all m lef
 
 pub returns-clause-sound : goal.returns-clause-sound
 returns-clause-sound g c = IfErr-weaker c.complete_index.result _ _ (λ broke all m left f. left_sound c.args.target.now c.args.query.now (g.S.Store.content c.args.store.now) (g.S.Store.content c.complete_index.new.store) m left f broke all) c.complete_index.ensures.sound
+
+pub returns-clause-within_own : goal.returns-clause-within_own
+returns-clause-within_own g c = on_err_weaker c.complete_index.result (λ all m left f. left_within c.args.target.now c.args.query.now (g.S.Store.content c.args.store.now) (g.S.Store.content c.complete_index.new.store) m left f c.args.meter.now c.complete_index.new.meter all) c.complete_index.ensures.bounded

@@ -19,12 +19,12 @@ target-requires g c = target_there c.args.self c.args.query c.args.new (subst Is
 pub returns-in_err-target-clause-step : goal.returns-in_err-target-clause-step
 returns-in_err-target-clause-step g c best lined =
     let p = err_from_is_err_and c.from_residual.result c.from_residual.ensures.1 in
-    rw (p.1, p.2) (broken_same _ _ c.args.self _ _ tt)
+    rw (p.1, p.2) (broken_same _ _ _ c.args.self _ _ tt)
 
 pub returns-in_err-defined-clause-step : goal.returns-in_err-defined-clause-step
 returns-in_err-defined-clause-step g c best lined =
     let p = err_from_is_err_and c.from_residual-in_err-defined.result c.from_residual-in_err-defined.ensures.1 in
-    rw (p.1, p.2) (broken_same _ _ c.args.self _ _ tt)
+    rw (p.1, p.2) (broken_same _ _ _ c.args.self _ _ tt)
 
 pub too_many_rows-requires : goal.too_many_rows-requires
 too_many_rows-requires g c = (target_there c.args.self c.args.query c.args.new (subst IsValid c.self.view_is c.self.invariant.0) c.requires.defined).0

@@ -1,26 +1,26 @@
-use Rattle.std.proofs.Common.{ℕ, List, Result, Err, subst}
+use Rattle.std.proofs.Common.{ℕ, List, Result, subst}
 use Rattle.std.proofs.lemmas.Result.{err_from_is_err_and}
 use Rattle.pq_base.specs.declared.refusal.Refusal.{Refusal}
 use Rattle.pq_print.specs.declared.report.Line.{Line}
 use Rattle.pq_session.specs.Extends.{Extends}
-use Rattle.pq_session.proofs.Defining.{IsWritten, created_by, table_written}
+use Rattle.pq_session.proofs.Defining.{IsWritten, table_written}
 use Rattle.pq_session.proofs.Promises.{unread_done, broken_same}
 use Rattle.pq_session.proofs.session.Session.create.Goals as goal
 
 pub returns-in_err-session-clause-step : goal.returns-in_err-session-clause-step
 returns-in_err-session-clause-step g c =
     let p = err_from_is_err_and c.from_residual.result c.from_residual.ensures.1 in
-    rw (p.1, p.2) (broken_same _ _ c.args.self _ _ tt)
+    rw (p.1, p.2) (broken_same _ _ _ c.args.self _ _ tt)
 
 pub returns-in-Err-clause-step : goal.returns-in-Err-clause-step
 returns-in-Err-clause-step g c =
     let e = subst (λ (r : Result ℕ Refusal). Extends c.args.self c.args.def c.in_ok-session.session r) c.in-Err.is c.in_ok-session.ensures in
-    rw (c.unread_report.ensures, e.1) (unread_done _ c.args.number c.in-Err.why _ c.args.self _ (λ m is. created_by m c.args.number c.args.self c.args.def is (Err c.in-Err.why) e.0))
+    rw (c.unread_report.ensures, e.1, e.0) (unread_done c.args.number c.in-Err.why _ c.args.self _)
 
 pub returns-in_err-lines-in-Ok-clause-step : goal.returns-in_err-lines-in-Ok-clause-step
 returns-in_err-lines-in-Ok-clause-step g c =
     let p = err_from_is_err_and c.from_residual-in_err-lines-in-Ok.result c.from_residual-in_err-lines-in-Ok.ensures.1 in
-    rw (p.1, p.2) (broken_same _ _ c.args.self _ _ tt)
+    rw (p.1, p.2) (broken_same _ _ _ c.args.self _ _ tt)
 
 pub returns-in_ok-lines-in-Ok-clause-step : goal.returns-in_ok-lines-in-Ok-clause-step
 returns-in_ok-lines-in-Ok-clause-step g c =

@@ -1,10 +1,12 @@
-use Rattle.std.proofs.Common.{sym, ap, subst, Option}
+use Rattle.std.proofs.Common.{sym, ap, subst, length, Option}
 use Rattle.std.proofs.lemmas.Result.{IfOk-weaker, IfErr-weaker, on_err_weaker, err_from_is_err_and}
+use Rattle.pq_intent.proofs.Steps.{on_err_holds}
 use Rattle.pq_store.specs.Content.{Content}
 use Rattle.pq_session.specs.declared.session.Started.{Started}
 use Rattle.pq_session.specs.Stands.{Opens}
 use Rattle.pq_session.proofs.Standing.{settled_opens}
 use Rattle.pq_session.proofs.Starting.{opens_kept, opens_rests, rests_opens, rests_sound, read_mid, read_now, finished_stands, opens_as, tells_schema, settle_flaw, read_flaw, build_flaw, both_ok, either_way}
+use Rattle.pq_session.proofs.Within.{is_bounded, settle_within, read_within, finish_within, settle_own, read_own, finish_own}
 use Rattle.pq_session.proofs.session.Session.start.Goals as goal
 
 pub returns-in_err-settled-clause-kept : goal.returns-in_err-settled-clause-kept
@@ -57,9 +59,46 @@ returns-clause-opened g c =
 
 pub returns-clause-told : goal.returns-clause-told
 returns-clause-told g c =
-    IfOk-weaker c.finish_opening.result _ _ (λ s started.
-    tells_schema (g.S.Store.content c.args.store.now) (g.S.Store.content c.settle.new.store) c.in_ok-found.found.session s.session c.in_ok-found.found.mark c.in_ok-settled.ensures.settles c.in_ok-found.ensures.told (ap (λ (x : Started). x.session) started.is))
-    c.finish_opening.ensures.started
+    IfOk-weaker c.finish_opening.result _ _ (λ s h.
+    tells_schema (g.S.Store.content c.args.store.now) (g.S.Store.content c.settle.new.store) (g.S.Store.content c.read_catalog.new.store) c.in_ok-found.found.session s.session c.in_ok-found.found.mark c.read_catalog.ensures.same c.in_ok-settled.ensures.settles c.in_ok-found.ensures.told h.1 (ap (λ (x : Started). x.session) h.0.is))
+    (both_ok c.finish_opening.result _ _ c.finish_opening.ensures.started c.finish_opening.ensures.few_left)
+
+-- ---- what it takes
+
+pub returns-in_err-settled-clause-within : goal.returns-in_err-settled-clause-within
+returns-in_err-settled-clause-within g c = on_err_holds c.from_residual.result (settle_within c.args.meter.now c.settle.new.meter c.in_err-settled.ensures.within)
+
+pub returns-in_err-settled-clause-within_own : goal.returns-in_err-settled-clause-within_own
+returns-in_err-settled-clause-within_own g c =
+    on_err_holds c.from_residual.result (λ m opens. settle_own (g.S.Store.content c.args.store.now) m c.args.meter.now c.settle.new.meter opens c.in_err-settled.ensures.within_own)
+
+pub returns-in_err-found-clause-within : goal.returns-in_err-found-clause-within
+returns-in_err-found-clause-within g c =
+    on_err_holds c.from_residual-in_err-found.result (read_within c.in_ok-settled.settled c.in_ok-settled.ensures.numbers c.args.meter.now c.settle.new.meter c.in_ok-settled.ensures.ops c.in_ok-settled.ensures.entries c.read_catalog.new.meter c.in_err-found.ensures.within)
+
+pub returns-in_err-found-clause-within_own : goal.returns-in_err-found-clause-within_own
+returns-in_err-found-clause-within_own g c =
+    on_err_holds c.from_residual-in_err-found.result (λ m opens. read_own c.in_ok-settled.settled c.in_ok-settled.ensures.numbers c.args.meter.now c.settle.new.meter c.in_ok-settled.ensures.ops c.in_ok-settled.ensures.entries
+    (g.S.Store.content c.args.store.now) (g.S.Store.content c.settle.new.store) m c.read_catalog.new.meter c.in_ok-settled.ensures.counts c.in_ok-settled.ensures.made opens c.in_err-found.ensures.within_own)
+
+pub returns-clause-bounded : goal.returns-clause-bounded
+returns-clause-bounded g c =
+    IfOk-weaker c.finish_opening.result _ _ (λ s started. is_bounded c.in_ok-found.found.session s c.in_ok-settled.settled c.read_catalog.new.meter c.finish_opening.new.meter c.in_ok-settled.ensures.numbers started) c.finish_opening.ensures.started
+
+pub returns-clause-within : goal.returns-clause-within
+returns-clause-within g c =
+    on_err_weaker c.finish_opening.result (λ w. finish_within c.in_ok-settled.settled c.in_ok-settled.ensures.numbers c.args.meter.now c.settle.new.meter c.in_ok-settled.ensures.ops c.in_ok-settled.ensures.entries
+    (length c.in_ok-found.found.session.definitions) c.read_catalog.new.meter c.finish_opening.new.meter c.in_ok-found.ensures.few c.in_ok-found.ensures.takes w) c.finish_opening.ensures.within
+
+pub returns-clause-within_own : goal.returns-clause-within_own
+returns-clause-within_own g c =
+    on_err_weaker c.finish_opening.result (λ w m opens.
+    let k = read_mid (g.S.Store.content c.args.store.now) (g.S.Store.content c.settle.new.store) (g.S.Store.content c.read_catalog.new.store) c.in_ok-settled.ensures.made c.read_catalog.ensures.same c.in_ok-found.found.session c.in_ok-found.found.mark c.in_ok-found.ensures.told m opens in
+    let n = read_now (g.S.Store.content c.args.store.now) (g.S.Store.content c.settle.new.store) (g.S.Store.content c.read_catalog.new.store) c.in_ok-settled.ensures.made c.read_catalog.ensures.same c.in_ok-found.found.session c.in_ok-found.found.mark c.in_ok-found.ensures.told m opens in
+    finish_own c.in_ok-settled.settled c.in_ok-settled.ensures.numbers c.args.meter.now c.settle.new.meter c.in_ok-settled.ensures.ops c.in_ok-settled.ensures.entries
+    (g.S.Store.content c.args.store.now) (g.S.Store.content c.settle.new.store) m c.in_ok-found.found.mark (length c.in_ok-found.found.session.definitions) c.read_catalog.new.meter c.finish_opening.new.meter
+    c.in_ok-settled.ensures.counts c.in_ok-settled.ensures.made opens k.1 c.in_ok-found.ensures.few c.in_ok-found.ensures.takes (w m (sym n.0) n.1))
+    c.finish_opening.ensures.within_own
 
 pub returns-clause-damage : goal.returns-clause-damage
 returns-clause-damage g c =

@@ -1,15 +1,23 @@
-use Rattle.pq_session.proofs.Promises.{promised_bound, promised_within, promised_building, promised_shown}
-use Rattle.pq_session.specs.Step.{step}
+use Rattle.pq_session.proofs.Promises.{promised_made, promised_matches, promised_next, promised_shown, promised_stopped, promised_unread, promised_within}
 use Rattle.pq_session.proofs.session.Session.statement.Goals as goal
 
-pub returns-clause-bound : goal.returns-clause-bound
-returns-clause-bound g c = promised_bound c.args.number c.args.piece.now _ _ c.args.self _ _ c.piece.result c.piece.ensures.step
+pub returns-clause-matches : goal.returns-clause-matches
+returns-clause-matches g c = promised_matches c.args.number c.args.piece.now _ _ c.args.self _ _ c.piece.result c.piece.ensures.step
+
+pub returns-clause-made : goal.returns-clause-made
+returns-clause-made g c = promised_made c.args.number c.args.piece.now _ _ c.args.self _ _ c.piece.result c.piece.ensures.step
 
 pub returns-clause-within : goal.returns-clause-within
 returns-clause-within g c = promised_within c.args.number c.args.piece.now _ _ c.args.self _ _ c.piece.result c.piece.ensures.step
 
-pub returns-clause-shown : goal.returns-clause-shown
-returns-clause-shown g c = promised_shown (λ m. step m c.args.number c.args.piece.now) _ _ c.args.self _ _ c.piece.result c.piece.ensures.step
+pub returns-clause-next : goal.returns-clause-next
+returns-clause-next g c = promised_next c.args.number c.args.piece.now _ _ c.args.self _ _ c.piece.result c.piece.ensures.step
 
-pub returns-clause-building : goal.returns-clause-building
-returns-clause-building g c = promised_building c.args.number c.args.piece.now _ _ c.args.self _ _ c.piece.result c.piece.ensures.step
+pub returns-clause-shown : goal.returns-clause-shown
+returns-clause-shown g c = promised_shown c.args.number c.args.piece.now _ _ c.args.self _ _ c.piece.result c.piece.ensures.step
+
+pub returns-clause-stopped : goal.returns-clause-stopped
+returns-clause-stopped g c = promised_stopped c.args.number c.args.piece.now _ _ c.args.self _ _ c.piece.result c.piece.ensures.step
+
+pub returns-clause-unread : goal.returns-clause-unread
+returns-clause-unread g c = promised_unread c.args.number c.args.piece.now _ _ c.args.self _ _ c.piece.result c.piece.ensures.step

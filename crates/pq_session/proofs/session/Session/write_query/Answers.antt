@@ -8,7 +8,7 @@ use Rattle.pq_session.proofs.session.Session.write_query.Goals as goal
 pub returns-in_err-session-clause-step : goal.returns-in_err-session-clause-step
 returns-in_err-session-clause-step g c best lined =
     let p = err_from_is_err_and c.from_residual.result c.from_residual.ensures.1 in
-    rw (p.1, p.2) (broken_same _ _ c.args.self _ _ tt)
+    rw (p.1, p.2) (broken_same _ _ _ c.args.self _ _ tt)
 
 pub returns-clause-step : goal.returns-clause-step
 returns-clause-step g c best lined =

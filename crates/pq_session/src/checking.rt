@@ -1,0 +1,124 @@
+//! Statements as far as no store decides them: each is a step over tables without rows.
+ghost use Rattle.std.specs.Prelude.{◌≡◌, [], Result, IfOk};
+ghost use Rattle.pq_base.specs.declared.refusal.Refusal.{Refusal};
+ghost use Rattle.pq_builds.specs.Bounds.{prepare_bound};
+ghost use Rattle.pq_schema.specs.Definitions.{new_table};
+ghost use Rattle.pq_schema.specs.Names.{IsTableDef};
+ghost use Rattle.pq_session.specs.Actions.{Action, Creates, Prepares, asking};
+ghost use Rattle.pq_session.specs.Checks.{IsChecked, check_step, without_rows};
+ghost use Rattle.pq_session.specs.Requests.{Asks, IsDefinable, IsPlanFor, IsRequest};
+
+use crate::planning::{PlannedQuery, planned_lines};
+use crate::reports::{NOTHING_USED, done_report, unpaid_report, unread_report};
+use crate::requests::Request;
+use crate::session::Session;
+use pq_base::{Bound, NoMem, Stopped};
+use pq_compile::Compiled;
+use pq_index_keep::write_bound;
+use pq_print::Report;
+use pq_schema::{NewIndex, TableDef};
+use pq_text::Piece;
+use std::alloc::Global;
+
+/// The bound of a PREPARE over a table without rows.
+fn prepare_bound(wanted: &Option<NewIndex>) -> Bound
+    ensures { result ≡ prepare_bound wanted.now [] }
+{
+    let ops = match wanted {
+        None => 1,
+        Some(_) => 4,
+    };
+    Bound { ops, entries: 0 }
+}
+
+impl Session {
+    /// Makes one step of a check: the statement of a piece of the script, with its number, as far as the
+    /// definitions decide it. What is reported as used is nothing.
+    pub fn check(
+        self,
+        alloc: Global,
+        number: u32,
+        piece: &Piece,
+    ) -> Result<(Session, Report), NoMem>
+        ensures report { IfOk result (λ p. p.1 ≡ (check_step (without_rows self) number piece.now).report) }
+        ensures next { IfOk result (λ p. p.0 ≡ (check_step (without_rows self) number piece.now).model.schema) }
+    {
+        match self.asked(alloc, piece) {
+            Err(Stopped::NoMem) => Err(NoMem),
+            Err(Stopped::Refused(why)) => Ok((self, unread_report(alloc, number, why))),
+            Ok(request) => self.check_request(alloc, number, request),
+        }
+    }
+
+    /// Makes of what was asked for what needs no store.
+    fn check_request(
+        self,
+        alloc: Global,
+        number: u32,
+        request: Request,
+    ) -> Result<(Session, Report), NoMem>
+        requires { IsRequest self request }
+        ensures { IfOk result (λ p. (asked : Result Action Refusal) → Asks self request asked → IsChecked self number asked p.0 p.1) }
+    {
+        match request {
+            Request::Create(def) => self.check_table(alloc, number, def),
+            Request::Write(write) => {
+                let bound = write_bound(&self.catalog, &write);
+                Ok((self, done_report(alloc, number, bound, NOTHING_USED)))
+            }
+            Request::Prepare(plan) => self.check_query(alloc, number, plan),
+            Request::Explain(plan) => {
+                let report = self.plan_report(alloc, number, &plan)?;
+                Ok((self, report))
+            }
+            Request::Run(run) => {
+                let bound = self.kept_plan(run.query).bound();
+                Ok((self, done_report(alloc, number, bound, NOTHING_USED)))
+            }
+            Request::Show => self.show(alloc, number),
+        }
+    }
+
+    /// Defines a table, where nothing refuses it.
+    fn check_table(
+        self,
+        alloc: Global,
+        number: u32,
+        def: TableDef,
+    ) -> Result<(Session, Report), NoMem>
+        requires { IsTableDef def }
+        ensures { IfOk result (λ p. IsChecked self number (asking Creates (new_table self def)) p.0 p.1) }
+    {
+        let (session, made) = self.with_table_of(alloc, def)?;
+        match made {
+            Err(why) => Ok((session, unread_report(alloc, number, why))),
+            Ok(table) => {
+                let lines = session.lines_of(alloc, table)?;
+                let bound = Bound { ops: 1, entries: 0 };
+                Ok((session, unpaid_report(number, lines, bound)))
+            }
+        }
+    }
+
+    /// Defines a query that was planned.
+    fn check_query(
+        self,
+        alloc: Global,
+        number: u32,
+        plan: PlannedQuery,
+    ) -> Result<(Session, Report), NoMem>
+        requires { IsDefinable self plan }
+        ensures { IfOk result (λ p. (asked : Result Action Refusal) → IsPlanFor Prepares asked plan → IsChecked self number asked p.0 p.1) }
+    {
+        let lines = planned_lines(alloc, &self.catalog, &plan)?;
+        let PlannedQuery { query, compiled } = plan;
+        let Compiled {
+            plan: kept,
+            wanted,
+            ..
+        } = compiled;
+        let bound = prepare_bound(&wanted);
+        let session = self.with_defined(alloc, query, kept, wanted)?;
+        Ok((session, unpaid_report(number, lines, bound)))
+    }
+}
