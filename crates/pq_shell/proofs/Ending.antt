@@ -1,7 +1,11 @@
 -- How a run ends.
-use Rattle.std.proofs.Common.{◌≡◌, ℕ, ◌+◌, inl, inr, Bool, true, false, ◌||◌, Option, Some, Result, Ok, Err, IfOk, IfErr, List, [], ◌∷◌, ◌++◌, length, get_or, refl, sym, ap, ◌∙◌, subst, arith, ◌≤◌, add-zero, append-nil, length-append}
+use Rattle.std.proofs.Common.{◌≡◌, ℕ, ◌+◌, inl, inr, Bool, true, false, ◌||◌, Option, Some, Result, Ok, Err, IfOk, IfErr, List, [], ◌∷◌, ◌++◌, length, flat_map, refl, sym, ap, ◌∙◌, subst, arith, lit≤, true≢false, ◌≤◌, add-zero, append-nil, length-append}
 use Rattle.std.proofs.lemmas.List.{length-map}
-use Rattle.std.specs.Io.KnownBytes.{append_known}
+use Rattle.std.specs.Io.KnownBytes.{append_known, prepend_known}
+use Rattle.pq_base.specs.declared.number.Used.{Used}
+use Rattle.pq_fill.specs.declared.words.Form.{Form}
+use Rattle.pq_fill.specs.declared.words.Form.TheVariants.{Run, Check, Fill}
+use Rattle.pq_schema.specs.Schema.{Schema}
 use Rattle.pq_store.specs.Content.{Content}
 use Rattle.pq_store.specs.Counts.{Counts}
 use Rattle.pq_store.specs.declared.damage.Damage.{Damage}
@@ -9,25 +13,43 @@ use Rattle.pq_text.specs.declared.piece.Piece.{Piece}
 use Rattle.pq_text.specs.Pieces.{pieces_of, rest_of, is_unfinished}
 use Rattle.pq_text.specs.Summaries.{start, pieces_from, unfinished_from, Summary}
 use Rattle.pq_text.proofs.Cuts.{pieces_from-start, unfinished_from-start}
-use Rattle.pq_print.specs.Report.{damage_line}
+use Rattle.pq_print.specs.Report.{damage_line, is_refusal, printed}
+use Rattle.pq_print.specs.declared.report.Opened.{Opened}
+use Rattle.pq_print.specs.declared.report.Report.{Report}
+use Rattle.pq_session.specs.Checks.{without_rows}
 use Rattle.pq_session.specs.Model.{Model}
 use Rattle.pq_session.specs.Matches.{Matches}
 use Rattle.pq_session.specs.Stands.{Opens}
-use Rattle.pq_shell.specs.Fold.{Served, Stopped, Opening, Ran, StoppedLater}
-use Rattle.pq_shell.specs.Items.{Cut, Rest, cut_items, rest_items, items_of, rest_report, run_way}
+use Rattle.pq_session.proofs.Standing.{settled_opens}
+use Rattle.pq_shell.specs.Fold.{Moment, Made, Served, Stopped}
+use Rattle.pq_shell.specs.Forms.{HasItems, HasOpening, OpensAt, StandsIn, close, shown}
+use Rattle.pq_shell.specs.Items.{Item, Cut, Rest, cut_items, rest_items, items_of}
+use Rattle.pq_shell.specs.Making.{IsRead, Makes, moment}
+use Rattle.pq_shell.specs.Openings.{Opening, OpensWith, StoppedOpening}
 use Rattle.pq_shell.specs.Reading.{Took, script_limit}
-use Rattle.pq_shell.specs.Run.{World, Finished, Broken, Ends, EndsDamaged, Closes, IsPlain, status_of}
-use Rattle.pq_shell.specs.Serving.{Fed, Consumed, StoppedAmong, ReportsRest, StoppedAtRest, has_rest, rest_text}
+use Rattle.pq_shell.specs.Run.{World, Ran, Finished, Broken, StopsOpening, StopsLater, HasRead, IsReadInParts, NamesDamage, Ends, EndsDamaged, Closes, IsPlain, IsScript, Suffices, status_of, world, written}
+use Rattle.pq_shell.specs.Run.Broken.{AtOpening, AtItem, AtClose}
+use Rattle.pq_shell.specs.Serving.{Fed, Consumed, StoppedAmong, ReportsRest, StoppedAtRest, has_rest, rest_report, rest_text}
+use Rattle.pq_shell.specs.Stops.{CutsOff}
 use Rattle.pq_shell.specs.declared.reading.Ending.{Ending}
 use Rattle.pq_shell.specs.declared.reading.Ending.TheVariants.{Whole, Faulted, TooLong}
+use Rattle.pq_shell.specs.declared.run.Begun.{Begun}
 use Rattle.pq_shell.specs.declared.serving.Ended.{Ended}
 use Rattle.pq_shell.specs.declared.serving.Progress.{Progress}
 use Rattle.pq_shell.specs.declared.status.Status.{Status}
 use Rattle.pq_shell.specs.declared.status.Status.TheVariants as status
 use Rattle.pq_shell.specs.declared.stop.Stop.{Stop}
 use Rattle.pq_shell.specs.declared.stop.Stop.TheVariants as stops
-use Rattle.pq_shell.proofs.Known.{append_known-append, known-length}
-use Rattle.pq_shell.proofs.Folding.{Served-append, Served-one, Stopped-after, Stopped-writing, Ran-of, StoppedLater-of}
+use Rattle.pq_shell.proofs.Known.{append_known-append, append_known-none, known-length}
+use Rattle.pq_shell.proofs.Folding.{Made-append, Made-none, Made-one, Served-append, Served-none, Served-one, Stopped-after, Stopped-writing, Rises-none, among_items, from_done, from_number, length_after}
+
+-- what stands opens
+pub stands_opens : (f : Form) (content : Option Content) (s : Schema) (m : Model) → StandsIn f content s m → OpensAt f content m
+stands_opens Run content s m is = settled_opens is.settled
+stands_opens Check content s m is = tt
+stands_opens (Fill n) content s m is = settled_opens is.settled
+
+-- ---- the pieces and the rest of a script
 
 -- no piece ends in no bytes
 none_from : (s : Summary) → pieces_from s [] ≡ []
@@ -48,38 +70,51 @@ items_all Whole {bytes = bytes} {told = told} {to = to} fed = ap (λ v. cut_item
 items_all Faulted {told = told} fed = append-nil (cut_items told) ∙ ap cut_items (told_all fed)
 items_all TooLong {told = told} fed = append-nil (cut_items told) ∙ ap cut_items (told_all fed)
 
--- a list of one word
-pub one_word : (ws : List (List ℕ)) (w : List ℕ) → length ws ≡ 1 → w ≡ get_or ws 0 w → ws ≡ w ∷ []
-one_word [] w one is = absurd (omega (arith, one))
-one_word (x ∷ []) w one is = ap (λ y. y ∷ []) (sym is)
-one_word (x ∷ y ∷ ws) w one is = absurd (omega (arith, one))
+-- the rest is an item that is refused, whatever the form
+rest_made : (f : Form) → IsRead f → (n : ℕ) (s : Schema) (content : Option Content) (counts : Counts) → Makes f Rest n s s content content counts counts (rest_report n)
+rest_made Run read n s content counts = record {
+  is = record { number_is = refl; bound_is = refl; few_ops = omega arith; few_entries = omega arith };
+  next_is = refl;
+  matches = λ m is. record { same = refl; ops = omega arith; entries = omega arith };
+  stands = λ m is. is;
+  rises = record { ops = omega arith; entries = omega arith };
+}
+rest_made Check read n s content counts = record {
+  is = record { number_is = refl; bound_is = refl; few_ops = omega arith; few_entries = omega arith };
+  next_is = refl;
+  matches = λ m is. record { same = refl; ops = omega arith; entries = omega arith };
+  stands = λ m is. ap (λ (x : Model). without_rows x.schema) is;
+  rises = record { ops = omega arith; entries = omega arith };
+}
+rest_made (Fill k) read n s content counts = absurd read
 
-pub head_same : (x y : List ℕ) → x ∷ [] ≡ y ∷ [] → x ≡ y
-head_same x y e = cc
-
-rest_matches : (n : ℕ) → Matches (rest_report n) (rest_report n)
-rest_matches n = record { same = refl; ops = omega arith; entries = omega arith }
+shown_printed : (f : Form) → IsRead f → (n : ℕ) → shown f (rest_report n) ≡ printed (rest_report n)
+shown_printed Run read n = refl
+shown_printed Check read n = refl
+shown_printed (Fill k) read n = absurd read
 
 -- the rest is reported, where there is one
-served_rest : (a : Model → Type 0) (n : ℕ) (flag refused : Bool) (h h' : Option (List ℕ)) (o : Counts) → h' ≡ append_known h (rest_text flag n) → Served run_way a a n (rest_items flag) h h' o o refused (refused || flag)
-served_rest a n true refused h h' o text = Served-one run_way n Rest h h' o o (rest_report n) refused (refused || true) (λ m s. rest_matches n) (λ m s. s) text (sym (add-zero o.ops)) (sym (add-zero o.entries)) refl
-served_rest a n false refused h h' o text = record {
+served_rest : (f : Form) → IsRead f → (s : Schema) (a : Moment) (h' : Option (List ℕ)) (n : ℕ) (flag refused : Bool) → h' ≡ append_known a.held (rest_text flag n)
+    → Served f s s a (moment a.content h' a.counts) n (rest_items flag) refused (refused || flag)
+served_rest f read s a h' n true refused text =
+    Served-one refused (refused || true) (Made-one f Rest n s s a.content a.content a.held h' a.counts a.counts (rest_report n) (rest_made f read n s a.content a.counts) (text ∙ ap (append_known a.held) (sym (shown_printed f read n)))) refl
+served_rest f read s a h' n false refused text = record {
   reports = [];
-  made = record { folds = λ m s. (s, tt); text = text; ops = sym (add-zero o.ops); entries = sym (add-zero o.entries) };
+  made = record { told = refl; folds = λ m is. (is, tt); text = text; rises = Rises-none a.counts };
   refusal = refl;
 }
 
 -- what was read and made from the start of a script
-record FromStart (ending : Ending) (left left_now : Option (List ℕ)) (before now : Model → Type 0) (to : Progress) (held held_now : Option (List ℕ)) (counts counts_now : Counts) : Type 0 where
+record FromStart (f : Form) (ending : Ending) (left left_now : Option (List ℕ)) (first last : Schema) (from to : Moment) (now : Progress) : Type 0 where
   bytes : List ℕ
   took : Took ending left left_now bytes
   told : List Piece
-  fed : Fed start bytes told to.splitter
-  served : Served run_way before now 1 (cut_items told) held held_now counts counts_now false to.tally.refused
-  counted : to.tally.count + 1 ≡ 1 + length (cut_items told)
+  fed : Fed start bytes told now.splitter
+  served : Served f first last from to 1 (cut_items told) false now.tally.refused
+  counted : now.tally.count + 1 ≡ 1 + length (cut_items told)
 
-from_start : {ending : Ending} {left left' : Option (List ℕ)} {a b : Model → Type 0} {p q : Progress} {h h' : Option (List ℕ)} {o o' : Counts} → p.splitter ≡ start → p.tally.count ≡ 0 → p.tally.refused ≡ false → Consumed ending left left' a b p q h h' o o' → FromStart ending left left' a b q h h' o o'
-from_start {a = a} {b = b} {p = p} {q = q} {h = h} {h' = h'} {o = o} {o' = o'} fresh none clean c =
+from_start : {f : Form} {ending : Ending} {left left' : Option (List ℕ)} {s t : Schema} {a b : Moment} {p q : Progress} → p.splitter ≡ start → p.tally.count ≡ 0 → p.tally.refused ≡ false → Consumed f ending left left' s t a b p q → FromStart f ending left left' s t a b q
+from_start {f = f} {s = s} {t = t} {a = a} {b = b} {p = p} {q = q} fresh none clean c =
     let progressed = c.progressed in
     let told = progressed.told in
     let number : p.tally.count + 1 ≡ 1 = omega (arith, none) in
@@ -88,92 +123,215 @@ from_start {a = a} {b = b} {p = p} {q = q} {h = h} {h' = h'} {o = o} {o' = o'} f
       took = c.took;
       told = told;
       fed = subst (λ s. Fed s c.bytes told q.splitter) fresh progressed.fed;
-      served = subst (λ y. Served run_way a b 1 (cut_items told) h h' o o' y q.tally.refused) clean (subst (λ n. Served run_way a b n (cut_items told) h h' o o' p.tally.refused q.tally.refused) number progressed.served);
+      served = subst (λ y. Served f s t a b 1 (cut_items told) y q.tally.refused) clean (subst (λ n. Served f s t a b n (cut_items told) p.tally.refused q.tally.refused) number progressed.served);
       counted = omega (arith, progressed.counted, none, length-map told Cut);
     }
 
-pub Finished-of : {k : Option Content} {left left' : Option (List ℕ)} {a b d : Model → Type 0} {p q : Progress} {h h' h'' h''' : Option (List ℕ)} {o o' o'' : Counts} {ending : Ending} (ended : Ended) → p.splitter ≡ start → p.tally.count ≡ 0 → p.tally.refused ≡ false → Opening k a b h h' o o' → Consumed ending left left' b d p q h' h'' o' o'' → ReportsRest ending q ended h'' h''' → (bytes : List ℕ) × Took ended.ending left left' bytes × Ran k run_way a d (items_of ended.ending bytes) h h''' o o'' ended.refused
-Finished-of {k = k} {left = left} {left' = left'} {a = a} {b = b} {d = d} {q = q} {h = h} {h' = h'} {h'' = h''} {h''' = h'''} {o = o} {o' = o'} {o'' = o''} {ending = ending} ended fresh none clean opening consumed rest =
-    let c = from_start fresh none clean consumed in
-    let flag = has_rest ending q.splitter in
-    let refused = q.tally.refused || flag in
-    let last : Served run_way d d (1 + length (cut_items c.told)) (rest_items flag) h'' h''' o'' o'' q.tally.refused refused =
-    subst (λ n. Served run_way d d n (rest_items flag) h'' h''' o'' o'' q.tally.refused refused) c.counted (served_rest d (q.tally.count + 1) flag q.tally.refused h'' h''' o'' rest.text) in
-    let all : Served run_way b d 1 (items_of ending c.bytes) h' h''' o' o'' false refused =
-    subst (λ xs. Served run_way b d 1 xs h' h''' o' o'' false refused) (items_all ending c.fed) (Served-append c.served last) in
-    let ran : Ran k run_way a d (items_of ending c.bytes) h h''' o o'' ended.refused = subst (λ y. Ran k run_way a d (items_of ending c.bytes) h h''' o o'' y) (sym rest.refused_is) (Ran-of opening all) in
-    (c.bytes, subst (λ e. Took e left left' c.bytes) (sym rest.ending_is) c.took, subst (λ e. Ran k run_way a d (items_of e c.bytes) h h''' o o'' ended.refused) (sym rest.ending_is) ran)
+-- of a form that reads, the items are those of the bytes
+read_items : (f : Form) → IsRead f → (ending : Ending) (left left' : Option (List ℕ)) (bytes : List ℕ) (items : List Item) → Took ending left left' bytes → items ≡ items_of ending bytes → HasItems f ending left left' items
+read_items Run read ending left left' bytes items took same = (bytes, took, same)
+read_items Check read ending left left' bytes items took same = (bytes, took, same)
+read_items (Fill n) read ending left left' bytes items took same = absurd read
+
+read_parts : (f : Form) → IsRead f → (left left' : Option (List ℕ)) (reported : ℕ) → IsReadInParts left left' reported → HasRead f left left' reported
+read_parts Run read left left' reported is = is
+read_parts Check read left left' reported is = is
+read_parts (Fill n) read left left' reported is = absurd read
+
+-- nothing closes it
+closes_none : (f : Form) → IsRead f → (opened : Opened) (reports : List Report) (held : Option (List ℕ)) → held ≡ append_known held (close f opened reports)
+closes_none Run read opened reports held = sym (append_known-none held)
+closes_none Check read opened reports held = sym (append_known-none held)
+closes_none (Fill n) read opened reports held = absurd read
+
+-- a rest is there only where the source was read to its end
+whole_taken : (ending : Ending) (splitter : Summary) (left left' : Option (List ℕ)) (bytes : List ℕ) → has_rest ending splitter ≡ true → Took ending left left' bytes → left ≡ prepend_known bytes left'
+whole_taken Whole splitter left left' bytes is took = took.0
+whole_taken Faulted splitter left left' bytes is took = took.0
+whole_taken TooLong splitter left left' bytes is took = absurd (true≢false (sym is))
+
+-- ---- a script that was read
+
+abbrev pub at_end : Option (List ℕ) → Moment → World
+at_end left a = record { left = left; moment = a }
+
+abbrev pub with_held : Moment → Option (List ℕ) → Moment
+with_held a held = record a { held = held }
+
+module _ {f : Form} (read : IsRead f) {left left' : Option (List ℕ)} {s t : Schema} {a b c : Moment} {p q : Progress} {ending : Ending} (fresh : p.splitter ≡ start) (none : p.tally.count ≡ 0) where
+  module _ (clean : p.tally.refused ≡ false) (opening : Opening f s a b) (consumed : Consumed f ending left left' s t b c p q) (h' : Option (List ℕ)) where
+    abbrev from : FromStart f ending left left' s t b c q
+    from = from_start fresh none clean consumed
+
+    abbrev flag : Bool
+    flag = has_rest ending q.splitter
+
+    pub Finished-of : (ended : Ended) → ReportsRest ending q ended c.held h' → Finished f ended.ending ended.refused (at_end left a) (at_end left' (with_held c h'))
+    Finished-of ended rest =
+        let last : Served f t t c (with_held c h') (1 + length (cut_items from.told)) (rest_items flag) q.tally.refused (q.tally.refused || flag) =
+        subst (λ n. Served f t t c (with_held c h') n (rest_items flag) q.tally.refused (q.tally.refused || flag)) from.counted (served_rest f read t c h' (q.tally.count + 1) flag q.tally.refused rest.text) in
+        let all = Served-append from.served last in
+        subst (λ e. Finished f e ended.refused (at_end left a) (at_end left' (with_held c h'))) (sym rest.ending_is)
+        (record {
+          items = cut_items from.told ++ rest_items flag;
+          held = h';
+          read = read_items f read ending left left' from.bytes (cut_items from.told ++ rest_items flag) from.took (items_all ending from.fed);
+          ran = record { reports = all.reports; first = s; last = t; between = b; opening = opening; made = all.made };
+          text = closes_none f read opening.opened all.reports h';
+          refusal = rest.refused_is ∙ all.refusal;
+        })
+
+    -- the run stopped at the rest
+    pub Stopped-at_rest : (stop : Stop) → StoppedAtRest stop ending q c.held h' → Broken f stop (at_end left a) (at_end left' (with_held c h'))
+    Stopped-at_rest stop rest =
+        let n = q.tally.count + 1 in
+        let here : Stopped f stop t c (with_held c h') n (Rest ∷ []) =
+        Stopped-writing f stop Rest n t t c.content c.content c.held h' c.counts c.counts (rest_report n) (rest_made f read n t c.content c.counts) (λ m. stands_opens f c.content t m)
+        (subst (λ text. CutsOff stop text c.held h') (sym (shown_printed f read n)) rest.cut) in
+        let last = from_number from.counted here in
+        let all = Stopped-after from.served.made last in
+        let long = length_after from.served.made last in
+        AtItem (record {
+          ending = ending;
+          items = cut_items from.told ++ Rest ∷ [];
+          first = s;
+          between = b;
+          read = read_items f read ending left left' from.bytes (cut_items from.told ++ Rest ∷ []) from.took (ap (λ flag. cut_items from.told ++ rest_items flag) (sym rest.some_rest) ∙ items_all ending from.fed);
+          opening = opening;
+          stopped = all;
+          in_parts = read_parts f read left left' (length all.done) (record {
+            early = from.bytes;
+            late = [];
+            taken = whole_taken ending q.splitter left left' from.bytes rest.some_rest from.took ∙ ap (λ v. prepend_known v left') (sym (append-nil from.bytes));
+            few = lit≤ tt;
+            reported_all = omega (arith, ap length (told_all from.fed), length-map from.told Cut, long);
+          });
+        })
 
 -- the run stopped among the pieces
-pub Stopped-among : {k : Option Content} {stop : Stop} {left left' : Option (List ℕ)} {a b d : Model → Type 0} {p : Progress} {h h' h'' : Option (List ℕ)} {o o' : Counts} → p.splitter ≡ start → p.tally.count ≡ 0 → Opening k a b h h' o o' → StoppedAmong stop left left' b d p h' h'' → (ending : Ending) × (bytes : List ℕ) × Took ending left left' bytes × StoppedLater k run_way stop a d (items_of ending bytes) h h''
-Stopped-among {stop = stop} {b = b} {d = d} {p = p} {h' = h'} {h'' = h''} fresh none opening among =
+pub Stopped-among : {f : Form} (read : IsRead f) {stop : Stop} {left left' : Option (List ℕ)} {s : Schema} {a b c : Moment} {p : Progress} → p.splitter ≡ start → p.tally.count ≡ 0
+    → Opening f s a b → StoppedAmong f stop left left' s b c p → Broken f stop (at_end left a) (at_end left' c)
+Stopped-among {f = f} read {left = left} {left' = left'} {s = s} {b = b} {p = p} fresh none opening among =
     let number : p.tally.count + 1 ≡ 1 = omega (arith, none) in
-    let items : cut_items (pieces_from p.splitter among.bytes) ≡ cut_items (pieces_of among.bytes) = ap (λ s. cut_items (pieces_from s among.bytes)) fresh ∙ ap cut_items (pieces_from-start among.bytes) in
-    let stopped : Stopped run_way stop b d 1 (cut_items (pieces_of among.bytes)) h' h'' =
-    subst (λ xs. Stopped run_way stop b d 1 xs h' h'') items (subst (λ n. Stopped run_way stop b d n (cut_items (pieces_from p.splitter among.bytes)) h' h'') number among.stopped) in
-    (Faulted, among.bytes, among.took, StoppedLater-of opening stopped)
+    let whole = among.early ++ among.late in
+    let pieces : (bytes : List ℕ) → pieces_from p.splitter bytes ≡ pieces_of bytes = λ bytes. ap (λ s. pieces_from s bytes) fresh ∙ pieces_from-start bytes in
+    let stopped = from_number number among.stopped in
+    let same = ap length (from_done number among.stopped) in
+    AtItem (record {
+      ending = Faulted;
+      items = cut_items (pieces_from p.splitter whole);
+      first = s;
+      between = b;
+      read = read_items f read Faulted left left' whole (cut_items (pieces_from p.splitter whole)) among.took (ap cut_items (pieces whole));
+      opening = opening;
+      stopped = stopped;
+      in_parts = read_parts f read left left' (length stopped.done) (record {
+        early = among.early;
+        late = among.late;
+        taken = among.took.0;
+        few = among.few;
+        reported_all = omega (arith, ap length (pieces among.early), among.reported, same);
+      });
+    })
 
--- the run stopped at the rest
-pub Stopped-at_rest : {k : Option Content} {stop : Stop} {left left' : Option (List ℕ)} {a b d w : Model → Type 0} {p q : Progress} {h h' h'' h''' : Option (List ℕ)} {o o' o'' : Counts} {ending : Ending} → p.splitter ≡ start → p.tally.count ≡ 0 → p.tally.refused ≡ false → Opening k a b h h' o o' → Consumed ending left left' b d p q h' h'' o' o'' → ((m : Model) → d m → w m) → StoppedAtRest stop ending q h'' h''' → (e : Ending) × (bytes : List ℕ) × Took e left left' bytes × StoppedLater k run_way stop a w (items_of e bytes) h h'''
-Stopped-at_rest {stop = stop} {b = b} {d = d} {w = w} {q = q} {h' = h'} {h'' = h''} {h''' = h'''} {ending = ending} fresh none clean opening consumed weaker rest =
-    let c = from_start fresh none clean consumed in
-    let n = q.tally.count + 1 in
-    let here : Stopped run_way stop d w n (Rest ∷ []) h'' h''' = Stopped-writing run_way stop n Rest h'' h''' (rest_report n) (λ m s. rest_matches n) weaker rest.cut in
-    let last : Stopped run_way stop d w (1 + length (cut_items c.told)) (Rest ∷ []) h'' h''' = subst (λ k. Stopped run_way stop d w k (Rest ∷ []) h'' h''') c.counted here in
-    let items : cut_items c.told ++ Rest ∷ [] ≡ items_of ending c.bytes = ap (λ flag. cut_items c.told ++ rest_items flag) (sym rest.some_rest) ∙ items_all ending c.fed in
-    let stopped : Stopped run_way stop b w 1 (items_of ending c.bytes) h' h''' = subst (λ xs. Stopped run_way stop b w 1 xs h' h''') items (Stopped-after c.served.made last) in
-    (ending, c.bytes, c.took, StoppedLater-of opening stopped)
+-- the run stopped at the opening
+pub Stopped-opening : (f : Form) (stop : Stop) (left : Option (List ℕ)) (a b : Moment) → HasOpening f → StoppedOpening stop a b → Broken f stop (at_end left a) (at_end left b)
+Stopped-opening f stop left a b some stopped = AtOpening (record { some = some; unread = refl; stopped = stopped })
 
-finished : (ending : Ending) (refused : Bool) (before now : World) → Finished ending refused before now → Ends (status_of ending refused) before now
-finished Whole false before now f = f
-finished Whole true before now f = f
-finished Faulted refused before now f = (refused, f)
-finished TooLong refused before now f = (refused, f)
+-- ---- each status
 
--- what is out where damage was found, and that nothing stood
-record FoundDamage (before : World) (held : Option (List ℕ)) : Type 0 where
-  front : List ℕ
-  text : held ≡ append_known before.held front
-  unsound : (m : Model) → Opens before.content m → ⊥
+finished : (f : Form) (ending : Ending) (refused : Bool) (before now : World) → Finished f ending refused before now → Ends f (status_of ending refused) before now
+finished f Whole false before now is = is
+finished f Whole true before now is = is
+finished f Faulted refused before now is = (refused, is)
+finished f TooLong refused before now is = (refused, is)
 
-found_damage : (damage : Damage) (before mid : World) → Broken (stops.Damaged damage) before mid → FoundDamage before mid.held
-found_damage damage before mid (inl p) = record { front = p.part; text = p.text; unsound = λ m s. (p.stands m s).1 }
-found_damage damage before mid (inr p) = record { front = _; text = p.stopped.stopped.text ∙ append_known-append before.held _ _; unsound = λ m s. (p.stopped.stopped.stands m s).1 }
+damaged : (f : Form) (is : Status) (damage : Damage) (before mid : World) (h' : Option (List ℕ)) → Broken f (stops.Damaged damage) before mid → EndsDamaged is damage.key mid.moment.held h' → Ends f is before (written mid h')
+damaged f status.Damaged damage before mid h' broken ends = record { damage = damage; held = mid.moment.held; line = damage_line damage.key; broken = broken; tail = refl; text = ends }
+damaged f status.WriteFault damage before mid h' broken ends = inr (record { damage = damage; held = mid.moment.held; line = ends.0; broken = broken; tail = ends.1; text = ends.2 })
+damaged f status.NoMem damage before mid h' broken ends = inr (record { damage = damage; held = mid.moment.held; line = []; broken = broken; tail = refl; text = ends ∙ sym (append_known-none mid.moment.held) })
+damaged f status.Good damage before mid h' broken ends = absurd ends
+damaged f status.SomeRefused damage before mid h' broken ends = absurd ends
+damaged f status.Usage damage before mid h' broken ends = absurd ends
+damaged f status.ReadFault damage before mid h' broken ends = absurd ends
+damaged f status.StoreFault damage before mid h' broken ends = absurd ends
+damaged f status.TooLong damage before mid h' broken ends = absurd ends
 
-damaged : (is : Status) (key : List ℕ) (before mid : World) (h' : Option (List ℕ)) → FoundDamage before mid.held → EndsDamaged is key mid.held h' → Ends is before (record mid { held = h' })
-damaged status.Damaged key before mid h' found ends = record { key = key; front = found.front; text = ends ∙ ap (λ k. append_known k (damage_line key)) found.text ∙ append_known-append before.held found.front (damage_line key); unsound = found.unsound }
-damaged status.WriteFault key before mid h' found ends = inl (record { part = found.front ++ ends.0; text = ends.1 ∙ ap (λ k. append_known k ends.0) found.text ∙ append_known-append before.held found.front ends.0; stands = λ m s. absurd (found.unsound m s) })
-damaged status.NoMem key before mid h' found ends = inl (record { part = found.front; text = ends ∙ found.text; stands = λ m s. absurd (found.unsound m s) })
-damaged status.Good key before mid h' found ends = absurd ends
-damaged status.SomeRefused key before mid h' found ends = absurd ends
-damaged status.Usage key before mid h' found ends = absurd ends
-damaged status.ReadFault key before mid h' found ends = absurd ends
-damaged status.StoreFault key before mid h' found ends = absurd ends
-damaged status.TooLong key before mid h' found ends = absurd ends
+at_status : (f : Form) (is expected : Status) (before mid : World) (h' : Option (List ℕ)) → is ≡ expected → h' ≡ mid.moment.held → Ends f expected before mid → Ends f is before (written mid h')
+at_status f is expected before mid h' same kept ends = subst (λ k. Ends f is before (written mid k)) (sym kept) (subst (λ s. Ends f s before mid) (sym same) ends)
 
-at_status : (is expected : Status) (before mid : World) (h' : Option (List ℕ)) → is ≡ expected → h' ≡ mid.held → Ends expected before mid → Ends is before (record mid { held = h' })
-at_status is expected before mid h' same kept ends = subst (λ k. Ends is before (record mid { held = k })) (sym kept) (subst (λ s. Ends s before mid) (sym same) ends)
+pub Ends-of : (f : Form) (outcome : Result Ended Stop) (is : Status) (before mid : World) (h' : Option (List ℕ)) → IfOk outcome (λ ended. Finished f ended.ending ended.refused before mid) → IfErr outcome (λ stop. Broken f stop before mid)
+    → Closes outcome is mid.moment.held h' → Ends f is before (written mid h')
+Ends-of f (Ok ended) is before mid h' ok err closes = at_status f is (status_of ended.ending ended.refused) before mid h' closes.0 closes.1 (finished f ended.ending ended.refused before mid ok)
+Ends-of f (Err stops.StoreFailed) is before mid h' ok err closes = at_status f is status.StoreFault before mid h' closes.0 closes.1 err
+Ends-of f (Err stops.WriteFailed) is before mid h' ok err closes = at_status f is status.WriteFault before mid h' closes.0 closes.1 (inl err)
+Ends-of f (Err stops.NoMem) is before mid h' ok err closes = at_status f is status.NoMem before mid h' closes.0 closes.1 (inl err)
+Ends-of f (Err (stops.Damaged damage)) is before mid h' ok err closes = damaged f is damage before mid h' err closes
 
-pub Ends-of : (outcome : Result Ended Stop) (is : Status) (before mid : World) (h' : Option (List ℕ)) → IfOk outcome (λ ended. Finished ended.ending ended.refused before mid) → IfErr outcome (λ stop. Broken stop before mid) → Closes outcome is mid.held h' → Ends is before (record mid { held = h' })
-Ends-of (Ok ended) is before mid h' ok err closes = at_status is (status_of ended.ending ended.refused) before mid h' closes.0 closes.1 (finished ended.ending ended.refused before mid ok)
-Ends-of (Err stops.StoreFailed) is before mid h' ok err closes = at_status is status.StoreFault before mid h' closes.0 closes.1 err
-Ends-of (Err stops.WriteFailed) is before mid h' ok err closes = at_status is status.WriteFault before mid h' closes.0 closes.1 err
-Ends-of (Err stops.NoMem) is before mid h' ok err closes = at_status is status.NoMem before mid h' closes.0 closes.1 err
-Ends-of (Err (stops.Damaged damage)) is before mid h' ok err closes = damaged is damage.key before mid h' (found_damage damage before mid err) closes
+-- ---- completeness
 
-too_long : (left left' : Option (List ℕ)) (bytes script : List ℕ) → Took TooLong left left' bytes → left ≡ Some script → length script ≤ script_limit → ⊥
-too_long left left' bytes script took told short =
-    let long = known-length left' (bytes ++ took.0 ∷ []) script (sym told ∙ took.1) in
-    omega (arith, long, took.2, length-append bytes (took.0 ∷ []))
+too_long : (left left' : Option (List ℕ)) (bytes : List ℕ) → Took TooLong left left' bytes → IsScript left → ⊥
+too_long left left' bytes took script =
+    let long = known-length left' (bytes ++ took.0 ∷ []) script.script (sym script.told ∙ took.1) in
+    omega (arith, long, took.2, script.short, length-append bytes (took.0 ∷ []))
 
--- where no fault came, the script is short enough and the store can be opened, the run is plain
-pub Ends-plain : (is : Status) (before now : World) → Ends is before now → (is ≡ status.Usage → ⊥) → (is ≡ status.ReadFault → ⊥) → (is ≡ status.WriteFault → ⊥) → (is ≡ status.StoreFault → ⊥) → (script : List ℕ) → before.left ≡ Some script → length script ≤ script_limit → (m : Model) → Opens before.content m → IsPlain is
-Ends-plain status.Good before now ends usage read write store script told short m s = tt
-Ends-plain status.SomeRefused before now ends usage read write store script told short m s = tt
-Ends-plain status.NoMem before now ends usage read write store script told short m s = tt
-Ends-plain status.Usage before now ends usage read write store script told short m s = usage refl
-Ends-plain status.ReadFault before now ends usage read write store script told short m s = read refl
-Ends-plain status.WriteFault before now ends usage read write store script told short m s = write refl
-Ends-plain status.StoreFault before now ends usage read write store script told short m s = store refl
-Ends-plain status.TooLong before now ends usage read write store script told short m s = too_long before.left now.left ends.1.bytes script ends.1.took told short
-Ends-plain status.Damaged before now ends usage read write store script told short m s = ends.unsound m s
+never_too_long : (f : Form) (before : World) (left' : Option (List ℕ)) (items : List Item) → HasItems f TooLong before.left left' items → Suffices f before → ⊥
+never_too_long Run before left' items read enough = too_long before.left left' read.0 read.1 enough.0
+never_too_long Check before left' items read enough = too_long before.left left' read.0 read.1 enough
+never_too_long (Fill n) before left' items read enough = not_whole read.0
+  where
+    IsWhole : Ending → Type 0
+    IsWhole Whole = Unit {0}
+    IsWhole Faulted = ⊥
+    IsWhole TooLong = ⊥
+
+    not_whole : TooLong ≡ Whole → ⊥
+    not_whole e = subst IsWhole (sym e) tt
+
+-- over what opens no damage is found, and a check finds none
+sound : (f : Form) (damage : Damage) (before now : World) → Broken f (stops.Damaged damage) before now → Suffices f before → ⊥
+sound Run damage before now (AtOpening b) enough = (b.stopped.stands enough.1.0 enough.1.1).1
+sound Run damage before now (AtItem b) enough = (b.stopped.stands enough.1.0 (b.opening.opens enough.1.0 enough.1.1).1).1
+sound Run damage before now (AtClose b) enough = b.part_is
+sound Check damage before now (AtOpening b) enough = b.some
+sound Check damage before now (AtItem b) enough = b.stopped.part_is.0
+sound Check damage before now (AtClose b) enough = b.part_is
+sound (Fill n) damage before now (AtOpening b) enough = (b.stopped.stands enough.0 enough.1).1
+sound (Fill n) damage before now (AtItem b) enough = (b.stopped.stands enough.0 (b.opening.opens enough.0 enough.1).1).1
+sound (Fill n) damage before now (AtClose b) enough = b.part_is
+
+-- a form that fails at the store opens it
+opens_store : (f : Form) (before now : World) → Broken f stops.StoreFailed before now → HasOpening f
+opens_store f before now (AtOpening b) = b.some
+opens_store f before now (AtItem b) = b.stopped.part_is.0
+opens_store f before now (AtClose b) = absurd b.part_is
+
+-- and one that fails at the source reads it
+reads_source : (f : Form) (left left' : Option (List ℕ)) (items : List Item) → HasItems f Faulted left left' items → IsRead f
+reads_source Run left left' items read = tt
+reads_source Check left left' items read = tt
+reads_source (Fill n) left left' items read = not_whole read.0
+  where
+    IsWhole : Ending → Type 0
+    IsWhole Whole = Unit {0}
+    IsWhole Faulted = ⊥
+    IsWhole TooLong = ⊥
+
+    not_whole : Faulted ≡ Whole → ⊥
+    not_whole e = subst IsWhole (sym e) tt
+
+-- where no fault came and there was enough, the run is plain
+pub Ends-plain : (f : Form) (is : Status) (before now : World) → Ends f is before now → (IsRead f → is ≡ status.ReadFault → ⊥) → (is ≡ status.WriteFault → ⊥) → (HasOpening f → is ≡ status.StoreFault → ⊥) → Suffices f before → IsPlain is
+Ends-plain f status.Good before now ends read write store enough = tt
+Ends-plain f status.SomeRefused before now ends read write store enough = tt
+Ends-plain f status.NoMem before now ends read write store enough = tt
+Ends-plain f status.Usage before now ends read write store enough = ends
+Ends-plain f status.ReadFault before now ends read write store enough = read (reads_source f before.left now.left ends.1.items ends.1.read) refl
+Ends-plain f status.WriteFault before now ends read write store enough = write refl
+Ends-plain f status.StoreFault before now ends read write store enough = store (opens_store f before now ends) refl
+Ends-plain f status.TooLong before now ends read write store enough = never_too_long f before now.left ends.1.items ends.1.read enough
+Ends-plain f status.Damaged before now ends read write store enough = sound f ends.damage before _ ends.broken enough
+
+-- by another name of the form
+pub Ends-plain-as : (f g : Form) (is : Status) (before now : World) → f ≡ g → Ends f is before now → (IsRead g → is ≡ status.ReadFault → ⊥) → (is ≡ status.WriteFault → ⊥) → (HasOpening g → is ≡ status.StoreFault → ⊥) → Suffices g before → IsPlain is
+Ends-plain-as f g is before now same ends read write store enough = Ends-plain g is before now (subst (λ (x : Form). Ends x is before now) same ends) read write store enough

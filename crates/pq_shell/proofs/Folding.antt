@@ -1,69 +1,92 @@
--- Runs, one after the other.
-use Rattle.std.proofs.Common.{◌≡◌, ℕ, ◌+◌, ◌⊎◌, Bool, true, false, ◌||◌, List, [], ◌∷◌, ◌++◌, length, Option, inl, inr, refl, sym, ap, ◌∙◌, subst, arith, add-zero, append_assoc, append-nil, length-append}
+-- Items that were made, one after the other, and stops among them.
+use Rattle.std.proofs.Common.{◌≡◌, ℕ, ◌+◌, ◌≤◌, ◌⊎◌, Bool, true, false, ◌||◌, List, [], ◌∷◌, ◌++◌, length, Option, Some, None, inl, inr, refl, sym, ap, ◌∙◌, subst, arith, add-zero, append_assoc, append-nil, length-append}
 use Rattle.std.proofs.lemmas.Grind.{common_steps, flat_map-append}
 use Rattle.std.proofs.lemmas.List.Folds.{list_any-append}
 use Rattle.std.specs.List.{flat_map, sum_by, list_any}
 use Rattle.std.specs.Io.KnownBytes.{append_known}
+use Rattle.pq_base.specs.declared.number.Bound.{Bound}
+use Rattle.pq_fill.specs.declared.words.Form.{Form}
+use Rattle.pq_schema.specs.Schema.{Schema}
 use Rattle.pq_store.specs.Content.{Content}
 use Rattle.pq_store.specs.Counts.{Counts}
-use Rattle.pq_store.specs.declared.damage.Broke.{Broke}
-use Rattle.pq_store.specs.declared.damage.Broke.TheVariants as broke
 use Rattle.pq_print.specs.declared.report.Report.{Report}
-use Rattle.pq_print.specs.declared.report.Opened.{Opened}
-use Rattle.pq_print.specs.Report.{opening_line, is_refusal}
+use Rattle.pq_print.specs.Report.{is_refusal}
+use Rattle.pq_session.specs.Actions.{asked_bound}
 use Rattle.pq_session.specs.Model.{Model}
-use Rattle.pq_session.specs.Matches.{Matches, IsOpening}
-use Rattle.pq_store.specs.Breaks.{IsUndamaged}
-use Rattle.pq_shell.specs.Stops.{stop_of, CutsOff}
-use Rattle.pq_shell.specs.Fold.{Way, after, Reported, Folds, Made, Served, BeforeOrAfter, Halts, Stopped, Opening, StoppedOpening, Ran, StoppedLater}
+use Rattle.pq_session.specs.Matches.{Matches}
+use Rattle.pq_session.specs.Promise.{IsWithinFixed}
+use Rattle.pq_session.proofs.Promises.{within_none, within_reported}
+use Rattle.pq_shell.specs.Fold.{Moment, IsReport, Reports, RisesBy, IsWithinItem, IsPart, after, Reported, Halts, Made, Served, Stopped, schema_behind}
+use Rattle.pq_shell.specs.Forms.{HasOpening, StandsIn, OpensAt, asked_item, item_step, shown}
+use Rattle.pq_shell.specs.Items.{Item}
+use Rattle.pq_shell.specs.Making.{Makes, moment}
+use Rattle.pq_shell.specs.Outside.{IsCut}
+use Rattle.pq_shell.specs.Stops.{CutsOff}
 use Rattle.pq_shell.specs.declared.stop.Stop.{Stop}
 use Rattle.pq_shell.specs.declared.stop.Stop.TheVariants as stops
 use Rattle.pq_shell.proofs.Known.{append_known-append, append_known-none}
 
 -- a number goes on by one more item
-goes_on : {I : Type 0} (n : ℕ) (item : I) (items : List I) → n + length (item ∷ items) ≡ (n + 1) + length items
+goes_on : (n : ℕ) (item : Item) (items : List Item) → n + length (item ∷ items) ≡ (n + 1) + length items
 goes_on n item items = omega arith
 
-pub after-append : {I : Type 0} (f : Way I) (m : Model) (n : ℕ) (xs ys : List I) → after f m n (xs ++ ys) ≡ after f (after f m n xs) (n + length xs) ys
-after-append f m n [] ys = ap (λ k. after f m k ys) (sym (add-zero n))
-after-append f m n (x ∷ xs) ys = after-append f (f.step m n x).model (n + 1) xs ys ∙ ap (λ k. after f (after f (f.step m n x).model (n + 1) xs) k ys) (sym (goes_on n x xs))
+-- ---- what is folded
 
-pub Reported-append : {I : Type 0} (f : Way I) (m : Model) (n : ℕ) (xs ys : List I) (rs ss : List Report) → Reported f m n xs rs → Reported f (after f m n xs) (n + length xs) ys ss → Reported f m n (xs ++ ys) (rs ++ ss)
+pub after-append : (f : Form) (m : Model) (n : ℕ) (xs ys : List Item) → after f m n (xs ++ ys) ≡ after f (after f m n xs) (n + length xs) ys
+after-append f m n [] ys = ap (λ k. after f m k ys) (sym (add-zero n))
+after-append f m n (x ∷ xs) ys =
+    after-append f (item_step f m n x).model (n + 1) xs ys ∙ ap (λ k. after f (after f (item_step f m n x).model (n + 1) xs) k ys) (sym (goes_on n x xs))
+
+Reported-append : (f : Form) (m : Model) (n : ℕ) (xs ys : List Item) (rs ss : List Report) → Reported f m n xs rs → Reported f (after f m n xs) (n + length xs) ys ss → Reported f m n (xs ++ ys) (rs ++ ss)
 Reported-append f m n [] ys [] ss h k = subst (λ i. Reported f m i ys ss) (add-zero n) k
 Reported-append f m n [] ys (r ∷ rs) ss h k = absurd h
 Reported-append f m n (x ∷ xs) ys [] ss h k = absurd h
 Reported-append f m n (x ∷ xs) ys (r ∷ rs) ss h k =
-    (h.0, Reported-append f (f.step m n x).model (n + 1) xs ys rs ss h.1 (subst (λ i. Reported f (after f (f.step m n x).model (n + 1) xs) i ys ss) (goes_on n x xs) k))
+    (h.0, Reported-append f (item_step f m n x).model (n + 1) xs ys rs ss h.1 (subst (λ i. Reported f (after f (item_step f m n x).model (n + 1) xs) i ys ss) (goes_on n x xs) k))
 
-pub Folds-append : {I : Type 0} (f : Way I) (a b c : Model → Type 0) (n : ℕ) (xs ys : List I) (rs ss : List Report) → Folds f a b n xs rs → Folds f b c (n + length xs) ys ss → Folds f a c n (xs ++ ys) (rs ++ ss)
-Folds-append f a b c n xs ys rs ss first_folds then_folds = λ m h.
-    let first = first_folds m h in
-    let second = then_folds (after f m n xs) first.0 in
-    (subst c (sym (after-append f m n xs ys)) second.0, Reported-append f m n xs ys rs ss first.1 second.1)
+pub Reports-append : (first mid last : Schema) (n : ℕ) (xs ys : List Item) (rs ss : List Report) → Reports first n xs rs mid → Reports mid (n + length xs) ys ss last → Reports first n (xs ++ ys) (rs ++ ss) last
+Reports-append first mid last n [] ys [] ss h k = subst (λ (s : Schema). Reports s n ys ss last) h (subst (λ i. Reports mid i ys ss last) (add-zero n) k)
+Reports-append first mid last n [] ys (r ∷ rs) ss h k = absurd h
+Reports-append first mid last n (x ∷ xs) ys [] ss h k = absurd h
+Reports-append first mid last n (x ∷ xs) ys (r ∷ rs) ss h k =
+    (h.0, Reports-append (schema_behind first x r) mid last (n + 1) xs ys rs ss h.1 (subst (λ i. Reports mid i ys ss last) (goes_on n x xs) k))
 
 sum-append : (g : Report → ℕ) (rs ss : List Report) → sum_by g (rs ++ ss) ≡ sum_by g rs + sum_by g ss
 sum-append g rs ss = grind (arith, common_steps)
 
--- nothing is made
-pub Made-none : {I : Type 0} (f : Way I) (a : Model → Type 0) (n : ℕ) (h : Option (List ℕ)) (c : Counts) → Made f a a n [] h h c c []
-Made-none f a n h c = record { folds = λ m s. (s, tt); text = sym (append_known-none h); ops = sym (add-zero c.ops); entries = sym (add-zero c.entries) }
-
--- some items, and then some more
-pub Made-append : {I : Type 0} {f : Way I} {a b c : Model → Type 0} {n : ℕ} {xs ys : List I} {h h' h'' : Option (List ℕ)} {o o' o'' : Counts} {rs ss : List Report} → Made f a b n xs h h' o o' rs → Made f b c (n + length xs) ys h' h'' o' o'' ss → Made f a c n (xs ++ ys) h h'' o o'' (rs ++ ss)
-Made-append {f = f} {a = a} {b = b} {c = c} {n = n} {xs = xs} {ys = ys} {h = h} {rs = rs} {ss = ss} p q = record {
-  folds = Folds-append f a b c n xs ys rs ss p.folds q.folds;
-  text = q.text ∙ ap (λ k. append_known k (flat_map f.show ss)) p.text ∙ append_known-append h _ _ ∙ ap (append_known h) (sym (flat_map-append f.show rs ss));
+pub Rises-append : {a b c : Counts} (rs ss : List Report) → RisesBy rs a b → RisesBy ss b c → RisesBy (rs ++ ss) a c
+Rises-append rs ss p q = record {
   ops = omega (arith, p.ops, q.ops, sum-append (λ r. r.used.ops) rs ss);
   entries = omega (arith, p.entries, q.entries, sum-append (λ r. r.used.entries) rs ss);
 }
 
--- one item was made and reported
-pub Made-one : {I : Type 0} (f : Way I) {a b : Model → Type 0} (n : ℕ) (item : I) (h h' : Option (List ℕ)) (o o' : Counts) (report : Report) → ((m : Model) → a m → Matches (f.step m n item).report report) → ((m : Model) → a m → b (f.step m n item).model) → h' ≡ append_known h (f.show report) → o'.ops ≡ o.ops + report.used.ops → o'.entries ≡ o.entries + report.used.entries → Made f a b n (item ∷ []) h h' o o' (report ∷ [])
-Made-one f n item h h' o o' report matches made text ops entries = record {
-  folds = λ m s. (made m s, (matches m s, tt));
-  text = text ∙ ap (append_known h) (sym (append-nil (f.show report)));
-  ops = omega arith;
-  entries = omega arith;
+pub Rises-none : (c : Counts) → RisesBy [] c c
+Rises-none c = record { ops = sym (add-zero c.ops); entries = sym (add-zero c.entries) }
+
+-- ---- items that were made
+
+pub Made-none : (f : Form) (s : Schema) (a : Moment) (n : ℕ) → Made f s s a a n [] []
+Made-none f s a n = record { told = refl; folds = λ m is. (is, tt); text = sym (append_known-none a.held); rises = Rises-none a.counts }
+
+pub Made-append : {f : Form} {r s t : Schema} {a b c : Moment} {n : ℕ} {xs ys : List Item} {rs ss : List Report} → Made f r s a b n xs rs → Made f s t b c (n + length xs) ys ss → Made f r t a c n (xs ++ ys) (rs ++ ss)
+Made-append {f = f} {r = r} {s = s} {t = t} {a = a} {c = c} {n = n} {xs = xs} {ys = ys} {rs = rs} {ss = ss} p q = record {
+  told = Reports-append r s t n xs ys rs ss p.told q.told;
+  folds = λ m is.
+      let first = p.folds m is in
+      let second = q.folds (after f m n xs) first.0 in
+      (subst (StandsIn f c.content t) (sym (after-append f m n xs ys)) second.0, Reported-append f m n xs ys rs ss first.1 second.1);
+  text = q.text ∙ ap (λ k. append_known k (flat_map (shown f) ss)) p.text ∙ append_known-append a.held _ _ ∙ ap (append_known a.held) (sym (flat_map-append (shown f) rs ss));
+  rises = Rises-append rs ss p.rises q.rises;
+}
+
+-- one item was made, and what is shown of its report is out
+pub Made-one : (f : Form) (item : Item) (n : ℕ) (s t : Schema) (old now : Option Content) (h h' : Option (List ℕ)) (before after : Counts) (report : Report)
+    → Makes f item n s t old now before after report → h' ≡ append_known h (shown f report) → Made f s t (moment old h before) (moment now h' after) n (item ∷ []) (report ∷ [])
+Made-one f item n s t old now h h' before after report made text = record {
+  told = (made.is, made.next_is);
+  folds = λ m is. (made.stands m is, (made.matches m is, tt));
+  text = text ∙ ap (append_known h) (sym (append-nil (shown f report)));
+  rises = made.rises;
 }
 
 or-false : (b : Bool) → b ≡ (b || false)
@@ -74,144 +97,184 @@ or-assoc : (a b c : Bool) → ((a || b) || c) ≡ (a || (b || c))
 or-assoc true b c = refl
 or-assoc false b c = refl
 
-pub Served-none : {I : Type 0} (f : Way I) (a : Model → Type 0) (n : ℕ) (h : Option (List ℕ)) (o : Counts) (any : Bool) → Served f a a n [] h h o o any any
-Served-none f a n h o any = record { reports = []; made = Made-none f a n h o; refusal = or-false any }
+pub Served-none : (f : Form) (s : Schema) (a : Moment) (n : ℕ) (any : Bool) → Served f s s a a n [] any any
+Served-none f s a n any = record { reports = []; made = Made-none f s a n; refusal = or-false any }
 
-pub Served-append : {I : Type 0} {f : Way I} {a b c : Model → Type 0} {n : ℕ} {xs ys : List I} {h h' h'' : Option (List ℕ)} {o o' o'' : Counts} {y y' y'' : Bool} → Served f a b n xs h h' o o' y y' → Served f b c (n + length xs) ys h' h'' o' o'' y' y'' → Served f a c n (xs ++ ys) h h'' o o'' y y''
+pub Served-append : {f : Form} {r s t : Schema} {a b c : Moment} {n : ℕ} {xs ys : List Item} {y y' y'' : Bool} → Served f r s a b n xs y y' → Served f s t b c (n + length xs) ys y' y'' → Served f r t a c n (xs ++ ys) y y''
 Served-append {y = y} p q = record {
   reports = p.reports ++ q.reports;
   made = Made-append p.made q.made;
   refusal = q.refusal ∙ ap (λ v. v || list_any is_refusal q.reports) p.refusal ∙ or-assoc y _ _ ∙ ap (λ v. y || v) (sym (list_any-append is_refusal p.reports q.reports));
 }
 
-pub Served-one : {I : Type 0} (f : Way I) {a b : Model → Type 0} (n : ℕ) (item : I) (h h' : Option (List ℕ)) (o o' : Counts) (report : Report) (y y' : Bool) → ((m : Model) → a m → Matches (f.step m n item).report report) → ((m : Model) → a m → b (f.step m n item).model) → h' ≡ append_known h (f.show report) → o'.ops ≡ o.ops + report.used.ops → o'.entries ≡ o.entries + report.used.entries → y' ≡ (y || is_refusal report) → Served f a b n (item ∷ []) h h' o o' y y'
-Served-one f n item h h' o o' report y y' matches made text ops entries refusal = record {
-  reports = report ∷ [];
-  made = Made-one f n item h h' o o' report matches made text ops entries;
-  refusal = refusal ∙ ap (λ v. y || v) (or-false (is_refusal report));
-}
+pub Served-one : {f : Form} {s t : Schema} {a b : Moment} {n : ℕ} {item : Item} {report : Report} (y y' : Bool) → Made f s t a b n (item ∷ []) (report ∷ []) → y' ≡ (y || is_refusal report) → Served f s t a b n (item ∷ []) y y'
+Served-one {report = report} y y' made refusal = record { reports = report ∷ []; made = made; refusal = refusal ∙ ap (λ v. y || v) (or-false (is_refusal report)) }
 
--- less is said of what stands after it
-pub Served-weaker : {I : Type 0} {f : Way I} (a b c : Model → Type 0) {n : ℕ} {xs : List I} {h h' : Option (List ℕ)} {o o' : Counts} {y y' : Bool} → ((m : Model) → b m → c m) → Served f a b n xs h h' o o' y y' → Served f a c n xs h h' o o' y y'
-Served-weaker a b c less p = record {
-  reports = p.reports;
-  made = record { folds = λ m s. let q = p.made.folds m s in (less _ q.0, q.1); text = p.made.text; ops = p.made.ops; entries = p.made.entries };
-  refusal = p.refusal;
-}
+-- ---- stops
 
-before_or_more : {I : Type 0} (f : Way I) (m : Model) (n : ℕ) (todo more : List I) (now : Model → Type 0) → BeforeOrAfter f m n todo now → BeforeOrAfter f m n (todo ++ more) now
-before_or_more f m n [] [] now h = h
-before_or_more f m n [] (y ∷ ys) now h = inl h
-before_or_more f m n (x ∷ xs) ys now h = h
+within_more : (s : Schema) (todo more : List Item) (before now : Counts) → IsWithinItem s todo before now → IsWithinItem s (todo ++ more) before now
+within_more s [] [] before now h = h
+within_more s [] (y ∷ ys) before now h = subst (IsWithinFixed (asked_bound s (asked_item s y)) before) (sym h) (within_none (asked_bound s (asked_item s y)) before)
+within_more s (x ∷ xs) ys before now h = h
 
-halts_more : {I : Type 0} (f : Way I) (stop : Stop) (m : Model) (n : ℕ) (todo more : List I) (now : Model → Type 0) (part : List ℕ) → Halts f stop m n todo now part → Halts f stop m n (todo ++ more) now part
-halts_more f stops.StoreFailed m n todo more now part h = (h.0, before_or_more f m n todo more now h.1)
-halts_more f stops.NoMem m n todo more now part h = (h.0, before_or_more f m n todo more now h.1)
+part_more : (f : Form) (stop : Stop) (s : Schema) (n : ℕ) (todo more : List Item) (part : List ℕ) (before now : Counts) → IsPart f stop s n todo part before now → IsPart f stop s n (todo ++ more) part before now
+part_more f stops.StoreFailed s n todo more part before now h = (h.0, h.1, within_more s todo more before now h.2)
+part_more f stops.NoMem s n todo more part before now h = (h.0, within_more s todo more before now h.1)
+part_more f (stops.Damaged damage) s n todo more part before now h = (h.0, h.1, within_more s todo more before now h.2)
+part_more f stops.WriteFailed s n [] more part before now h = absurd h
+part_more f stops.WriteFailed s n (x ∷ xs) more part before now h = h
+
+halts_more : (f : Form) (stop : Stop) (m : Model) (n : ℕ) (todo more : List Item) (now : Option Content) (part : List ℕ) → Halts f stop m n todo now part → Halts f stop m n (todo ++ more) now part
+halts_more f stops.StoreFailed m n [] [] now part h = h
+halts_more f stops.StoreFailed m n [] (y ∷ ys) now part h = inl h
+halts_more f stops.StoreFailed m n (x ∷ xs) ys now part h = h
+halts_more f stops.NoMem m n [] [] now part h = h
+halts_more f stops.NoMem m n [] (y ∷ ys) now part h = inl h
+halts_more f stops.NoMem m n (x ∷ xs) ys now part h = h
 halts_more f stops.WriteFailed m n [] more now part h = absurd h
 halts_more f stops.WriteFailed m n (x ∷ xs) more now part h = h
-halts_more f (stops.Damaged damage) m n todo more now part h = h
+halts_more f (stops.Damaged damage) m n todo more now part h = absurd h
 
 -- a run that stopped among some items stopped among these and more
-pub Stopped-before : {I : Type 0} {f : Way I} {stop : Stop} {a b : Model → Type 0} {n : ℕ} {xs : List I} {h h' : Option (List ℕ)} (ys : List I) → Stopped f stop a b n xs h h' → Stopped f stop a b n (xs ++ ys) h h'
+pub Stopped-before : {f : Form} {stop : Stop} {s : Schema} {a b : Moment} {n : ℕ} {xs : List Item} (ys : List Item) → Stopped f stop s a b n xs → Stopped f stop s a b n (xs ++ ys)
 Stopped-before {f = f} {stop = stop} {b = b} {n = n} ys p = record {
   done = p.done;
   todo = p.todo ++ ys;
   reports = p.reports;
+  last = p.last;
   part = p.part;
+  between = p.between;
   among = ap (λ zs. zs ++ ys) p.among ∙ append_assoc p.done p.todo ys;
+  told = p.told;
   text = p.text;
-  stands = λ m s. let q = p.stands m s in (q.0, halts_more f stop (after f m n p.done) (n + length p.done) p.todo ys b p.part q.1);
+  rises = p.rises;
+  part_is = part_more f stop p.last (n + length p.done) p.todo ys p.part p.between b.counts p.part_is;
+  stands = λ m is. let q = p.stands m is in (q.0, halts_more f stop (after f m n p.done) (n + length p.done) p.todo ys b.content p.part q.1);
 }
 
 -- some items were made, and then the run stopped among others
-pub Stopped-after : {I : Type 0} {f : Way I} {stop : Stop} {a b c : Model → Type 0} {n : ℕ} {xs ys : List I} {h h' h'' : Option (List ℕ)} {o o' : Counts} {rs : List Report} → Made f a b n xs h h' o o' rs → Stopped f stop b c (n + length xs) ys h' h'' → Stopped f stop a c n (xs ++ ys) h h''
-Stopped-after {f = f} {stop = stop} {c = c} {n = n} {xs = xs} {ys = ys} {h = h} {rs = rs} p q = record {
-  done = xs ++ q.done;
-  todo = q.todo;
-  reports = rs ++ q.reports;
-  part = q.part;
-  among = ap (λ zs. xs ++ zs) q.among ∙ sym (append_assoc xs q.done q.todo);
-  text = q.text ∙ ap (λ k. append_known k (flat_map f.show q.reports ++ q.part)) p.text ∙ append_known-append h _ _ ∙ ap (append_known h) (sym (append_assoc (flat_map f.show rs) (flat_map f.show q.reports) q.part) ∙ ap (λ t. t ++ q.part) (sym (flat_map-append f.show rs q.reports)));
-  stands = λ m s.
-      let first = p.folds m s in
-      let second = q.stands (after f m n xs) first.0 in
-      let number : (n + length xs) + length q.done ≡ n + length (xs ++ q.done) = omega (arith, length-append xs q.done) in (
-        Reported-append f m n xs q.done rs q.reports first.1 second.0,
-        subst (λ k. Halts f stop (after f m n (xs ++ q.done)) k q.todo c q.part) number (subst (λ k. Halts f stop k ((n + length xs) + length q.done) q.todo c q.part) (sym (after-append f m n xs q.done)) second.1),
-      );
-}
+pub Stopped-after : {f : Form} {stop : Stop} {r s : Schema} {a b c : Moment} {n : ℕ} {xs ys : List Item} {rs : List Report} → Made f r s a b n xs rs → Stopped f stop s b c (n + length xs) ys → Stopped f stop r a c n (xs ++ ys)
+Stopped-after {f = f} {stop = stop} {r = r} {s = s} {a = a} {c = c} {n = n} {xs = xs} {ys = ys} {rs = rs} p q =
+    let number : (n + length xs) + length q.done ≡ n + length (xs ++ q.done) = omega (arith, length-append xs q.done) in
+    record {
+      done = xs ++ q.done;
+      todo = q.todo;
+      reports = rs ++ q.reports;
+      last = q.last;
+      part = q.part;
+      between = q.between;
+      among = ap (λ zs. xs ++ zs) q.among ∙ sym (append_assoc xs q.done q.todo);
+      told = Reports-append r s q.last n xs q.done rs q.reports p.told q.told;
+      text = q.text ∙ ap (λ k. append_known k (flat_map (shown f) q.reports ++ q.part)) p.text ∙ append_known-append a.held _ _ ∙ ap (append_known a.held) (sym (append_assoc (flat_map (shown f) rs) (flat_map (shown f) q.reports) q.part) ∙ ap (λ t. t ++ q.part) (sym (flat_map-append (shown f) rs q.reports)));
+      rises = Rises-append rs q.reports p.rises q.rises;
+      part_is = subst (λ k. IsPart f stop q.last k q.todo q.part q.between c.counts) number q.part_is;
+      stands = λ m is.
+          let first = p.folds m is in
+          let second = q.stands (after f m n xs) first.0 in (
+            Reported-append f m n xs q.done rs q.reports first.1 second.0,
+            subst (λ k. Halts f stop (after f m n (xs ++ q.done)) k q.todo c.content q.part) number (subst (λ k. Halts f stop k ((n + length xs) + length q.done) q.todo c.content q.part) (sym (after-append f m n xs q.done)) second.1),
+          );
+    }
 
--- the run stopped before any of these items
-pub Stopped-at : {I : Type 0} (f : Way I) (stop : Stop) {a b : Model → Type 0} (n : ℕ) (items : List I) (h h' : Option (List ℕ)) (part : List ℕ) → h' ≡ append_known h part → ((m : Model) → a m → Halts f stop m n items b part) → Stopped f stop a b n items h h'
-Stopped-at f stop {b = b} n items h h' part text halts = record {
+-- the run stopped before any of these items was reported
+pub Stopped-at : (f : Form) (stop : Stop) (s : Schema) (a b : Moment) (n : ℕ) (items : List Item) (part : List ℕ) → b.held ≡ append_known a.held part
+    → IsPart f stop s n items part a.counts b.counts → ((m : Model) → StandsIn f a.content s m → Halts f stop m n items b.content part) → Stopped f stop s a b n items
+Stopped-at f stop s a b n items part text is halts = record {
   done = [];
   todo = items;
   reports = [];
+  last = s;
   part = part;
+  between = a.counts;
   among = refl;
+  told = refl;
   text = text;
-  stands = λ m s. (tt, subst (λ k. Halts f stop m k items b part) (sym (add-zero n)) (halts m s));
+  rises = Rises-none a.counts;
+  part_is = subst (λ k. IsPart f stop s k items part a.counts b.counts) (sym (add-zero n)) is;
+  stands = λ m is. (tt, subst (λ k. Halts f stop m k items b.content part) (sym (add-zero n)) (halts m is));
 }
 
-before_or_same : {I : Type 0} (f : Way I) (m : Model) (n : ℕ) (items : List I) (now : Model → Type 0) → now m → BeforeOrAfter f m n items now
-before_or_same f m n [] now h = h
-before_or_same f m n (x ∷ xs) now h = inl h
+within_nothing : (s : Schema) (items : List Item) (c : Counts) → IsWithinItem s items c c
+within_nothing s [] c = refl
+within_nothing s (x ∷ xs) c = within_none (asked_bound s (asked_item s x)) c
+
+halts_same : (f : Form) (m : Model) (n : ℕ) (items : List Item) (now : Option Content) → OpensAt f now m → Halts f stops.NoMem m n items now []
+halts_same f m n [] now h = h
+halts_same f m n (x ∷ xs) now h = inl h
 
 -- the run stopped for want of memory before the next item was read whole
-pub Stopped-between : {I : Type 0} (f : Way I) {a b : Model → Type 0} (n : ℕ) (items : List I) (h : Option (List ℕ)) → ((m : Model) → a m → b m) → Stopped f stops.NoMem a b n items h h
-Stopped-between f {b = b} n items h kept = Stopped-at f stops.NoMem n items h h [] (sym (append_known-none h)) (λ m s. (refl, before_or_same f m n items b (kept m s)))
+pub Stopped-between : (f : Form) (s : Schema) (a : Moment) (n : ℕ) (items : List Item) → ((m : Model) → StandsIn f a.content s m → OpensAt f a.content m) → Stopped f stops.NoMem s a a n items
+Stopped-between f s a n items opens =
+    Stopped-at f stops.NoMem s a a n items [] (sym (append_known-none a.held)) (refl, within_nothing s items a.counts) (λ m is. halts_same f m n items a.content (opens m is))
+
+-- what a report tells as used is within the bound of its item
+within_item : (s : Schema) (n : ℕ) (item : Item) (report : Report) (before after : Counts) → IsReport s n item report → RisesBy (report ∷ []) before after → IsWithinFixed (asked_bound s (asked_item s item)) before after
+within_item s n item report before after is rises =
+    let ops = rises.ops in
+    let entries = rises.entries in
+    within_reported (asked_bound s (asked_item s item)) report before after is.bound_is (omega (arith, ops)) (omega (arith, entries)) is.few_ops is.few_entries
 
 -- the run stopped while this item was reported
-pub Stopped-writing : {I : Type 0} (f : Way I) (stop : Stop) {a b : Model → Type 0} (n : ℕ) (item : I) (h h' : Option (List ℕ)) (report : Report) → ((m : Model) → a m → Matches (f.step m n item).report report) → ((m : Model) → a m → b (f.step m n item).model) → CutsOff stop (f.show report) h h' → Stopped f stop a b n (item ∷ []) h h'
-Stopped-writing f stops.StoreFailed n item h h' report matches made cut = absurd cut
-Stopped-writing f (stops.Damaged damage) n item h h' report matches made cut = absurd cut
-Stopped-writing f stops.NoMem n item h h' report matches made cut = Stopped-at f stops.NoMem n (item ∷ []) h h' [] (cut ∙ sym (append_known-none h)) (λ m s. (refl, inr (made m s)))
-Stopped-writing f stops.WriteFailed n item h h' report matches made cut = Stopped-at f stops.WriteFailed n (item ∷ []) h h' cut.0 cut.2 (λ m s. (report, matches m s, cut.1, made m s))
+pub Stopped-writing : (f : Form) (stop : Stop) (item : Item) (n : ℕ) (s t : Schema) (old now : Option Content) (h h' : Option (List ℕ)) (before after : Counts) (report : Report)
+    → Makes f item n s t old now before after report → ((m : Model) → StandsIn f now t m → OpensAt f now m) → CutsOff stop (shown f report) h h'
+    → Stopped f stop s (moment old h before) (moment now h' after) n (item ∷ [])
+Stopped-writing f stops.StoreFailed item n s t old now h h' before after report made opens cut = absurd cut
+Stopped-writing f (stops.Damaged damage) item n s t old now h h' before after report made opens cut = absurd cut
+Stopped-writing f stops.NoMem item n s t old now h h' before after report made opens cut =
+    Stopped-at f stops.NoMem s (moment old h before) (moment now h' after) n (item ∷ []) [] (cut ∙ sym (append_known-none h))
+    (refl, within_item s n item report before after made.is made.rises) (λ m is. inr (opens (item_step f m n item).model (made.stands m is)))
+Stopped-writing f stops.WriteFailed item n s t old now h h' before after report made opens cut =
+    Stopped-at f stops.WriteFailed s (moment old h before) (moment now h' after) n (item ∷ []) cut.0 cut.2
+    (report, made.is, cut.1, made.rises) (λ m is. (report, made.matches m is, cut.1, opens (item_step f m n item).model (made.stands m is)))
 
--- the session broke off at this item
-pub Stopped-broke : {I : Type 0} (f : Way I) (error : Broke) {a b : Model → Type 0} (n : ℕ) (item : I) (h : Option (List ℕ)) → ((m : Model) → a m → b m ⊎ b (f.step m n item).model) → ((m : Model) → a m → IsUndamaged error) → Stopped f (stop_of error) a b n (item ∷ []) h h
-Stopped-broke f broke.Failed n item h kept sound = Stopped-at f stops.StoreFailed n (item ∷ []) h h [] (sym (append_known-none h)) (λ m s. (refl, kept m s))
-Stopped-broke f broke.NoMem n item h kept sound = Stopped-at f stops.NoMem n (item ∷ []) h h [] (sym (append_known-none h)) (λ m s. (refl, kept m s))
-Stopped-broke f (broke.Damaged damage) n item h kept sound = Stopped-at f (stops.Damaged damage) n (item ∷ []) h h [] (sym (append_known-none h)) (λ m s. absurd (sound m s))
-
--- the session broke off at the opening
-pub Opening-broke : (k : Option Content) (error : Broke) (a b : Model → Type 0) (h : Option (List ℕ)) → ((m : Model) → a m → b m) → ((m : Model) → a m → IsUndamaged error) → StoppedOpening k (stop_of error) a b h h
-Opening-broke k broke.Failed a b h kept sound = record { part = []; text = sym (append_known-none h); stands = λ m s. (kept m s, refl) }
-Opening-broke k broke.NoMem a b h kept sound = record { part = []; text = sym (append_known-none h); stands = λ m s. (kept m s, refl) }
-Opening-broke k (broke.Damaged damage) a b h kept sound = record { part = []; text = sym (append_known-none h); stands = λ m s. absurd (sound m s) }
-
--- the run stopped while the opening's line was written
-pub Opening-writing : (k : Option Content) (stop : Stop) (a b : Model → Type 0) (h h' : Option (List ℕ)) (opened : Opened) → ((m : Model) → a m → IsOpening k m opened) → ((m : Model) → a m → b m) → CutsOff stop (opening_line opened) h h' → StoppedOpening k stop a b h h'
-Opening-writing k stops.StoreFailed a b h h' opened opens stands cut = absurd cut
-Opening-writing k (stops.Damaged damage) a b h h' opened opens stands cut = absurd cut
-Opening-writing k stops.NoMem a b h h' opened opens stands cut = record { part = []; text = cut ∙ sym (append_known-none h); stands = λ m s. (stands m s, refl) }
-Opening-writing k stops.WriteFailed a b h h' opened opens stands cut = record { part = cut.0; text = cut.2; stands = λ m s. (stands m s, (opened, opens m s, cut.1)) }
-
--- the opening, and then the items
-pub Ran-of : {k : Option Content} {I : Type 0} {f : Way I} {a b c : Model → Type 0} {xs : List I} {h h' h'' : Option (List ℕ)} {o o' o'' : Counts} {refused : Bool} → Opening k a b h h' o o' → Served f b c 1 xs h' h'' o' o'' false refused → Ran k f a c xs h h'' o o'' refused
-Ran-of {f = f} {h = h} p q = record {
-  opened = p.opened;
-  reports = q.reports;
-  opens = p.opens;
-  folds = λ m s. q.made.folds m (p.stands m s);
-  text = q.made.text ∙ ap (λ k. append_known k (flat_map f.show q.reports)) p.text ∙ append_known-append h _ _;
-  ops = omega (arith, p.ops, q.made.ops);
-  entries = omega (arith, p.entries, q.made.entries);
-  refusal = q.refusal;
+-- the items by another name
+pub among_items : {f : Form} {stop : Stop} {s : Schema} {a b : Moment} {n : ℕ} {xs ys : List Item} → xs ≡ ys → Stopped f stop s a b n xs → Stopped f stop s a b n ys
+among_items same p = record {
+  done = p.done;
+  todo = p.todo;
+  reports = p.reports;
+  last = p.last;
+  part = p.part;
+  between = p.between;
+  among = sym same ∙ p.among;
+  told = p.told;
+  text = p.text;
+  rises = p.rises;
+  part_is = p.part_is;
+  stands = p.stands;
 }
 
--- the opening, and then a stop among the items
-pub StoppedLater-of : {k : Option Content} {I : Type 0} {f : Way I} {stop : Stop} {a b c : Model → Type 0} {xs : List I} {h h' h'' : Option (List ℕ)} {o o' : Counts} → Opening k a b h h' o o' → Stopped f stop b c 1 xs h' h'' → StoppedLater k f stop a c xs h h''
-StoppedLater-of {f = f} p q = record {
-  opened = p.opened;
-  opens = p.opens;
-  stopped = record {
-    done = q.done;
-    todo = q.todo;
-    reports = q.reports;
-    part = q.part;
-    among = q.among;
-    text = q.text ∙ ap (λ k. append_known k (flat_map f.show q.reports ++ q.part)) p.text;
-    stands = λ m s. q.stands m (p.stands m s);
-  };
+-- and numbered from the same number by another name
+pub from_number : {f : Form} {stop : Stop} {s : Schema} {a b : Moment} {n k : ℕ} {xs : List Item} → n ≡ k → Stopped f stop s a b n xs → Stopped f stop s a b k xs
+from_number {f = f} {stop = stop} {s = s} {b = b} same p = record {
+  done = p.done;
+  todo = p.todo;
+  reports = p.reports;
+  last = p.last;
+  part = p.part;
+  between = p.between;
+  among = p.among;
+  told = subst (λ i. Reports s i p.done p.reports p.last) same p.told;
+  text = p.text;
+  rises = p.rises;
+  part_is = subst (λ i. IsPart f stop p.last (i + length p.done) p.todo p.part p.between b.counts) same p.part_is;
+  stands = λ m is.
+      let q = p.stands m is in (
+        subst (λ i. Reported f m i p.done p.reports) same q.0,
+        subst (λ i. Halts f stop (after f m i p.done) (i + length p.done) p.todo b.content p.part) same q.1,
+      );
 }
+
+-- what was made before a stop
+pub length_after : {f : Form} {stop : Stop} {r s : Schema} {a b c : Moment} {n : ℕ} {xs ys : List Item} {rs : List Report} (p : Made f r s a b n xs rs) (q : Stopped f stop s b c (n + length xs) ys)
+    → length (Stopped-after p q).done ≡ length xs + length q.done
+unfolding Stopped-after
+length_after {xs = xs} p q = length-append xs q.done
+
+pub among_done : {f : Form} {stop : Stop} {s : Schema} {a b : Moment} {n : ℕ} {xs ys : List Item} (same : xs ≡ ys) (p : Stopped f stop s a b n xs) → (among_items same p).done ≡ p.done
+unfolding among_items
+among_done same p = refl
+
+pub from_done : {f : Form} {stop : Stop} {s : Schema} {a b : Moment} {n k : ℕ} {xs : List Item} (same : n ≡ k) (p : Stopped f stop s a b n xs) → (from_number same p).done ≡ p.done
+unfolding from_number
+from_done same p = refl

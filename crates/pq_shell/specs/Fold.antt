@@ -1,118 +1,129 @@
--- A run: the fold of the steps over the items of a script, and what is written of their reports.
-use Rattle.std.specs.Prelude.{◌≡◌, ℕ, ◌+◌, ◌⊎◌, Option, Bool, ◌||◌, List, [], ◌∷◌, ◌++◌, length}
+-- The fold of the steps over the items of a script, and what is written of their reports.
+use Rattle.std.specs.Prelude.{◌≡◌, ℕ, ◌+◌, ◌≤◌, ◌⊎◌, Option, Bool, ◌||◌, List, [], ◌∷◌, ◌++◌, length, if◌then◌else◌}
 use Rattle.std.specs.List.{flat_map, sum_by, list_any}
 use Rattle.std.specs.Io.KnownBytes.{append_known}
+use Rattle.pq_base.specs.declared.number.Bound.{Bound}
+use Rattle.pq_fill.specs.declared.words.Form.{Form}
+use Rattle.pq_schema.specs.Schema.{Schema}
 use Rattle.pq_store.specs.Content.{Content}
 use Rattle.pq_store.specs.Counts.{Counts}
 use Rattle.pq_print.specs.declared.report.Report.{Report}
-use Rattle.pq_print.specs.declared.report.Opened.{Opened}
-use Rattle.pq_print.specs.Report.{opening_line, is_refusal}
+use Rattle.pq_print.specs.Report.{is_refusal}
+use Rattle.pq_session.specs.Actions.{asked_bound, asked_schema}
 use Rattle.pq_session.specs.Model.{Model}
-use Rattle.pq_session.specs.Step.{Step}
-use Rattle.pq_session.specs.Matches.{Matches, IsOpening}
+use Rattle.pq_session.specs.Matches.{Matches}
+use Rattle.pq_session.specs.Promise.{IsBound, IsWithinFixed}
+use Rattle.pq_shell.specs.Forms.{item_step, asked_item, shown, HasOpening, StandsIn, OpensAt}
+use Rattle.pq_shell.specs.Items.{Item}
 use Rattle.pq_shell.specs.Outside.{IsCut}
 use Rattle.pq_shell.specs.declared.stop.Stop.{Stop}
 use Rattle.pq_shell.specs.declared.stop.Stop.TheVariants as stops
 
--- a way to run a script: the step that an item makes, and what is written of its report
-pub record Way (Item : Type 0) : Type 0 where
-  pub step : Model → ℕ → Item → Step
-  pub show : Report → List ℕ
+-- what the store and the sink hold, where they tell, and what the meter counts
+pub record Moment : Type 0 where
+  pub content : Option Content
+  pub held : Option (List ℕ)
+  pub counts : Counts
+
+-- ---- over every store
+
+-- a report with this number, on the bound of what the item asks for, that tells at most this bound as used
+pub record IsReport (schema : Schema) (number : ℕ) (item : Item) (report : Report) : Type 0 where
+  pub number_is : report.number ≡ number
+  pub bound_is : IsBound (asked_bound schema (asked_item schema item)) report.bound
+  pub few_ops : report.used.ops ≤ report.bound.ops
+  pub few_entries : report.used.entries ≤ report.bound.entries
+
+-- the definitions behind a report: a refusal leaves them
+abbrev pub schema_behind : Schema → Item → Report → Schema
+schema_behind schema item report = if is_refusal report then schema else asked_schema schema (asked_item schema item)
+
+-- a report for each item, numbered on from here; and the definitions from the first to the last
+abbrev pub Reports : Schema → ℕ → List Item → List Report → Schema → Type 0
+Reports first number [] [] last = last ≡ first
+Reports first number [] (report ∷ reports) last = ⊥
+Reports first number (item ∷ items) [] last = ⊥
+Reports first number (item ∷ items) (report ∷ reports) last =
+    IsReport first number item report × Reports (schema_behind first item report) (number + 1) items reports last
+
+-- the meter rose by what these reports tell as used
+pub record RisesBy (reports : List Report) (before now : Counts) : Type 0 where
+  pub ops : now.ops ≡ before.ops + sum_by (λ r. r.used.ops) reports
+  pub entries : now.entries ≡ before.entries + sum_by (λ r. r.used.entries) reports
+
+-- and then by at most the bound of the item at hand, by nothing where there is none
+abbrev pub IsWithinItem : Schema → List Item → Counts → Counts → Type 0
+IsWithinItem schema [] before now = now ≡ before
+IsWithinItem schema (item ∷ items) before now = IsWithinFixed (asked_bound schema (asked_item schema item)) before now
+
+-- this much of the report of the item at hand is out, and the meter rose by what it tells as used
+abbrev pub CutsReport : Form → Schema → ℕ → List Item → List ℕ → Counts → Counts → Type 0
+CutsReport form schema number [] part before now = ⊥
+CutsReport form schema number (item ∷ items) part before now =
+    (report : Report) × IsReport schema number item report × IsCut part (shown form report) × RisesBy (report ∷ []) before now
+
+-- what is out behind whole reports where a run stops, and what was used for the item at hand; a check stops for no store
+abbrev pub IsPart : Form → Stop → Schema → ℕ → List Item → List ℕ → Counts → Counts → Type 0
+IsPart form stops.StoreFailed schema number todo part before now = HasOpening form × (part ≡ []) × IsWithinItem schema todo before now
+IsPart form stops.NoMem schema number todo part before now = (part ≡ []) × IsWithinItem schema todo before now
+IsPart form (stops.Damaged damage) schema number todo part before now = HasOpening form × (part ≡ []) × IsWithinItem schema todo before now
+IsPart form stops.WriteFailed schema number todo part before now = CutsReport form schema number todo part before now
+
+-- ---- over a model
 
 -- the model after these items, numbered from here
-abbrev pub after : {Item : Type 0} → Way Item → Model → ℕ → List Item → Model
-after way m number [] = m
-after way m number (item ∷ items) = after way (way.step m number item).model (number + 1) items
+abbrev pub after : Form → Model → ℕ → List Item → Model
+after form m number [] = m
+after form m number (item ∷ items) = after form (item_step form m number item).model (number + 1) items
 
 -- these reports match the steps of these items, one by one
-abbrev pub Reported : {Item : Type 0} → Way Item → Model → ℕ → List Item → List Report → Type 0
-Reported way m number [] [] = Unit {0}
-Reported way m number [] (report ∷ reports) = ⊥
-Reported way m number (item ∷ items) [] = ⊥
-Reported way m number (item ∷ items) (report ∷ reports) =
-    Matches (way.step m number item).report report × Reported way (way.step m number item).model (number + 1) items reports
+abbrev pub Reported : Form → Model → ℕ → List Item → List Report → Type 0
+Reported form m number [] [] = Unit {0}
+Reported form m number [] (report ∷ reports) = ⊥
+Reported form m number (item ∷ items) [] = ⊥
+Reported form m number (item ∷ items) (report ∷ reports) =
+    Matches (item_step form m number item).report report × Reported form (item_step form m number item).model (number + 1) items reports
 
--- what stood for a model stands for the model after these items, and these reports match
-abbrev pub Folds : {Item : Type 0} → Way Item → (Model → Type 0) → (Model → Type 0) → ℕ → List Item → List Report → Type 0
-Folds way before now number items reports =
-    (m : Model) → before m → now (after way m number items) × Reported way m number items reports
+-- what stands where a run stops: the model before the item at hand or after it; behind a report that was cut, the one after it
+abbrev pub Halts : Form → Stop → Model → ℕ → List Item → Option Content → List ℕ → Type 0
+Halts form (stops.Damaged damage) m number todo now part = ⊥
+Halts form stops.WriteFailed m number [] now part = ⊥
+Halts form stops.WriteFailed m number (item ∷ items) now part =
+    (report : Report) × Matches (item_step form m number item).report report × IsCut part (shown form report)
+    × OpensAt form now (item_step form m number item).model
+Halts form stops.StoreFailed m number [] now part = OpensAt form now m
+Halts form stops.StoreFailed m number (item ∷ items) now part = OpensAt form now m ⊎ OpensAt form now (item_step form m number item).model
+Halts form stops.NoMem m number [] now part = OpensAt form now m
+Halts form stops.NoMem m number (item ∷ items) now part = OpensAt form now m ⊎ OpensAt form now (item_step form m number item).model
 
--- these items were made, these reports are out, and the meter rose by their used numbers
-pub record Made {Item : Type 0} (way : Way Item) (before now : Model → Type 0) (number : ℕ) (items : List Item) (held held_now : Option (List ℕ)) (counts counts_now : Counts) (reports : List Report) : Type 0 where
-  pub folds : Folds way before now number items reports
-  pub text : held_now ≡ append_known held (flat_map way.show reports)
-  pub ops : counts_now.ops ≡ counts.ops + sum_by (λ r. r.used.ops) reports
-  pub entries : counts_now.entries ≡ counts.entries + sum_by (λ r. r.used.entries) reports
+-- ---- items that were made
+
+-- these items were made, and these are their reports
+pub record Made (form : Form) (first last : Schema) (from to : Moment) (number : ℕ) (items : List Item) (reports : List Report) : Type 0 where
+  pub told : Reports first number items reports last
+  pub folds : (m : Model) → StandsIn form from.content first m
+      → StandsIn form to.content last (after form m number items) × Reported form m number items reports
+  pub text : to.held ≡ append_known from.held (flat_map (shown form) reports)
+  pub rises : RisesBy reports from.counts to.counts
 
 -- the same, and whether one of the reports is a refusal
-pub record Served {Item : Type 0} (way : Way Item) (before now : Model → Type 0) (number : ℕ) (items : List Item) (held held_now : Option (List ℕ)) (counts counts_now : Counts) (refused refused_now : Bool) : Type 0 where
+pub record Served (form : Form) (first last : Schema) (from to : Moment) (number : ℕ) (items : List Item) (refused refused_now : Bool) : Type 0 where
   pub reports : List Report
-  pub made : Made way before now number items held held_now counts counts_now reports
+  pub made : Made form first last from to number items reports
   pub refusal : refused_now ≡ (refused || list_any is_refusal reports)
 
--- what stands is the model before the item at hand, or after it; there is none at hand where the next was not read whole
-abbrev pub BeforeOrAfter : {Item : Type 0} → Way Item → Model → ℕ → List Item → (Model → Type 0) → Type 0
-BeforeOrAfter way m number [] now = now m
-BeforeOrAfter way m number (item ∷ items) now = now m ⊎ now (way.step m number item).model
-
--- this much of the report of the item at hand is out, and what stands is the model after it
-abbrev pub CutsReport : {Item : Type 0} → Way Item → Model → ℕ → List Item → (Model → Type 0) → List ℕ → Type 0
-CutsReport way m number [] now part = ⊥
-CutsReport way m number (item ∷ items) now part =
-    (report : Report) × Matches (way.step m number item).report report × IsCut part (way.show report) × now (way.step m number item).model
-
--- what stands where the run stopped before these items, and this much is out besides whole reports
-abbrev pub Halts : {Item : Type 0} → Way Item → Stop → Model → ℕ → List Item → (Model → Type 0) → List ℕ → Type 0
-Halts way stops.StoreFailed m number todo now part = (part ≡ []) × BeforeOrAfter way m number todo now
-Halts way stops.NoMem m number todo now part = (part ≡ []) × BeforeOrAfter way m number todo now
-Halts way stops.WriteFailed m number todo now part = CutsReport way m number todo now part
-Halts way (stops.Damaged damage) m number todo now part = ⊥
-
--- some items were made and their reports are whole, and then the run stopped
-pub record Stopped {Item : Type 0} (way : Way Item) (stop : Stop) (before now : Model → Type 0) (number : ℕ) (items : List Item) (held held_now : Option (List ℕ)) : Type 0 where
+-- some items were made, and then the run stopped
+pub record Stopped (form : Form) (stop : Stop) (first : Schema) (from now : Moment) (number : ℕ) (items : List Item) : Type 0 where
   pub done : List Item
   pub todo : List Item
   pub reports : List Report
+  pub last : Schema
   pub part : List ℕ
+  pub between : Counts
   pub among : items ≡ done ++ todo
-  pub text : held_now ≡ append_known held (flat_map way.show reports ++ part)
-  pub stands : (m : Model) → before m → Reported way m number done reports × Halts way stop (after way m number done) (number + length done) todo now part
-
--- the store was opened with this content, and the opening's line is out
-pub record Opening (content : Option Content) (before now : Model → Type 0) (held held_now : Option (List ℕ)) (counts counts_now : Counts) : Type 0 where
-  pub opened : Opened
-  pub opens : (m : Model) → before m → IsOpening content m opened
-  pub stands : (m : Model) → before m → now m
-  pub text : held_now ≡ append_known held (opening_line opened)
-  pub ops : counts_now.ops ≡ counts.ops + opened.used.ops
-  pub entries : counts_now.entries ≡ counts.entries + opened.used.entries
-
--- how much of the opening's line is out where the run stopped there
-abbrev pub HaltsOpening : Option Content → Stop → Model → List ℕ → Type 0
-HaltsOpening content stops.StoreFailed m part = part ≡ []
-HaltsOpening content stops.NoMem m part = part ≡ []
-HaltsOpening content stops.WriteFailed m part = (opened : Opened) × IsOpening content m opened × IsCut part (opening_line opened)
-HaltsOpening content (stops.Damaged damage) m part = ⊥
-
--- the run stopped at the opening
-pub record StoppedOpening (content : Option Content) (stop : Stop) (before now : Model → Type 0) (held held_now : Option (List ℕ)) : Type 0 where
-  pub part : List ℕ
-  pub text : held_now ≡ append_known held part
-  pub stands : (m : Model) → before m → now m × HaltsOpening content stop m part
-
--- the store was opened and the items were made, all is out, and the meter rose by the used numbers
-pub record Ran {Item : Type 0} (content : Option Content) (way : Way Item) (before now : Model → Type 0) (items : List Item) (held held_now : Option (List ℕ)) (counts counts_now : Counts) (refused : Bool) : Type 0 where
-  pub opened : Opened
-  pub reports : List Report
-  pub opens : (m : Model) → before m → IsOpening content m opened
-  pub folds : Folds way before now 1 items reports
-  pub text : held_now ≡ append_known held (opening_line opened ++ flat_map way.show reports)
-  pub ops : counts_now.ops ≡ counts.ops + opened.used.ops + sum_by (λ r. r.used.ops) reports
-  pub entries : counts_now.entries ≡ counts.entries + opened.used.entries + sum_by (λ r. r.used.entries) reports
-  pub refusal : refused ≡ list_any is_refusal reports
-
--- the store was opened, and the run stopped among the items
-pub record StoppedLater {Item : Type 0} (content : Option Content) (way : Way Item) (stop : Stop) (before now : Model → Type 0) (items : List Item) (held held_now : Option (List ℕ)) : Type 0 where
-  pub opened : Opened
-  pub opens : (m : Model) → before m → IsOpening content m opened
-  pub stopped : Stopped way stop before now 1 items (append_known held (opening_line opened)) held_now
+  pub told : Reports first number done reports last
+  pub text : now.held ≡ append_known from.held (flat_map (shown form) reports ++ part)
+  pub rises : RisesBy reports from.counts between
+  pub part_is : IsPart form stop last (number + length done) todo part between now.counts
+  pub stands : (m : Model) → StandsIn form from.content first m
+      → Reported form m number done reports × Halts form stop (after form m number done) (number + length done) todo now.content part

@@ -1,14 +1,24 @@
--- How a run ends: what stands at each status.
-use Rattle.std.specs.Prelude.{◌≡◌, ℕ, ◌⊎◌, Bool, true, false, Option, Result, Ok, Err, List, [], ◌∷◌, ◌++◌, codes}
-use Rattle.std.specs.Io.KnownBytes.{append_known}
+-- How a run of each form ends: what stands at each status.
+use Rattle.std.specs.Prelude.{◌≡◌, ℕ, ◌≤◌, ◌⊎◌, Bool, true, false, Option, Some, Result, Ok, Err, List, [], ◌++◌, length, flat_map}
+use Rattle.std.specs.List.{list_any, sum_by}
+use Rattle.std.specs.Io.KnownBytes.{append_known, prepend_known}
+use Rattle.pq_fill.specs.declared.words.Form.{Form}
+use Rattle.pq_fill.specs.declared.words.Form.TheVariants.{Run, Check, Fill}
+use Rattle.pq_schema.specs.Schema.{Schema}
 use Rattle.pq_store.specs.Content.{Content}
 use Rattle.pq_store.specs.Counts.{Counts}
-use Rattle.pq_print.specs.Report.{damage_line}
+use Rattle.pq_store.specs.declared.damage.Damage.{Damage}
+use Rattle.pq_text.specs.Pieces.{pieces_of}
+use Rattle.pq_print.specs.Report.{damage_line, is_refusal}
+use Rattle.pq_print.specs.declared.report.Report.{Report}
 use Rattle.pq_session.specs.Model.{Model}
-use Rattle.pq_session.specs.Stands.{HoldsModel, Opens}
-use Rattle.pq_shell.specs.Fold.{Ran, StoppedOpening, StoppedLater}
-use Rattle.pq_shell.specs.Items.{items_of, run_way}
-use Rattle.pq_shell.specs.Reading.{Took}
+use Rattle.pq_session.specs.Stands.{Opens}
+use Rattle.pq_shell.specs.Fold.{Moment, Made, Reported, Stopped, after}
+use Rattle.pq_shell.specs.Forms.{HasItems, HasOpening, HoldsAt, OpensAt, Starts, close}
+use Rattle.pq_shell.specs.Items.{Item}
+use Rattle.pq_shell.specs.Openings.{Opening, StoppedOpening}
+use Rattle.pq_shell.specs.Outside.{IsCut}
+use Rattle.pq_shell.specs.Reading.{script_limit}
 use Rattle.pq_shell.specs.declared.reading.Ending.{Ending}
 use Rattle.pq_shell.specs.declared.reading.Ending.TheVariants.{Whole, Faulted, TooLong}
 use Rattle.pq_shell.specs.declared.serving.Ended.{Ended}
@@ -20,45 +30,113 @@ use Rattle.pq_shell.specs.declared.stop.Stop.TheVariants as stops
 -- what the source has left and what store and sink hold, where they tell, and what the meter counts
 pub record World : Type 0 where
   pub left : Option (List ℕ)
-  pub content : Option Content
+  pub moment : Moment
+
+abbrev pub world : Option (List ℕ) → Option Content → Option (List ℕ) → Counts → World
+world left content held counts = record { left = left; moment = record { content = content; held = held; counts = counts } }
+
+-- the same with more on the sink
+abbrev pub written : World → Option (List ℕ) → World
+written world held = record world { moment = record world.moment { held = held } }
+
+-- the run was begun, these items were made, and their reports are out; for a generated script these are only noted
+pub record Ran (form : Form) (before now : Moment) (items : List Item) : Type 0 where
+  pub reports : List Report
+  pub first : Schema
+  pub last : Schema
+  pub between : Moment
+  pub opening : Opening form first before between
+  pub made : Made form first last between now 1 items reports
+
+-- a script was read so, or is the generated one, and all that is run of it was made and is reported
+pub record Finished (form : Form) (ending : Ending) (refused : Bool) (before now : World) : Type 0 where
+  pub items : List Item
   pub held : Option (List ℕ)
-  pub counts : Counts
+  pub read : HasItems form ending before.left now.left items
+  pub ran : Ran form before.moment (record now.moment { held = held }) items
+  pub text : now.moment.held ≡ append_known held (close form ran.opening.opened ran.reports)
+  pub refusal : refused ≡ list_any is_refusal ran.reports
 
--- a script was read so, and all that is run of it was made and is reported
-pub record Finished (ending : Ending) (refused : Bool) (before now : World) : Type 0 where
-  pub bytes : List ℕ
-  pub took : Took ending before.left now.left bytes
-  pub ran : Ran before.content run_way (Opens before.content) (HoldsModel now.content) (items_of ending bytes) before.held now.held before.counts now.counts refused
+-- ---- a run that stopped
 
--- a script was read so, and the run stopped among its items
-pub record StoppedReading (stop : Stop) (before now : World) : Type 0 where
+-- of the bytes taken all but the last 4,096 at most belong to pieces that are reported, to blank ones or to the one at hand
+pub record IsReadInParts (left left_now : Option (List ℕ)) (reported : ℕ) : Type 0 where
+  pub early : List ℕ
+  pub late : List ℕ
+  pub taken : left ≡ prepend_known (early ++ late) left_now
+  pub few : length late ≤ 4096
+  pub reported_all : length (pieces_of early) ≤ reported
+
+abbrev pub HasRead : Form → Option (List ℕ) → Option (List ℕ) → ℕ → Type 0
+HasRead Run left left_now reported = IsReadInParts left left_now reported
+HasRead Check left left_now reported = IsReadInParts left left_now reported
+HasRead (Fill n) left left_now reported = left_now ≡ left
+
+-- at the opening, before anything was read
+pub record StopsOpening (form : Form) (stop : Stop) (before now : World) : Type 0 where
+  pub some : HasOpening form
+  pub unread : now.left ≡ before.left
+  pub stopped : StoppedOpening stop before.moment now.moment
+
+-- among the items
+pub record StopsLater (form : Form) (stop : Stop) (before now : World) : Type 0 where
   pub ending : Ending
-  pub bytes : List ℕ
-  pub took : Took ending before.left now.left bytes
-  pub stopped : StoppedLater before.content run_way stop (Opens before.content) (Opens now.content) (items_of ending bytes) before.held now.held
+  pub items : List Item
+  pub first : Schema
+  pub between : Moment
+  pub read : HasItems form ending before.left now.left items
+  pub opening : Opening form first before.moment between
+  pub stopped : Stopped form stop first between now.moment 1 items
+  pub in_parts : HasRead form before.left now.left (length stopped.done)
 
--- the run stopped at the opening, or among the items of the script
-abbrev pub Broken : Stop → World → World → Type 0
-Broken stop before now = StoppedOpening before.content stop (Opens before.content) (Opens now.content) before.held now.held ⊎ StoppedReading stop before now
+-- behind the last item: what closes the run is cut, or there is no memory for it
+abbrev pub IsClosingPart : Stop → List ℕ → List ℕ → Type 0
+IsClosingPart stops.WriteFailed part text = IsCut part text
+IsClosingPart stops.NoMem part text = part ≡ []
+IsClosingPart stops.StoreFailed part text = ⊥
+IsClosingPart (stops.Damaged damage) part text = ⊥
 
--- the store's content could not be opened, and the last line names the key that shows it
-pub record ShowsDamage (before now : World) : Type 0 where
-  pub key : List ℕ
-  pub front : List ℕ
-  pub text : now.held ≡ append_known before.held (front ++ damage_line key)
-  pub unsound : (m : Model) → Opens before.content m → ⊥
+pub record StopsClosing (form : Form) (stop : Stop) (before now : World) : Type 0 where
+  pub items : List Item
+  pub held : Option (List ℕ)
+  pub part : List ℕ
+  pub read : HasItems form Whole before.left now.left items
+  pub ran : Ran form before.moment (record now.moment { held = held }) items
+  pub text : now.moment.held ≡ append_known held part
+  pub part_is : IsClosingPart stop part (close form ran.opening.opened ran.reports)
 
--- what stands at each status
-abbrev pub Ends : Status → World → World → Type 0
-Ends status.Good before now = Finished Whole false before now
-Ends status.SomeRefused before now = Finished Whole true before now
-Ends status.Usage before now = now ≡ before
-Ends status.ReadFault before now = (refused : Bool) × Finished Faulted refused before now
-Ends status.WriteFault before now = Broken stops.WriteFailed before now
-Ends status.StoreFault before now = Broken stops.StoreFailed before now
-Ends status.Damaged before now = ShowsDamage before now
-Ends status.NoMem before now = Broken stops.NoMem before now
-Ends status.TooLong before now = (refused : Bool) × Finished TooLong refused before now
+pub data Broken (form : Form) (stop : Stop) (before now : World) : Type 0 where
+  AtOpening : StopsOpening form stop before now → Broken form stop before now
+  AtItem : StopsLater form stop before now → Broken form stop before now
+  AtClose : StopsClosing form stop before now → Broken form stop before now
+
+-- damage was found, and so much of the line that names its key is out behind whole reports
+pub record NamesDamage (form : Form) (IsTail : List ℕ → List ℕ → Type 0) (before now : World) : Type 0 where
+  pub damage : Damage
+  pub held : Option (List ℕ)
+  pub line : List ℕ
+  pub broken : Broken form (stops.Damaged damage) before (written now held)
+  pub tail : IsTail line (damage_line damage.key)
+  pub text : now.moment.held ≡ append_known held line
+
+-- ---- each status
+
+-- what the words of a form mean: a generated script is for 1 to 20,000 users
+abbrev pub IsMeant : Form → Type 0
+IsMeant Run = Unit {0}
+IsMeant Check = Unit {0}
+IsMeant (Fill n) = (1 ≤ n) × (n ≤ 20000)
+
+abbrev pub Ends : Form → Status → World → World → Type 0
+Ends form status.Good before now = Finished form Whole false before now
+Ends form status.SomeRefused before now = Finished form Whole true before now
+Ends form status.Usage before now = ⊥
+Ends form status.ReadFault before now = (refused : Bool) × Finished form Faulted refused before now
+Ends form status.WriteFault before now = Broken form stops.WriteFailed before now ⊎ NamesDamage form IsCut before now
+Ends form status.StoreFault before now = Broken form stops.StoreFailed before now
+Ends form status.Damaged before now = NamesDamage form (λ line whole. line ≡ whole) before now
+Ends form status.NoMem before now = Broken form stops.NoMem before now ⊎ NamesDamage form (λ line whole. line ≡ []) before now
+Ends form status.TooLong before now = (refused : Bool) × Finished form TooLong refused before now
 
 -- the status of a script whose items were all made
 abbrev pub status_of : Ending → Bool → Status
@@ -70,7 +148,7 @@ status_of TooLong refused = status.TooLong
 -- how the line that names the damage ends the run
 abbrev pub EndsDamaged : Status → List ℕ → Option (List ℕ) → Option (List ℕ) → Type 0
 EndsDamaged status.Damaged key held held_now = held_now ≡ append_known held (damage_line key)
-EndsDamaged status.WriteFault key held held_now = (part : List ℕ) × (held_now ≡ append_known held part)
+EndsDamaged status.WriteFault key held held_now = (part : List ℕ) × IsCut part (damage_line key) × (held_now ≡ append_known held part)
 EndsDamaged status.NoMem key held held_now = held_now ≡ held
 EndsDamaged _ key held held_now = ⊥
 
@@ -82,6 +160,8 @@ Closes (Err stops.WriteFailed) is held held_now = (is ≡ status.WriteFault) × 
 Closes (Err stops.NoMem) is held held_now = (is ≡ status.NoMem) × (held_now ≡ held)
 Closes (Err (stops.Damaged damage)) is held held_now = EndsDamaged is damage.key held held_now
 
+-- ---- what a run needs to be made to its end, beside calls that do not fail and memory
+
 -- good, refused, or without memory
 abbrev pub IsPlain : Status → Type 0
 IsPlain status.Good = Unit {0}
@@ -89,9 +169,17 @@ IsPlain status.SomeRefused = Unit {0}
 IsPlain status.NoMem = Unit {0}
 IsPlain _ = ⊥
 
--- the one word of a run
-abbrev pub IsRun : List (List ℕ) → Type 0
-IsRun words = words ≡ codes "run" ∷ []
+-- a source that tells a script within the limit
+pub record IsScript (left : Option (List ℕ)) : Type 0 where
+  pub script : List ℕ
+  pub told : left ≡ Some script
+  pub short : length script ≤ script_limit
+
+-- a script within the limit, and a store that opens; the generated script needs no source, and a check no store
+abbrev pub Suffices : Form → World → Type 0
+Suffices Run before = IsScript before.left × ((m : Model) × Opens before.moment.content m)
+Suffices Check before = IsScript before.left
+Suffices (Fill n) before = (m : Model) × Opens before.moment.content m
 
 -- the numbers of the statuses
 abbrev pub code_of : Status → ℕ

@@ -1,13 +1,18 @@
 -- A part of a script that was fed to the splitter, and what was made of its pieces.
 use Rattle.std.specs.Prelude.{◌≡◌, ℕ, ◌+◌, ◌≤◌, ◌||◌, Bool, true, false, Option, List, [], ◌++◌, length}
-use Rattle.std.specs.Io.KnownBytes.{append_known}
-use Rattle.pq_store.specs.Counts.{Counts}
+use Rattle.std.specs.Io.KnownBytes.{append_known, prepend_known}
+use Rattle.pq_base.specs.declared.refusal.Refusal.TheVariants.{Unfinished}
+use Rattle.pq_builds.specs.Bounds.{bound}
+use Rattle.pq_fill.specs.declared.words.Form.{Form}
+use Rattle.pq_schema.specs.Schema.{Schema}
+use Rattle.pq_text.specs.Pieces.{pieces_of}
 use Rattle.pq_text.specs.declared.piece.Piece.{Piece}
 use Rattle.pq_text.specs.Summaries.{Summary, pieces_from, unfinished_from}
 use Rattle.pq_print.specs.Report.{printed}
-use Rattle.pq_session.specs.Model.{Model}
-use Rattle.pq_shell.specs.Fold.{Served, Stopped}
-use Rattle.pq_shell.specs.Items.{cut_items, rest_report, run_way}
+use Rattle.pq_print.specs.declared.report.Report.{Report}
+use Rattle.pq_session.specs.Step.{refusal_report}
+use Rattle.pq_shell.specs.Fold.{Moment, Served, Stopped}
+use Rattle.pq_shell.specs.Items.{cut_items}
 use Rattle.pq_shell.specs.Reading.{Took}
 use Rattle.pq_shell.specs.Stops.{CutsOff}
 use Rattle.pq_shell.specs.declared.reading.Ending.{Ending}
@@ -22,30 +27,37 @@ pub record Fed (from : Summary) (bytes : List ℕ) (told : List Piece) (to : Sum
   pub rest : (more : List ℕ) → unfinished_from from (bytes ++ more) ≡ unfinished_from to more
 
 -- these bytes were fed, and their pieces were made and numbered on
-pub record Progressed (before now : Model → Type 0) (bytes : List ℕ) (from to : Progress) (held held_now : Option (List ℕ)) (counts counts_now : Counts) : Type 0 where
+pub record Progressed (form : Form) (first last : Schema) (from to : Moment) (bytes : List ℕ) (old now : Progress) : Type 0 where
   pub told : List Piece
-  pub fed : Fed from.splitter bytes told to.splitter
-  pub served : Served run_way before now (from.tally.count + 1) (cut_items told) held held_now counts counts_now from.tally.refused to.tally.refused
-  pub counted : to.tally.count ≡ from.tally.count + length told
-  pub few : to.tally.count ≤ from.tally.count + length bytes
+  pub fed : Fed old.splitter bytes told now.splitter
+  pub served : Served form first last from to (old.tally.count + 1) (cut_items told) old.tally.refused now.tally.refused
+  pub counted : now.tally.count ≡ old.tally.count + length told
+  pub few : now.tally.count ≤ old.tally.count + length bytes
 
 -- the source was read so far, and all of it was fed
-pub record Consumed (ending : Ending) (left left_now : Option (List ℕ)) (before now : Model → Type 0) (from to : Progress) (held held_now : Option (List ℕ)) (counts counts_now : Counts) : Type 0 where
+pub record Consumed (form : Form) (ending : Ending) (left left_now : Option (List ℕ)) (first last : Schema) (from to : Moment) (old now : Progress) : Type 0 where
   pub bytes : List ℕ
   pub took : Took ending left left_now bytes
-  pub progressed : Progressed before now bytes from to held held_now counts counts_now
+  pub progressed : Progressed form first last from to bytes old now
 
--- the run stopped among the pieces of what was read
-pub record StoppedAmong (stop : Stop) (left left_now : Option (List ℕ)) (before now : Model → Type 0) (from : Progress) (held held_now : Option (List ℕ)) : Type 0 where
-  pub bytes : List ℕ
-  pub took : Took Faulted left left_now bytes
-  pub stopped : Stopped run_way stop before now (from.tally.count + 1) (cut_items (pieces_from from.splitter bytes)) held held_now
+-- the run stopped among the pieces of the part that was read last
+pub record StoppedAmong (form : Form) (stop : Stop) (left left_now : Option (List ℕ)) (first : Schema) (from now : Moment) (old : Progress) : Type 0 where
+  pub early : List ℕ
+  pub late : List ℕ
+  pub took : Took Faulted left left_now (early ++ late)
+  pub few : length late ≤ 4096
+  pub stopped : Stopped form stop first from now (old.tally.count + 1) (cut_items (pieces_from old.splitter (early ++ late)))
+  pub reported : length (pieces_from old.splitter early) ≤ length stopped.done
 
 -- the rest is unfinished, and the script was read to its end
 abbrev pub has_rest : Ending → Summary → Bool
 has_rest Whole splitter = unfinished_from splitter []
 has_rest Faulted splitter = false
 has_rest TooLong splitter = false
+
+-- the report of an unfinished rest
+abbrev pub rest_report : ℕ → Report
+rest_report number = refusal_report number Unfinished (bound 0 0)
 
 -- what is written of the rest
 abbrev pub rest_text : Bool → ℕ → List ℕ

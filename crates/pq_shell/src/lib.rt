@@ -1,7 +1,9 @@
-//! The top call: it runs a script from a source over a store, and writes its reports to a sink.
+//! The top call: it runs or checks a script from a source, or runs the generated one, over a store, and writes its
+//! reports to a sink.
 #![tactic(auto)]
 
 mod command_line;
+mod filling;
 mod memory;
 mod outside;
 mod reading;

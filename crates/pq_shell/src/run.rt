@@ -1,23 +1,29 @@
 //! The top call: words, a source, a store and a sink; and how the run ended.
-ghost use Rattle.std.specs.Prelude.{◌≡◌, ◌≢◌, ◌⊎◌, ◌↔◌, ◌+◌, ◌^◌, ◌<◌, ◌≤◌, ℕ, [], List, Option, Some, IsTrue, IfOk, IfErr, IfSome, IsErrOf, length};
+ghost use Rattle.std.specs.Prelude.{◌≡◌, ◌≢◌, ◌⊎◌, ◌↔◌, ◌+◌, ◌^◌, ◌<◌, ◌≤◌, ℕ, List, Option, IfOk, IfErr, IfSome, IsErrOf, length};
 ghost use Rattle.std.specs.Io.KnownBytes.{prepend_known};
+ghost use Rattle.pq_fill.specs.Words.{IsForm};
+ghost use Rattle.pq_fill.specs.declared.words.Form.{Form as Declared};
+ghost use Rattle.pq_fill.specs.declared.words.Form.TheVariants as Form;
+ghost use Rattle.pq_schema.specs.Schema.{Schema};
 ghost use Rattle.pq_store.specs.Content.{HasRisen};
-ghost use Rattle.pq_session.specs.Model.{Model};
-ghost use Rattle.pq_session.specs.Stands.{Opens, HoldsModel, Stands};
 ghost use Rattle.pq_shell.specs.Flaw.{IsFlaw, StopsAtFlaw, EndsAtFlaw};
-ghost use Rattle.pq_shell.specs.Fold.{Opening, StoppedOpening};
+ghost use Rattle.pq_shell.specs.Forms.{HasOpening};
+ghost use Rattle.pq_shell.specs.Making.{IsRead, moment};
+ghost use Rattle.pq_shell.specs.Openings.{OpensWith, StoppedOpening};
 ghost use Rattle.pq_shell.specs.Reading.{script_limit};
-ghost use Rattle.pq_shell.specs.Run.{World, Finished, Broken, Ends, EndsDamaged, Closes, IsPlain, IsRun, status_of};
+ghost use Rattle.pq_shell.specs.Run.{Broken, Closes, Ends, EndsDamaged, Finished, IsMeant, IsPlain, Suffices, status_of, world};
 ghost use Rattle.pq_shell.specs.Serving.{Consumed, StoppedAmong};
 ghost use Rattle.pq_shell.specs.Stops.{Causes};
 
+use crate::filling::fill_store;
 use crate::outside::{Failed, Sink, Source};
 use crate::reading::{Ending, LIMIT, read_past_limit};
 use crate::serving::{Ended, Progress, finish, run_part};
 use crate::status::Status;
 use crate::stop::Stop;
-use crate::writing::{write_damage, write_opening};
-use pq_base::PText;
+use crate::writing::{write_damage, write_opening, write_summary};
+use pq_base::{PText, Used};
+use pq_fill::{Form, form_of};
 use pq_print::Opened;
 use pq_session::Session;
 use pq_store::{Meter, Store};
@@ -27,10 +33,11 @@ use std::sync::ledger::Ledger;
 /// The bytes that are read at once.
 const ROOM: usize = 4096;
 
-fn is_run(words: &[PText]) -> bool
-    ensures { IsTrue result ↔ IsRun words.now }
-{
-    words.len() == 1 && words[0].bytes() == b"run".as_slice()
+/// What a run begins with: the session, and what its opening used.
+#[derive(Drop)]
+struct Begun {
+    session: Session,
+    used: Used,
 }
 
 /// Starts a session on the store, and writes the opening's line.
@@ -39,9 +46,9 @@ fn open<S: Store<L>, O: Sink, L: Ledger>(
     store: &mut S,
     meter: &mut Meter<L>,
     sink: &mut O,
-) -> Result<Session, Stop>
-    ensures ok { IfOk result (λ session. Opening (S.content store.old) (Opens (S.content store.old)) (Stands (S.content store.new) session) (O.held sink.old) (O.held sink.new) meter.old meter.new) }
-    ensures err { IfErr result (λ stop. StoppedOpening (S.content store.old) stop (Opens (S.content store.old)) (Opens (S.content store.new)) (O.held sink.old) (O.held sink.new)) }
+) -> Result<Begun, Stop>
+    ensures ok { IfOk result (λ begun. (form : Declared) → HasOpening form → OpensWith form begun (moment (S.content store.old) (O.held sink.old) meter.old) (moment (S.content store.new) (O.held sink.new) meter.new)) }
+    ensures err { IfErr result (λ stop. StoppedOpening stop (moment (S.content store.old) (O.held sink.old) meter.old) (moment (S.content store.new) (O.held sink.new) meter.new)) }
     ensures flawed { IfSome (S.content store.old) (λ pairs. (key : List ℕ) → IsFlaw pairs key → StopsAtFlaw key result (O.held sink.old) (O.held sink.new)) }
     ensures causes { Causes (S.faults store.old) (S.faults store.new) (O.faults sink.old) (O.faults sink.new) result }
 {
@@ -55,12 +62,39 @@ fn open<S: Store<L>, O: Sink, L: Ledger>(
         used: started.used,
     };
     write_opening(alloc, &opened, sink)?;
-    Ok(started.session)
+    Ok(Begun {
+        session: started.session,
+        used: started.used,
+    })
+}
+
+/// Begins a run: the store is opened, but for a check.
+fn begin<S: Store<L>, O: Sink, L: Ledger>(
+    alloc: Global,
+    form: Form,
+    store: &mut S,
+    meter: &mut Meter<L>,
+    sink: &mut O,
+) -> Result<Begun, Stop>
+    ensures ok { IfOk result (λ begun. OpensWith form begun (moment (S.content store.old) (O.held sink.old) meter.old) (moment (S.content store.new) (O.held sink.new) meter.new)) }
+    ensures err { IfErr result (λ stop. HasOpening form × StoppedOpening stop (moment (S.content store.old) (O.held sink.old) meter.old) (moment (S.content store.new) (O.held sink.new) meter.new)) }
+    ensures unmoved { form ≡ Form.Check → (store.new ≡ store.old) × (meter.new ≡ meter.old) }
+    ensures flawed { HasOpening form → IfSome (S.content store.old) (λ pairs. (key : List ℕ) → IsFlaw pairs key → StopsAtFlaw key result (O.held sink.old) (O.held sink.new)) }
+    ensures causes { Causes (S.faults store.old) (S.faults store.new) (O.faults sink.old) (O.faults sink.new) result }
+{
+    match form {
+        Form::Run | Form::Fill(_) => open(alloc, store, meter, sink),
+        Form::Check => Ok(Begun {
+            session: Session::blank(alloc),
+            used: Used { ops: 0, entries: 0 },
+        }),
+    }
 }
 
 /// Reads the source to its end, a fault or the limit, and makes and reports each piece as it is cut.
 fn run_source<S: Store<L>, I: Source, O: Sink, L: Ledger>(
     alloc: Global,
+    form: Form,
     session: Session,
     progress: &mut Progress,
     source: &mut I,
@@ -68,11 +102,13 @@ fn run_source<S: Store<L>, I: Source, O: Sink, L: Ledger>(
     meter: &mut Meter<L>,
     sink: &mut O,
 ) -> Result<Ending, Stop>
-    requires { progress.old.tally.count + script_limit < 2 ^ 32 }
-    ensures ok { IfOk result (λ ending. Consumed ending (I.left source.old) (I.left source.new) (Stands (S.content store.old) session) (HoldsModel (S.content store.new)) progress.old progress.new
-        (O.held sink.old) (O.held sink.new) meter.old meter.new) }
-    ensures err { IfErr result (λ stop. StoppedAmong stop (I.left source.old) (I.left source.new) (Stands (S.content store.old) session) (Opens (S.content store.new)) progress.old
-        (O.held sink.old) (O.held sink.new)) }
+    requires few { progress.old.tally.count + script_limit < 2 ^ 32 }
+    requires read { IsRead form }
+    ensures ok { IfOk result (λ ending. (last : Schema) × Consumed form ending (I.left source.old) (I.left source.new) session last
+        (moment (S.content store.old) (O.held sink.old) meter.old) (moment (S.content store.new) (O.held sink.new) meter.new) progress.old progress.new) }
+    ensures err { IfErr result (λ stop. StoppedAmong form stop (I.left source.old) (I.left source.new) session
+        (moment (S.content store.old) (O.held sink.old) meter.old) (moment (S.content store.new) (O.held sink.new) meter.new) progress.old) }
+    ensures unmoved { form ≡ Form.Check → (store.new ≡ store.old) × (meter.new ≡ meter.old) }
     ensures causes { Causes (S.faults store.old) (S.faults store.new) (O.faults sink.old) (O.faults sink.new) result }
     ensures taken { (taken : List ℕ) × (I.left source.old ≡ prepend_known taken (I.left source.new)) × (length taken ≤ script_limit + 1) }
     ensures later { I.faults source.old ≤ I.faults source.new }
@@ -90,36 +126,108 @@ fn run_source<S: Store<L>, I: Source, O: Sink, L: Ledger>(
         if n == 0 {
             return Ok(Ending::Whole);
         }
-        session = run_part(alloc, session, &room[..n], progress, store, meter, sink)?;
+        session = run_part(
+            alloc,
+            form,
+            session,
+            &room[..n],
+            progress,
+            store,
+            meter,
+            sink,
+        )?;
         taken += n;
     }
     Ok(read_past_limit(source))
 }
 
-/// Opens the store and runs the script of the source.
+/// Begins a run, and runs the script of the source.
 fn run_script<S: Store<L>, I: Source, O: Sink, L: Ledger>(
     alloc: Global,
+    form: Form,
     source: &mut I,
     store: &mut S,
     meter: &mut Meter<L>,
     sink: &mut O,
 ) -> Result<Ended, Stop>
-    ensures ok { IfOk result (λ ended. Finished ended.ending ended.refused
-        (record { left = I.left source.old; content = S.content store.old; held = O.held sink.old; counts = meter.old })
-        (record { left = I.left source.new; content = S.content store.new; held = O.held sink.new; counts = meter.new })) }
-    ensures err { IfErr result (λ stop. Broken stop
-        (record { left = I.left source.old; content = S.content store.old; held = O.held sink.old; counts = meter.old })
-        (record { left = I.left source.new; content = S.content store.new; held = O.held sink.new; counts = meter.new })) }
-    ensures flawed { IfSome (S.content store.old) (λ pairs. (key : List ℕ) → IsFlaw pairs key → StopsAtFlaw key result (O.held sink.old) (O.held sink.new)) }
+    requires { IsRead form }
+    ensures ok { IfOk result (λ ended. Finished form ended.ending ended.refused
+        (world (I.left source.old) (S.content store.old) (O.held sink.old) meter.old) (world (I.left source.new) (S.content store.new) (O.held sink.new) meter.new)) }
+    ensures err { IfErr result (λ stop. Broken form stop
+        (world (I.left source.old) (S.content store.old) (O.held sink.old) meter.old) (world (I.left source.new) (S.content store.new) (O.held sink.new) meter.new)) }
+    ensures flawed { HasOpening form → IfSome (S.content store.old) (λ pairs. (key : List ℕ) → IsFlaw pairs key → StopsAtFlaw key result (O.held sink.old) (O.held sink.new)) }
+    ensures unmoved { form ≡ Form.Check → (store.new ≡ store.old) × (meter.new ≡ meter.old) }
     ensures causes { Causes (S.faults store.old) (S.faults store.new) (O.faults sink.old) (O.faults sink.new) result }
     ensures taken { (taken : List ℕ) × (I.left source.old ≡ prepend_known taken (I.left source.new)) × (length taken ≤ script_limit + 1) }
     ensures later { I.faults source.old ≤ I.faults source.new }
     ensures read_fault { IfOk result (λ ended. ended.ending ≡ Ending.Faulted → HasRisen (I.faults source.old) (I.faults source.new)) }
 {
-    let session = open(alloc, store, meter, sink)?;
+    let begun = begin(alloc, form, store, meter, sink)?;
     let mut progress = Progress::new(alloc);
-    let ending = run_source(alloc, session, &mut progress, source, store, meter, sink)?;
+    let ending = run_source(
+        alloc,
+        form,
+        begun.session,
+        &mut progress,
+        source,
+        store,
+        meter,
+        sink,
+    )?;
     finish(alloc, ending, progress, sink)
+}
+
+/// Begins a run, makes the statements of the generated script for n users, and writes the summary.
+fn run_fill<S: Store<L>, O: Sink, L: Ledger>(
+    alloc: Global,
+    n: u32,
+    store: &mut S,
+    meter: &mut Meter<L>,
+    sink: &mut O,
+) -> Result<Ended, Stop>
+    requires { (1 ≤ n) × (n ≤ 20000) }
+    ensures ok { IfOk result (λ ended. (left : Option (List ℕ)) → Finished (Form.Fill n) ended.ending ended.refused
+        (world left (S.content store.old) (O.held sink.old) meter.old) (world left (S.content store.new) (O.held sink.new) meter.new)) }
+    ensures whole { IfOk result (λ ended. ended.ending ≡ Ending.Whole) }
+    ensures err { IfErr result (λ stop. (left : Option (List ℕ)) → Broken (Form.Fill n) stop
+        (world left (S.content store.old) (O.held sink.old) meter.old) (world left (S.content store.new) (O.held sink.new) meter.new)) }
+    ensures flawed { IfSome (S.content store.old) (λ pairs. (key : List ℕ) → IsFlaw pairs key → StopsAtFlaw key result (O.held sink.old) (O.held sink.new)) }
+    ensures causes { Causes (S.faults store.old) (S.faults store.new) (O.faults sink.old) (O.faults sink.new) result }
+{
+    let begun = begin(alloc, Form::Fill(n), store, meter, sink)?;
+    let filled = fill_store(alloc, n, begun.session, begun.used, store, meter)?;
+    write_summary(alloc, n, &filled.summary, sink)?;
+    Ok(Ended {
+        ending: Ending::Whole,
+        refused: filled.refused,
+    })
+}
+
+/// Runs what the form tells: the script of the source, or the generated one.
+fn run_form<S: Store<L>, I: Source, O: Sink, L: Ledger>(
+    alloc: Global,
+    form: Form,
+    source: &mut I,
+    store: &mut S,
+    meter: &mut Meter<L>,
+    sink: &mut O,
+) -> Result<Ended, Stop>
+    requires { IsMeant form }
+    ensures ok { IfOk result (λ ended. Finished form ended.ending ended.refused
+        (world (I.left source.old) (S.content store.old) (O.held sink.old) meter.old) (world (I.left source.new) (S.content store.new) (O.held sink.new) meter.new)) }
+    ensures err { IfErr result (λ stop. Broken form stop
+        (world (I.left source.old) (S.content store.old) (O.held sink.old) meter.old) (world (I.left source.new) (S.content store.new) (O.held sink.new) meter.new)) }
+    ensures flawed { HasOpening form → IfSome (S.content store.old) (λ pairs. (key : List ℕ) → IsFlaw pairs key → StopsAtFlaw key result (O.held sink.old) (O.held sink.new)) }
+    ensures unmoved { form ≡ Form.Check → (store.new ≡ store.old) × (meter.new ≡ meter.old) }
+    ensures unread { (n : ℕ) → form ≡ Form.Fill n → source.new ≡ source.old }
+    ensures causes { Causes (S.faults store.old) (S.faults store.new) (O.faults sink.old) (O.faults sink.new) result }
+    ensures taken { (taken : List ℕ) × (I.left source.old ≡ prepend_known taken (I.left source.new)) × (length taken ≤ script_limit + 1) }
+    ensures read_fault { IfOk result (λ ended. ended.ending ≡ Ending.Faulted → HasRisen (I.faults source.old) (I.faults source.new)) }
+{
+    match form {
+        Form::Run | Form::Check => run_script(alloc, form, source, store, meter, sink),
+        Form::Fill(n) => run_fill(alloc, n, store, meter, sink),
+    }
 }
 
 fn status_of(ended: Ended) -> Status
@@ -166,32 +274,36 @@ fn close<O: Sink>(alloc: Global, outcome: Result<Ended, Stop>, sink: &mut O) -> 
     }
 }
 
-/// Runs the script of the source, and says how it ended.
+/// Runs what the form tells, and says how it ended.
 fn run<S: Store<L>, I: Source, O: Sink, L: Ledger>(
     alloc: Global,
+    form: Form,
     source: &mut I,
     store: &mut S,
     sink: &mut O,
     meter: &mut Meter<L>,
 ) -> Status
-    ensures ends { Ends result
-        (record { left = I.left source.old; content = S.content store.old; held = O.held sink.old; counts = meter.old })
-        (record { left = I.left source.new; content = S.content store.new; held = O.held sink.new; counts = meter.new }) }
-    ensures flawed { IfSome (S.content store.old) (λ pairs. (key : List ℕ) → IsFlaw pairs key → EndsAtFlaw key result (O.held sink.old) (O.held sink.new)) }
-    ensures ran { result ≢ Status.Usage }
+    requires { IsMeant form }
+    ensures ends { Ends form result
+        (world (I.left source.old) (S.content store.old) (O.held sink.old) meter.old) (world (I.left source.new) (S.content store.new) (O.held sink.new) meter.new) }
+    ensures flawed { HasOpening form → IfSome (S.content store.old) (λ pairs. (key : List ℕ) → IsFlaw pairs key → EndsAtFlaw key result (O.held sink.old) (O.held sink.new)) }
+    ensures unmoved { form ≡ Form.Check → (store.new ≡ store.old) × (meter.new ≡ meter.old) }
+    ensures unread { (n : ℕ) → form ≡ Form.Fill n → source.new ≡ source.old }
     ensures read_fault { result ≡ Status.ReadFault → HasRisen (I.faults source.old) (I.faults source.new) }
     ensures write_fault { result ≡ Status.WriteFault → HasRisen (O.faults sink.old) (O.faults sink.new) }
     ensures store_fault { result ≡ Status.StoreFault → HasRisen (S.faults store.old) (S.faults store.new) }
     ensures taken { (taken : List ℕ) × (I.left source.old ≡ prepend_known taken (I.left source.new)) × (length taken ≤ script_limit + 1) }
 {
-    let outcome = run_script(alloc, source, store, meter, sink);
+    let outcome = run_form(alloc, form, source, store, meter, sink);
     close(alloc, outcome, sink)
 }
 
-/// Runs the script of a source over a store, and writes its reports to a sink.
+/// Runs a script over a store, and writes its reports to a sink.
 ///
-/// The words are `run`; other words are of no form. The store is opened first and the opening's
-/// line written; then each statement is made as soon as it is read, and its report is written
+/// The words are `run`: the script of the source; `check`: the same without the store, as over tables
+/// without rows; or `fill` and a number from 1 to 20,000: the generated script for so many users, of whose
+/// reports a summary is written. Other words are of no form. But for a check, the store is opened first
+/// and the opening's line written. Each statement is made as soon as it is read, and its report is written
 /// before the next one is made.
 pub fn run_piql<S: Store<L>, I: Source, O: Sink, L: Ledger>(
     alloc: Global,
@@ -201,24 +313,28 @@ pub fn run_piql<S: Store<L>, I: Source, O: Sink, L: Ledger>(
     sink: &mut O,
     meter: &mut Meter<L>,
 ) -> Status
-    ensures ends { Ends result
-        (record { left = I.left source.old; content = S.content store.old; held = O.held sink.old; counts = meter.old })
-        (record { left = I.left source.new; content = S.content store.new; held = O.held sink.new; counts = meter.new }) }
+    ensures ends { (form : Declared) → IsForm form words.now → Ends form result
+        (world (I.left source.old) (S.content store.old) (O.held sink.old) meter.old) (world (I.left source.new) (S.content store.new) (O.held sink.new) meter.new) }
     // Where the intent or the catalog of a told content is flawed, the line of the first flaw is all that is written; or a
     // call fails, or there is no memory.
-    ensures flawed { IsRun words.now → IfSome (S.content store.old) (λ pairs. (key : List ℕ) → IsFlaw pairs key → EndsAtFlaw key result (O.held sink.old) (O.held sink.new)) }
-    ensures usage { result ≡ Status.Usage ↔ ¬ IsRun words.now }
+    ensures flawed { (form : Declared) → IsForm form words.now → HasOpening form
+        → IfSome (S.content store.old) (λ pairs. (key : List ℕ) → IsFlaw pairs key → EndsAtFlaw key result (O.held sink.old) (O.held sink.new)) }
+    ensures usage { result ≡ Status.Usage ↔ ((form : Declared) → ¬ IsForm form words.now) }
+    ensures untouched { result ≡ Status.Usage → (source.new ≡ source.old) × (store.new ≡ store.old) × (sink.new ≡ sink.old) × (meter.new ≡ meter.old) }
+    // A check makes no call of the store, and the generated script none of the source.
+    ensures unmoved { IsForm Form.Check words.now → (store.new ≡ store.old) × (meter.new ≡ meter.old) }
+    ensures unread { (n : ℕ) → IsForm (Form.Fill n) words.now → source.new ≡ source.old }
     ensures read_fault { result ≡ Status.ReadFault → HasRisen (I.faults source.old) (I.faults source.new) }
     ensures write_fault { result ≡ Status.WriteFault → HasRisen (O.faults sink.old) (O.faults sink.new) }
     ensures store_fault { result ≡ Status.StoreFault → HasRisen (S.faults store.old) (S.faults store.new) }
     ensures taken { (taken : List ℕ) × (I.left source.old ≡ prepend_known taken (I.left source.new)) × (length taken ≤ script_limit + 1) }
-    ensures complete { IsRun words.now
-        → ¬ HasRisen (I.faults source.old) (I.faults source.new) → ¬ HasRisen (O.faults sink.old) (O.faults sink.new) → ¬ HasRisen (S.faults store.old) (S.faults store.new)
-        → (script : List ℕ) → I.left source.old ≡ Some script → length script ≤ script_limit
-        → (m : Model) → Opens (S.content store.old) m → IsPlain result }
+    ensures complete { (form : Declared) → IsForm form words.now
+        → (IsRead form → ¬ HasRisen (I.faults source.old) (I.faults source.new)) → ¬ HasRisen (O.faults sink.old) (O.faults sink.new)
+        → (HasOpening form → ¬ HasRisen (S.faults store.old) (S.faults store.new))
+        → Suffices form (world (I.left source.old) (S.content store.old) (O.held sink.old) meter.old) → IsPlain result }
 {
-    if !is_run(words) {
-        return Status::Usage;
+    match form_of(words) {
+        None => Status::Usage,
+        Some(form) => run(alloc, form, source, store, sink, meter),
     }
-    run(alloc, source, store, sink, meter)
 }

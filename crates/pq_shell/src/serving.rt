@@ -4,10 +4,11 @@ ghost use Rattle.std.specs.Io.KnownBytes.{append_known};
 ghost use Rattle.pq_store.specs.Content.{HasRisen};
 ghost use Rattle.pq_text.specs.Summaries.{start, pieces_from};
 ghost use Rattle.pq_print.specs.Report.{printed};
-ghost use Rattle.pq_session.specs.Stands.{Stands, Opens};
+ghost use Rattle.pq_fill.specs.declared.words.Form.TheVariants as Form;
 ghost use Rattle.pq_shell.specs.Fold.{Served, Stopped};
-ghost use Rattle.pq_shell.specs.Items.{Cut, cut_items, rest_report, run_way};
-ghost use Rattle.pq_shell.specs.Serving.{Progressed, ReportsRest, StoppedAtRest, has_rest};
+ghost use Rattle.pq_shell.specs.Items.{Cut, cut_items};
+ghost use Rattle.pq_shell.specs.Making.{BreaksAt, IsRead, Makes, moment};
+ghost use Rattle.pq_shell.specs.Serving.{Progressed, ReportsRest, StoppedAtRest, has_rest, rest_report};
 ghost use Rattle.pq_shell.specs.Stops.{CutsOff, Causes};
 
 use crate::outside::Sink;
@@ -15,6 +16,7 @@ use crate::reading::Ending;
 use crate::stop::Stop;
 use crate::writing::write_report;
 use pq_base::{Bound, List, NoMem, Refusal, Used};
+use pq_fill::Form;
 use pq_print::{End, Report};
 use pq_session::Session;
 use pq_store::{Meter, Store};
@@ -74,9 +76,37 @@ impl Progress {
     }
 }
 
+/// Makes a piece in the way of a form: over the store, or for a check without it.
+pub fn make<S: Store<L>, L: Ledger>(
+    alloc: Global,
+    form: Form,
+    session: Session,
+    number: u32,
+    piece: &Piece,
+    store: &mut S,
+    meter: &mut Meter<L>,
+) -> Result<(Session, Report), Stop>
+    ensures ok { IfOk result (λ p. Makes form (Cut piece.now) number session p.0 (S.content store.old) (S.content store.new) meter.old meter.new p.1) }
+    ensures err { IfErr result (λ stop. BreaksAt form stop (Cut piece.now) number session (S.content store.old) (S.content store.new) meter.old meter.new) }
+    ensures unmoved { form ≡ Form.Check → (store.new ≡ store.old) × (meter.new ≡ meter.old) }
+    ensures causes { Causes (S.faults store.old) (S.faults store.new) 0 0 result }
+{
+    match form {
+        Form::Check => match session.check(alloc, number, piece) {
+            Ok(made) => Ok(made),
+            Err(NoMem) => Err(Stop::NoMem),
+        },
+        Form::Run | Form::Fill(_) => match session.statement(alloc, number, piece, store, meter) {
+            Ok(made) => Ok(made),
+            Err(broke) => Err(Stop::of(broke)),
+        },
+    }
+}
+
 /// Makes the next piece and writes its report.
 fn serve<S: Store<L>, O: Sink, L: Ledger>(
     alloc: Global,
+    form: Form,
     session: Session,
     piece: &Piece,
     tally: &mut Tally,
@@ -84,19 +114,18 @@ fn serve<S: Store<L>, O: Sink, L: Ledger>(
     meter: &mut Meter<L>,
     sink: &mut O,
 ) -> Result<Session, Stop>
-    requires { tally.old.count + 1 < 2 ^ 32 }
-    ensures ok { IfOk result (λ next. Served run_way (Stands (S.content store.old) session) (Stands (S.content store.new) next) (tally.old.count + 1) (Cut piece.now ∷ [])
-        (O.held sink.old) (O.held sink.new) meter.old meter.new tally.old.refused tally.new.refused) }
+    requires few { tally.old.count + 1 < 2 ^ 32 }
+    requires read { IsRead form }
+    ensures ok { IfOk result (λ next. Served form session next (moment (S.content store.old) (O.held sink.old) meter.old) (moment (S.content store.new) (O.held sink.new) meter.new)
+        (tally.old.count + 1) (Cut piece.now ∷ []) tally.old.refused tally.new.refused) }
     ensures count { OnOk result (tally.new.count ≡ tally.old.count + 1) }
-    ensures err { IfErr result (λ stop. Stopped run_way stop (Stands (S.content store.old) session) (Opens (S.content store.new)) (tally.old.count + 1) (Cut piece.now ∷ [])
-        (O.held sink.old) (O.held sink.new)) }
+    ensures err { IfErr result (λ stop. Stopped form stop session (moment (S.content store.old) (O.held sink.old) meter.old) (moment (S.content store.new) (O.held sink.new) meter.new)
+        (tally.old.count + 1) (Cut piece.now ∷ [])) }
+    ensures unmoved { form ≡ Form.Check → (store.new ≡ store.old) × (meter.new ≡ meter.old) }
     ensures causes { Causes (S.faults store.old) (S.faults store.new) (O.faults sink.old) (O.faults sink.new) result }
 {
     let number = tally.count + 1;
-    let (next, report) = match session.statement(alloc, number, piece, store, meter) {
-        Ok(made) => made,
-        Err(broke) => return Err(Stop::of(broke)),
-    };
+    let (next, report) = make(alloc, form, session, number, piece, store, meter)?;
     write_report(alloc, &report, sink)?;
     *tally = tally.with(report.is_refusal());
     Ok(next)
@@ -105,6 +134,7 @@ fn serve<S: Store<L>, O: Sink, L: Ledger>(
 /// Cuts a part of a script, and makes and reports the pieces that end in it.
 pub fn run_part<S: Store<L>, O: Sink, L: Ledger>(
     alloc: Global,
+    form: Form,
     session: Session,
     bytes: &[u8],
     progress: &mut Progress,
@@ -112,11 +142,13 @@ pub fn run_part<S: Store<L>, O: Sink, L: Ledger>(
     meter: &mut Meter<L>,
     sink: &mut O,
 ) -> Result<Session, Stop>
-    requires { progress.old.tally.count + length bytes.now < 2 ^ 32 }
-    ensures ok { IfOk result (λ next. Progressed (Stands (S.content store.old) session) (Stands (S.content store.new) next) bytes.now progress.old progress.new
-        (O.held sink.old) (O.held sink.new) meter.old meter.new) }
-    ensures err { IfErr result (λ stop. Stopped run_way stop (Stands (S.content store.old) session) (Opens (S.content store.new)) (progress.old.tally.count + 1)
-        (cut_items (pieces_from progress.old.splitter bytes.now)) (O.held sink.old) (O.held sink.new)) }
+    requires few { progress.old.tally.count + length bytes.now < 2 ^ 32 }
+    requires read { IsRead form }
+    ensures ok { IfOk result (λ next. Progressed form session next (moment (S.content store.old) (O.held sink.old) meter.old) (moment (S.content store.new) (O.held sink.new) meter.new)
+        bytes.now progress.old progress.new) }
+    ensures err { IfErr result (λ stop. Stopped form stop session (moment (S.content store.old) (O.held sink.old) meter.old) (moment (S.content store.new) (O.held sink.new) meter.new)
+        (progress.old.tally.count + 1) (cut_items (pieces_from progress.old.splitter bytes.now))) }
+    ensures unmoved { form ≡ Form.Check → (store.new ≡ store.old) × (meter.new ≡ meter.old) }
     ensures causes { Causes (S.faults store.old) (S.faults store.new) (O.faults sink.old) (O.faults sink.new) result }
 {
     let mut session = session;
@@ -130,6 +162,7 @@ pub fn run_part<S: Store<L>, O: Sink, L: Ledger>(
         if let Some(piece) = piece {
             session = serve(
                 alloc,
+                form,
                 session,
                 &piece,
                 &mut progress.tally,

@@ -1,12 +1,14 @@
 //! The lines of a run, written as they are made.
 ghost use Rattle.std.specs.Prelude.{◌≡◌, ◌≤◌, OnOk, IfErr};
 ghost use Rattle.std.specs.Io.KnownBytes.{append_known};
+ghost use Rattle.pq_fill.specs.Summary.{summary_text};
 ghost use Rattle.pq_print.specs.Report.{printed, opening_line, damage_line};
 ghost use Rattle.pq_shell.specs.Stops.{CutsOff, Causes};
 
 use crate::outside::{Failed, Sink, write_all};
 use crate::stop::Stop;
 use pq_base::{Bytes, List, NoMem};
+use pq_fill::{Summary, print_summary};
 use pq_print::{Opened, Report, print_damage, print_opening, print_report};
 use std::alloc::Global;
 
@@ -55,6 +57,24 @@ pub fn write_damage<O: Sink>(alloc: Global, key: &[u8], sink: &mut O) -> Result<
 {
     let mut text = List::new(alloc);
     match print_damage(alloc, key, &mut text) {
+        Ok(()) => write_text(&text, sink),
+        Err(NoMem) => Err(Stop::NoMem),
+    }
+}
+
+/// Writes the summary of a generated script.
+pub fn write_summary<O: Sink>(
+    alloc: Global,
+    n: u32,
+    summary: &Summary,
+    sink: &mut O,
+) -> Result<(), Stop>
+    ensures ok { OnOk result (O.held sink.new ≡ append_known (O.held sink.old) (summary_text n summary.now)) }
+    ensures err { IfErr result (λ stop. CutsOff stop (summary_text n summary.now) (O.held sink.old) (O.held sink.new)) }
+    ensures causes { Causes 0 0 (O.faults sink.old) (O.faults sink.new) result }
+{
+    let mut text = List::new(alloc);
+    match print_summary(alloc, n, summary, &mut text) {
         Ok(()) => write_text(&text, sink),
         Err(NoMem) => Err(Stop::NoMem),
     }

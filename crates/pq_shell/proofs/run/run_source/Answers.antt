@@ -8,13 +8,13 @@ use Rattle.pq_shell.proofs.SoFar.{SoFar-start, SoFar-more, SoFar-taken, SoFar-fa
 use Rattle.pq_shell.proofs.run.run_source.Goals as goal
 
 pub loop-taken-init : goal.loop-taken-init
-loop-taken-init g c = record { within = search rules; store_later = search rules; sink_later = search rules; source_later = search rules; so_far = SoFar-start _ _ _ _ _ }
+loop-taken-init g c = record { within = search rules; store_later = search rules; sink_later = search rules; source_later = search rules; unmoved = search rules; so_far = SoFar-start _ _ _ _ _ }
 
 pub returns-in-Err-clause-ok : goal.returns-in-Err-clause-ok
-returns-in-Err-clause-ok g c = SoFar-faulted c.loop-taken.invariant.so_far c.in-Err.ensures.kept (search rules) (λ m s. s.settled)
+returns-in-Err-clause-ok g c = (_, SoFar-faulted c.loop-taken.invariant.so_far c.in-Err.ensures.kept (search rules))
 
 pub returns-then-n-eq0-clause-ok : goal.returns-then-n-eq0-clause-ok
-returns-then-n-eq0-clause-ok g c = SoFar-whole c.in-Ok.n c.read.new.room c.loop-taken.invariant.so_far c.in-Ok.ensures.taken (search rules) (search rules) (search rules) (λ m s. s.settled)
+returns-then-n-eq0-clause-ok g c = (_, SoFar-whole c.in-Ok.n c.read.new.room c.loop-taken.invariant.so_far c.in-Ok.ensures.taken (search rules) (search rules) (search rules))
 
 pub returns-in_err-session-clause-err : goal.returns-in_err-session-clause-err
 returns-in_err-session-clause-err g c =
@@ -23,8 +23,9 @@ returns-in_err-session-clause-err g c =
     let behind = drop c.min-want.result c.loop-taken.room in
     let within : n ≤ length c.read.new.room = omega (arith, c.read.auto.room, c.in-Ok.ensures.within) in
     let short : c.loop-taken.taken + n ≤ script_limit = omega (arith, c.in-Ok.ensures.within, length-take c.min-want.result c.loop-taken.room, c.min-want.ensures) in
+    let small : n ≤ 4096 = omega (arith, c.in-Ok.ensures.within, length-take c.min-want.result c.loop-taken.room, c.min-want.ensures) in
     let next = c.in-Ok.ensures.taken ∙ ap (λ b. prepend_known b (g.I.Source.left c.read.new.self)) (sym (room_front n c.read.new.room behind within)) in
-    rw (p.1, p.2) (SoFar-stopped n (take n (c.read.new.room ++ behind)) c.loop-taken.invariant.so_far next (room_long n c.read.new.room behind within) short c.in_err-session.ensures.err)
+    rw (p.1, p.2) (SoFar-stopped n (take n (c.read.new.room ++ behind)) c.loop-taken.invariant.so_far next (room_long n c.read.new.room behind within) small short c.in_err-session.ensures.err)
 
 pub returns-in_err-session-clause-taken : goal.returns-in_err-session-clause-taken
 returns-in_err-session-clause-taken g c =
@@ -44,11 +45,12 @@ loop-taken-preserved g c =
       store_later = search rules;
       sink_later = search rules;
       source_later = search rules;
+      unmoved = search rules;
       so_far = SoFar-more n (take n (c.read.new.room ++ behind)) c.loop-taken.invariant.so_far next (room_long n c.read.new.room behind within) c.in_ok-session.ensures.ok;
     }
 
 pub returns-clause-ok : goal.returns-clause-ok
-returns-clause-ok g c = SoFar-past c.read_past_limit.result c.loop-taken.invariant.so_far (search rules) c.read_past_limit.ensures.took (λ m s. s.settled)
+returns-clause-ok g c = (_, SoFar-past c.read_past_limit.result c.loop-taken.invariant.so_far (search rules) c.read_past_limit.ensures.took)
 
 pub returns-clause-taken : goal.returns-clause-taken
 returns-clause-taken g c =

@@ -2,8 +2,7 @@ use Rattle.std.proofs.Common.{rules, ◌-◌, ◌<◌, take, drop, length, sym, 
 use Rattle.std.proofs.lemmas.Result.{err_from_is_err_and}
 use Rattle.std.proofs.lemmas.List.{take-append-drop}
 use Rattle.pq_text.specs.Pieces.{listed}
-use Rattle.pq_session.proofs.Standing.{settled_opens}
-use Rattle.pq_shell.specs.Items.{run_way}
+use Rattle.pq_shell.proofs.Ending.{stands_opens}
 use Rattle.pq_shell.specs.Serving.{Fed}
 use Rattle.pq_shell.proofs.Known.{take_two, length_part}
 use Rattle.pq_shell.proofs.Folding.{Stopped-between}
@@ -11,13 +10,13 @@ use Rattle.pq_shell.proofs.Parts.{Progressed-none, Progressed-more, Progressed-p
 use Rattle.pq_shell.proofs.serving.run_part.Goals as goal
 
 pub loop-at-init : goal.loop-at-init
-loop-at-init g c = record { within = search rules; store_later = search rules; sink_later = search rules; progressed = Progressed-none _ _ _ _ }
+loop-at-init g c = record { within = search rules; store_later = search rules; sink_later = search rules; unmoved = search rules; progressed = Progressed-none _ _ _ _ }
 
 pub returns-in-Err-clause-err : goal.returns-in-Err-clause-err
 returns-in-Err-clause-err g c =
     let bytes = c.args.bytes.now in
     let at = c.loop-at.at in
-    Stopped-later (drop at bytes) bytes (sym (take-append-drop at bytes)) c.loop-at.invariant.progressed (Stopped-between run_way _ _ _ (λ m s. settled_opens s.settled))
+    Stopped-later (drop at bytes) bytes (sym (take-append-drop at bytes)) c.loop-at.invariant.progressed (Stopped-between c.args.form _ _ _ _ (λ m. stands_opens c.args.form _ _ m))
 
 pub returns-in_err-session-clause-err : goal.returns-in_err-session-clause-err
 returns-in_err-session-clause-err g c =
@@ -41,6 +40,7 @@ loop-at-preserved-in_ok-session g c =
       within = search rules;
       store_later = search rules;
       sink_later = search rules;
+      unmoved = search rules;
       progressed = Progressed-at (take_two bytes at n) (Progressed-piece part c.in-Some.piece c.loop-at.invariant.progressed (Fed-told c.in-Ok.fed.1 _ fed (ap listed c.in-Some.is)) c.in_ok-session.ensures.ok c.in_ok-session.ensures.count some);
     }
 
@@ -56,6 +56,7 @@ loop-at-preserved-in_ok-session-2 g c =
       within = search rules;
       store_later = search rules;
       sink_later = search rules;
+      unmoved = search rules;
       progressed = Progressed-at (take_two bytes at n) (Progressed-piece part c.in-Some.piece c.loop-at.invariant.progressed (Fed-told c.in-Ok.fed.1 _ fed (ap listed c.in-Some.is)) c.in_ok-session.ensures.ok c.in_ok-session.ensures.count some);
     }
 
@@ -70,5 +71,6 @@ loop-at-preserved g c =
       within = search rules;
       store_later = search rules;
       sink_later = search rules;
+      unmoved = search rules;
       progressed = Progressed-at (take_two bytes at n) (Progressed-more part c.feed.new.self c.loop-at.invariant.progressed (Fed-told c.in-Ok.fed.1 _ fed (ap listed c.in_default.is)));
     }

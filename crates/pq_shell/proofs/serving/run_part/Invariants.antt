@@ -1,5 +1,6 @@
-use Rattle.std.proofs.Common.{◌-◌, ◌≤◌, length, take}
-use Rattle.pq_session.specs.Stands.{Stands}
+use Rattle.std.proofs.Common.{◌≡◌, ◌-◌, ◌≤◌, length, take}
+use Rattle.pq_fill.specs.declared.words.Form.TheVariants.{Check}
+use Rattle.pq_shell.specs.Making.{moment}
 use Rattle.pq_shell.specs.Serving.{Progressed}
 use Rattle.pq_shell.proofs.serving.run_part.Given as goal
 
@@ -8,7 +9,9 @@ invariant-loop-at g l = record {
   within : l.at ≤ length l.bytes;
   store_later : g.S.Store.faults l.initial.store ≤ g.S.Store.faults l.store;
   sink_later : g.O.Sink.faults l.initial.sink ≤ g.O.Sink.faults l.sink;
-  progressed : Progressed (Stands (g.S.Store.content l.initial.store) l.initial.session) (Stands (g.S.Store.content l.store) l.session) (take l.at l.bytes) l.initial.progress l.progress (g.O.Sink.held l.initial.sink) (g.O.Sink.held l.sink) l.initial.meter l.meter;
+  unmoved : l.form ≡ Check → (l.store ≡ l.initial.store) × (l.meter ≡ l.initial.meter);
+  progressed : Progressed l.form l.initial.session l.session (moment (g.S.Store.content l.initial.store) (g.O.Sink.held l.initial.sink) l.initial.meter)
+      (moment (g.S.Store.content l.store) (g.O.Sink.held l.sink) l.meter) (take l.at l.bytes) l.initial.progress l.progress;
 }
 
 abbrev pub decreases-loop-at : goal.decreases-loop-at

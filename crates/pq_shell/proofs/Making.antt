@@ -1,0 +1,123 @@
+-- One item, made over the store or for a check.
+use Rattle.std.proofs.Common.{◌≡◌, ℕ, ◌+◌, ◌≤◌, ◌⊎◌, List, [], ◌∷◌, Option, refl, sym, ap, ◌∙◌, subst, arith, inl}
+use Rattle.std.specs.Io.KnownBytes.{append_known}
+use Rattle.pq_base.specs.declared.number.Bound.{Bound}
+use Rattle.pq_base.specs.declared.number.Used.{Used}
+use Rattle.pq_fill.specs.declared.words.Form.{Form}
+use Rattle.pq_fill.specs.declared.words.Form.TheVariants.{Run, Check, Fill}
+use Rattle.pq_schema.specs.Schema.{Schema}
+use Rattle.pq_store.specs.Breaks.{IsUndamaged}
+use Rattle.pq_store.specs.Content.{Content}
+use Rattle.pq_store.specs.Counts.{Counts}
+use Rattle.pq_store.specs.declared.damage.Broke.{Broke}
+use Rattle.pq_store.specs.declared.damage.Broke.TheVariants as broke
+use Rattle.pq_text.specs.declared.piece.Piece.{Piece}
+use Rattle.pq_print.specs.Report.{printed}
+use Rattle.pq_print.specs.declared.report.Report.{Report}
+use Rattle.pq_session.specs.Actions.{asked, schema_after, statement_bound}
+use Rattle.pq_session.specs.Checks.{checked_as, check_step, without_rows}
+use Rattle.pq_session.specs.Matches.{Matches}
+use Rattle.pq_session.specs.Model.{Model}
+use Rattle.pq_session.specs.Promise.{IsBound, IsWithinFixed}
+use Rattle.pq_session.specs.Stands.{Opens, Stands}
+use Rattle.pq_session.specs.Step.{Step, step}
+use Rattle.pq_session.proofs.Checked.{check_by, is_check_step}
+use Rattle.pq_session.proofs.Promises.{within_none}
+use Rattle.pq_shell.specs.Forms.{HasOpening, StandsIn, OpensAt, item_step, shown}
+use Rattle.pq_shell.specs.Items.{Cut}
+use Rattle.pq_shell.specs.Making.{BreaksAt, IsRead, Makes, moment}
+use Rattle.pq_shell.specs.Stops.{CutsOff, stop_of}
+use Rattle.pq_shell.specs.declared.stop.Stop.{Stop}
+use Rattle.pq_shell.specs.declared.stop.Stop.TheVariants as stops
+use Rattle.pq_shell.proofs.Ending.{stands_opens}
+use Rattle.pq_shell.proofs.Folding.{Stopped-at}
+use Rattle.pq_shell.proofs.Known.{append_known-none}
+
+-- ---- what is written of a report
+
+pub shown_whole : (f : Form) → IsRead f → (report : Report) (h h' : Option (List ℕ)) → h' ≡ append_known h (printed report) → h' ≡ append_known h (shown f report)
+shown_whole Run read report h h' is = is
+shown_whole Check read report h h' is = is
+shown_whole (Fill n) read report h h' is = absurd read
+
+pub cut_shown : (f : Form) → IsRead f → (stop : Stop) (report : Report) (h h' : Option (List ℕ)) → CutsOff stop (printed report) h h' → CutsOff stop (shown f report) h h'
+cut_shown Run read stop report h h' is = is
+cut_shown Check read stop report h h' is = is
+cut_shown (Fill n) read stop report h h' is = absurd read
+
+-- ---- over the store
+
+module _ (number : ℕ) (piece : Piece) (s : Schema) (old now : Option Content) (before after : Counts) where
+  module _ (next : Schema) (report : Report) (numbered : report.number ≡ number) (bound : IsBound (statement_bound s piece) report.bound)
+      (few_ops : report.used.ops ≤ report.bound.ops) (few_entries : report.used.entries ≤ report.bound.entries) (next_is : next ≡ schema_after s piece report)
+      (matches : (m : Model) → Stands old s m → Matches (step m number piece).report report) (made : (m : Model) → Stands old s m → Stands now next (step m number piece).model)
+      (ops : after.ops ≡ before.ops + report.used.ops) (entries : after.entries ≡ before.entries + report.used.entries) where
+    pub made_over : (f : Form) → HasOpening f → Makes f (Cut piece) number s next old now before after report
+    made_over Run some = record {
+      is = record { number_is = numbered; bound_is = bound; few_ops = few_ops; few_entries = few_entries };
+      next_is = next_is;
+      matches = matches;
+      stands = made;
+      rises = record { ops = omega (arith, ops); entries = omega (arith, entries) };
+    }
+    made_over Check some = absurd some
+    made_over (Fill n) some = record {
+      is = record { number_is = numbered; bound_is = bound; few_ops = few_ops; few_entries = few_entries };
+      next_is = next_is;
+      matches = matches;
+      stands = made;
+      rises = record { ops = omega (arith, ops); entries = omega (arith, entries) };
+    }
+
+  broke_at : (f : Form) (error : Broke) → HasOpening f → ((m : Model) → StandsIn f old s m → OpensAt f now m ⊎ OpensAt f now (item_step f m number (Cut piece)).model)
+      → ((m : Model) → StandsIn f old s m → IsUndamaged error) → IsWithinFixed (statement_bound s piece) before after → BreaksAt f (stop_of error) (Cut piece) number s old now before after
+  broke_at f broke.Failed some stops_at sound within held =
+      Stopped-at f stops.StoreFailed s (moment old held before) (moment now held after) number (Cut piece ∷ []) [] (sym (append_known-none held)) (some, refl, within) stops_at
+  broke_at f broke.NoMem some stops_at sound within held =
+      Stopped-at f stops.NoMem s (moment old held before) (moment now held after) number (Cut piece ∷ []) [] (sym (append_known-none held)) (refl, within) stops_at
+  broke_at f (broke.Damaged damage) some stops_at sound within held =
+      Stopped-at f (stops.Damaged damage) s (moment old held before) (moment now held after) number (Cut piece ∷ []) [] (sym (append_known-none held)) (some, refl, within) (λ m is. absurd (sound m is))
+
+  -- the session broke off at this item
+  pub broke_over : (f : Form) (error : Broke) → HasOpening f → ((m : Model) → Stands old s m → Opens now m ⊎ Opens now (step m number piece).model) → ((m : Model) → Stands old s m → IsUndamaged error)
+      → IsWithinFixed (statement_bound s piece) before after → BreaksAt f (stop_of error) (Cut piece) number s old now before after
+  broke_over Run error some stops_at sound within = broke_at Run error some stops_at sound within
+  broke_over Check error some stops_at sound within = absurd some
+  broke_over (Fill n) error some stops_at sound within = broke_at (Fill n) error some stops_at sound within
+
+-- ---- for a check
+
+module _ (number : ℕ) (piece : Piece) (s : Schema) (content : Option Content) (counts : Counts) where
+  abbrev made_step : Step
+  made_step = check_step (without_rows s) number piece
+
+  -- its report has the bound of what is asked for, and tells nothing as used
+  pub made_checked : (next : Schema) (report : Report) → report ≡ made_step.report → next ≡ made_step.model.schema → Makes Check (Cut piece) number s next content content counts counts report
+  made_checked next report report_is next_is =
+      let by = check_by s number piece (asked s piece) refl in
+      let facts = is_check_step s number (asked s piece) in
+      let same : report ≡ (checked_as s number (asked s piece)).report = report_is ∙ ap (λ (x : Step). x.report) by in
+      let used = ap (λ (r : Report). r.used) same ∙ facts.unused in
+      let no_ops : report.used.ops ≡ 0 = ap (λ (u : Used). u.ops) used in
+      let no_entries : report.used.entries ≡ 0 = ap (λ (u : Used). u.entries) used in
+      let model_is = ap (λ (x : Step). x.model) by ∙ facts.model in
+      let model : made_step.model ≡ without_rows next = model_is ∙ ap without_rows (sym (next_is ∙ ap (λ (m : Model). m.schema) model_is)) in
+      record {
+        is = record {
+          number_is = ap (λ (r : Report). r.number) same ∙ facts.numbered;
+          bound_is = subst (λ (r : Report). IsBound (statement_bound s piece) r.bound) (sym same) facts.bound;
+          few_ops = omega (arith, no_ops);
+          few_entries = omega (arith, no_entries);
+        };
+        next_is = next_is ∙ ap (λ (x : Step). x.model.schema) by ∙ ap (λ (m : Model). m.schema) facts.model ∙ ap (λ (r : Report). schema_after s piece r) (sym same);
+        matches = λ m is. subst (λ (x : Model). Matches (check_step x number piece).report report) (sym is)
+            (subst (λ (r : Report). Matches r report) report_is (record { same = refl; ops = omega (arith, no_ops); entries = omega (arith, no_entries) }));
+        stands = λ m is. ap (λ (x : Model). (check_step x number piece).model) is ∙ model;
+        rises = record { ops = omega (arith, no_ops); entries = omega (arith, no_entries) };
+      }
+
+  -- there was no memory for it
+  pub lost_checked : BreaksAt Check stops.NoMem (Cut piece) number s content content counts counts
+  lost_checked held =
+      Stopped-at Check stops.NoMem s (moment content held counts) (moment content held counts) number (Cut piece ∷ []) [] (sym (append_known-none held))
+      (refl, within_none (statement_bound s piece) counts) (λ m is. inl tt)

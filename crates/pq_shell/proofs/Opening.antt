@@ -1,0 +1,65 @@
+-- The opening of a run.
+use Rattle.std.proofs.Common.{◌≡◌, ℕ, ◌+◌, List, [], Option, refl, sym, ap, ◌∙◌, add-zero}
+use Rattle.std.specs.Io.KnownBytes.{append_known}
+use Rattle.pq_fill.specs.declared.words.Form.{Form}
+use Rattle.pq_fill.specs.declared.words.Form.TheVariants.{Run, Check, Fill}
+use Rattle.pq_schema.specs.Schema.{empty_schema}
+use Rattle.pq_store.specs.Breaks.{IsUndamaged}
+use Rattle.pq_store.specs.Content.{Content}
+use Rattle.pq_store.specs.Counts.{Counts}
+use Rattle.pq_store.specs.declared.damage.Broke.{Broke}
+use Rattle.pq_store.specs.declared.damage.Broke.TheVariants as broke
+use Rattle.pq_print.specs.Report.{opening_line}
+use Rattle.pq_print.specs.declared.report.Opened.{Opened}
+use Rattle.pq_session.specs.Checks.{without_rows}
+use Rattle.pq_session.specs.Matches.{IsOpening}
+use Rattle.pq_session.specs.Model.{Model}
+use Rattle.pq_session.specs.Stands.{Opens, Stands}
+use Rattle.pq_shell.specs.Fold.{Moment}
+use Rattle.pq_shell.specs.Forms.{HasOpening}
+use Rattle.pq_shell.specs.Making.{moment}
+use Rattle.pq_shell.specs.Openings.{Opening, OpensWith, StoppedOpening}
+use Rattle.pq_shell.specs.Stops.{CutsOff, stop_of}
+use Rattle.pq_shell.specs.declared.run.Begun.{Begun}
+use Rattle.pq_shell.specs.declared.stop.Stop.{Stop}
+use Rattle.pq_shell.specs.declared.stop.Stop.TheVariants as stops
+use Rattle.pq_shell.proofs.Known.{append_known-none}
+
+-- a store that was opened
+pub begun_store : (f : Form) → HasOpening f → (begun : Begun) (old now : Option Content) (h h' : Option (List ℕ)) (before after : Counts) (opened : Opened) → opened.used ≡ begun.used
+    → ((m : Model) → Opens old m → IsOpening old m opened) → ((m : Model) → Opens old m → Stands now begun.session m) → h' ≡ append_known h (opening_line opened)
+    → after.ops ≡ before.ops + opened.used.ops → after.entries ≡ before.entries + opened.used.entries → OpensWith f begun (moment old h before) (moment now h' after)
+begun_store Run some begun old now h h' before after opened used opens stands text ops entries =
+    record { opening = record { opened = opened; opens = λ m is. (opens m is, stands m is); text = text; ops = ops; entries = entries }; used_is = used }
+begun_store Check some begun old now h h' before after opened used opens stands text ops entries = absurd some
+begun_store (Fill n) some begun old now h h' before after opened used opens stands text ops entries =
+    record { opening = record { opened = opened; opens = λ m is. (opens m is, stands m is); text = text; ops = ops; entries = entries }; used_is = used }
+
+-- a check opens none
+pub begun_none : (begun : Begun) (a : Moment) → begun.session ≡ empty_schema → begun.used ≡ record { ops = 0; entries = 0 } → OpensWith Check begun a a
+begun_none begun a none used = record {
+  opening = record {
+    opened = record { defs = 0; bound = record { ops = 0; entries = 0 }; used = record { ops = 0; entries = 0 } };
+    opens = λ m is. (tt, is ∙ ap without_rows (sym none));
+    text = sym (append_known-none a.held);
+    ops = sym (add-zero a.counts.ops);
+    entries = sym (add-zero a.counts.entries);
+  };
+  used_is = sym used;
+}
+
+-- the session broke off at the opening
+pub broke_opening : (error : Broke) (old now : Option Content) (h : Option (List ℕ)) (before after : Counts) → ((m : Model) → Opens old m → Opens now m) → ((m : Model) → Opens old m → IsUndamaged error)
+    → StoppedOpening (stop_of error) (moment old h before) (moment now h after)
+broke_opening broke.Failed old now h before after kept sound = record { part = []; text = sym (append_known-none h); part_is = refl; stands = λ m s. (kept m s, tt) }
+broke_opening broke.NoMem old now h before after kept sound = record { part = []; text = sym (append_known-none h); part_is = refl; stands = λ m s. (kept m s, tt) }
+broke_opening (broke.Damaged damage) old now h before after kept sound = record { part = []; text = sym (append_known-none h); part_is = refl; stands = λ m s. absurd (sound m s) }
+
+-- the run stopped while the opening's line was written
+pub cut_opening : (stop : Stop) (old now : Option Content) (h h' : Option (List ℕ)) (before after : Counts) (opened : Opened) → ((m : Model) → Opens old m → IsOpening old m opened) → ((m : Model) → Opens old m → Opens now m)
+    → CutsOff stop (opening_line opened) h h' → StoppedOpening stop (moment old h before) (moment now h' after)
+cut_opening stops.StoreFailed old now h h' before after opened opens stands cut = absurd cut
+cut_opening (stops.Damaged damage) old now h h' before after opened opens stands cut = absurd cut
+cut_opening stops.NoMem old now h h' before after opened opens stands cut = record { part = []; text = cut ∙ sym (append_known-none h); part_is = refl; stands = λ m s. (stands m s, tt) }
+cut_opening stops.WriteFailed old now h h' before after opened opens stands cut =
+    record { part = cut.0; text = cut.2; part_is = (opened, cut.1); stands = λ m s. (stands m s, (opened, opens m s, cut.1)) }

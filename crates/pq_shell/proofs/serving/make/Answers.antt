@@ -1,0 +1,25 @@
+use Rattle.std.proofs.Common.{◌≡◌, rules, sym, subst, inl, inr}
+use Rattle.pq_shell.specs.Forms.{HasOpening}
+use Rattle.pq_shell.proofs.Making.{made_over, broke_over, made_checked, lost_checked}
+use Rattle.pq_shell.proofs.serving.make.Goals as goal
+
+pub returns-in-Ok-clause-ok : goal.returns-in-Ok-clause-ok
+returns-in-Ok-clause-ok g c =
+    rw c.in-Check.is (made_checked c.args.number c.args.piece.now c.args.session _ _ c.in-Ok.made.0 c.in-Ok.made.1 c.in-Ok.ensures.report c.in-Ok.ensures.next)
+
+pub returns-in-Err-clause-err : goal.returns-in-Err-clause-err
+returns-in-Err-clause-err g c = rw c.in-Check.is (lost_checked c.args.number c.args.piece.now c.args.session _ _)
+
+pub returns-in-Err-statement : goal.returns-in-Err-statement
+returns-in-Err-statement g c =
+    let some : HasOpening c.args.form = elim c.in-Run.is [
+      | inl is ↦ subst HasOpening (sym is) tt
+      | inr is ↦ subst HasOpening (sym is.1) tt
+    ] in
+    let e = c.in-Err-statement.ensures in
+    rw c.of.ensures (record {
+      ok = tt;
+      err = broke_over c.args.number c.args.piece.now c.args.session _ _ _ _ c.args.form c.in-Err-statement.broke some e.stopped e.damage e.building;
+      unmoved = λ check. absurd (subst HasOpening check some);
+      causes = search rules;
+    })
