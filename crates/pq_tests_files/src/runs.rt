@@ -11,8 +11,8 @@ use std::marker::Brand;
 use std::sync::ledger::{Blank, Ledger};
 use std::test;
 
-// Scripts in a row over one store: each with its text.
-const RUNS: [(&[u8], &[u8]); 3] = [
+/// Scripts in a row over one store: each with its text.
+pub const RUNS: [(&[u8], &[u8]); 3] = [
     (b"", b"open defs 0 bound 2 257\n"),
     (
         b"CREATE TABLE m (id INT, v INT, PRIMARY KEY (id));
@@ -66,21 +66,32 @@ fn without_used(alloc: Global, text: &[u8]) -> Result<Vec<u8>, AllocError> {
     Ok(kept)
 }
 
-// Whether the run of the script writes the text.
-fn writes<S: Store<L>, L: Ledger>(
+// The run of the script.
+fn run<S: Store<L>, L: Ledger>(
+    alloc: Global,
+    script: &[u8],
+    store: &mut S,
+    sink: &mut MemSink,
+    meter: &mut Meter<L>,
+) -> Result<Status, NoMem> {
+    let mut words = List::new(alloc);
+    if let Some(word) = PText::from_bytes(alloc, b"run")? {
+        words.push(alloc, word)?;
+    }
+    let mut source = MemSource::new(Bytes::of_bytes(alloc, script)?, List::new(alloc));
+    Ok(run_piql(alloc, words.items(), &mut source, store, sink, meter))
+}
+
+/// Whether the run of the script writes the text.
+pub fn writes<S: Store<L>, L: Ledger>(
     alloc: Global,
     script: &[u8],
     text: &[u8],
     store: &mut S,
     meter: &mut Meter<L>,
 ) -> Result<bool, NoMem> {
-    let mut words = List::new(alloc);
-    if let Some(word) = PText::from_bytes(alloc, b"run")? {
-        words.push(alloc, word)?;
-    }
-    let mut source = MemSource::new(Bytes::of_bytes(alloc, script)?, List::new(alloc));
     let mut sink = MemSink::new(alloc, 65_536, List::new(alloc))?;
-    let _: Status = run_piql(alloc, words.items(), &mut source, store, &mut sink, meter);
+    let _: Status = run(alloc, script, store, &mut sink, meter)?;
     Ok(without_used(alloc, sink.held())?.as_slice() == text)
 }
 
@@ -166,10 +177,14 @@ fn guards_are_kept(rt: HostRuntime) -> Result<(), test::Fail> {
     Ok(())
 }
 
-// A database in which this was made before.
-fn with_made(alloc: Global, text: &str) -> Result<Connection<MemStore>, Error> {
+const OWN: &str = "CREATE TABLE kv(k BLOB PRIMARY KEY, v BLOB NOT NULL)";
+
+// A database in which these were made before.
+fn with_made(alloc: Global, texts: &[&str]) -> Result<Connection<MemStore>, Error> {
     let mut connection = in_memory(alloc)?;
-    connection.execute(text, &[])?;
+    for text in texts {
+        connection.execute(text, &[])?;
+    }
     Ok(connection)
 }
 
@@ -180,15 +195,39 @@ fn a_table_of_another_make_is_refused(rt: HostRuntime) -> Result<(), test::Fail>
         "CREATE TABLE kv(k BLOB, v BLOB NOT NULL)",
     ];
     for text in foreign {
-        match SqlStore::over(with_made(rt.alloc(), text)?) {
+        match SqlStore::over(with_made(rt.alloc(), &[text])?) {
             Ok(_) => assert!(rt; false),
             Err(error) => assert_eq!(rt; error, StoreErr::Failed),
         }
     }
-    let own = with_made(
-        rt.alloc(),
-        "CREATE TABLE kv(k BLOB PRIMARY KEY, v BLOB NOT NULL)",
-    )?;
-    assert!(rt; SqlStore::over(own).is_ok());
+    assert!(rt; SqlStore::over(with_made(rt.alloc(), &[OWN])?).is_ok());
+    Ok(())
+}
+
+// How a run without a statement ends. The caller's proof picks the ledger.
+fn opening_over<L: Ledger>(
+    alloc: Global,
+    blank: Blank,
+    store: &mut SqlStore<MemStore>,
+) -> Result<Status, NoMem>
+    requires name { blank.name ≡ L.name }
+    requires parts { blank.parts ≡ L.parts }
+    requires two { blank.parts ≡ 2 }
+{
+    let mut meter = Meter::<L>::start(Opening::of(blank));
+    let mut sink = MemSink::new(alloc, 65_536, List::new(alloc))?;
+    run(alloc, b"", store, &mut sink, &mut meter)
+}
+
+fn opening(alloc: Global, store: &mut SqlStore<MemStore>) -> Result<Status, NoMem> {
+    opening_over::<Brand>(alloc, Blank::new(2), store)
+}
+
+// The pair stands where a definition does.
+#[test]
+fn a_value_that_is_no_blob_is_a_fault(rt: HostRuntime) -> Result<(), test::Fail> {
+    let texts = [OWN, "INSERT INTO kv VALUES (x'010001', 'text')"];
+    let mut store = SqlStore::over(with_made(rt.alloc(), &texts)?)?;
+    assert_eq!(rt; opening(rt.alloc(), &mut store)?, Status::StoreFault);
     Ok(())
 }

@@ -2,7 +2,15 @@
 #![tactic(auto)]
 
 #[cfg(test)]
+mod crowded;
+#[cfg(test)]
+mod damaged;
+#[cfg(test)]
 mod definitions;
+#[cfg(test)]
+mod failing;
+#[cfg(test)]
+mod forms;
 #[cfg(test)]
 mod queries;
 #[cfg(test)]
@@ -12,8 +20,14 @@ mod refused_writes;
 #[cfg(test)]
 mod runs;
 #[cfg(test)]
+mod scans;
+#[cfg(test)]
 mod stated;
 #[cfg(test)]
 mod stopped;
+#[cfg(test)]
+mod stopped_twice;
+#[cfg(test)]
+mod switched;
 #[cfg(test)]
 mod writes;

@@ -145,8 +145,8 @@ fn run_new(
     run_over::<Brand>(alloc, Blank::new(2), words, source, sink)
 }
 
-// How a run ends whose sink has this room and fails at this call, 0 for none.
-fn run_text(
+/// How a run of these words over a new store ends whose sink has this room and fails at this call, 0 for none.
+pub fn run_text(
     alloc: Global,
     words: &[&str],
     script: &[u8],

@@ -132,6 +132,13 @@ impl Writer {
     }
 }
 
+/// A text written out as those of a `Stated`, with this number for `#`.
+pub fn written(alloc: Global, text: &[u8], number: u32) -> Result<Vec<u8>, AllocError> {
+    let mut writer = Writer::new(alloc);
+    writer.put_text(text, number, 0)?;
+    Ok(writer.bytes)
+}
+
 fn status_of(refused: bool) -> Status {
     if refused {
         Status::SomeRefused

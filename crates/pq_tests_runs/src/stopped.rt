@@ -1,4 +1,4 @@
-//! A write and a build that are stopped at each of their calls, done or not done.
+//! A write, a build and a sorted join that are stopped at each of their calls, done or not done.
 ghost use Rattle.std.specs.Prelude.{◌≡◌};
 
 use crate::runs::run_script;
@@ -80,20 +80,48 @@ row 3
 4 ok rows 1 bound 3 4
 ";
 
+// Whom a user follows, and their notes, of which two share a position's first column.
+const NOTES: &[u8] = b"CREATE TABLE s (owner INT, target INT, PRIMARY KEY (owner, target),
+ CARDINALITY LIMIT 3 (owner));
+CREATE TABLE n (owner INT, ts INT, PRIMARY KEY (owner, ts));
+PREPARE home AS SELECT n.owner, n.ts FROM s, n
+ WHERE s.owner = [1] AND n.owner = s.target ORDER BY n.ts DESC LIMIT 3;
+INSERT INTO s VALUES (1, 4);
+INSERT INTO s VALUES (1, 2);
+INSERT INTO s VALUES (1, 3);
+INSERT INTO n VALUES (3, 5);
+INSERT INTO n VALUES (2, 5);
+INSERT INTO n VALUES (2, 1);
+INSERT INTO n VALUES (4, 6);
+INSERT INTO n VALUES (3, 9);
+INSERT INTO n VALUES (5, 8);
+";
+
+// Two calls of the opening, a range under the limit, a range for each of three inputs, and a get for each row.
+const HOME: &[u8] = b"RUN home (1);";
+
+const LATEST: &[u8] = b"open defs 3 bound 2 257
+row 3, 9
+row 4, 6
+row 2, 5
+1 ok rows 3 bound 7 15
+";
+
 /// A script whose run is stopped, what it stands on, and what is asked behind it, with the answers where it
 /// made nothing and where it made all. Its run has nine calls.
 #[derive(Clone, Copy)]
-struct Stop {
-    ground: &'static [u8],
-    script: &'static [u8],
-    asked: &'static [u8],
-    before: &'static [u8],
-    after: &'static [u8],
+pub struct Stop {
+    pub ground: &'static [u8],
+    pub script: &'static [u8],
+    pub asked: &'static [u8],
+    pub before: &'static [u8],
+    pub after: &'static [u8],
     /// The call by which it is made.
-    making: u64,
+    pub making: u64,
 }
 
-const WRITE: Stop = Stop {
+/// The write of a row with an entry.
+pub const WRITE: Stop = Stop {
     ground: GROUND,
     script: SUBSCRIPTION,
     asked: ASKED,
@@ -102,13 +130,23 @@ const WRITE: Stop = Stop {
     making: 6,
 };
 
-const BUILD: Stop = Stop {
+/// The definition of a query that makes an index over three rows.
+pub const BUILD: Stop = Stop {
     ground: ROWS,
     script: INDEX,
     asked: ANSWERED,
     before: UNDEFINED,
     after: DEFINED,
     making: 4,
+};
+
+const READ: Stop = Stop {
+    ground: NOTES,
+    script: HOME,
+    asked: HOME,
+    before: LATEST,
+    after: LATEST,
+    making: 9,
 };
 
 // One call of the run fails. Opened again, the store has all that it makes or nothing.
@@ -169,6 +207,15 @@ fn a_stopped_write_is_whole_or_not_there(rt: HostRuntime) -> Result<(), test::Fa
 fn a_stopped_build_is_whole_or_not_there(rt: HostRuntime) -> Result<(), test::Fail> {
     assert_eq!(rt;
         first_unlike::<Brand>(rt.alloc(), Blank::new(2), BUILD)?,
+        None
+    );
+    Ok(())
+}
+
+#[test]
+fn a_stopped_read_changes_nothing(rt: HostRuntime) -> Result<(), test::Fail> {
+    assert_eq!(rt;
+        first_unlike::<Brand>(rt.alloc(), Blank::new(2), READ)?,
         None
     );
     Ok(())
