@@ -9,11 +9,11 @@ use Rattle.pq_schema.specs.declared.query.Query.{Query}
 use Rattle.pq_schema.specs.declared.query.Stop.TheVariants as stop
 use Rattle.pq_schema.specs.Resolved.{IsResolved, IsColumnOf}
 use Rattle.pq_schema.specs.Candidates.{stop_size}
-use Rattle.pq_plan.specs.Answer.{Asked, combos, row_of, no_value, values_at, selected, by_position, position, stopped, whole, answer}
+use Rattle.pq_plan.specs.Answer.{Question, combos, row_of, no_value, values_at, selected_values, by_position, position, stopped, whole, answer}
 use Rattle.pq_base.proofs.Members.{range_in, all_member}
-use Rattle.pq_arrange.specs.Moves.{move, permuted}
+use Rattle.pq_arrange.specs.Moves.{move, permuted_combo}
 use Rattle.pq_arrange.specs.Placing.{arranged_order}
-use Rattle.pq_arrange.specs.Arrange.{rearranged}
+use Rattle.pq_arrange.specs.Arrange.{rearranged_query}
 use Rattle.pq_arrange.specs.Laws.{IsOrderOf, SameAnswers}
 use Rattle.pq_arrange.proofs.Moved.{row_moved}
 use Rattle.pq_arrange.proofs.Products.{map_same}
@@ -26,33 +26,33 @@ map_map f g [] = refl
 map_map f g (x ∷ xs) = ap (λ l. f (g x) ∷ l) (map_map f g xs)
 
 -- the answer is the combinations in another order
-answer_rows : (q : Asked) → q.query.stop ≡ stop.All → (after : Option (List Value)) → IsPermutation (map (selected q.query) (combos q)) (answer q.tables q.query q.rows q.params after)
+answer_rows : (q : Question) → q.query.stop ≡ stop.All → (after : Option (List Value)) → IsPermutation (map (selected_values q.query) (combos q)) (answer q.tables q.query q.rows q.params after)
 answer_rows q e after =
-    subst (λ (o : Option ℕ). IsPermutation (map (selected q.query) (combos q)) (map (selected q.query) (stopped q o after (whole q)))) (sym (ap stop_size e))
-    (IsPermutation-map (selected q.query) (combos q) (whole q) (IsPermutation-sort_by (by_position q) (position q) (combos q)))
+    subst (λ (o : Option ℕ). IsPermutation (map (selected_values q.query) (combos q)) (map (selected_values q.query) (stopped q o after (whole q)))) (sym (ap stop_size e))
+    (IsPermutation-map (selected_values q.query) (combos q) (whole q) (IsPermutation-sort_by (by_position q) (position q) (combos q)))
 
-module _ (q : Asked) (r : IsResolved q.tables q.query) (order : List ℕ) (p : IsOrderOf q.query order) where
+module _ (q : Question) (r : IsResolved q.tables q.query) (order : List ℕ) (p : IsOrderOf q.query order) where
   -- the selected values of a combination in the new order
-  selected_moved : (combo : List (List Value)) → values_at (permuted order combo) (map (move order) q.query.select) ≡ selected q.query combo
+  selected_moved : (combo : List (List Value)) → values_at (permuted_combo order combo) (map (move order) q.query.select) ≡ selected_values q.query combo
   selected_moved combo =
-      map_map (λ (col : ColRef). get_or (row_of col.rel (permuted order combo)) col.col no_value) (move order) q.query.select
-      ∙ map_same (λ col. get_or (row_of (move order col).rel (permuted order combo)) col.col no_value) (λ col. get_or (row_of col.rel combo) col.col no_value) q.query.select (λ col i.
+      map_map (λ (col : ColRef). get_or (row_of col.rel (permuted_combo order combo)) col.col no_value) (move order) q.query.select
+      ∙ map_same (λ col. get_or (row_of (move order col).rel (permuted_combo order combo)) col.col no_value) (λ col. get_or (row_of col.rel combo) col.col no_value) q.query.select (λ col i.
       let c = all_member (IsColumnOf q.tables q.query) q.query.select r.select col i in
       let low = c.from_one in
       let high = c.there in
       ap (λ (row : List Value). get_or row col.col no_value) (row_moved order col.rel (in_permuted col.rel (range_with_len 1 (length q.query.relations)) order p (range_in col.rel 1 (length q.query.relations) low (omega arith))) combo))
 
-same_rows : (q : Asked) → IsResolved q.tables q.query → q.query.stop ≡ stop.All → (after : Option (List Value)) → (order : List ℕ) → IsOrderOf q.query order → (other : Query) → other.stop ≡ q.query.stop → other.select ≡ map (move order) q.query.select →
-    IsPermutation (map (permuted order) (combos q)) (combos (record q { query = other })) →
+same_rows : (q : Question) → IsResolved q.tables q.query → q.query.stop ≡ stop.All → (after : Option (List Value)) → (order : List ℕ) → IsOrderOf q.query order → (other : Query) → other.stop ≡ q.query.stop → other.select ≡ map (move order) q.query.select →
+    IsPermutation (map (permuted_combo order) (combos q)) (combos (record q { query = other })) →
     IsPermutation (answer q.tables q.query q.rows q.params after) (answer q.tables other q.rows q.params after)
 same_rows q r e after order p other same chosen h =
-    let rows : List (List Value) = map (selected q.query) (combos q) in
-    let q' : Asked = record q { query = other } in
-    let rows' : List (List Value) = map (selected other) (combos q') in
-    let moved : map (selected other) (map (permuted order) (combos q)) ≡ rows =
-    map_map (selected other) (permuted order) (combos q)
-    ∙ ap (λ (f : List (List Value) → List Value). map f (combos q)) (λ i combo. (ap (values_at (permuted order combo)) chosen ∙ selected_moved q r order p combo) i) in
-    let between : IsPermutation rows rows' = subst (λ (l : List (List Value)). IsPermutation l rows') moved (IsPermutation-map (selected other) (map (permuted order) (combos q)) (combos q') h) in
+    let rows : List (List Value) = map (selected_values q.query) (combos q) in
+    let q' : Question = record q { query = other } in
+    let rows' : List (List Value) = map (selected_values other) (combos q') in
+    let moved : map (selected_values other) (map (permuted_combo order) (combos q)) ≡ rows =
+    map_map (selected_values other) (permuted_combo order) (combos q)
+    ∙ ap (λ (f : List (List Value) → List Value). map f (combos q)) (λ i combo. (ap (values_at (permuted_combo order combo)) chosen ∙ selected_moved q r order p combo) i) in
+    let between : IsPermutation rows rows' = subst (λ (l : List (List Value)). IsPermutation l rows') moved (IsPermutation-map (selected_values other) (map (permuted_combo order) (combos q)) (combos q') h) in
     IsPermutation-trans (answer q.tables q.query q.rows q.params after) rows (answer q.tables other q.rows q.params after)
     (IsPermutation-sym rows (answer q.tables q.query q.rows q.params after) (answer_rows q e after))
     (IsPermutation-trans rows rows' (answer q.tables other q.rows q.params after) between (answer_rows q' (same ∙ e) after))
@@ -61,6 +61,6 @@ pub same_answers : SameAnswers
 same_answers q r e after =
     by_cases (λ other. IsPermutation (answer q.tables q.query q.rows q.params after) (answer q.tables other q.rows q.params after)) q.tables q.query
     (λ _. IsPermutation-refl (answer q.tables q.query q.rows q.params after))
-    (λ _ _. same_rows q r e after (arranged_order q.tables q.query false) (is_order q.tables q.query false) (rearranged q.tables q.query false) refl refl (same_rearranged q r false))
-    (λ _ _ _. same_rows q r e after (arranged_order q.tables q.query true) (is_order q.tables q.query true) (rearranged q.tables q.query true) refl refl (same_rearranged q r true))
+    (λ _ _. same_rows q r e after (arranged_order q.tables q.query false) (is_order q.tables q.query false) (rearranged_query q.tables q.query false) refl refl (same_rearranged q r false))
+    (λ _ _ _. same_rows q r e after (arranged_order q.tables q.query true) (is_order q.tables q.query true) (rearranged_query q.tables q.query true) refl refl (same_rearranged q r true))
     (λ _ _ _. IsPermutation-refl (answer q.tables q.query q.rows q.params after))

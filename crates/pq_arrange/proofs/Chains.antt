@@ -17,7 +17,7 @@ use Rattle.pq_schema.specs.Resolved.{IsColumnOf, same_ref}
 use Rattle.pq_plan.specs.Answer.{cell, side, compares, holds}
 use Rattle.pq_base.proofs.Members.{in_filter, filter_in, in_map, map_in, in_flat_map, flat_map_in, in_either, in_range, range_in}
 use Rattle.pq_plan.proofs.ValueOrder.{value_cmp_total}
-use Rattle.pq_arrange.specs.Classes.{is_ref, is_join, merged, joined_with, class_of, is_in, columns_at, members}
+use Rattle.pq_arrange.specs.Classes.{is_ref, is_join, merged_classes, joined_with, class_of, is_in, columns_at, members}
 use Rattle.pq_arrange.proofs.Moved.{equality, equal_sides}
 
 -- ---- equal values that are there
@@ -73,7 +73,7 @@ class_by R l (pred ∷ preds) h ref = by_right (class_by R l preds (λ p i. h p 
     by_right rest (operand.Const value) e = rest ref
     by_right rest (operand.Param number) e = rest ref
     by_right rest (operand.Col other) e =
-        elim (is_equality pred.op) as (λ b. is_equality pred.op ≡ b → R ref ((cond b (merged pred.left other (class_of preds)) (class_of preds)) ref)) [
+        elim (is_equality pred.op) as (λ b. is_equality pred.op ≡ b → R ref ((cond b (merged_classes pred.left other (class_of preds)) (class_of preds)) ref)) [
           | true ↦ λ t.
               elim (same_ref (class_of preds ref) (class_of preds other)) as (λ c. same_ref (class_of preds ref) (class_of preds other) ≡ c → R ref (cond c (class_of preds pred.left) (class_of preds ref))) [
                 | true ↦ λ s.
@@ -119,7 +119,7 @@ one_class [] pred other i is e = absurd i
 one_class (p ∷ preds) pred other (inl s) is e =
     subst (λ (p : Pred). joined_with p p.right (class_of preds) pred.left ≡ joined_with p p.right (class_of preds) other) (sym s)
     (subst (λ (right : Operand). joined_with pred right (class_of preds) pred.left ≡ joined_with pred right (class_of preds) other) (sym is)
-    (subst (λ (b : Bool). (cond b (merged pred.left other (class_of preds)) (class_of preds)) pred.left ≡ (cond b (merged pred.left other (class_of preds)) (class_of preds)) other) (sym (ap is_equality e))
+    (subst (λ (b : Bool). (cond b (merged_classes pred.left other (class_of preds)) (class_of preds)) pred.left ≡ (cond b (merged_classes pred.left other (class_of preds)) (class_of preds)) other) (sym (ap is_equality e))
     (elim (same_ref (class_of preds pred.left) (class_of preds other)) as (λ b. cond b (class_of preds pred.left) (class_of preds pred.left) ≡ class_of preds pred.left) [ true ↦ refl | false ↦ refl ]
     ∙ sym (ap (λ b. cond b (class_of preds pred.left) (class_of preds other)) (same_itself (class_of preds other))))))
 one_class (p ∷ preds) pred other (inr i) is e = by_right (one_class preds pred other i is e) p.right
@@ -127,7 +127,7 @@ one_class (p ∷ preds) pred other (inr i) is e = by_right (one_class preds pred
     by_right : class_of preds pred.left ≡ class_of preds other → (right : Operand) → joined_with p right (class_of preds) pred.left ≡ joined_with p right (class_of preds) other
     by_right rest (operand.Const value) = rest
     by_right rest (operand.Param number) = rest
-    by_right rest (operand.Col third) = elim (is_equality p.op) as (λ b. (cond b (merged p.left third (class_of preds)) (class_of preds)) pred.left ≡ (cond b (merged p.left third (class_of preds)) (class_of preds)) other) [
+    by_right rest (operand.Col third) = elim (is_equality p.op) as (λ b. (cond b (merged_classes p.left third (class_of preds)) (class_of preds)) pred.left ≡ (cond b (merged_classes p.left third (class_of preds)) (class_of preds)) other) [
       | true ↦ λ i. cond (same_ref (rest i) (class_of preds third)) (class_of preds p.left) (rest i)
       | false ↦ rest
     ]

@@ -19,7 +19,7 @@ use Rattle.pq_base.specs.Values.{same_kind}
 use Rattle.pq_schema.specs.Relations.{table_of, is_equality}
 use Rattle.pq_schema.specs.Resolved.{IsResolved, IsPredicate, IsOperand, IsColumnOf, IsParam, ref_type, param_type, is_param}
 use Rattle.pq_base.proofs.Members.{each_by_in, in_filter, in_map, map_in, in_flat_map, flat_map_in, in_either, in_left, in_right, in_range, all_member, any_at, any_from}
-use Rattle.pq_arrange.specs.Classes.{is_ref, is_given, class_of, is_in, classes, columns_at, members, gives, equals, is_later, beside, joins, class_preds, others, closed}
+use Rattle.pq_arrange.specs.Classes.{is_ref, is_given, class_of, is_in, classes, columns_at, members, gives, equality_of, is_later, beside, joins, class_preds, others, closed_query}
 use Rattle.pq_arrange.specs.Laws.{ResolvedWhenClosed, NoMorePredicates}
 use Rattle.pq_arrange.proofs.Chains.{within_class, ref_same, member_in, in_members, Rises, members_rise}
 use Rattle.pq_arrange.proofs.Closes.{find_parts, others_in, stays_or_gives, class_there, not_true}
@@ -67,7 +67,7 @@ module _ (tables : List Table) (query : Query) (r : IsResolved tables query) whe
   old = query.preds
 
   abbrev query' : Query
-  query' = closed tables query
+  query' = closed_query tables query
 
   column_kept : (ref : ColRef) → IsColumnOf tables query ref → IsColumnOf tables query' ref
   column_kept ref c = record { from_one = c.from_one; there = c.there; inside = c.inside }
@@ -96,13 +96,13 @@ module _ (tables : List Table) (query : Query) (r : IsResolved tables query) whe
       subst (IsColumnOf tables query) h.2 (record { from_one = low; there = omega (arith, high); inside = omega (arith, inside) })
 
   -- what a class has
-  joined : (a b : ColRef) → IsColumnOf tables query a → IsColumnOf tables query b → class_of old a ≡ class_of old b → b.rel < a.rel → IsPredicate tables query' (equals (operand.Col b) a)
+  joined : (a b : ColRef) → IsColumnOf tables query a → IsColumnOf tables query b → class_of old a ≡ class_of old b → b.rel < a.rel → IsPredicate tables query' (equality_of (operand.Col b) a)
   joined a b c d e low = record {
     left = column_kept a c;
     right = record { equal = refl; column = column_kept b d; earlier = low; kind = param_kind (ref_type tables query a) (ref_type tables query b) (alike a b e) };
   }
 
-  operand_kept : (a : ColRef) (pred : Pred) (right : Operand) → is_ref right ≡ false → IsOperand tables query pred right → Alike a pred.left → IsOperand tables query' (equals right a) right
+  operand_kept : (a : ColRef) (pred : Pred) (right : Operand) → is_ref right ≡ false → IsOperand tables query pred right → Alike a pred.left → IsOperand tables query' (equality_of right a) right
   operand_kept a pred (operand.Const value) n o e = subst (λ (t : ColType). FitsType t value) (sym e) o
   operand_kept a pred (operand.Param number) n o e = subst (λ (t : ColType). IsParam query.params number t) (sym e) o
   operand_kept a pred (operand.Col other) n o e = absurd (false≢true (sym n))
@@ -113,9 +113,9 @@ module _ (tables : List Table) (query : Query) (r : IsResolved tables query) whe
       let later : List ColRef = filter (is_later f) rest in
       let beyond : List ColRef = filter (λ ref. not (is_later f ref)) rest in
       let first = known f (inl refl) in
-      elim (in_either pred (map (equals (operand.Col f)) later) (flat_map (beside later) beyond) i) [
+      elim (in_either pred (map (equality_of (operand.Col f)) later) (flat_map (beside later) beyond) i) [
         | inl a ↦
-            let x = in_map (equals (operand.Col f)) pred later a in
+            let x = in_map (equality_of (operand.Col f)) pred later a in
             let y = in_filter (is_later f) x.0 rest x.1 in
             let k = known x.0 (inr y.0) in
             subst (IsPredicate tables query') x.2 (joined x.0 f k.0 first.0 (k.1 ∙ sym first.1) (ltb-true f.rel (x.0).rel y.1))
@@ -131,7 +131,7 @@ module _ (tables : List Table) (query : Query) (r : IsResolved tables query) whe
             subst (IsPredicate tables query') s.2 (joined s.0 x.0 ks.0 kq.0 (ks.1 ∙ sym kq.1) (omega (arith, above, below)))
       ]
     where
-      one : (later : List ColRef) (q : ColRef) (pred : Pred) → In pred (beside later q) → (s : ColRef) × In s later × (equals (operand.Col q) s ≡ pred)
+      one : (later : List ColRef) (q : ColRef) (pred : Pred) → In pred (beside later q) → (s : ColRef) × In s later × (equality_of (operand.Col q) s ≡ pred)
       one [] q pred i = absurd i
       one (s ∷ more) q pred (inl e) = (s, inl refl, e)
       one (s ∷ more) q pred (inr i) = absurd i
@@ -139,12 +139,12 @@ module _ (tables : List Table) (query : Query) (r : IsResolved tables query) whe
   class_kept : (class : ColRef) (pred : Pred) → In pred (class_preds tables query class) → IsPredicate tables query' pred
   class_kept class pred i = by_given (find (gives old class) old) refl i
     where
-      by_given : (o : Option Pred) → find (gives old class) old ≡ o → In pred (option_map_or (λ pred. map (equals pred.right) (members tables query class)) o (joins (members tables query class))) → IsPredicate tables query' pred
+      by_given : (o : Option Pred) → find (gives old class) old ≡ o → In pred (option_map_or (λ pred. map (equality_of pred.right) (members tables query class)) o (joins (members tables query class))) → IsPredicate tables query' pred
       by_given None e i = joins_kept class (members tables query class) (λ ref here. (member_column class ref here, in_members tables query class ref here)) (members_rise tables query class) pred i
       by_given (Some p) e i =
           let f = find_parts (gives old class) old p e in
           let parts = and_parts (is_given p) (is_in old class p.left) f.1 in
-          let x = in_map (equals p.right) pred (members tables query class) i in
+          let x = in_map (equality_of p.right) pred (members tables query class) i in
           let one : class_of old x.0 ≡ class_of old p.left = in_members tables query class x.0 x.1 ∙ sym (ref_same (class_of old p.left) class parts.1) in
           subst (IsPredicate tables query') x.2 (record {
             left = column_kept x.0 (member_column class x.0 x.1);
@@ -172,9 +172,9 @@ module _ (tables : List Table) (query : Query) (r : IsResolved tables query) whe
     | inr given ↦
         let c : ColRef = class_of old pred.left in
         let there : In c (classes old) = class_there old pred i (and_parts (is_equality pred.op) (not (is_ref pred.right)) given.0).0 given.1 in
-        let in_class : In (equals pred.right pred.left) (class_preds tables query c) = subst (λ (o : Option Pred). In (equals pred.right pred.left) (option_map_or (λ pred. map (equals pred.right) (members tables query c)) o (joins (members tables query c)))) (sym given.2)
-        (map_in (equals pred.right) pred.left (members tables query c) (member_in tables query c pred.left (predicate pred i).left refl)) in
-        (equals pred.right pred.left, in_left (equals pred.right pred.left) (flat_map (class_preds tables query) (classes old)) (others old) (flat_map_in (class_preds tables query) (equals pred.right pred.left) c (classes old) there in_class), u)
+        let in_class : In (equality_of pred.right pred.left) (class_preds tables query c) = subst (λ (o : Option Pred). In (equality_of pred.right pred.left) (option_map_or (λ pred. map (equality_of pred.right) (members tables query c)) o (joins (members tables query c)))) (sym given.2)
+        (map_in (equality_of pred.right) pred.left (members tables query c) (member_in tables query c pred.left (predicate pred i).left refl)) in
+        (equality_of pred.right pred.left, in_left (equality_of pred.right pred.left) (flat_map (class_preds tables query) (classes old)) (others old) (flat_map_in (class_preds tables query) (equality_of pred.right pred.left) c (classes old) there in_class), u)
   ]
     where
       neither : (b : Bool) → (b && false) ≡ false

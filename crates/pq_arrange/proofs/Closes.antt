@@ -17,7 +17,7 @@ use Rattle.pq_schema.specs.Relations.{is_equality}
 use Rattle.pq_schema.specs.Resolved.{IsColumnOf, IsPredicate, IsOperand, same_ref}
 use Rattle.pq_plan.specs.Answer.{cell, side, compares, holds, product}
 use Rattle.pq_base.proofs.Members.{in_filter, filter_in, in_map, map_in, in_flat_map, flat_map_in, in_either, in_left, in_right, all_at, all_from, any_from, all_member, filter_same, each_by_in}
-use Rattle.pq_arrange.specs.Classes.{is_ref, is_join, is_given, class_of, is_in, is_joined, has, is_new, classes_after, classes, members, gives, equals, is_later, beside, joins, class_preds, others_after, others, closed}
+use Rattle.pq_arrange.specs.Classes.{is_ref, is_join, is_given, class_of, is_in, is_joined, has, is_new, classes_after, classes, members, gives, equality_of, is_later, beside, joins, class_preds, others_after, others, closed_query}
 use Rattle.pq_arrange.specs.Laws.{Chain, ends, rightward, leftward, SameWhenClosed, ClassesAreChains}
 use Rattle.pq_arrange.proofs.Moved.{equality}
 use Rattle.pq_arrange.proofs.Chains.{Equal, equal_back, equal_on, ref_same, same_itself, same_when, join_parts, Near, within_class, class_equal, one_class, member_in, in_members, Rises, members_rise}
@@ -190,10 +190,10 @@ module _ (params : List Value) (combo : List (List Value)) where
   near_equal a b apart (inr h) = h
 
   -- what one predicate of a class says
-  equals_holds : (right : Operand) (left : ColRef) (pred : Pred) → equals right left ≡ pred → Equal (cell combo left) (side params combo right) → holds params combo pred ≡ true
+  equals_holds : (right : Operand) (left : ColRef) (pred : Pred) → equality_of right left ≡ pred → Equal (cell combo left) (side params combo right) → holds params combo pred ≡ true
   equals_holds right left pred e h = ap (holds params combo) (sym e) ∙ h
 
-  in_beside : (later : List ColRef) (q : ColRef) (pred : Pred) → In pred (beside later q) → (s : ColRef) × In s later × (equals (operand.Col q) s ≡ pred)
+  in_beside : (later : List ColRef) (q : ColRef) (pred : Pred) → In pred (beside later q) → (s : ColRef) × In s later × (equality_of (operand.Col q) s ≡ pred)
   in_beside [] q pred i = absurd i
   in_beside (s ∷ more) q pred (inl e) = (s, inl refl, e)
   in_beside (s ∷ more) q pred (inr i) = absurd i
@@ -204,9 +204,9 @@ module _ (params : List Value) (combo : List (List Value)) where
   joins_hold (f ∷ rest) near pred i =
       let later : List ColRef = filter (is_later f) rest in
       let others : List ColRef = filter (λ ref. not (is_later f ref)) rest in
-      elim (in_either pred (map (equals (operand.Col f)) later) (flat_map (beside later) others) i) [
+      elim (in_either pred (map (equality_of (operand.Col f)) later) (flat_map (beside later) others) i) [
         | inl a ↦
-            let x = in_map (equals (operand.Col f)) pred later a in
+            let x = in_map (equality_of (operand.Col f)) pred later a in
             let y = in_filter (is_later f) x.0 rest x.1 in
             equals_holds (operand.Col f) x.0 pred x.2 (near_equal x.0 f (apart_refs f x.0 f y.1 (not_itself f)) (near x.0 f (inr y.0) (inl refl)))
         | inr b ↦
@@ -234,8 +234,8 @@ module _ (params : List Value) (combo : List (List Value)) where
           | false ↦ λ t. inr (inr (filter_in (λ ref. not (is_later f ref)) x rest r (ap not t)))
         ] refl
       ])
-      (λ x h. hold (equals (operand.Col f) x) (in_left (equals (operand.Col f) x) (map (equals (operand.Col f)) later) (flat_map (beside later) others) (map_in (equals (operand.Col f)) x later h)))
-      (λ x h pred g. hold pred (in_right pred (map (equals (operand.Col f)) later) (flat_map (beside later) others) (flat_map_in (beside later) pred x others h g)))
+      (λ x h. hold (equality_of (operand.Col f) x) (in_left (equality_of (operand.Col f) x) (map (equality_of (operand.Col f)) later) (flat_map (beside later) others) (map_in (equality_of (operand.Col f)) x later h)))
+      (λ x h pred g. hold pred (in_right pred (map (equality_of (operand.Col f)) later) (flat_map (beside later) others) (flat_map_in (beside later) pred x others h g)))
     where
       by_first : (later others : List ColRef) → In a later → ((x : ColRef) → In x (f ∷ rest) → (f ≡ x) ⊎ (In x later ⊎ In x others)) → ((x : ColRef) → In x later → Equal (cell combo x) (cell combo f)) → ((x : ColRef) → In x others → (pred : Pred) → In pred (beside later x) → holds params combo pred ≡ true) → Equal (cell combo a) (cell combo b)
       by_first [] others there split ones more = absurd there
@@ -243,7 +243,7 @@ module _ (params : List Value) (combo : List (List Value)) where
           let each : (x : ColRef) → In x (f ∷ rest) → Equal (cell combo x) (cell combo s) = λ x h. elim (split x h) [
             | inl e ↦ subst (λ (y : ColRef). Equal (cell combo y) (cell combo s)) e (equal_back (cell combo s) (cell combo f) (ones s (inl refl)))
             | inr (inl g) ↦ equal_on (cell combo x) (cell combo f) (cell combo s) (ones x g) (equal_back (cell combo s) (cell combo f) (ones s (inl refl)))
-            | inr (inr g) ↦ equal_back (cell combo s) (cell combo x) (more x g (equals (operand.Col x) s) (inl refl))
+            | inr (inr g) ↦ equal_back (cell combo s) (cell combo x) (more x g (equality_of (operand.Col x) s) (inl refl))
           ] in
           equal_on (cell combo a) (cell combo s) (cell combo b) (each a i) (equal_back (cell combo b) (cell combo s) (each b j))
 
@@ -255,7 +255,7 @@ module _ (params : List Value) (combo : List (List Value)) where
     new = flat_map (class_preds tables query) (classes old) ++ others old
 
     abbrev with_operand : ColRef → Option Pred → List Pred
-    with_operand class given = option_map_or (λ pred. map (equals pred.right) (members tables query class)) given (joins (members tables query class))
+    with_operand class given = option_map_or (λ pred. map (equality_of pred.right) (members tables query class)) given (joins (members tables query class))
 
     given_is : (pred : Pred) → is_given pred ≡ true → pred.op ≡ op.Eq
     given_is pred h = equality pred.op (and_parts (is_equality pred.op) (not (is_ref pred.right)) h).0
@@ -279,7 +279,7 @@ module _ (params : List Value) (combo : List (List Value)) where
         of_class class (Some p) e i =
             let f = find_parts (gives old class) old p e in
             let parts = and_parts (is_given p) (is_in old class p.left) f.1 in
-            let x = in_map (equals p.right) pred (members tables query class) i in
+            let x = in_map (equality_of p.right) pred (members tables query class) i in
             let holds_p : Equal (cell combo p.left) (side params combo p.right) = sym (given_holds p (given_is p parts.0)) ∙ h p f.0 in
             let both : Near params combo x.0 p.left = near x.0 p.left (in_members tables query class x.0 x.1 ∙ sym (ref_same (class_of old p.left) class parts.1)) in
             equals_holds p.right x.0 pred x.2 (elim both [
@@ -304,9 +304,9 @@ module _ (params : List Value) (combo : List (List Value)) where
                 let e : pred.op ≡ op.Eq = given_is pred given.0 in
                 let here : In c (classes old) = class_there old pred i (ap is_equality e) given.1 in
                 given_holds pred e
-                ∙ of_classes c here (equals pred.right pred.left)
-                (subst (λ (o : Option Pred). In (equals pred.right pred.left) (with_operand c o)) (sym given.2)
-                (map_in (equals pred.right) pred.left (members tables query c) (member_in tables query c pred.left (resolved pred i).left refl)))
+                ∙ of_classes c here (equality_of pred.right pred.left)
+                (subst (λ (o : Option Pred). In (equality_of pred.right pred.left) (with_operand c o)) (sym given.2)
+                (map_in (equality_of pred.right) pred.left (members tables query c) (member_in tables query c pred.left (resolved pred i).left refl)))
           ]
         ] refl
       where
@@ -330,10 +330,10 @@ module _ (params : List Value) (combo : List (List Value)) where
             by_given c left right None hold = joins_give (members tables query c) (λ f rest e y here. (subst (Rises tables query) e (members_rise tables query c)).0 y here) hold pred.left other left right column.1
             by_given c left right (Some p) hold =
                 equal_on (cell combo pred.left) (side params combo p.right) (cell combo other)
-                (hold (equals p.right pred.left) (map_in (equals p.right) pred.left (members tables query c) left))
-                (equal_back (cell combo other) (side params combo p.right) (hold (equals p.right other) (map_in (equals p.right) other (members tables query c) right)))
+                (hold (equality_of p.right pred.left) (map_in (equality_of p.right) pred.left (members tables query c) left))
+                (equal_back (cell combo other) (side params combo p.right) (hold (equality_of p.right other) (map_in (equality_of p.right) other (members tables query c) right)))
 
-    pub closed_same : list_all (holds params combo) (closed tables query).preds ≡ list_all (holds params combo) query.preds
+    pub closed_same : list_all (holds params combo) (closed_query tables query).preds ≡ list_all (holds params combo) query.preds
     closed_same =
         both_ways (list_all (holds params combo) new) (list_all (holds params combo) old)
         (λ h. all_from (holds params combo) old (old_holds (all_at (holds params combo) new h)))
@@ -342,7 +342,7 @@ module _ (params : List Value) (combo : List (List Value)) where
 -- the combinations are the same, in the same order
 pub same_when_closed : SameWhenClosed
 same_when_closed q r =
-    filter_same (λ combo. list_all (holds q.params combo) (closed q.tables q.query).preds) (λ combo. list_all (holds q.params combo) q.query.preds) (product q (length q.query.relations))
+    filter_same (λ combo. list_all (holds q.params combo) (closed_query q.tables q.query).preds) (λ combo. list_all (holds q.params combo) q.query.preds) (product q (length q.query.relations))
     (each_by_in _ (product q (length q.query.relations)) (λ combo _. closed_same q.params combo q.tables q.query (λ pred i. all_member (IsPredicate q.tables q.query) q.query.preds r.preds pred i)))
 
 -- ---- chains

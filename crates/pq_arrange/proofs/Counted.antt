@@ -12,7 +12,7 @@ use Rattle.pq_schema.specs.declared.query.Pred.{Pred}
 use Rattle.pq_schema.specs.declared.query.Query.{Query}
 use Rattle.pq_schema.specs.Relations.{is_equality}
 use Rattle.pq_schema.specs.Resolved.{same_ref}
-use Rattle.pq_arrange.specs.Classes.{is_join, is_given, class_of, is_in, is_joined, has, is_new, classes_after, classes, columns_at, members, gives, equals, is_later, beside, joins, class_preds, others_after, others, closed}
+use Rattle.pq_arrange.specs.Classes.{is_join, is_given, class_of, is_in, is_joined, has, is_new, classes_after, classes, columns_at, members, gives, equality_of, is_later, beside, joins, class_preds, others_after, others, closed_query}
 use Rattle.pq_arrange.proofs.Chains.{ref_same, same_itself}
 use Rattle.pq_arrange.proofs.Closes.{not_true, not_given, or_parts, gives_none, flipped}
 use Rattle.pq_arrange.proofs.Fewer.{bit, total, count, total_add, total_le, length_filter, one_hit, Distinct, length_flat, all_distinct, joins_of, few_members}
@@ -160,10 +160,10 @@ joins_few [] n h = omega arith
 joins_few (f ∷ rest) n h =
     let later : List ColRef = filter (is_later f) rest in
     let beyond : List ColRef = filter (λ ref. not (is_later f ref)) rest in
-    let a : length (map (equals (operand.Col f)) later) ≡ length later = length-map later (equals (operand.Col f)) in
+    let a : length (map (equality_of (operand.Col f)) later) ≡ length later = length-map later (equality_of (operand.Col f)) in
     let b : length (flat_map (beside later) beyond) ≤ length beyond = most_one (beside later) beyond (beside_one later) in
     let c : length later + length beyond ≡ length rest = split_count (is_later f) rest in
-    let e : length (map (equals (operand.Col f)) later ++ flat_map (beside later) beyond) ≡ length (map (equals (operand.Col f)) later) + length (flat_map (beside later) beyond) = length-append (map (equals (operand.Col f)) later) (flat_map (beside later) beyond) in
+    let e : length (map (equality_of (operand.Col f)) later ++ flat_map (beside later) beyond) ≡ length (map (equality_of (operand.Col f)) later) + length (flat_map (beside later) beyond) = length-append (map (equality_of (operand.Col f)) later) (flat_map (beside later) beyond) in
     omega (arith, a, b, c, e, h)
 
 module _ (tables : List Table) (query : Query) where
@@ -183,10 +183,10 @@ module _ (tables : List Table) (query : Query) where
           let b = few_members (flat_map (columns_at tables query) (range_with_len 1 (length query.relations))) (all_distinct tables query 1 (length query.relations)) all class in
           omega (arith, a, b)
 
-      by_given : (o : Option Pred) → length (option_map_or (λ pred. map (equals pred.right) (members tables query class)) o (joins (members tables query class))) ≤ joins_of all class all + some o
+      by_given : (o : Option Pred) → length (option_map_or (λ pred. map (equality_of pred.right) (members tables query class)) o (joins (members tables query class))) ≤ joins_of all class all + some o
       by_given None = let h : length (joins (members tables query class)) ≤ joins_of all class all = joins_few (members tables query class) (joins_of all class all) few in omega (arith, h)
       by_given (Some p) =
-          let a : length (map (equals p.right) (members tables query class)) ≡ length (members tables query class) = length-map (members tables query class) (equals p.right) in
+          let a : length (map (equality_of p.right) (members tables query class)) ≡ length (members tables query class) = length-map (members tables query class) (equality_of p.right) in
           let b : length (members tables query class) ≤ 1 + joins_of all class all = few in
           omega (arith, a, b)
 
@@ -199,7 +199,7 @@ module _ (tables : List Table) (query : Query) where
         | false ↦ omega (arith, h)
       ]
 
-  pub no_more : length (closed tables query).preds ≤ length query.preds
+  pub no_more : length (closed_query tables query).preds ≤ length query.preds
   no_more =
       let cs : List ColRef = classes all in
       let d : Distinct cs = classes_distinct all [] all in

@@ -12,7 +12,7 @@ use Rattle.pq_schema.specs.declared.query.Query.{Query}
 use Rattle.pq_schema.specs.Relations.{table_of, is_equality}
 use Rattle.pq_schema.specs.Resolved.{same_ref}
 use Rattle.pq_base.proofs.Members.{in_filter, in_map, in_flat_map, in_either, in_range}
-use Rattle.pq_arrange.specs.Classes.{is_ref, is_join, merged, joined_with, class_of, is_in, columns_at}
+use Rattle.pq_arrange.specs.Classes.{is_ref, is_join, merged_classes, joined_with, class_of, is_in, columns_at}
 use Rattle.pq_arrange.proofs.Chains.{ref_same, same_when, of_relation}
 
 -- ---- sums
@@ -242,11 +242,11 @@ module _ (refs : List ColRef) (distinct : Distinct refs) where
             | true ↦ λ t.
                 let cls : ColRef → ColRef = class_of preds in
                 let join : is_join p ≡ true = and_from (is_equality p.op) (is_ref p.right) t (ap is_ref e) in
-                let by : (ref : ColRef) → class_of (p ∷ preds) ref ≡ cond (same_ref (cls ref) (cls other)) (cls p.left) (cls ref) = λ ref. ap (λ (o : Operand). joined_with p o (class_of preds) ref) e ∙ ap (λ b. (cond b (merged p.left other (class_of preds)) (class_of preds)) ref) t in
+                let by : (ref : ColRef) → class_of (p ∷ preds) ref ≡ cond (same_ref (cls ref) (cls other)) (cls p.left) (cls ref) = λ ref. ap (λ (o : Operand). joined_with p o (class_of preds) ref) e ∙ ap (λ b. (cond b (merged_classes p.left other (class_of preds)) (class_of preds)) ref) t in
                 let left : count (is_in (p ∷ preds) class) refs ≡ count (λ r. after (cls p.left) (cls other) class (cls r)) refs = same_count (is_in (p ∷ preds) class) (λ r. after (cls p.left) (cls other) class (cls r)) refs (λ r. ap (λ (x : ColRef). same_ref x class) (by r)) in
                 let right : joins_of (p ∷ preds) class preds ≡ count (λ p'. is_join p' && after (cls p.left) (cls other) class (cls p'.left)) preds = same_count (λ p'. is_join p' && is_in (p ∷ preds) class p'.left) (λ p'. is_join p' && after (cls p.left) (cls other) class (cls p'.left)) preds (λ p'. ap (λ (x : ColRef). is_join p' && same_ref x class) (by p'.left)) in
                 let own : same_ref (cls p.left) class ≡ true → (is_join p && is_in (p ∷ preds) class p.left) ≡ true = λ s. and_from (is_join p) (is_in (p ∷ preds) class p.left) join (ap (λ (x : ColRef). same_ref x class) (by p.left ∙ either (same_ref (cls p.left) (cls other)) (cls p.left)) ∙ s) in
                 let main = join_step p.left other class cls (is_join p && is_in (p ∷ preds) class p.left) preds h own in
                 omega (arith, left, right, main)
-            | false ↦ λ t. plain_step p preds class (λ ref. ap (λ (o : Operand). joined_with p o (class_of preds) ref) e ∙ ap (λ b. (cond b (merged p.left other (class_of preds)) (class_of preds)) ref) t) (h class)
+            | false ↦ λ t. plain_step p preds class (λ ref. ap (λ (o : Operand). joined_with p o (class_of preds) ref) e ∙ ap (λ b. (cond b (merged_classes p.left other (class_of preds)) (class_of preds)) ref) t) (h class)
           ] refl

@@ -16,7 +16,7 @@ use Rattle.pq_schema.specs.declared.query.Pred.{Pred}
 use Rattle.pq_schema.specs.Relations.{is_equality}
 use Rattle.pq_plan.specs.Answer.{row_of, cell, side, compares, holds}
 use Rattle.pq_plan.proofs.ValueOrder.{value_cmp_total}
-use Rattle.pq_arrange.specs.Moves.{place_of, move, move_operand, swap_sides, later_left_with, move_pred, permuted}
+use Rattle.pq_arrange.specs.Moves.{place_of, move, move_operand, swap_sides, later_left_with, move_pred, permuted_combo}
 
 pub equality : (o : Op) → is_equality o ≡ true → o ≡ op.Eq
 equality op.Eq h = refl
@@ -44,11 +44,11 @@ place_is (other ∷ others) rel i =
     ] refl
 
 -- the row of a relation stands at its new number
-pub row_moved : (order : List ℕ) (rel : ℕ) → In rel order → (combo : List (List Value)) → row_of (place_of order rel) (permuted order combo) ≡ row_of rel combo
+pub row_moved : (order : List ℕ) (rel : ℕ) → In rel order → (combo : List (List Value)) → row_of (place_of order rel) (permuted_combo order combo) ≡ row_of rel combo
 row_moved order rel here combo =
     let h = place_is order rel here in
-    ap (λ (n : ℕ). row_of n (permuted order combo)) h.1
-    ∙ ap (λ (n : ℕ). get_or (permuted order combo) n []) (omega arith)
+    ap (λ (n : ℕ). row_of n (permuted_combo order combo)) h.1
+    ∙ ap (λ (n : ℕ). get_or (permuted_combo order combo) n []) (omega arith)
     ∙ get_or-map (λ (r : ℕ). row_of r combo) order h.0 0 [] h.2
     ∙ ap (λ (r : ℕ). row_of r combo) h.3
 
@@ -79,16 +79,16 @@ module _ (params : List Value) where
         | false ↦ λ _. refl
       ] refl
 
-  pub side_moved : (order : List ℕ) (combo : List (List Value)) (right : Operand) → Mentions order right → side params (permuted order combo) (move_operand order right) ≡ side params combo right
+  pub side_moved : (order : List ℕ) (combo : List (List Value)) (right : Operand) → Mentions order right → side params (permuted_combo order combo) (move_operand order right) ≡ side params combo right
   side_moved order combo (operand.Const value) m = refl
   side_moved order combo (operand.Param number) m = refl
   side_moved order combo (operand.Col other) m = ap (λ (row : List Value). slice_get row other.col) (row_moved order other.rel m combo)
 
-  pub holds_moved : (order : List ℕ) (combo : List (List Value)) (pred : Pred) → IsAmong order pred → holds params (permuted order combo) (move_pred order pred) ≡ holds params combo pred
+  pub holds_moved : (order : List ℕ) (combo : List (List Value)) (pred : Pred) → IsAmong order pred → holds params (permuted_combo order combo) (move_pred order pred) ≡ holds params combo pred
   holds_moved order combo pred a =
-      turned (permuted order combo) (record { left = move order pred.left; op = pred.op; right = move_operand order pred.right }) (move_operand order pred.right) refl
+      turned (permuted_combo order combo) (record { left = move order pred.left; op = pred.op; right = move_operand order pred.right }) (move_operand order pred.right) refl
       ∙ (λ i. compares pred.op (slice_get (row_moved order pred.left.rel a.left combo i) pred.left.col) (side_moved order combo pred.right a.right i))
 
-  pub all_moved : (order : List ℕ) (combo : List (List Value)) (preds : List Pred) → ((pred : Pred) → In pred preds → IsAmong order pred) → list_all (holds params (permuted order combo)) (map (move_pred order) preds) ≡ list_all (holds params combo) preds
+  pub all_moved : (order : List ℕ) (combo : List (List Value)) (preds : List Pred) → ((pred : Pred) → In pred preds → IsAmong order pred) → list_all (holds params (permuted_combo order combo)) (map (move_pred order) preds) ≡ list_all (holds params combo) preds
   all_moved order combo [] h = refl
   all_moved order combo (pred ∷ preds) h = λ i. holds_moved order combo pred (h pred (inl refl)) i && all_moved order combo preds (λ p r. h p (inr r)) i

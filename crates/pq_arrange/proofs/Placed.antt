@@ -8,7 +8,7 @@ use Rattle.pq_base.specs.Members.{In}
 use Rattle.pq_schema.specs.declared.table.Table.{Table}
 use Rattle.pq_schema.specs.declared.query.Query.{Query}
 use Rattle.pq_schema.specs.Tables.{least_of}
-use Rattle.pq_arrange.specs.Placing.{without, listed, is_bound, bound_next, least_bound, first_ordered, first_of_rest, next, placed_after, arranged_order}
+use Rattle.pq_arrange.specs.Placing.{without, bound_list, is_bound, bound_next, least_bound, first_ordered, first_of_rest, next, placed_after, arranged_order}
 use Rattle.pq_arrange.specs.Laws.{PlacesEach}
 use Rattle.pq_base.proofs.Shuffles.{Shuffle, keep, swap, then, equal, before, permutation}
 
@@ -63,7 +63,7 @@ module _ (tables : List Table) (query : Query) (close : Bool) where
   first_in (k ∷ rest) n l = inl refl
 
   least_in : (placed rest : List ℕ) (k : ℕ) → least_bound tables query close placed rest ≡ Some k → In k rest
-  least_in placed rest k e = at_least (least_of (flat_map (λ rel. listed (bound_next tables query close placed rel)) rest)) e
+  least_in placed rest k e = at_least (least_of (flat_map (λ rel. bound_list (bound_next tables query close placed rel)) rest)) e
     where
       at_least : (o : Option ℕ) → option_and_then (λ n. find (λ rel. is_bound n (bound_next tables query close placed rel)) rest) o ≡ Some k → In k rest
       at_least None e = let no : ⊥ = cc in absurd no

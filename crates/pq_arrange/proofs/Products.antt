@@ -7,7 +7,7 @@ use Rattle.std.proofs.lemmas.List.FromFn.{length-range_with_len, get_or-range_wi
 use Rattle.std.proofs.lemmas.Map.Keys.{IsDistinct-IsPermutation, IsDistinct-from_apart, apart_from_distinct}
 use Rattle.pq_base.specs.declared.value.Value.{Value}
 use Rattle.pq_base.specs.Members.{In}
-use Rattle.pq_plan.specs.Answer.{Asked, rows_at, product}
+use Rattle.pq_plan.specs.Answer.{Question, rows_at, product}
 use Rattle.pq_base.proofs.Members.{in_either}
 use Rattle.pq_arrange.proofs.Assigned.{put, assigned, Differ}
 
@@ -110,7 +110,7 @@ abbrev pub base : ℕ → List Value
 base rel = []
 
 -- the product of relations whose rows are those of an order's members
-module _ (q : Asked) (order : List ℕ) (rows : ℕ → List (List Value)) (o : IsOrder order) (at : (i : ℕ) → i < length order → rows_at q (suc i) ≡ rows (get_or order i 0)) where
+module _ (q : Question) (order : List ℕ) (rows : ℕ → List (List Value)) (o : IsOrder order) (at : (i : ℕ) → i < length order → rows_at q (suc i) ≡ rows (get_or order i 0)) where
   one : (i : ℕ) → i < length order → (g : ℕ → List Value) (r : List Value) → map g (take i order) ++ r ∷ [] ≡ map (put g (get_or order i 0) r) (take (suc i) order)
   one i inside g r =
       let k : ℕ = get_or order i 0 in

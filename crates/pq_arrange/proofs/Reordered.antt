@@ -14,9 +14,9 @@ use Rattle.pq_schema.specs.declared.table.Table.{Table}
 use Rattle.pq_schema.specs.declared.query.Query.{Query}
 use Rattle.pq_schema.specs.Relations.{relation_at, no_relation}
 use Rattle.pq_schema.specs.Resolved.{IsPredicate, IsOperand}
-use Rattle.pq_plan.specs.Answer.{Asked, row_of, rows_of, rows_at, product, combos, holds}
+use Rattle.pq_plan.specs.Answer.{Question, row_of, rows_of, rows_at, product, combos, holds}
 use Rattle.pq_base.proofs.Members.{each_by_in, filter_same, filter-map, in_range, range_in, member_at, at_in, all_member}
-use Rattle.pq_arrange.specs.Moves.{permuted}
+use Rattle.pq_arrange.specs.Moves.{permuted_combo}
 use Rattle.pq_arrange.specs.Laws.{asked_in, SameInAnyOrder}
 use Rattle.pq_base.proofs.Shuffles.{Shuffle, then, equal, mapped, filtered, permutation}
 use Rattle.pq_arrange.proofs.Assigned.{assigned, any_order}
@@ -59,14 +59,14 @@ among tables query order pred p h =
       right = operand_among tables query order pred p pred.right h.right;
     }
 
-module _ (q : Asked) (order : List ℕ) (p : IsPermutation (range_with_len 1 (length q.query.relations)) order) (preds : (pred : Pred) → In pred q.query.preds → IsAmong order pred) where
+module _ (q : Question) (order : List ℕ) (p : IsPermutation (range_with_len 1 (length q.query.relations)) order) (preds : (pred : Pred) → In pred q.query.preds → IsAmong order pred) where
   abbrev m : ℕ
   m = length q.query.relations
 
   abbrev all : List ℕ
   all = range_with_len 1 m
 
-  abbrev q' : Asked
+  abbrev q' : Question
   q' = asked_in order q
 
   long : length order ≡ m
@@ -109,15 +109,15 @@ module _ (q : Asked) (order : List ℕ) (p : IsPermutation (range_with_len 1 (le
       get_or-map g all (rel - 1) 0 [] within ∙ ap g (omega (arith, e))
 
   -- the rows of the product in the new order
-  whole_moved : map (permuted order) (product q m) ≡ map (λ g. map g order) old
+  whole_moved : map (permuted_combo order) (product q m) ≡ map (λ g. map g order) old
   whole_moved =
-      ap (map (permuted order)) (ap (product q) (sym (length-range_with_len 1 m)) ∙ products q all (rows_at q) (range_order m) old_rows)
-      ∙ map_map (permuted order) (λ (g : ℕ → List Value). map g all) old
+      ap (map (permuted_combo order)) (ap (product q) (sym (length-range_with_len 1 m)) ∙ products q all (rows_at q) (range_order m) old_rows)
+      ∙ map_map (permuted_combo order) (λ (g : ℕ → List Value). map g all) old
       ∙ ap (λ (f : (ℕ → List Value) → List (List Value)). map f old) (λ i g. map_same (λ rel. row_of rel (map g all)) g order (row_is g) i)
 
-  products_same : Shuffle (map (permuted order) (product q m)) (product q' (length q'.query.relations))
+  products_same : Shuffle (map (permuted_combo order) (product q m)) (product q' (length q'.query.relations))
   products_same =
-      then (map (permuted order) (product q m)) (map (λ g. map g order) old) (product q' (length q'.query.relations))
+      then (map (permuted_combo order) (product q m)) (map (λ g. map g order) old) (product q' (length q'.query.relations))
       (equal _ _ whole_moved)
       (then (map (λ g. map g order) old) (map (λ g. map g order) new) (product q' (length q'.query.relations))
       (mapped (λ g. map g order) old new one_order)
@@ -129,12 +129,12 @@ module _ (q : Asked) (order : List ℕ) (p : IsPermutation (range_with_len 1 (le
   abbrev passes' : List (List Value) → Bool
   passes' combo = list_all (holds q.params combo) q'.query.preds
 
-  pub combos_same : Shuffle (map (permuted order) (combos q)) (combos q')
+  pub combos_same : Shuffle (map (permuted_combo order) (combos q)) (combos q')
   combos_same =
       subst (λ (l : List (List (List Value))). Shuffle l (combos q'))
-      (filter-map passes' (permuted order) (product q m)
-      ∙ ap (map (permuted order)) (filter_same (λ combo. passes' (permuted order combo)) passes (product q m) (each_by_in _ (product q m) (λ combo _. all_moved q.params order combo q.query.preds preds))))
-      (filtered passes' (map (permuted order) (product q m)) (product q' (length q'.query.relations)) products_same)
+      (filter-map passes' (permuted_combo order) (product q m)
+      ∙ ap (map (permuted_combo order)) (filter_same (λ combo. passes' (permuted_combo order combo)) passes (product q m) (each_by_in _ (product q m) (λ combo _. all_moved q.params order combo q.query.preds preds))))
+      (filtered passes' (map (permuted_combo order) (product q m)) (product q' (length q'.query.relations)) products_same)
 
 pub same_in_any_order : SameInAnyOrder
 same_in_any_order q r order p =

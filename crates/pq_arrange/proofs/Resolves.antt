@@ -28,7 +28,7 @@ use Rattle.pq_schema.specs.Tables.{table_at, type_at}
 use Rattle.pq_schema.specs.Relations.{relation_at, no_relation, table_of, is_equality}
 use Rattle.pq_schema.specs.Resolved.{IsResolved, IsRelation, IsPredicate, IsOperand, IsColumnOf, IsParam, ref_type, param_type, same_ref, is_param}
 use Rattle.pq_base.proofs.Members.{each_by_in, range_in, all_member, any_at, any_from, map_in, in_map}
-use Rattle.pq_arrange.specs.Moves.{place_of, move, move_operand, move_item, swap_sides, later_left_with, move_pred, reordered}
+use Rattle.pq_arrange.specs.Moves.{place_of, move, move_operand, move_item, swap_sides, later_left_with, move_pred, reordered_query}
 use Rattle.pq_arrange.specs.Laws.{ResolvedInAnyOrder}
 use Rattle.pq_arrange.proofs.Moved.{place_is}
 use Rattle.pq_arrange.proofs.Reordered.{in_permuted}
@@ -80,7 +80,7 @@ module _ (tables : List Table) (query : Query) (r : IsResolved tables query) (or
   m = length query.relations
 
   abbrev query' : Query
-  query' = reordered order query
+  query' = reordered_query order query
 
   long : length query'.relations ≡ m
   long = length-map order (relation_at query) ∙ length_permutation (range_with_len 1 m) order p ∙ length-range_with_len 1 m

@@ -9,11 +9,11 @@ use Rattle.pq_schema.specs.declared.query.Query.{Query}
 use Rattle.pq_schema.specs.declared.query.Stop.TheVariants as stop
 use Rattle.pq_schema.specs.Candidates.{candidates}
 use Rattle.pq_schema.proofs.Rows.{col, pred, query, down, stops, chosen, tables}
-use Rattle.pq_plan.specs.Answer.{Asked, combos}
-use Rattle.pq_arrange.specs.Moves.{places, permuted}
-use Rattle.pq_arrange.specs.Classes.{closed}
+use Rattle.pq_plan.specs.Answer.{Question, combos}
+use Rattle.pq_arrange.specs.Moves.{places, permuted_combo}
+use Rattle.pq_arrange.specs.Classes.{closed_query}
 use Rattle.pq_arrange.specs.Placing.{arranged_order}
-use Rattle.pq_arrange.specs.Arrange.{rearranged, arranged}
+use Rattle.pq_arrange.specs.Arrange.{rearranged_query, arranged_query}
 
 -- FROM users u, subs s WHERE s.owner = [1] AND u.name = s.target LIMIT 10
 abbrev targets : Query
@@ -29,13 +29,13 @@ order_targets : arranged_order tables targets false ≡ 2 ∷ 1 ∷ []
 unfolding ones
 order_targets = refl
 
-arranged_targets : arranged tables targets ≡ query (2 ∷ 1 ∷ [])
+arranged_targets : arranged_query tables targets ≡ query (2 ∷ 1 ∷ [])
     (pred (col 1 0) op.Eq (operand.Param 1) ∷ pred (col 2 0) op.Eq (operand.Col (col 1 1)) ∷ [])
     [] (stop.Limit 10)
 unfolding ones
 arranged_targets = refl
 
-chosen_targets : chosen tables (arranged tables targets) ≡ stops 1 11 20
+chosen_targets : chosen tables (arranged_query tables targets) ≡ stops 1 11 20
 unfolding ones
 chosen_targets = refl
 
@@ -51,7 +51,7 @@ unfolding ones
 none_chained = refl
 
 -- without closing there is no candidate either
-open_chained : candidates tables (rearranged tables chained false) ≡ []
+open_chained : candidates tables (rearranged_query tables chained false) ≡ []
 unfolding ones
 open_chained = refl
 
@@ -63,13 +63,13 @@ places_chained : places (arranged_order tables chained true) ≡ 3 ∷ 1 ∷ 2 �
 unfolding ones
 places_chained = refl
 
-arranged_chained : arranged tables chained ≡ query (1 ∷ 1 ∷ 3 ∷ [])
+arranged_chained : arranged_query tables chained ≡ query (1 ∷ 1 ∷ 3 ∷ [])
     (pred (col 1 0) op.Eq (operand.Param 1) ∷ pred (col 2 0) op.Eq (operand.Param 1) ∷ pred (col 3 0) op.Eq (operand.Param 1) ∷ pred (col 2 1) op.Eq (operand.Const (value.Text (114 ∷ 111 ∷ 109 ∷ 101 ∷ []))) ∷ [])
     (down (col 3 1) ∷ []) (stop.Limit 5)
 unfolding ones
 arranged_chained = refl
 
-chosen_chained : chosen tables (arranged tables chained) ≡ stops 3 8 12
+chosen_chained : chosen tables (arranged_query tables chained) ≡ stops 3 8 12
 unfolding ones
 chosen_chained = refl
 
@@ -77,7 +77,7 @@ chosen_chained = refl
 abbrev n : ℕ → Value
 n k = value.Int (pos k)
 
-abbrev asked : Query → Asked
+abbrev asked : Query → Question
 asked query = record {
   tables = tables;
   query = query;
@@ -90,11 +90,11 @@ as_written : combos (asked targets) ≡ ((n 2 ∷ n 20 ∷ []) ∷ (n 1 ∷ n 2 
 unfolding ones
 as_written = refl
 
-as_arranged : combos (asked (arranged tables targets)) ≡ ((n 1 ∷ n 3 ∷ n 0 ∷ []) ∷ (n 3 ∷ n 30 ∷ []) ∷ []) ∷ ((n 1 ∷ n 2 ∷ n 0 ∷ []) ∷ (n 2 ∷ n 20 ∷ []) ∷ []) ∷ []
+as_arranged : combos (asked (arranged_query tables targets)) ≡ ((n 1 ∷ n 3 ∷ n 0 ∷ []) ∷ (n 3 ∷ n 30 ∷ []) ∷ []) ∷ ((n 1 ∷ n 2 ∷ n 0 ∷ []) ∷ (n 2 ∷ n 20 ∷ []) ∷ []) ∷ []
 unfolding ones
 as_arranged = refl
 
-one_moved : permuted (2 ∷ 1 ∷ []) ((n 2 ∷ n 20 ∷ []) ∷ (n 1 ∷ n 2 ∷ n 0 ∷ []) ∷ []) ≡ (n 1 ∷ n 2 ∷ n 0 ∷ []) ∷ (n 2 ∷ n 20 ∷ []) ∷ []
+one_moved : permuted_combo (2 ∷ 1 ∷ []) ((n 2 ∷ n 20 ∷ []) ∷ (n 1 ∷ n 2 ∷ n 0 ∷ []) ∷ []) ≡ (n 1 ∷ n 2 ∷ n 0 ∷ []) ∷ (n 2 ∷ n 20 ∷ []) ∷ []
 one_moved = refl
 
 -- a class with no operand: x.a = y.b, y.b = z.c and x.d = z.c, of three relations of one table
@@ -104,7 +104,7 @@ open_class = query (2 ∷ 2 ∷ 2 ∷ [])
     [] stop.All
 
 -- each later member equals the first, and the first later one each further one of the first relation
-closed_class : closed tables open_class ≡ query (2 ∷ 2 ∷ 2 ∷ [])
+closed_class : closed_query tables open_class ≡ query (2 ∷ 2 ∷ 2 ∷ [])
     (pred (col 2 1) op.Eq (operand.Col (col 1 0)) ∷ pred (col 3 2) op.Eq (operand.Col (col 1 0)) ∷ pred (col 2 1) op.Eq (operand.Col (col 1 1)) ∷ [])
     [] stop.All
 unfolding ones
@@ -116,7 +116,7 @@ two_operands = query (1 ∷ 1 ∷ [])
     (pred (col 1 0) op.Eq (operand.Param 1) ∷ pred (col 2 0) op.Eq (operand.Col (col 1 0)) ∷ pred (col 1 0) op.Eq (operand.Param 1) ∷ pred (col 2 0) op.Eq (operand.Param 2) ∷ [])
     [] stop.All
 
-closed_operands : closed tables two_operands ≡ query (1 ∷ 1 ∷ [])
+closed_operands : closed_query tables two_operands ≡ query (1 ∷ 1 ∷ [])
     (pred (col 1 0) op.Eq (operand.Param 1) ∷ pred (col 2 0) op.Eq (operand.Param 1) ∷ pred (col 1 0) op.Eq (operand.Param 1) ∷ pred (col 2 0) op.Eq (operand.Param 2) ∷ [])
     [] stop.All
 unfolding ones

@@ -3,14 +3,14 @@ use Rattle.std.specs.Prelude.{Bool, true, false, List, [], ◌∷◌, find, unwr
 use Rattle.pq_schema.specs.declared.table.Table.{Table}
 use Rattle.pq_schema.specs.declared.query.Query.{Query}
 use Rattle.pq_schema.specs.Candidates.{Candidate, candidates}
-use Rattle.pq_arrange.specs.Moves.{reordered}
-use Rattle.pq_arrange.specs.Classes.{closed}
+use Rattle.pq_arrange.specs.Moves.{reordered_query}
+use Rattle.pq_arrange.specs.Classes.{closed_query}
 use Rattle.pq_arrange.specs.Placing.{arranged_order}
 
 -- the relations in the order of their data bounds
-abbrev pub rearranged : List Table → Query → Bool → Query
-rearranged tables query false = reordered (arranged_order tables query false) query
-rearranged tables query true = closed tables (reordered (arranged_order tables query true) query)
+abbrev pub rearranged_query : List Table → Query → Bool → Query
+rearranged_query tables query false = reordered_query (arranged_order tables query false) query
+rearranged_query tables query true = closed_query tables (reordered_query (arranged_order tables query true) query)
 
 abbrev pub is_some_list : List Candidate → Bool
 is_some_list [] = false
@@ -20,6 +20,7 @@ abbrev pub has_candidate : List Table → Query → Bool
 has_candidate tables query = is_some_list (candidates tables query)
 
 -- the first of the query, of it rearranged, and of it rearranged and closed, that has a candidate
-abbrev pub arranged : List Table → Query → Query
-arranged tables query =
-    unwrap_or (find (has_candidate tables) (query ∷ rearranged tables query false ∷ rearranged tables query true ∷ [])) query
+abbrev pub arranged_query : List Table → Query → Query
+arranged_query tables query =
+    unwrap_or (find (has_candidate tables) (query ∷ rearranged_query tables query false ∷ rearranged_query tables query true
+    ∷ [])) query

@@ -16,10 +16,14 @@ abbrev pub AreLabelsOf : List Pred → List Label → Type 0
 AreLabelsOf preds labels = (ref : ColRef) → class_in labels ref ≡ class_of preds ref
 
 -- the classes of both columns as one
-abbrev pub relabelled : ColRef → ColRef → Label → Label
-relabelled class gone label = record { column = label.column; class = if same_ref label.class gone then class else label.class }
+abbrev pub relabelled_column : ColRef → ColRef → Label → Label
+relabelled_column class gone label = record {
+  column = label.column;
+  class = if same_ref label.class gone then class
+      else label.class;
+}
 
-abbrev pub joined : ColRef → ColRef → List Label → List Label
-joined left other labels =
-    map (relabelled (class_in labels left) (class_in labels other)) labels
+abbrev pub joined_labels : ColRef → ColRef → List Label → List Label
+joined_labels left other labels =
+    map (relabelled_column (class_in labels left) (class_in labels other)) labels
     ++ record { column = class_in labels other; class = class_in labels left } ∷ []

@@ -11,28 +11,29 @@ use Rattle.pq_schema.specs.declared.query.Pred.{Pred}
 use Rattle.pq_schema.specs.declared.query.Query.{Query}
 use Rattle.pq_schema.specs.declared.query.Stop.TheVariants as stop
 use Rattle.pq_schema.specs.Resolved.{IsResolved}
-use Rattle.pq_plan.specs.Answer.{Asked, combos, row_of, answer}
-use Rattle.pq_arrange.specs.Moves.{reordered, permuted, places}
-use Rattle.pq_arrange.specs.Classes.{class_of, closed}
+use Rattle.pq_plan.specs.Answer.{Question, combos, row_of, answer}
+use Rattle.pq_arrange.specs.Moves.{reordered_query, permuted_combo, places}
+use Rattle.pq_arrange.specs.Classes.{class_of, closed_query}
 use Rattle.pq_arrange.specs.Placing.{arranged_order}
-use Rattle.pq_arrange.specs.Arrange.{rearranged, has_candidate, arranged}
+use Rattle.pq_arrange.specs.Arrange.{rearranged_query, has_candidate, arranged_query}
 
 -- an order of the relations 1 to m
 abbrev pub IsOrderOf : Query → List ℕ → Type 0
 IsOrderOf query order = IsPermutation (range_with_len 1 (length query.relations)) order
 
-abbrev pub asked_in : List ℕ → Asked → Asked
-asked_in order q = record q { query = reordered order q.query }
+abbrev pub asked_in : List ℕ → Question → Question
+asked_in order q = record q { query = reordered_query order q.query }
 
 -- in any order of its relations a query has the same combinations, each once, with their rows in that order
 abbrev pub SameInAnyOrder : Type 0
 SameInAnyOrder =
-    (q : Asked) → IsResolved q.tables q.query → (order : List ℕ) → IsOrderOf q.query order →
-    IsPermutation (map (permuted order) (combos q)) (combos (asked_in order q))
+    (q : Question) → IsResolved q.tables q.query → (order : List ℕ) → IsOrderOf q.query order →
+    IsPermutation (map (permuted_combo order) (combos q)) (combos (asked_in order q))
 
 -- and it is again one that reading gives over the tables
 abbrev pub ResolvedInAnyOrder : Type 0
-ResolvedInAnyOrder = (tables : List Table) (query : Query) → IsResolved tables query → (order : List ℕ) → IsOrderOf query order → IsResolved tables (reordered order query)
+ResolvedInAnyOrder = (tables : List Table) (query : Query) → IsResolved tables query → (order : List ℕ)
+    → IsOrderOf query order → IsResolved tables (reordered_query order query)
 
 -- relations are placed once each
 abbrev pub PlacesEach : Type 0
@@ -41,8 +42,10 @@ PlacesEach = (tables : List Table) (query : Query) (close : Bool) → IsOrderOf 
 -- a chain of column equalities, each taken from either side
 pub data Chain (preds : List Pred) : ColRef → ColRef → Type 0 where
   ends : (a : ColRef) → Chain preds a a
-  rightward : (pred : Pred) (other end : ColRef) → In pred preds → pred.right ≡ operand.Col other → pred.op ≡ op.Eq → Chain preds other end → Chain preds pred.left end
-  leftward : (pred : Pred) (other end : ColRef) → In pred preds → pred.right ≡ operand.Col other → pred.op ≡ op.Eq → Chain preds pred.left end → Chain preds other end
+  rightward : (pred : Pred) (other end : ColRef) → In pred preds → pred.right ≡ operand.Col other
+      → pred.op ≡ op.Eq → Chain preds other end → Chain preds pred.left end
+  leftward : (pred : Pred) (other end : ColRef) → In pred preds → pred.right ≡ operand.Col other
+      → pred.op ≡ op.Eq → Chain preds pred.left end → Chain preds other end
 
 -- columns are of one class exactly where a chain of column equalities joins them
 abbrev pub ClassesAreChains : Type 0
@@ -50,47 +53,56 @@ ClassesAreChains = (preds : List Pred) (a b : ColRef) → (class_of preds a ≡ 
 
 -- with its equalities closed a query has the same combinations
 abbrev pub SameWhenClosed : Type 0
-SameWhenClosed = (q : Asked) → IsResolved q.tables q.query → combos (record q { query = closed q.tables q.query }) ≡ combos q
+SameWhenClosed = (q : Question) → IsResolved q.tables q.query
+    → combos (record q { query = closed_query q.tables q.query }) ≡ combos q
 
 -- the rearranged query has the combinations of the query, each once, with their rows in the new order
 abbrev pub SameRearranged : Type 0
 SameRearranged =
-    (q : Asked) → IsResolved q.tables q.query → (close : Bool) →
-    IsPermutation (map (permuted (arranged_order q.tables q.query close)) (combos q)) (combos (record q { query = rearranged q.tables q.query close }))
+    (q : Question) → IsResolved q.tables q.query → (close : Bool) →
+    IsPermutation (map (permuted_combo (arranged_order q.tables q.query close)) (combos q))
+    (combos (record q { query = rearranged_query q.tables q.query close }))
 
 -- so has the arranged one, in some order
 abbrev pub SameArranged : Type 0
 SameArranged =
-    (q : Asked) → IsResolved q.tables q.query →
-    (order : List ℕ) × IsOrderOf q.query order × IsPermutation (map (permuted order) (combos q)) (combos (record q { query = arranged q.tables q.query }))
+    (q : Question) → IsResolved q.tables q.query →
+    (order : List ℕ) × IsOrderOf q.query order
+    × IsPermutation (map (permuted_combo order) (combos q))
+    (combos (record q { query = arranged_query q.tables q.query }))
 
 -- a query with a candidate is its own arrangement
 abbrev pub LeavesPlanned : Type 0
-LeavesPlanned = (tables : List Table) (query : Query) → has_candidate tables query ≡ true → arranged tables query ≡ query
+LeavesPlanned = (tables : List Table) (query : Query) → has_candidate tables query ≡ true
+    → arranged_query tables query ≡ query
 
 -- the arranged query has a candidate exactly where one of the three has
 abbrev pub FindsCandidate : Type 0
 FindsCandidate =
     (tables : List Table) (query : Query) →
-    has_candidate tables (arranged tables query) ≡ (has_candidate tables query || has_candidate tables (rearranged tables query false) || has_candidate tables (rearranged tables query true))
+    has_candidate tables (arranged_query tables query)
+    ≡ (has_candidate tables query || has_candidate tables (rearranged_query tables query false)
+    || has_candidate tables (rearranged_query tables query true))
 
 -- and it is its own arrangement
 abbrev pub ArrangedOnce : Type 0
-ArrangedOnce = (tables : List Table) (query : Query) → arranged tables (arranged tables query) ≡ arranged tables query
+ArrangedOnce = (tables : List Table) (query : Query) → arranged_query tables (arranged_query tables query) ≡ arranged_query tables query
 
 -- closing gives again a query that reading gives over the tables
 abbrev pub ResolvedWhenClosed : Type 0
-ResolvedWhenClosed = (tables : List Table) (query : Query) → IsResolved tables query → IsResolved tables (closed tables query)
+ResolvedWhenClosed = (tables : List Table) (query : Query) → IsResolved tables query
+    → IsResolved tables (closed_query tables query)
 
 -- with no more predicates
 abbrev pub NoMorePredicates : Type 0
-NoMorePredicates = (tables : List Table) (query : Query) → length (closed tables query).preds ≤ length query.preds
+NoMorePredicates = (tables : List Table) (query : Query) → length (closed_query tables query).preds ≤ length query.preds
 
 -- the row of each relation stands at its new number
 abbrev pub RowsByPlaces : Type 0
 RowsByPlaces =
-    (query : Query) (order : List ℕ) → IsOrderOf query order → (combo : List (List Value)) (rel : ℕ) → 1 ≤ rel → rel ≤ length query.relations →
-    row_of (slice_index_or (places order) (rel - 1) 0) (permuted order combo) ≡ row_of rel combo
+    (query : Query) (order : List ℕ) → IsOrderOf query order → (combo : List (List Value)) (rel : ℕ) → 1 ≤ rel
+    → rel ≤ length query.relations →
+    row_of (slice_index_or (places order) (rel - 1) 0) (permuted_combo order combo) ≡ row_of rel combo
 
 -- the rearranged query and the arranged one are such queries too, with the name and the parameters of the old one
 pub record IsSuccessor (tables : List Table) (old new : Query) : Type 0 where
@@ -101,13 +113,16 @@ pub record IsSuccessor (tables : List Table) (old new : Query) : Type 0 where
   pub fewer : length new.preds ≤ length old.preds
 
 abbrev pub RearrangedResolved : Type 0
-RearrangedResolved = (tables : List Table) (query : Query) → IsResolved tables query → (close : Bool) → IsSuccessor tables query (rearranged tables query close)
+RearrangedResolved = (tables : List Table) (query : Query) → IsResolved tables query → (close : Bool)
+    → IsSuccessor tables query (rearranged_query tables query close)
 
 abbrev pub ArrangedResolved : Type 0
-ArrangedResolved = (tables : List Table) (query : Query) → IsResolved tables query → IsSuccessor tables query (arranged tables query)
+ArrangedResolved = (tables : List Table) (query : Query) → IsResolved tables query
+    → IsSuccessor tables query (arranged_query tables query)
 
 -- without LIMIT and PAGINATE the arranged query has the same rows for an answer, each as often
 abbrev pub SameAnswers : Type 0
 SameAnswers =
-    (q : Asked) → IsResolved q.tables q.query → q.query.stop ≡ stop.All → (after : Option (List Value)) →
-    IsPermutation (answer q.tables q.query q.rows q.params after) (answer q.tables (arranged q.tables q.query) q.rows q.params after)
+    (q : Question) → IsResolved q.tables q.query → q.query.stop ≡ stop.All → (after : Option (List Value)) →
+    IsPermutation (answer q.tables q.query q.rows q.params after)
+    (answer q.tables (arranged_query q.tables q.query) q.rows q.params after)

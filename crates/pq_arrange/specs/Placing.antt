@@ -21,7 +21,8 @@ is_placed placed rel = list_any (λ other. other == rel) placed
 abbrev pub ties_with : List ℕ → ColRef → ColRef → Operand → Bool
 ties_with placed ref left (operand.Const value) = same_ref left ref
 ties_with placed ref left (operand.Param number) = same_ref left ref
-ties_with placed ref left (operand.Col other) = same_ref left ref && is_placed placed other.rel || same_ref other ref && is_placed placed left.rel
+ties_with placed ref left (operand.Col other) =
+    same_ref left ref && is_placed placed other.rel || same_ref other ref && is_placed placed left.rel
 
 abbrev pub ties_column : List ℕ → ColRef → Pred → Bool
 ties_column placed ref pred = is_equality pred.op && ties_with placed ref pred.left pred.right
@@ -36,7 +37,8 @@ is_placed_in preds class placed (operand.Col other) = is_in preds class other &&
 abbrev pub ties_class : List Pred → List ℕ → ColRef → Pred → Bool
 ties_class preds placed class pred =
     is_equality pred.op
-    && (is_in preds class pred.left && (is_given pred || is_placed placed pred.left.rel) || is_placed_in preds class placed pred.right)
+    && (is_in preds class pred.left && (is_given pred || is_placed placed pred.left.rel)
+    || is_placed_in preds class placed pred.right)
 
 -- whether equalities are closed
 abbrev pub is_tied : Bool → List Pred → List ℕ → ColRef → Bool
@@ -47,9 +49,9 @@ is_tied true preds placed ref = list_any (ties_class preds placed (class_of pred
 abbrev pub is_tied_at : Bool → List Pred → List ℕ → ℕ → ℕ → Bool
 is_tied_at close preds placed rel col = is_tied close preds placed (record { rel = rel; col = col })
 
-abbrev pub listed : Option ℕ → List ℕ
-listed None = []
-listed (Some n) = n ∷ []
+abbrev pub bound_list : Option ℕ → List ℕ
+bound_list None = []
+bound_list (Some n) = n ∷ []
 
 abbrev pub is_bound : ℕ → Option ℕ → Bool
 is_bound n None = false
@@ -66,7 +68,8 @@ without rel (other ∷ others) = if other == rel then others else other ∷ with
 module _ (tables : List Table) (query : Query) (close : Bool) where
   abbrev pub tied_columns : List ℕ → ℕ → ℕ
   tied_columns placed rel =
-      set_of (filter (is_tied_at close query.preds placed rel) (range_with_len 0 (length (table_of tables query rel).columns)))
+      set_of (filter (is_tied_at close query.preds placed rel)
+      (range_with_len 0 (length (table_of tables query rel).columns)))
 
   -- the data bound of a relation that would come next
   abbrev pub bound_next : List ℕ → ℕ → Option ℕ
@@ -75,7 +78,8 @@ module _ (tables : List Table) (query : Query) (close : Bool) where
   -- the first of the unplaced relations with the least data bound
   abbrev pub least_bound : List ℕ → List ℕ → Option ℕ
   least_bound placed rest =
-      option_and_then (λ n. find (λ rel. is_bound n (bound_next placed rel)) rest) (least_of (flat_map (λ rel. listed (bound_next placed rel)) rest))
+      option_and_then (λ n. find (λ rel. is_bound n (bound_next placed rel)) rest)
+      (least_of (flat_map (λ rel. bound_list (bound_next placed rel)) rest))
 
   -- the first with a column in ORDER BY
   abbrev pub first_ordered : List ℕ → Option ℕ

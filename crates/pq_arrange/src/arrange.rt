@@ -1,7 +1,7 @@
 //! The query that is planned in place of a query.
 ghost use Rattle.std.specs.Prelude.{◌≡◌, ◌≤◌, All, IfOk, length};
 ghost use Rattle.pq_schema.specs.Resolved.{IsResolved};
-ghost use Rattle.pq_arrange.specs.Arrange.{rearranged};
+ghost use Rattle.pq_arrange.specs.Arrange.{rearranged_query};
 ghost use Rattle.pq_arrange.specs.Moves.{places};
 ghost use Rattle.pq_arrange.specs.Placing.{arranged_order};
 
@@ -54,7 +54,7 @@ fn moved_by(
     requires order { order.now ≡ arranged_order catalog.now.tables query.now close }
     requires few { length order.now ≤ 6 }
     requires there { All (λ rel. (1 ≤ rel) × (rel ≤ length query.now.relations)) order.now }
-    ensures { IfOk result (λ found. found ≡ rearranged catalog.now.tables query.now close) }
+    ensures { IfOk result (λ found. found ≡ rearranged_query catalog.now.tables query.now close) }
 {
     catalog.known();
     let moved = reordered(alloc, order, query)?;
@@ -74,7 +74,7 @@ pub fn rearrange(
     close: bool,
 ) -> Result<Rearranged, NoMem>
     requires { IsResolved catalog.now.tables query.now }
-    ensures query { IfOk result (λ found. found.query ≡ rearranged catalog.now.tables query.now close) }
+    ensures query { IfOk result (λ found. found.query ≡ rearranged_query catalog.now.tables query.now close) }
     ensures places { IfOk result (λ found. found.places ≡ places (arranged_order catalog.now.tables query.now close)) }
 {
     let order = order_of(alloc, catalog, query, close)?;

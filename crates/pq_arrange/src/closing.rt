@@ -3,7 +3,7 @@ ghost use Rattle.std.specs.Prelude.{◌≡◌, ◌++◌, ◌∷◌, IfOk, OnOk, 
 ghost use Rattle.std.specs.List.{list_any, range_with_len};
 ghost use Rattle.pq_schema.specs.Resolved.{same_ref};
 ghost use Rattle.pq_schema.specs.Sound.{IsQuery};
-ghost use Rattle.pq_arrange.specs.Classes.{beside, class_of, class_preds, classes, classes_after, closed, columns_at, equals, gives, has, is_given, is_in, is_join, is_joined, is_later, is_new, is_ref, joins, members, others, others_after};
+ghost use Rattle.pq_arrange.specs.Classes.{beside, class_of, class_preds, classes, classes_after, closed_query, columns_at, equality_of, gives, has, is_given, is_in, is_join, is_joined, is_later, is_new, is_ref, joins, members, others, others_after};
 
 use crate::labels::{Classes, same_column};
 use crate::moves::copy_operand;
@@ -108,7 +108,9 @@ fn push_members(
     columns: u8,
     found: &mut List<ColRef>,
 ) -> Result<(), NoMem>
-    ensures { OnOk result (found.new ≡ found.old ++ filter (is_in classes.now class) (map (λ col. record { rel = rel; col = col }) (range_with_len 0 columns))) }
+    ensures { OnOk result (found.new ≡ found.old
+        ++ filter (is_in classes.now class) (map
+        (λ col. record { rel = rel; col = col }) (range_with_len 0 columns))) }
 {
     for col in numbers(alloc, 0, columns)?.items() {
         let column = ColRef { rel, col: *col };
@@ -141,7 +143,7 @@ fn members(
 }
 
 fn equals(left: ColRef, right: Operand) -> Pred
-    ensures { result ≡ equals right left }
+    ensures { result ≡ equality_of right left }
 {
     Pred {
         left,
@@ -173,7 +175,8 @@ fn push_later(
     rest: &[ColRef],
     found: &mut List<Pred>,
 ) -> Result<(), NoMem>
-    ensures { OnOk result (found.new ≡ found.old ++ map (equals (Operand.Col first)) (filter (is_later first) rest.now)) }
+    ensures { OnOk result (found.new ≡ found.old
+        ++ map (equality_of (Operand.Col first)) (filter (is_later first) rest.now)) }
 {
     for column in rest {
         if is_later(first, *column) {
@@ -191,7 +194,8 @@ fn push_beside(
     rest: &[ColRef],
     found: &mut List<Pred>,
 ) -> Result<(), NoMem>
-    ensures { OnOk result (found.new ≡ found.old ++ map (λ ref. equals (Operand.Col ref) later) (filter (λ ref. not (is_later first ref)) rest.now)) }
+    ensures { OnOk result (found.new ≡ found.old ++ map
+        (λ ref. equality_of (Operand.Col ref) later) (filter (λ ref. not (is_later first ref)) rest.now)) }
 {
     for column in rest {
         if !is_later(first, *column) {
@@ -235,7 +239,7 @@ fn push_given(
     operand: &Operand,
     found: &mut List<Pred>,
 ) -> Result<(), NoMem>
-    ensures { OnOk result (found.new ≡ found.old ++ map (equals operand.now) members.now) }
+    ensures { OnOk result (found.new ≡ found.old ++ map (equality_of operand.now) members.now) }
 {
     for column in members {
         found.push(alloc, equals(*column, copy_operand(alloc, operand)?))?;
@@ -315,7 +319,7 @@ fn push_others(
 /// The predicates of the query with its classes closed.
 fn closed_preds(alloc: Global, catalog: &Catalog, query: &Query) -> Result<List<Pred>, NoMem>
     requires { IsQuery catalog.now.tables query.now }
-    ensures { IfOk result (λ preds. preds ≡ (closed catalog.now.tables query.now).preds) }
+    ensures { IfOk result (λ preds. preds ≡ (closed_query catalog.now.tables query.now).preds) }
 {
     let classes = Classes::of(alloc, query.preds.items())?;
     let mut found = List::new(alloc);
@@ -335,7 +339,7 @@ fn closed_preds(alloc: Global, catalog: &Catalog, query: &Query) -> Result<List<
 /// The query with its classes closed.
 pub(crate) fn closed(alloc: Global, catalog: &Catalog, query: Query) -> Result<Query, NoMem>
     requires { IsQuery catalog.now.tables query }
-    ensures { IfOk result (λ found. found ≡ closed catalog.now.tables query) }
+    ensures { IfOk result (λ found. found ≡ closed_query catalog.now.tables query) }
 {
     let preds = closed_preds(alloc, catalog, &query)?;
     Ok(Query { preds, ..query })

@@ -2,7 +2,7 @@
 ghost use Rattle.std.specs.Prelude.{◌≡◌, ◌++◌, ◌∷◌, [], IfOk, map, if◌then◌else◌};
 ghost use Rattle.pq_schema.specs.Resolved.{same_ref};
 ghost use Rattle.pq_arrange.specs.Classes.{class_of, is_in};
-ghost use Rattle.pq_arrange.specs.Labels.{class_in, AreLabelsOf, relabelled, joined};
+ghost use Rattle.pq_arrange.specs.Labels.{class_in, AreLabelsOf, relabelled_column, joined_labels};
 
 use pq_base::{List, NoMem};
 use pq_schema::{ColRef, Op, Operand, Pred};
@@ -63,7 +63,7 @@ fn joined(
     left: ColRef,
     other: ColRef,
 ) -> Result<List<Label>, NoMem>
-    ensures { IfOk result (λ found. found ≡ joined left other labels.now) }
+    ensures { IfOk result (λ found. found ≡ joined_labels left other labels.now) }
 {
     let class = class_in(labels, left);
     let gone = class_in(labels, other);

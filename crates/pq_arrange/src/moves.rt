@@ -1,7 +1,7 @@
 //! A query with its relations in another order.
 ghost use Rattle.std.specs.Prelude.{◌≡◌, ◌+◌, ◌≤◌, All, IfOk, length, map};
 ghost use Rattle.pq_schema.specs.Relations.{relation_at};
-ghost use Rattle.pq_arrange.specs.Moves.{place_of, places, move, move_operand, later_left, move_pred, move_item, reordered};
+ghost use Rattle.pq_arrange.specs.Moves.{place_of, places, move, move_operand, later_left, move_pred, move_item, reordered_query};
 
 use crate::numbers::numbers;
 use pq_base::{ColType, List, NoMem};
@@ -181,7 +181,7 @@ fn copy_types(alloc: Global, types: &[ColType]) -> Result<List<ColType>, NoMem>
 pub(crate) fn reordered(alloc: Global, order: &[u8], query: &Query) -> Result<Query, NoMem>
     requires few { length order.now ≤ 6 }
     requires there { All (λ rel. (1 ≤ rel) × (rel ≤ length query.now.relations)) order.now }
-    ensures { IfOk result (λ moved. moved ≡ reordered order.now query.now) }
+    ensures { IfOk result (λ moved. moved ≡ reordered_query order.now query.now) }
 {
     Ok(Query {
         name: query.name.copy(alloc)?,

@@ -5,7 +5,7 @@ ghost use Rattle.pq_base.specs.Columns.{with_col};
 ghost use Rattle.pq_schema.specs.Resolved.{same_ref};
 ghost use Rattle.pq_schema.specs.Sound.{IsQuery};
 ghost use Rattle.pq_schema.specs.Tables.{least_of};
-ghost use Rattle.pq_arrange.specs.Placing.{arranged_order, bound_next, first_of_rest, first_ordered, is_bound, is_placed, is_placed_in, is_tied, is_tied_at, least_bound, listed, next, placed_after, tied_columns, ties_class, ties_column, ties_with, without};
+ghost use Rattle.pq_arrange.specs.Placing.{arranged_order, bound_next, first_of_rest, first_ordered, is_bound, is_placed, is_placed_in, is_tied, is_tied_at, least_bound, bound_list, next, placed_after, tied_columns, ties_class, ties_column, ties_with, without};
 
 use crate::closing::is_given;
 use crate::labels::{Classes, same_column};
@@ -101,7 +101,9 @@ impl<'a> Placing<'a> {
     fn with_tied(self, placed: &[u8], rel: u8, col: u8, columns: u8, set: ColSet) -> ColSet
         requires classes { self.classes.now ≡ self.query.now.preds }
         requires few { columns ≤ 32 }
-        ensures { result ≡ fold with_col set (filter (is_tied_at self.entry.closed self.entry.query.now.preds placed.now rel) (range_with_len col (columns - col))) }
+        ensures { result ≡ fold with_col set
+            (filter (is_tied_at self.entry.closed self.entry.query.now.preds placed.now rel)
+            (range_with_len col (columns - col))) }
     {
         if columns <= col {
             return set;
@@ -120,7 +122,8 @@ impl<'a> Placing<'a> {
         requires classes { self.classes.now ≡ self.query.now.preds }
         requires one { 1 ≤ rel }
         requires there { rel ≤ length self.query.now.relations }
-        ensures { result ≡ tied_columns self.entry.catalog.now.tables self.entry.query.now self.entry.closed placed.now rel }
+        ensures { result ≡ tied_columns self.entry.catalog.now.tables self.entry.query.now self.entry.closed
+            placed.now rel }
     {
         let columns = table_of(self.catalog, self.query, rel)
             .columns
@@ -134,7 +137,8 @@ impl<'a> Placing<'a> {
         requires classes { self.classes.now ≡ self.query.now.preds }
         requires one { 1 ≤ rel }
         requires there { rel ≤ length self.query.now.relations }
-        ensures { result ≡ bound_next self.entry.catalog.now.tables self.entry.query.now self.entry.closed placed.now rel }
+        ensures { result ≡ bound_next self.entry.catalog.now.tables self.entry.query.now self.entry.closed
+            placed.now rel }
     {
         let table = table_of(self.catalog, self.query, rel);
         data_bound(table, self.tied_columns(placed, rel))
@@ -145,7 +149,9 @@ impl<'a> Placing<'a> {
         requires query { IsQuery self.catalog.now.tables self.query.now }
         requires classes { self.classes.now ≡ self.query.now.preds }
         requires there { All (λ rel. (1 ≤ rel) × (rel ≤ length self.query.now.relations)) rest.now }
-        ensures { result ≡ least_of (flat_map (λ rel. listed (bound_next self.entry.catalog.now.tables self.entry.query.now self.entry.closed placed.now rel)) rest.now) }
+        ensures { result ≡ least_of (flat_map
+            (λ rel. bound_list (bound_next self.entry.catalog.now.tables self.entry.query.now self.entry.closed
+            placed.now rel)) rest.now) }
     {
         match rest.split_first() {
             None => None,
@@ -166,7 +172,9 @@ impl<'a> Placing<'a> {
         requires query { IsQuery self.catalog.now.tables self.query.now }
         requires classes { self.classes.now ≡ self.query.now.preds }
         requires there { All (λ rel. (1 ≤ rel) × (rel ≤ length self.query.now.relations)) rest.now }
-        ensures { result ≡ find (λ rel. is_bound least (bound_next self.entry.catalog.now.tables self.entry.query.now self.entry.closed placed.now rel)) rest.now }
+        ensures { result ≡ find (λ rel. is_bound least
+            (bound_next self.entry.catalog.now.tables self.entry.query.now self.entry.closed placed.now rel))
+            rest.now }
     {
         match rest.split_first() {
             None => None,
@@ -182,7 +190,8 @@ impl<'a> Placing<'a> {
         requires query { IsQuery self.catalog.now.tables self.query.now }
         requires classes { self.classes.now ≡ self.query.now.preds }
         requires there { All (λ rel. (1 ≤ rel) × (rel ≤ length self.query.now.relations)) rest.now }
-        ensures { result ≡ least_bound self.entry.catalog.now.tables self.entry.query.now self.entry.closed placed.now rest.now }
+        ensures { result ≡ least_bound self.entry.catalog.now.tables self.entry.query.now self.entry.closed
+            placed.now rest.now }
     {
         match self.least_next(placed, rest) {
             None => None,
@@ -212,7 +221,8 @@ impl<'a> Placing<'a> {
         requires query { IsQuery self.catalog.now.tables self.query.now }
         requires classes { self.classes.now ≡ self.query.now.preds }
         requires there { All (λ rel. (1 ≤ rel) × (rel ≤ length self.query.now.relations)) rest.now }
-        ensures { result ≡ next self.entry.catalog.now.tables self.entry.query.now self.entry.closed placed.now rest.now }
+        ensures { result ≡ next self.entry.catalog.now.tables self.entry.query.now self.entry.closed placed.now
+            rest.now }
     {
         if let Some(rel) = self.least_bound(placed, rest) {
             return rel;
@@ -235,7 +245,9 @@ impl<'a> Placing<'a> {
         requires query { IsQuery self.catalog.now.tables self.query.now }
         requires classes { self.classes.now ≡ self.query.now.preds }
         requires there { All (λ rel. (1 ≤ rel) × (rel ≤ length self.query.now.relations)) rest }
-        ensures { IfOk result (λ order. order ≡ placed_after self.entry.catalog.now.tables self.entry.query.now self.entry.closed count placed rest) }
+        ensures { IfOk result (λ order. order
+            ≡ placed_after self.entry.catalog.now.tables self.entry.query.now self.entry.closed count placed
+            rest) }
     {
         if count == 0 {
             return Ok(placed);
@@ -250,7 +262,8 @@ impl<'a> Placing<'a> {
     pub(crate) fn order(self, alloc: Global) -> Result<List<u8>, NoMem>
         requires query { IsQuery self.catalog.now.tables self.query.now }
         requires classes { self.classes.now ≡ self.query.now.preds }
-        ensures { IfOk result (λ order. order ≡ arranged_order self.entry.catalog.now.tables self.entry.query.now self.entry.closed) }
+        ensures { IfOk result (λ order. order
+            ≡ arranged_order self.entry.catalog.now.tables self.entry.query.now self.entry.closed) }
     {
         let count = self.query.relations.items().len() as u8;
         let rest = numbers(alloc, 1, count)?;

@@ -22,9 +22,9 @@ value_cmp (value.Bool a) (value.Bool b) = bool_cmp a b
 value_cmp (value.Text a) (value.Text b) = slice_cmp nat_cmp a b
 value_cmp a b = nat_cmp (kind_rank a) (kind_rank b)
 
-abbrev pub directed : Dir → Ordering → Ordering
-directed Asc order = order
-directed Desc order = ordering_reverse order
+abbrev pub directed_order : Dir → Ordering → Ordering
+directed_order Asc order = order
+directed_order Desc order = ordering_reverse order
 
 -- by the first place that differs, turned round where it descends; a list before those that it begins
 abbrev pub position_cmp : List Dir → List Value → List Value → Ordering
@@ -32,4 +32,4 @@ position_cmp ds [] [] = Equal
 position_cmp ds [] (y ∷ ys) = Less
 position_cmp ds (x ∷ xs) [] = Greater
 position_cmp [] (x ∷ xs) (y ∷ ys) = ordering_then (value_cmp x y) (position_cmp [] xs ys)
-position_cmp (d ∷ ds) (x ∷ xs) (y ∷ ys) = ordering_then (directed d (value_cmp x y)) (position_cmp ds xs ys)
+position_cmp (d ∷ ds) (x ∷ xs) (y ∷ ys) = ordering_then (directed_order d (value_cmp x y)) (position_cmp ds xs ys)

@@ -10,15 +10,16 @@ use Rattle.std.specs.declared.cmp.Ordering.TheVariants.{Less}
 abbrev pub order : List ℕ → List ℕ → Ordering
 order = slice_cmp nat_cmp
 
-abbrev pub raised : ℕ → ℕ
-raised = to_ascii_uppercase
+abbrev pub uppercase_byte : ℕ → ℕ
+uppercase_byte = to_ascii_uppercase
 
 abbrev pub texts : List (Bor (List ℕ)) → List (List ℕ)
 texts words = map (λ w. w.now) words
 
 -- each word is below the next, by its bytes
 abbrev pub IsRising : List (List ℕ) → Type 0
-IsRising words = (k : ℕ) → k + 1 < length words → order (slice_index_or words k []) (slice_index_or words (k + 1) []) ≡ Less
+IsRising words = (k : ℕ) → k + 1 < length words
+    → order (slice_index_or words k []) (slice_index_or words (k + 1) []) ≡ Less
 
 -- the words that are no names
 abbrev pub keywords : List (List ℕ)

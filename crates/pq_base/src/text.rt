@@ -22,7 +22,8 @@ impl Model for PText {
 impl PText {
     /// The text of these bytes, None exactly where they aren't UTF-8.
     pub fn from_bytes(alloc: Global, bytes: &[u8]) -> Result<Option<PText>, NoMem>
-        ensures { IfOk result (λ found. MatchOption found (¬ IsUtf8 bytes.now) (λ text. IsUtf8 bytes.now × text ≡ bytes.now)) }
+        ensures { IfOk result (λ found. MatchOption found (¬ IsUtf8 bytes.now)
+            (λ text. IsUtf8 bytes.now × text ≡ bytes.now)) }
     {
         match str::from_utf8(bytes) {
             Ok(text) => {

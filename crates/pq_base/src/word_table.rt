@@ -1,7 +1,7 @@
 //! Tables of words that rise by their bytes, looked up with the ASCII letters raised.
 
 ghost use Rattle.std.specs.Prelude.{◌≡◌, ◌+◌, ◌-◌, ◌<◌, ◌≤◌, ◌↔◌, IsTrue, ℕ, List, [], length, map, Some, IsSome, IfSome, IfNone, Contains, slice_get, slice_index_or};
-ghost use Rattle.pq_base.specs.Words.{order, raised, texts, IsRising, keywords, refusals, counts};
+ghost use Rattle.pq_base.specs.Words.{order, uppercase_byte, texts, IsRising, keywords, refusals, counts};
 
 use std::cmp::Ordering;
 use std::marker::Model;
@@ -24,14 +24,14 @@ impl<const N: usize> Model for WordTable<N> {
 }
 
 fn raise(b: u8) -> u8
-    ensures { result ≡ raised b }
+    ensures { result ≡ uppercase_byte b }
 {
     b.to_ascii_uppercase()
 }
 
 /// How a word of the table compares to a raised word.
 fn compare(a: &[u8], b: &[u8]) -> Ordering
-    ensures { result ≡ order a.now (map raised b.now) }
+    ensures { result ≡ order a.now (map uppercase_byte b.now) }
 {
     match a {
         [] => match b {
@@ -78,8 +78,8 @@ fn rises(words: &[&'static str]) -> bool
 
 fn find(words: &[&'static str], word: &[u8]) -> Option<usize>
     requires { IsRising (texts words.now) }
-    ensures found { IfSome result (λ place. slice_get (texts words.now) place ≡ Some (map raised word.now)) }
-    ensures none { IfNone result ((place : ℕ) → slice_get (texts words.now) place ≡ Some (map raised word.now) → ⊥) }
+    ensures found { IfSome result (λ place. slice_get (texts words.now) place ≡ Some (map uppercase_byte word.now)) }
+    ensures none { IfNone result ((place : ℕ) → slice_get (texts words.now) place ≡ Some (map uppercase_byte word.now) → ⊥) }
 {
     let mut low = 0;
     let mut high = words.len();
@@ -117,8 +117,8 @@ impl<const N: usize> WordTable<N> {
 
     /// The place of the word that equals this one with its ASCII letters raised.
     pub fn lookup(&self, word: &[u8]) -> Option<usize>
-        ensures found { IfSome result (λ place. slice_get self.now place ≡ Some (map raised word.now)) }
-        ensures none { IfNone result ((place : ℕ) → slice_get self.now place ≡ Some (map raised word.now) → ⊥) }
+        ensures found { IfSome result (λ place. slice_get self.now place ≡ Some (map uppercase_byte word.now)) }
+        ensures none { IfNone result ((place : ℕ) → slice_get self.now place ≡ Some (map uppercase_byte word.now) → ⊥) }
     {
         find(self.words, word)
     }

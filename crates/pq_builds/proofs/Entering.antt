@@ -9,23 +9,23 @@ use Rattle.pq_base.specs.declared.value.ColType.{ColType}
 use Rattle.pq_base.specs.declared.value.Value.{Value}
 use Rattle.pq_base.specs.Values.{AllFit}
 use Rattle.pq_row_code.specs.RowCode.{row_code}
-use Rattle.pq_store.specs.Content.{Content, written, pairs_within}
-use Rattle.pq_content.specs.Pairs.{Pair, Change, changed, is_in_space}
+use Rattle.pq_store.specs.Content.{Content, written_content, pairs_within}
+use Rattle.pq_content.specs.Pairs.{Pair, Change, changed_content, is_in_space}
 use Rattle.pq_intent.specs.Changing.{MayChange}
 use Rattle.pq_builds.specs.declared.target.Target.{Target}
-use Rattle.pq_builds.specs.Filling.{entry_at, entry_change, entered, AreDecoded, Enters, EntersSome, IsEntryIn}
+use Rattle.pq_builds.specs.Filling.{entry_at, entry_change, entered_rows, AreDecoded, Enters, EntersSome, IsEntryIn}
 use Rattle.pq_builds.proofs.Ranges.{range_insert}
 
 each_append : {X : Type 0} (P : X → Type 0) (xs ys : List X) → AllByRecursion P xs → AllByRecursion P ys → AllByRecursion P (xs ++ ys)
 each_append P [] ys g h = h
 each_append P (x ∷ xs) ys g h = (g.0, each_append P xs ys g.1 h)
 
-changed-append : (xs ys : List Change) (c : Content) → changed (xs ++ ys) c ≡ changed ys (changed xs c)
+changed-append : (xs ys : List Change) (c : Content) → changed_content (xs ++ ys) c ≡ changed_content ys (changed_content xs c)
 changed-append [] ys c = refl
-changed-append (x ∷ xs) ys c = changed-append xs ys (written x.0 x.1 c)
+changed-append (x ∷ xs) ys c = changed-append xs ys (written_content x.0 x.1 c)
 
-pub entered-append : (target : Target) (xs ys : List (List Value)) (c : Content) → entered target (xs ++ ys) c ≡ entered target ys (entered target xs c)
-entered-append target xs ys c = ap (λ (l : List Change). changed l c) (map-append (entry_change target) xs ys) ∙ changed-append (map (entry_change target) xs) (map (entry_change target) ys) c
+pub entered-append : (target : Target) (xs ys : List (List Value)) (c : Content) → entered_rows target (xs ++ ys) c ≡ entered_rows target ys (entered_rows target xs c)
+entered-append target xs ys c = ap (λ (l : List Change). changed_content l c) (map-append (entry_change target) xs ys) ∙ changed-append (map (entry_change target) xs) (map (entry_change target) ys) c
 
 decoded-append : (types : List ColType) (ps qs : List Pair) (xs ys : List (List Value)) → AreDecoded types ps xs → AreDecoded types qs ys → AreDecoded types (ps ++ qs) (xs ++ ys)
 decoded-append types ps qs xs ys a b = record {
@@ -40,11 +40,11 @@ enters_none target c = record { rows = []; decoded = record { fit = tt; codes = 
 
 pub enters_then : (target : Target) (ps qs : List Pair) (old mid : Content) (now : Option Content) → Enters target ps old (Some mid) → Enters target qs mid now → Enters target (ps ++ qs) old now
 enters_then target ps qs old mid now a b =
-    let mid_is : mid ≡ entered target a.rows old = some_same mid (entered target a.rows old) a.is in
+    let mid_is : mid ≡ entered_rows target a.rows old = some_same mid (entered_rows target a.rows old) a.is in
     record {
       rows = a.rows ++ b.rows;
       decoded = decoded-append target.types ps qs a.rows b.rows a.decoded b.decoded;
-      is = b.is ∙ ap (λ (c : Content). Some (entered target b.rows c)) mid_is ∙ ap (λ (c : Content). Some c) (sym (entered-append target a.rows b.rows old));
+      is = b.is ∙ ap (λ (c : Content). Some (entered_rows target b.rows c)) mid_is ∙ ap (λ (c : Content). Some c) (sym (entered-append target a.rows b.rows old));
     }
   where
     some_same : (x y : Content) → Some x ≡ Some y → x ≡ y
@@ -52,14 +52,14 @@ enters_then target ps qs old mid now a b =
 
 -- what is told at the end of a first part
 pub told_mid : (target : Target) (ps : List Pair) (old : Content) (mid : Option Content) → Enters target ps old mid → (c : Content) × (mid ≡ Some c)
-told_mid target ps old mid a = (entered target a.rows old, a.is)
+told_mid target ps old mid a = (entered_rows target a.rows old, a.is)
 
 -- ---- on contents that may not be told
 
 pub enters_more : (target : Target) (ps qs : List Pair) (old mid now : Option Content) → IfSome old (λ c. Enters target ps c mid) → IfSome mid (λ c. Enters target qs c now) → IfSome old (λ c. Enters target (ps ++ qs) c now)
 enters_more target ps qs None mid now a b = tt
 enters_more target ps qs (Some c) mid now a b =
-    let d = entered target a.rows c in
+    let d = entered_rows target a.rows c in
     enters_then target ps qs c d now (record { rows = a.rows; decoded = a.decoded; is = refl }) (subst (λ (o : Option Content). IfSome o (λ c. Enters target qs c now)) a.is b)
 
 take_front : (m : ℕ) (xs ys : List Pair) → (n : ℕ) × (take n (xs ++ ys) ≡ take m xs)
@@ -84,7 +84,7 @@ some_back target ps qs old mid now a e =
 pub some_more : (target : Target) (ps qs : List Pair) (old mid now : Option Content) → IfSome old (λ c. Enters target ps c mid) → IfSome mid (λ c. EntersSome target qs c now) → IfSome old (λ c. EntersSome target (ps ++ qs) c now)
 some_more target ps qs None mid now a b = tt
 some_more target ps qs (Some c) mid now a b =
-    let d = entered target a.rows c in
+    let d = entered_rows target a.rows c in
     some_back target ps qs c d now (record { rows = a.rows; decoded = a.decoded; is = refl }) (subst (λ (o : Option Content). IfSome o (λ c. EntersSome target qs c now)) a.is b)
 
 pub some_none : (target : Target) (ps : List Pair) (old now : Option Content) → now ≡ old → IfSome old (λ c. EntersSome target ps c now)
@@ -100,7 +100,7 @@ one_row target pair key c e = record {
   is = ap (λ (k : List ℕ). Some (insert c k [])) e.is;
 }
 
-pub one_made : (target : Target) (pair : Pair) (key : List ℕ) (old now : Option Content) → IsEntryIn target pair key → now ≡ option_map (written key (Some [])) old → IfSome old (λ c. Enters target (pair ∷ []) c now)
+pub one_made : (target : Target) (pair : Pair) (key : List ℕ) (old now : Option Content) → IsEntryIn target pair key → now ≡ option_map (written_content key (Some [])) old → IfSome old (λ c. Enters target (pair ∷ []) c now)
 one_made target pair key None now e made = tt
 one_made target pair key (Some c) now e made = subst (λ (o : Option Content). Enters target (pair ∷ []) c o) (sym made) (one_row target pair key c e)
 
@@ -111,7 +111,7 @@ one_stopped target pair key (Some c) now e (inr made) = record { many = 1; enter
 
 -- ---- ranges of rows are as they were
 
-pub range_entered : (target : Target) (rows : List (List Value)) (c : Content) (low high : List ℕ) → is_in_space 2 low ≡ true → is_in_space 2 high ≡ true → pairs_within (entered target rows c) low high ≡ pairs_within c low high
+pub range_entered : (target : Target) (rows : List (List Value)) (c : Content) (low high : List ℕ) → is_in_space 2 low ≡ true → is_in_space 2 high ≡ true → pairs_within (entered_rows target rows c) low high ≡ pairs_within c low high
 range_entered target [] c low high low_in high_in = refl
 range_entered target (row ∷ rows) c low high low_in high_in =
     range_entered target rows (insert c (entry_at target row) []) low high low_in high_in

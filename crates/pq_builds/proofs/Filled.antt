@@ -30,7 +30,7 @@ use Rattle.pq_builds.specs.declared.target.NewQuery.{NewQuery}
 use Rattle.pq_builds.specs.declared.target.Target.{Target}
 use Rattle.pq_builds.specs.Filling.{first_key, past_key, row_pairs_in}
 use Rattle.pq_builds.specs.Stages.{building_value}
-use Rattle.pq_builds.specs.Standing.{defined_content, IsFilling, Origin, IsTarget, IsNewIn, tables_with, whole}
+use Rattle.pq_builds.specs.Standing.{defined_content, IsFilling, Origin, IsTarget, IsNewIn, tables_with, whole_content}
 use Rattle.pq_builds.proofs.Ranges.{range_space}
 use Rattle.pq_builds.proofs.Standing.{by_codes, each_fits, written_over, more_keeps, beside_more}
 
@@ -113,7 +113,7 @@ one_set tables rows more t sound keeps keeps' same =
 
 -- ---- a whole build
 
-pub built_holds : (origin : Origin) (target : Target) (query : NewQuery) (value : List ℕ) (now : Option Content) → IsNewIn origin query → IsTarget origin target → now ≡ Some (whole origin target query value)
+pub built_holds : (origin : Origin) (target : Target) (query : NewQuery) (value : List ℕ) (now : Option Content) → IsNewIn origin query → IsTarget origin target → now ≡ Some (whole_content origin target query value)
     → HoldsRows now (tables_with origin target) origin.rows (origin.others ++ (query.key, value) ∷ [])
 built_holds origin target query value now s w is = record { keeps = more_keeps origin target query s w; beside = beside_more origin target query s w value; is = is }
 

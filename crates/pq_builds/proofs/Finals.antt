@@ -11,7 +11,7 @@ use Rattle.pq_builds.specs.declared.build.Built.TheVariants as built
 use Rattle.pq_builds.specs.declared.target.NewQuery.{NewQuery}
 use Rattle.pq_builds.specs.declared.target.Target.{Target}
 use Rattle.pq_builds.specs.Filling.{row_pairs_in}
-use Rattle.pq_builds.specs.Stages.{marked, IsReady, StopsFilling, Ran, StopsBuilding, ShowsBuild, ShowsLeft}
+use Rattle.pq_builds.specs.Stages.{marked_content, IsReady, StopsFilling, RanBuild, StopsBuilding, ShowsBuild, ShowsLeft}
 use Rattle.pq_builds.specs.Standing.{Origin, IsNewIn, HoldsOrigin, HoldsFilling, IsMarkedOrReady, Makes, Leaves, before, rows_in}
 use Rattle.pq_builds.proofs.Standing.{at_work, all_ready, counted_before, counted_filling, marked_filling, absent_before, sound_before, sound_filling}
 
@@ -20,21 +20,21 @@ module _ (target : Target) (query : NewQuery) (old now : Option Content) (origin
     new_in : IsNewIn origin query
     new_in = record { keeps = h.holds.keeps; beside = h.holds.beside; key = h.key; absent = h.absent }
 
-    ran_at : (b : Built) → Ran target query b (before origin) now → Makes origin target query b now
+    ran_at : (b : Built) → RanBuild target query b (before origin) now → Makes origin target query b now
     ran_at (built.Rows count) r =
         let rows = counted_before origin target query new_in h.target_is in
         let many = r.0 in
         let most = r.1 in
         let few : rows_in origin target ≤ 1000000 = omega arith in
         let filling = marked_filling origin target query new_in h.target_is few in
-        (sym rows ∙ r.0, few, all_ready origin target query new_in h.target_is (marked query (before origin)) now filling r.2.ready)
+        (sym rows ∙ r.0, few, all_ready origin target query new_in h.target_is (marked_content query (before origin)) now filling r.2.ready)
     ran_at built.TooMany r =
         let rows = counted_before origin target query new_in h.target_is in
         let many = r.0 in
         ((let more : 1000000 < rows_in origin target = omega arith in more), r.1)
 
-    pub makes_of : (b : Built) → IfSome old (λ c. Ran target query b c now) → Makes origin target query b now
-    makes_of b r = ran_at b (subst (λ (o : Option Content). IfSome o (λ c. Ran target query b c now)) h.holds.is r)
+    pub makes_of : (b : Built) → IfSome old (λ c. RanBuild target query b c now) → Makes origin target query b now
+    makes_of b r = ran_at b (subst (λ (o : Option Content). IfSome o (λ c. RanBuild target query b c now)) h.holds.is r)
 
     stops_at : StopsBuilding target query (before origin) now → Leaves origin target query now
     stops_at (inl same) = inl same
@@ -43,7 +43,7 @@ module _ (target : Target) (query : NewQuery) (old now : Option Content) (origin
         let most = begun.few in
         let few : rows_in origin target ≤ 1000000 = omega arith in
         let filling = marked_filling origin target query new_in h.target_is few in
-        inr (at_work origin target query new_in h.target_is (marked query (before origin)) now filling begun.stops)
+        inr (at_work origin target query new_in h.target_is (marked_content query (before origin)) now filling begun.stops)
 
     pub leaves_of : IfSome old (λ c. StopsBuilding target query c now) → Leaves origin target query now
     leaves_of r = stops_at (subst (λ (o : Option Content). IfSome o (λ c. StopsBuilding target query c now)) h.holds.is r)

@@ -11,7 +11,7 @@ use Rattle.pq_store.specs.Content.{entry, Content, is_within, pairs_within}
 use Rattle.pq_base.specs.declared.value.ColType.{ColType}
 use Rattle.pq_content.specs.Pairs.{Pair, is_in_space}
 use Rattle.pq_builds.specs.declared.target.Target.{Target}
-use Rattle.pq_builds.specs.Filling.{entered, first_key, past_key, row_pairs_in, Enters, EntersSome, IsPast, Follows, IsNoRowAmong, IsMiscounted, ShowsRange}
+use Rattle.pq_builds.specs.Filling.{entered_rows, first_key, past_key, row_pairs_in, Enters, EntersSome, IsPast, Follows, IsNoRowAmong, IsMiscounted, ShowsRange}
 use Rattle.pq_builds.proofs.Ranges.{after_some, range_space}
 use Rattle.pq_builds.proofs.Entering.{enters_none, enters_more, enters_then, some_front, some_back, some_more, range_entered}
 
@@ -137,7 +137,7 @@ follows_more target low m n None mid now next last next_in last_in a b = tt
 follows_more target low m n (Some c) mid now next last next_in last_in a b =
     let high = past_key target.table in
     let l = pairs_within c low high in
-    let d = entered target a.enters.rows c in
+    let d = entered_rows target a.enters.rows c in
     let b' : Follows target next n d now last = subst (λ (o : Option Content). IfSome o (λ c. Follows target next n c now last)) a.enters.is b in
     let same : pairs_within d next high ≡ drop m l = range_entered target a.enters.rows c next high next_in refl ∙ a.rest in
     let first : Enters target (take m l) c (Some d) = record { rows = a.enters.rows; decoded = a.enters.decoded; is = refl } in
@@ -157,7 +157,7 @@ follows_stops target low m None mid now next next_in a b = tt
 follows_stops target low m (Some c) mid now next next_in a b =
     let high = past_key target.table in
     let l = pairs_within c low high in
-    let d = entered target a.enters.rows c in
+    let d = entered_rows target a.enters.rows c in
     let same : pairs_within d next high ≡ drop m l = range_entered target a.enters.rows c next high next_in refl ∙ a.rest in
     let first : Enters target (take m l) c (Some d) = record { rows = a.enters.rows; decoded = a.enters.decoded; is = refl } in
     let b' : EntersSome target (pairs_within d next high) d now = subst (λ (o : Option Content). IfSome o (λ c. EntersSome target (pairs_within c next high) c now)) a.enters.is b in
@@ -175,7 +175,7 @@ follows_damage target m number count (Some c) mid next NoMem next_in counted a b
 follows_damage target m number count (Some c) mid next (Damaged damage) next_in counted a b = λ many.
     let high = past_key target.table in
     let l = row_pairs_in target.table c in
-    let d = entered target a.enters.rows c in
+    let d = entered_rows target a.enters.rows c in
     let same : pairs_within d next high ≡ drop m l = range_entered target a.enters.rows c next high next_in refl ∙ a.rest in
     let b' : IsMiscounted number (pairs_within d next high) damage ⊎ IsNoRowAmong target.types (pairs_within d next high) damage = subst (λ (o : Option Content). IfSome o (λ c. ShowsRange target.types number (pairs_within c next high) (Damaged damage))) a.enters.is b in
     elim b' [

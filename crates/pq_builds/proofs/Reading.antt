@@ -3,14 +3,14 @@ use Rattle.std.proofs.Common.{◌≡◌, ℕ, ◌+◌, ◌-◌, ◌≤◌, true,
 use Rattle.std.specs.Prelude.{IfSome}
 use Rattle.std.proofs.lemmas.List.{length-take, length-drop, length-map}
 use Rattle.pq_store.specs.Content.{Content, entry, pairs_within}
-use Rattle.pq_store.specs.Counts.{Counts, charged}
+use Rattle.pq_store.specs.Counts.{Counts, charged_counts}
 use Rattle.pq_store.specs.declared.store.Pair.{Pair as Stored}
 use Rattle.pq_content.specs.Pairs.{Pair, is_in_space}
 use Rattle.pq_intent.specs.Spending.{TakesAtMost}
 use Rattle.pq_builds.specs.declared.target.NewQuery.{NewQuery}
 use Rattle.pq_builds.specs.declared.target.Target.{Target}
 use Rattle.pq_builds.specs.Bounds.{left_bound}
-use Rattle.pq_builds.specs.Filling.{first_key, past_key, row_pairs_in, entered, EntersSome, Follows}
+use Rattle.pq_builds.specs.Filling.{first_key, past_key, row_pairs_in, entered_rows, EntersSome, Follows}
 use Rattle.pq_builds.specs.Standing.{Origin, HoldsFilling, rows_in}
 use Rattle.pq_builds.proofs.Entering.{some_none, range_entered}
 use Rattle.pq_builds.proofs.Following.{answer_at}
@@ -27,7 +27,7 @@ range_read t low (Some c) found before after answer few =
 
 -- whatever came behind it
 pub range_told : (t : ℕ) (low a b : List ℕ) (old : Option Content) (found : List Stored) (before at : Counts) (after : ℕ) → a ≡ low → b ≡ past_key t
-    → IfSome old (λ c. map entry found ≡ take 256 (pairs_within c a b)) → at ≡ charged before (length found) → after ≤ at.entries
+    → IfSome old (λ c. map entry found ≡ take 256 (pairs_within c a b)) → at ≡ charged_counts before (length found) → after ≤ at.entries
     → IfSome old (λ c. after ≤ before.entries + length (pairs_within c low (past_key t)))
 range_told t low a b old found before at after low_is high_is answer charge few =
     let spent = ap (λ (x : Counts). x.entries) charge in
@@ -48,7 +48,7 @@ follows_read target m count None mid next before at after next_in a b is = tt
 follows_read target m count (Some c) mid next before at after next_in a b is = λ many.
     let high = past_key target.table in
     let l = row_pairs_in target.table c in
-    let d = entered target a.enters.rows c in
+    let d = entered_rows target a.enters.rows c in
     let same : pairs_within d next high ≡ drop m l = range_entered target a.enters.rows c next high next_in refl ∙ a.rest in
     let few : after ≤ at + length (pairs_within d next high) = subst (λ (o : Option Content). IfSome o (λ c. after ≤ at + length (pairs_within c next high))) a.enters.is b in
     let left : length (pairs_within d next high) ≡ length l - m = ap (λ (k : List Pair). length k) same ∙ length-drop m l in

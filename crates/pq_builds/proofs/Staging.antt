@@ -6,7 +6,7 @@ use Rattle.std.specs.FinMap.{get, insert}
 use Rattle.std.proofs.lemmas.Bool.{false≢true}
 use Rattle.std.proofs.lemmas.Option.{none-some}
 use Rattle.std.proofs.lemmas.List.{take_all}
-use Rattle.pq_store.specs.Content.{admits, after_write, Content, written, pairs_within}
+use Rattle.pq_store.specs.Content.{admits, after_write, Content, written_content, pairs_within}
 use Rattle.pq_store.specs.declared.store.Guard.TheVariants.{Absent}
 use Rattle.pq_store.specs.declared.damage.Broke.{Broke}
 use Rattle.pq_store.specs.declared.damage.Broke.TheVariants.{Failed, NoMem, Damaged}
@@ -17,12 +17,12 @@ use Rattle.pq_intent.specs.Changing.{MayChange}
 use Rattle.pq_builds.specs.declared.target.NewQuery.{NewQuery}
 use Rattle.pq_builds.specs.declared.target.Target.{Target}
 use Rattle.pq_builds.specs.Filling.{first_key, past_key, row_pairs_in, Enters, EntersSome, IsNoRowAmong}
-use Rattle.pq_builds.specs.Stages.{ready_value, building_value, marked, IsReady, StopsFilling, IsMarked, IsBuilt, StopsBuilding, ShowsBuild, IsCounted, Takes, IsWithin, build_ops, left_ops}
+use Rattle.pq_builds.specs.Stages.{ready_value, building_value, marked_content, IsReady, StopsFilling, IsMarked, IsBuilt, StopsBuilding, ShowsBuild, IsCounted, Takes, IsWithin, build_ops, left_ops}
 use Rattle.pq_builds.proofs.Entering.{some_none}
 use Rattle.pq_builds.proofs.Ranges.{range_insert, no_row_key}
 
 -- the rows' pairs after a write in the catalog's space
-pub rows_marked : (t : ℕ) (query : NewQuery) (c : Content) → is_of_rows query.key ≡ false → row_pairs_in t (marked query c) ≡ row_pairs_in t c
+pub rows_marked : (t : ℕ) (query : NewQuery) (c : Content) → is_of_rows query.key ≡ false → row_pairs_in t (marked_content query c) ≡ row_pairs_in t c
 rows_marked t query c key = range_insert 2 c (first_key t) (past_key t) query.key (building_value query) refl refl (no_row_key query.key key)
 
 none_is : (o : Option (List ℕ)) → is_none o ≡ true → o ≡ None
@@ -74,12 +74,12 @@ all_some target ps c now e =
     let all : take (length ps) ps ≡ ps = take_all (length ps) ps (omega arith) in
     record { many = length ps; enters = subst (λ (l : List Pair). Enters target l c now) (sym all) e }
 
-ready_of : (target : Target) (query : NewQuery) (value : List ℕ) (c : Content) (mid now : Option Content) → value ≡ ready_value query → Enters target (row_pairs_in target.table c) c mid → now ≡ option_map (written query.key (Some value)) mid → IsReady target query c now
+ready_of : (target : Target) (query : NewQuery) (value : List ℕ) (c : Content) (mid now : Option Content) → value ≡ ready_value query → Enters target (row_pairs_in target.table c) c mid → now ≡ option_map (written_content query.key (Some value)) mid → IsReady target query c now
 ready_of target query value c None now value_is e made = absurd (none-some _ e.is)
 ready_of target query value c (Some d) now value_is e made = record { filled = d; enters = e; is = made ∙ ap (λ (v : List ℕ). Some (insert d query.key v)) value_is }
 
 pub ready : (target : Target) (query : NewQuery) (value : List ℕ) (n : ℕ) (old mid now : Option Content) → value ≡ ready_value query
-    → IfSome old (λ c. length (row_pairs_in target.table c) ≡ n → Enters target (row_pairs_in target.table c) c mid) → now ≡ option_map (written query.key (Some value)) mid
+    → IfSome old (λ c. length (row_pairs_in target.table c) ≡ n → Enters target (row_pairs_in target.table c) c mid) → now ≡ option_map (written_content query.key (Some value)) mid
     → IfSome old (λ c. length (row_pairs_in target.table c) ≡ n → IsReady target query c now)
 ready target query value n None mid now value_is e made = tt
 ready target query value n (Some c) mid now value_is e made = λ many. ready_of target query value c mid now value_is (e many) made
@@ -98,20 +98,20 @@ module _ (target : Target) (query : NewQuery) (key : is_of_rows query.key ≡ fa
       → IfSome old (λ c. length (row_pairs_in target.table c) ≡ n → IsBuilt target query c now)
   built None mid now m r = tt
   built (Some c) mid now m r = λ many.
-      let r' : length (row_pairs_in target.table (marked query c)) ≡ n → IsReady target query (marked query c) now = subst (λ (o : Option Content). IfSome o (λ c. length (row_pairs_in target.table c) ≡ n → IsReady target query c now)) m.is r in
+      let r' : length (row_pairs_in target.table (marked_content query c)) ≡ n → IsReady target query (marked_content query c) now = subst (λ (o : Option Content). IfSome o (λ c. length (row_pairs_in target.table c) ≡ n → IsReady target query c now)) m.is r in
       record { absent = m.absent; ready = r' (ap (λ (l : List Pair). length l) (rows_marked target.table query c key) ∙ many) }
 
   pub stops_marked : n ≤ 1000000 → (old now : Option Content) → IfSome old (λ c. (now ≡ Some c) ⊎ IsMarked query c now) → IfSome old (λ c. length (row_pairs_in target.table c) ≡ n → StopsBuilding target query c now)
   stops_marked few None now m = tt
   stops_marked few (Some c) now (inl same) = λ _. inl same
   stops_marked few (Some c) now (inr m) = λ many.
-      inr (record { absent = m.absent; few = omega arith; stops = inl (some_none target (row_pairs_in target.table (marked query c)) (Some (marked query c)) now m.is) })
+      inr (record { absent = m.absent; few = omega arith; stops = inl (some_none target (row_pairs_in target.table (marked_content query c)) (Some (marked_content query c)) now m.is) })
 
   pub stops_built : n ≤ 1000000 → (old mid now : Option Content) → IfSome old (λ c. IsMarked query c mid) → IfSome mid (λ c. length (row_pairs_in target.table c) ≡ n → StopsFilling target query c now)
       → IfSome old (λ c. length (row_pairs_in target.table c) ≡ n → StopsBuilding target query c now)
   stops_built few None mid now m r = tt
   stops_built few (Some c) mid now m r = λ many.
-      let r' : length (row_pairs_in target.table (marked query c)) ≡ n → StopsFilling target query (marked query c) now = subst (λ (o : Option Content). IfSome o (λ c. length (row_pairs_in target.table c) ≡ n → StopsFilling target query c now)) m.is r in
+      let r' : length (row_pairs_in target.table (marked_content query c)) ≡ n → StopsFilling target query (marked_content query c) now = subst (λ (o : Option Content). IfSome o (λ c. length (row_pairs_in target.table c) ≡ n → StopsFilling target query c now)) m.is r in
       inr (record { absent = m.absent; few = omega arith; stops = r' (ap (λ (l : List Pair). length l) (rows_marked target.table query c key) ∙ many) })
 
   pub shows_taken : (old : Option Content) (broke : Broke) → IfSome old (λ c. IfDamaged (IsPresent query.key c) broke) → IfSome old (λ c. length (row_pairs_in target.table c) ≡ n → ShowsBuild target query c broke)
@@ -126,8 +126,8 @@ module _ (target : Target) (query : NewQuery) (key : is_of_rows query.key ≡ fa
   shows_built (Some c) mid Failed m r = λ _. tt
   shows_built (Some c) mid NoMem m r = λ _. tt
   shows_built (Some c) mid (Damaged damage) m r = λ many.
-      let same : row_pairs_in target.table (marked query c) ≡ row_pairs_in target.table c = rows_marked target.table query c key in
-      let r' : length (row_pairs_in target.table (marked query c)) ≡ n → IsNoRowAmong target.types (row_pairs_in target.table (marked query c)) damage = subst (λ (o : Option Content). IfSome o (λ c. length (row_pairs_in target.table c) ≡ n → IfDamaged (IsNoRowAmong target.types (row_pairs_in target.table c)) (Damaged damage))) m.is r in
+      let same : row_pairs_in target.table (marked_content query c) ≡ row_pairs_in target.table c = rows_marked target.table query c key in
+      let r' : length (row_pairs_in target.table (marked_content query c)) ≡ n → IsNoRowAmong target.types (row_pairs_in target.table (marked_content query c)) damage = subst (λ (o : Option Content). IfSome o (λ c. length (row_pairs_in target.table c) ≡ n → IfDamaged (IsNoRowAmong target.types (row_pairs_in target.table c)) (Damaged damage))) m.is r in
       inr (subst (λ (l : List Pair). IsNoRowAmong target.types l damage) same (r' (ap (λ (l : List Pair). length l) same ∙ many)))
 
 -- ---- the count

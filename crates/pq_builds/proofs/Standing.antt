@@ -37,10 +37,10 @@ use Rattle.pq_content.proofs.TableRows.{AreRows, rows_are}
 use Rattle.pq_store.specs.declared.damage.Damage.{Damage}
 use Rattle.pq_builds.specs.declared.target.NewQuery.{NewQuery}
 use Rattle.pq_builds.specs.declared.target.Target.{Target}
-use Rattle.pq_builds.specs.Filling.{entry_at, entered, first_key, past_key, row_pairs_in, AreDecoded, Enters, EntersSome, IsNoRowAmong}
-use Rattle.pq_builds.specs.Stages.{ready_value, building_value, marked, IsReady, StopsFilling}
+use Rattle.pq_builds.specs.Filling.{entry_at, entered_rows, first_key, past_key, row_pairs_in, AreDecoded, Enters, EntersSome, IsNoRowAmong}
+use Rattle.pq_builds.specs.Stages.{ready_value, building_value, marked_content, IsReady, StopsFilling}
 use Rattle.pq_builds.proofs.Ranges.{range_space, range_insert, no_row_key}
-use Rattle.pq_builds.specs.Standing.{Origin, new_index_of, IsTarget, IsNewIn, rows_in, before, whole, FillsIndex, IsMarkedOrReady}
+use Rattle.pq_builds.specs.Standing.{Origin, new_index_of, IsTarget, IsNewIn, rows_in, before, whole_content, FillsIndex, IsMarkedOrReady}
 
 -- ---- rows by their codes
 
@@ -134,7 +134,7 @@ module _ (origin : Origin) (target : Target) (query : NewQuery) (s : IsNewIn ori
   abbrev pair_of : List Value → Pair
   pair_of = row_pair target.table (table_at more target.table)
 
-  whole_rows : (value : List ℕ) → row_pairs_in target.table (whole origin target query value) ≡ map pair_of sorted
+  whole_rows : (value : List ℕ) → row_pairs_in target.table (whole_content origin target query value) ≡ map pair_of sorted
   whole_rows value =
       rows_under more origin.rows (origin.others ++ (query.key, value) ∷ []) more_keeps.fit more_keeps.apart (beside_more value) target.table [] tt (omega arith)
       ∙ ap (λ (l : List (List Value)). map pair_of (sort_by (position_cmp (dirs_of (primary_sequence (table_at more target.table)))) (values_of (primary_sequence (table_at more target.table))) l)) (keep_all (rows_of target.table origin.rows))
@@ -147,8 +147,8 @@ module _ (origin : Origin) (target : Target) (query : NewQuery) (s : IsNewIn ori
       apart [] h = refl
       apart (b ∷ bs) h = ap (λ (n : ℕ). is_entry_of target.table target.index (n ∷ bs)) (eqb-true b 2 h)
 
-  part_rows : (value : List ℕ) (c : Content) → IsFilledPartOf (is_entry_of target.table target.index) (whole origin target query value) c → row_pairs_in target.table c ≡ map pair_of sorted
-  part_rows value c part = part_range (is_entry_of target.table target.index) (whole origin target query value) c (first_key target.table) (past_key target.table) part rows_safe ∙ whole_rows value
+  part_rows : (value : List ℕ) (c : Content) → IsFilledPartOf (is_entry_of target.table target.index) (whole_content origin target query value) c → row_pairs_in target.table c ≡ map pair_of sorted
+  part_rows value c part = part_range (is_entry_of target.table target.index) (whole_content origin target query value) c (first_key target.table) (past_key target.table) part rows_safe ∙ whole_rows value
 
   many_rows : length (map pair_of sorted) ≡ rows_in origin target
   many_rows = length-map sorted pair_of ∙ length-sort_by (position_cmp (dirs_of (primary_sequence (table_at more target.table)))) (values_of (primary_sequence (table_at more target.table))) (rows_of target.table origin.rows)
@@ -180,25 +180,25 @@ module _ (origin : Origin) (target : Target) (query : NewQuery) (s : IsNewIn ori
   own_entry : (row : List Value) → entry_at target row ≡ (entry_pair target.table (1 + length table.indexes) (index_sequence table origin.index) row).0
   own_entry row = λ i. (entry_pair target.table (w.next i) (w.parts i) row).0
 
-  has_entry : (value : List ℕ) (row : List Value) → In (target.table, row) origin.rows → get (whole origin target query value) (entry_at target row) ≡ Some []
+  has_entry : (value : List ℕ) (row : List Value) → In (target.table, row) origin.rows → get (whole_content origin target query value) (entry_at target row) ≡ Some []
   has_entry value row there =
       let at : slice_get (table_at more target.table).indexes (length table.indexes) ≡ Some origin.index = ap (λ (x : Table). slice_get x.indexes (length table.indexes)) own_table ∙ slice_get_last table.indexes origin.index in
       let same : (entry_pair target.table (1 + length table.indexes) (index_sequence (table_at more target.table) origin.index) row).0 ≡ entry_at target row =
       ap (λ (x : Table). (entry_pair target.table (1 + length table.indexes) (index_sequence x origin.index) row).0) own_table ∙ sym (own_entry row) in
-      ap (get (whole origin target query value)) (sym same)
+      ap (get (whole_content origin target query value)) (sym same)
       ∙ get_entry more origin.rows (origin.others ++ (query.key, value) ∷ []) target.table (length table.indexes) origin.index row there at
 
-  entered_part : (value : List ℕ) (rs : List (List Value)) (c : Content) → AllByRecursion (λ row. In (target.table, row) origin.rows) rs → IsFilledPartOf (is_entry_of target.table target.index) (whole origin target query value) c → IsFilledPartOf (is_entry_of target.table target.index) (whole origin target query value) (entered target rs c)
+  entered_part : (value : List ℕ) (rs : List (List Value)) (c : Content) → AllByRecursion (λ row. In (target.table, row) origin.rows) rs → IsFilledPartOf (is_entry_of target.table target.index) (whole_content origin target query value) c → IsFilledPartOf (is_entry_of target.table target.index) (whole_content origin target query value) (entered_rows target rs c)
   entered_part value [] c there part = part
-  entered_part value (r ∷ rs) c there part = entered_part value rs (insert c (entry_at target r) []) there.1 (part_written (is_entry_of target.table target.index) (whole origin target query value) c (entry_at target r) [] (has_entry value r there.0) part)
+  entered_part value (r ∷ rs) c there part = entered_part value rs (insert c (entry_at target r) []) there.1 (part_written (is_entry_of target.table target.index) (whole_content origin target query value) c (entry_at target r) [] (has_entry value r there.0) part)
 
-  entered_keeps : (rs : List (List Value)) (c : Content) (k : List ℕ) → get c k ≡ Some [] → get (entered target rs c) k ≡ Some []
+  entered_keeps : (rs : List (List Value)) (c : Content) (k : List ℕ) → get c k ≡ Some [] → get (entered_rows target rs c) k ≡ Some []
   entered_keeps [] c k has = has
   entered_keeps (r ∷ rs) c k has =
       entered_keeps rs (insert c (entry_at target r) []) k
       (get-insert nat_list_cmp_total c (entry_at target r) [] k ∙ elim (eq_by_cmp key_cmp k (entry_at target r)) as (λ b. cond b (Some []) (get c k) ≡ Some []) [ true ↦ refl | false ↦ has ])
 
-  entered_has : (rs : List (List Value)) (c : Content) (row : List Value) → In row rs → get (entered target rs c) (entry_at target row) ≡ Some []
+  entered_has : (rs : List (List Value)) (c : Content) (row : List Value) → In row rs → get (entered_rows target rs c) (entry_at target row) ≡ Some []
   entered_has [] c row i = absurd i
   entered_has (r ∷ rs) c row (inl same) =
       entered_keeps rs (insert c (entry_at target r) []) (entry_at target row)
@@ -217,10 +217,10 @@ module _ (origin : Origin) (target : Target) (query : NewQuery) (s : IsNewIn ori
       let rs = e.enters.rows in
       let there : AllByRecursion (λ row. In (target.table, row) origin.rows) rs =
       subst (AllByRecursion (λ (row : List Value). In (target.table, row) origin.rows)) (sym (first_rows e.many c rs f e.enters.decoded)) (each_take (λ row. In (target.table, row) origin.rows) e.many sorted sorted_there) in
-      (entered target rs c, e.enters.is, record { few = f.few; part = entered_part (building_value query) rs c there f.part })
+      (entered_rows target rs c, e.enters.is, record { few = f.few; part = entered_part (building_value query) rs c there f.part })
 
   -- after all entries the content is the whole
-  pub all_entered : (c d : Content) → FillsIndex origin target query c → Enters target (row_pairs_in target.table c) c (Some d) → d ≡ whole origin target query (building_value query)
+  pub all_entered : (c d : Content) → FillsIndex origin target query c → Enters target (row_pairs_in target.table c) c (Some d) → d ≡ whole_content origin target query (building_value query)
   all_entered c d f e =
       let rs = e.rows in
       let all : row_pairs_in target.table c ≡ map pair_of sorted = part_rows (building_value query) c f.part in
@@ -229,24 +229,24 @@ module _ (origin : Origin) (target : Target) (query : NewQuery) (s : IsNewIn ori
       let rs_are : rs ≡ sorted =
       decoded_rows n rs (subst (λ (l : List Pair). AreDecoded target.types l rs) (all ∙ sym taken) e.decoded) ∙ take_all n sorted (omega (arith, length-map sorted pair_of)) in
       let there : AllByRecursion (λ row. In (target.table, row) origin.rows) rs = subst (AllByRecursion (λ (row : List Value). In (target.table, row) origin.rows)) (sym rs_are) sorted_there in
-      let d_is : d ≡ entered target rs c = some_same d (entered target rs c) e.is in
-      let part : IsFilledPartOf (is_entry_of target.table (1 + length table.indexes)) (whole origin target query (building_value query)) (entered target rs c) =
-      subst (λ (i : ℕ). IsFilledPartOf (is_entry_of target.table i) (whole origin target query (building_value query)) (entered target rs c)) w.next (entered_part (building_value query) rs c there f.part) in
+      let d_is : d ≡ entered_rows target rs c = some_same d (entered_rows target rs c) e.is in
+      let part : IsFilledPartOf (is_entry_of target.table (1 + length table.indexes)) (whole_content origin target query (building_value query)) (entered_rows target rs c) =
+      subst (λ (i : ℕ). IsFilledPartOf (is_entry_of target.table i) (whole_content origin target query (building_value query)) (entered_rows target rs c)) w.next (entered_part (building_value query) rs c there f.part) in
       d_is
-      ∙ all_filled origin.tables target.table origin.index w.number origin.rows (origin.others ++ (query.key, building_value query) ∷ []) (entered target rs c) (beside_more (building_value query)) part (λ row i.
-      ap (get (entered target rs c)) (sym (own_entry row))
+      ∙ all_filled origin.tables target.table origin.index w.number origin.rows (origin.others ++ (query.key, building_value query) ∷ []) (entered_rows target rs c) (beside_more (building_value query)) part (λ row i.
+      ap (get (entered_rows target rs c)) (sym (own_entry row))
       ∙ entered_has rs c row (subst (In row) (sym rs_are) (in_permuted row (rows_of target.table origin.rows) sorted (IsPermutation-sort_by (position_cmp (dirs_of (primary_sequence (table_at more target.table)))) (values_of (primary_sequence (table_at more target.table))) (rows_of target.table origin.rows)) (of_rows_in target.table origin.rows row i))))
     where
       some_same : (x y : Content) → Some x ≡ Some y → x ≡ y
       some_same x y e = cc
 
-  pub remarked : (v u : List ℕ) → insert (whole origin target query v) query.key u ≡ whole origin target query u
+  pub remarked : (v u : List ℕ) → insert (whole_content origin target query v) query.key u ≡ whole_content origin target query u
   remarked v u =
       ap (λ (c : Content). insert c query.key u) (sym (insert_other more origin.rows origin.others query.key v s.key s.absent))
       ∙ written_over (content_pairs more origin.rows origin.others) query.key v u
       ∙ insert_other more origin.rows origin.others query.key u s.key s.absent
 
-  pub all_ready : (c : Content) (now : Option Content) → FillsIndex origin target query c → IsReady target query c now → now ≡ Some (whole origin target query (ready_value query))
+  pub all_ready : (c : Content) (now : Option Content) → FillsIndex origin target query c → IsReady target query c now → now ≡ Some (whole_content origin target query (ready_value query))
   all_ready c now f r =
       r.is
       ∙ ap (λ (x : Content). Some (insert x query.key (ready_value query))) (all_entered c r.filled f r.enters)
@@ -262,23 +262,23 @@ module _ (origin : Origin) (target : Target) (query : NewQuery) (s : IsNewIn ori
 
   -- ---- from no definition on
 
-  mark_put : marked query (before origin) ≡ content_pairs origin.tables origin.rows (origin.others ++ (query.key, building_value query) ∷ [])
+  mark_put : marked_content query (before origin) ≡ content_pairs origin.tables origin.rows (origin.others ++ (query.key, building_value query) ∷ [])
   mark_put = insert_other origin.tables origin.rows origin.others query.key (building_value query) s.key s.absent
 
-  marked_part : IsFilledPartOf (is_entry_of target.table target.index) (whole origin target query (building_value query)) (marked query (before origin))
+  marked_part : IsFilledPartOf (is_entry_of target.table target.index) (whole_content origin target query (building_value query)) (marked_content query (before origin))
   marked_part =
-      subst (λ (c : Content). IsFilledPartOf (is_entry_of target.table target.index) (whole origin target query (building_value query)) c) (sym mark_put)
-      (subst (λ (i : ℕ). IsFilledPartOf (is_entry_of target.table i) (whole origin target query (building_value query)) (content_pairs origin.tables origin.rows (origin.others ++ (query.key, building_value query) ∷ []))) (sym w.next)
+      subst (λ (c : Content). IsFilledPartOf (is_entry_of target.table target.index) (whole_content origin target query (building_value query)) c) (sym mark_put)
+      (subst (λ (i : ℕ). IsFilledPartOf (is_entry_of target.table i) (whole_content origin target query (building_value query)) (content_pairs origin.tables origin.rows (origin.others ++ (query.key, building_value query) ∷ []))) (sym w.next)
       (none_filled origin.tables target.table origin.index w.number origin.rows (origin.others ++ (query.key, building_value query) ∷ []) s.keeps.known (beside_more (building_value query))))
 
-  pub marked_rows : (c : Content) → row_pairs_in target.table (marked query c) ≡ row_pairs_in target.table c
+  pub marked_rows : (c : Content) → row_pairs_in target.table (marked_content query c) ≡ row_pairs_in target.table c
   marked_rows c = range_insert 2 c (first_key target.table) (past_key target.table) query.key (building_value query) refl refl (no_row_key query.key s.key)
 
   pub counted_before : length (row_pairs_in target.table (before origin)) ≡ rows_in origin target
   counted_before =
-      ap (λ (l : List Pair). length l) (sym (marked_rows (before origin)) ∙ part_rows (building_value query) (marked query (before origin)) marked_part) ∙ many_rows
+      ap (λ (l : List Pair). length l) (sym (marked_rows (before origin)) ∙ part_rows (building_value query) (marked_content query (before origin)) marked_part) ∙ many_rows
 
-  pub marked_filling : rows_in origin target ≤ 1000000 → FillsIndex origin target query (marked query (before origin))
+  pub marked_filling : rows_in origin target ≤ 1000000 → FillsIndex origin target query (marked_content query (before origin))
   marked_filling few = record { few = few; part = marked_part }
 
   pub absent_before : get (before origin) query.key ≡ None
@@ -303,4 +303,4 @@ module _ (origin : Origin) (target : Target) (query : NewQuery) (s : IsNewIn ori
   sound_filling c damage f broken = no_broken c damage (part_rows (building_value query) c f.part) broken
 
   pub sound_before : (damage : Damage) → IsNoRowAmong target.types (row_pairs_in target.table (before origin)) damage → ⊥
-  sound_before damage broken = no_broken (before origin) damage (sym (marked_rows (before origin)) ∙ part_rows (building_value query) (marked query (before origin)) marked_part) broken
+  sound_before damage broken = no_broken (before origin) damage (sym (marked_rows (before origin)) ∙ part_rows (building_value query) (marked_content query (before origin)) marked_part) broken

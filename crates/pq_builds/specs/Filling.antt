@@ -10,7 +10,7 @@ use Rattle.pq_store.specs.Breaks.{IfDamaged}
 use Rattle.pq_store.specs.Content.{Content, pairs_within}
 use Rattle.pq_store.specs.declared.damage.Broke.{Broke}
 use Rattle.pq_store.specs.declared.damage.Damage.{Damage}
-use Rattle.pq_content.specs.Pairs.{Pair, Change, changed}
+use Rattle.pq_content.specs.Pairs.{Pair, Change, changed_content}
 use Rattle.pq_content.specs.Tables.{dirs_of, values_of}
 use Rattle.pq_builds.specs.declared.target.Target.{Target}
 
@@ -22,8 +22,8 @@ abbrev pub entry_change : Target → List Value → Change
 entry_change target row = (entry_at target row, Some [])
 
 -- the content with the entries of these rows
-abbrev pub entered : Target → List (List Value) → Content → Content
-entered target rows content = changed (map (entry_change target) rows) content
+abbrev pub entered_rows : Target → List (List Value) → Content → Content
+entered_rows target rows content = changed_content (map (entry_change target) rows) content
 
 -- the rows' space of a table, from its first key up to one past it
 abbrev pub first_key : ℕ → List ℕ
@@ -44,7 +44,7 @@ pub record AreDecoded (types : List ColType) (pairs : List Pair) (rows : List (L
 pub record Enters (target : Target) (pairs : List Pair) (old : Content) (now : Option Content) : Type 0 where
   pub rows : List (List Value)
   pub decoded : AreDecoded target.types pairs rows
-  pub is : now ≡ Some (entered target rows old)
+  pub is : now ≡ Some (entered_rows target rows old)
 
 -- of some of them, from the first on
 pub record EntersSome (target : Target) (pairs : List Pair) (old : Content) (now : Option Content) : Type 0 where
@@ -95,7 +95,8 @@ pub record IsPast (low : List ℕ) (pairs : List Pair) (next : List ℕ) : Type 
   pub last : (front : List Pair) (last : Pair) → pairs ≡ front ++ last ∷ [] → next ≡ last.0 ++ 0 ∷ []
 
 -- the entries of so many pairs from a key on were written, and the others come from the next key on
-pub record Follows (target : Target) (low : List ℕ) (number : ℕ) (old : Content) (now : Option Content) (next : List ℕ) : Type 0 where
+pub record Follows (target : Target) (low : List ℕ) (number : ℕ) (old : Content) (now : Option Content)
+    (next : List ℕ) : Type 0 where
   pub many : number ≤ length (pairs_within old low (past_key target.table))
   pub enters : Enters target (take number (pairs_within old low (past_key target.table))) old now
   pub rest : pairs_within old next (past_key target.table) ≡ drop number (pairs_within old low (past_key target.table))

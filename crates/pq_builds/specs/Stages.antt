@@ -39,30 +39,30 @@ StopsFilling target query old now =
 -- ---- from no definition on
 
 -- the content with the definition's pair, which says that the index is being filled
-abbrev pub marked : NewQuery → Content → Content
-marked query old = insert old query.key (building_value query)
+abbrev pub marked_content : NewQuery → Content → Content
+marked_content query old = insert old query.key (building_value query)
 
 -- the definition was not there, and has its mark
 pub record IsMarked (query : NewQuery) (old : Content) (now : Option Content) : Type 0 where
   pub absent : get old query.key ≡ None
-  pub is : now ≡ Some (marked query old)
+  pub is : now ≡ Some (marked_content query old)
 
 -- the definition was not there, and all was done
 pub record IsBuilt (target : Target) (query : NewQuery) (old : Content) (now : Option Content) : Type 0 where
   pub absent : get old query.key ≡ None
-  pub ready : IsReady target query (marked query old) now
+  pub ready : IsReady target query (marked_content query old) now
 
 -- the definition was not there, its table has few enough rows, and from its mark on some was done
 pub record IsBegun (target : Target) (query : NewQuery) (old : Content) (now : Option Content) : Type 0 where
   pub absent : get old query.key ≡ None
   pub few : length (row_pairs_in target.table old) ≤ 1000000
-  pub stops : StopsFilling target query (marked query old) now
+  pub stops : StopsFilling target query (marked_content query old) now
 
 -- all was done over so many rows; or nothing, since there are too many
-abbrev pub Ran : Target → NewQuery → Built → Content → Option Content → Type 0
-Ran target query (built.Rows count) old now =
+abbrev pub RanBuild : Target → NewQuery → Built → Content → Option Content → Type 0
+RanBuild target query (built.Rows count) old now =
     (length (row_pairs_in target.table old) ≡ count) × (count ≤ 1000000) × IsBuilt target query old now
-Ran target query built.TooMany old now = (1000000 < length (row_pairs_in target.table old)) × (now ≡ Some old)
+RanBuild target query built.TooMany old now = (1000000 < length (row_pairs_in target.table old)) × (now ≡ Some old)
 
 -- a build is of a million rows at most
 abbrev pub IsFew : Built → Type 0

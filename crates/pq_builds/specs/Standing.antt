@@ -27,7 +27,8 @@ defined_content tables rows others query value = content_pairs tables rows (othe
 
 -- the definition that made an index has the mark that it is being filled, its table has few enough rows, and
 -- entries of the index may be missing
-pub record IsFilling (tables : List Table) (rows : Rows) (others : List Pair) (made : Made) (query : NewQuery) (content : Content) : Type 0 where
+pub record IsFilling (tables : List Table) (rows : Rows) (others : List Pair) (made : Made) (query : NewQuery)
+    (content : Content) : Type 0 where
   pub few : length (rows_of made.table rows) ≤ 1000000
   pub part : IsFilledPartOf (is_entry_of made.table made.index)
       (defined_content tables rows others query (building_value query)) content
@@ -76,8 +77,8 @@ abbrev pub before : Origin → Content
 before origin = content_pairs origin.tables origin.rows origin.others
 
 -- the content with the index, and with the definition's pair of this value
-abbrev pub whole : Origin → Target → NewQuery → List ℕ → Content
-whole origin target query value = defined_content (tables_with origin target) origin.rows origin.others query value
+abbrev pub whole_content : Origin → Target → NewQuery → List ℕ → Content
+whole_content origin target query value = defined_content (tables_with origin target) origin.rows origin.others query value
 
 -- the index is being filled
 abbrev pub FillsIndex : Origin → Target → NewQuery → Content → Type 0
@@ -103,7 +104,7 @@ pub record HoldsFilling (origin : Origin) (target : Target) (query : NewQuery) (
 
 -- the index and the definition are there
 abbrev pub HasIndex : Origin → Target → NewQuery → Option Content → Type 0
-HasIndex origin target query now = now ≡ Some (whole origin target query (ready_value query))
+HasIndex origin target query now = now ≡ Some (whole_content origin target query (ready_value query))
 
 -- the index is being filled, or is there with the definition
 abbrev pub IsMarkedOrReady : Origin → Target → NewQuery → Option Content → Type 0

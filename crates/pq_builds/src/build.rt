@@ -6,7 +6,7 @@ ghost use Rattle.pq_store.specs.Content.{HasBrokeCause, Content};
 ghost use Rattle.pq_intent.specs.Spending.{TakesAtMost};
 ghost use Rattle.pq_builds.specs.Bounds.{left_bound};
 ghost use Rattle.pq_builds.specs.Filling.{row_pairs_in, IsNoRowAmong, NamesKey, fill_ops};
-ghost use Rattle.pq_builds.specs.Stages.{marked_value, IsMarked, IsReady, IsBuilt, StopsFilling, StopsBuilding, ShowsBuild, ShowsLeft, Ran, Takes, TakesBuild, IsFew, IsWithin, build_ops, left_ops};
+ghost use Rattle.pq_builds.specs.Stages.{marked_value, IsMarked, IsReady, IsBuilt, StopsFilling, StopsBuilding, ShowsBuild, ShowsLeft, RanBuild, Takes, TakesBuild, IsFew, IsWithin, build_ops, left_ops};
 ghost use Rattle.pq_builds.specs.Standing.{Origin, HoldsOrigin, HoldsFilling, IsMarkedOrReady, Makes, Leaves, rows_in};
 
 use crate::count::count_rows;
@@ -140,7 +140,7 @@ fn run_build<S: Store<L>, L: Ledger>(
 ) -> Result<Built, Broke>
     requires key { is_of_rows query.now.key ≡ false }
     ensures ran { IfOk result (λ built. IfSome (S.content store.old) (λ c.
-        Ran target.now query.now built c (S.content store.new))) }
+        RanBuild target.now query.now built c (S.content store.new))) }
     ensures ended { OnErr result (IfSome (S.content store.old) (λ c.
         StopsBuilding target.now query.now c (S.content store.new))) }
     ensures shown { IfErr result (λ broke. IfSome (S.content store.old) (λ c.
@@ -204,7 +204,8 @@ pub fn build_index<S: Store<L>, L: Ledger>(
 ) -> Result<Built, Broke>
     requires key { is_of_rows query.now.key ≡ false }
     // Over a content of rows that keep their tables.
-    ensures made { IfOk result (λ built. (origin : Origin) → HoldsOrigin origin target.now query.now (S.content store.old)
+    ensures made { IfOk result (λ built. (origin : Origin)
+        → HoldsOrigin origin target.now query.now (S.content store.old)
         → Makes origin target.now query.now built (S.content store.new)) }
     ensures stopped { OnErr result ((origin : Origin) → HoldsOrigin origin target.now query.now (S.content store.old)
         → Leaves origin target.now query.now (S.content store.new)) }
@@ -212,7 +213,7 @@ pub fn build_index<S: Store<L>, L: Ledger>(
         → HoldsOrigin origin target.now query.now (S.content store.old) → IsUndamaged broke) }
     // Over any content that is told.
     ensures ran { IfOk result (λ built. IfSome (S.content store.old) (λ c.
-        Ran target.now query.now built c (S.content store.new))) }
+        RanBuild target.now query.now built c (S.content store.new))) }
     ensures ended { OnErr result (IfSome (S.content store.old) (λ c.
         StopsBuilding target.now query.now c (S.content store.new))) }
     ensures shown { IfErr result (λ broke. IfSome (S.content store.old) (λ c.
@@ -239,7 +240,8 @@ pub fn complete_index<S: Store<L>, L: Ledger>(
     meter: &mut Meter<L>,
 ) -> Result<u32, Broke>
     // Over a content in which the index is being filled.
-    ensures made { IfOk result (λ count. (origin : Origin) → HoldsFilling origin target.now query.now (S.content store.old)
+    ensures made { IfOk result (λ count. (origin : Origin)
+        → HoldsFilling origin target.now query.now (S.content store.old)
         → Makes origin target.now query.now (Built.Rows count) (S.content store.new)) }
     ensures stopped { OnErr result ((origin : Origin) → HoldsFilling origin target.now query.now (S.content store.old)
         → IsMarkedOrReady origin target.now query.now (S.content store.new)) }

@@ -20,7 +20,8 @@ pub(crate) fn count_rows<S: Store<L>, L: Ledger>(
     store: &mut S,
     meter: &mut Meter<L>,
 ) -> Result<Option<u32>, Broke>
-    ensures counted { IfOk result (λ count. IfSome (S.content store.old) (λ c. IsCounted (length (row_pairs_in table c)) count)) }
+    ensures counted { IfOk result (λ count. IfSome (S.content store.old)
+        (λ c. IsCounted (length (row_pairs_in table c)) count)) }
     ensures few { IfOk result (λ count. IfSome count (λ n. n ≤ 1000000)) }
     ensures same { S.content store.new ≡ S.content store.old }
     ensures sound { IfErr result IsUndamaged }

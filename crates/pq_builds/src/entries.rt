@@ -5,8 +5,8 @@ ghost use Rattle.pq_base.specs.declared.value.Value.{Value};
 ghost use Rattle.pq_base.specs.Values.{AllFit};
 ghost use Rattle.pq_row_code.specs.RowCode.{row_code};
 ghost use Rattle.pq_store.specs.Breaks.{IfDamaged, IsUndamaged};
-ghost use Rattle.pq_store.specs.Content.{HasBrokeCause, entry, written};
-ghost use Rattle.pq_store.specs.Counts.{charged};
+ghost use Rattle.pq_store.specs.Content.{HasBrokeCause, entry, written_content};
+ghost use Rattle.pq_store.specs.Counts.{charged_counts};
 ghost use Rattle.pq_intent.specs.Changing.{MayChange};
 ghost use Rattle.pq_builds.specs.Filling.{IsEntryIn, Enters, EntersSome, IsNoRowPair, IsNoRowAmong, HasValue};
 
@@ -25,10 +25,11 @@ pub(crate) fn put<S: Store<L>, L: Ledger>(
     store: &mut S,
     meter: &mut Meter<L>,
 ) -> Result<(), Broke>
-    ensures made { OnOk result (S.content store.new ≡ option_map (written key.now (Some value.now)) (S.content store.old)) }
+    ensures made { OnOk result (S.content store.new
+        ≡ option_map (written_content key.now (Some value.now)) (S.content store.old)) }
     ensures stopped { OnErr result (MayChange (key.now, Some value.now) (S.content store.old) (S.content store.new)) }
     ensures sound { IfErr result IsUndamaged }
-    ensures meter { meter.new ≡ charged meter.old 0 }
+    ensures meter { meter.new ≡ charged_counts meter.old 0 }
     ensures cause { HasBrokeCause (S.faults store.old) (S.faults store.new) result }
 {
     match store.write(alloc, key, Guard::Any, Some(value), meter) {

@@ -18,25 +18,28 @@ ghost use Rattle.pq_builds.specs.declared.target.Target.{Target};
 ghost use Rattle.pq_builds.specs.Bounds.{fixed_bound, prepare_bound, build_bound, left_bound};
 ghost use Rattle.pq_builds.specs.Filling.{row_pairs_in};
 ghost use Rattle.pq_builds.specs.Stages.{building_value, Takes, TakesBuild, left_ops};
-ghost use Rattle.pq_builds.specs.Standing.{defined_content, IsFilling, Origin, IsTarget, IsNewIn, HoldsOrigin, HasIndex, Makes, rows_in, tables_with, whole};
+ghost use Rattle.pq_builds.specs.Standing.{defined_content, IsFilling, Origin, IsTarget, IsNewIn, HoldsOrigin, HasIndex, Makes, rows_in, tables_with, whole_content};
 
 /// What is told by a content in which an index is being filled.
 pub fn filling_law()
     // The catalog has the pairs beside the rows, and the definition with its mark as the last one.
-    ensures catalog { (tables : List Table) (rows : Rows) (others : List Pair) (made : Made) (query : NewQuery) (content : Content)
+    ensures catalog { (tables : List Table) (rows : Rows) (others : List Pair) (made : Made) (query : NewQuery)
+        (content : Content)
         → AreCatalog others → is_in_space 1 query.key ≡ true
         → is_sorted key_cmp (others ++ (query.key, building_value query) ∷ []) ≡ true
         → IsFilling tables rows others made query content
         → pairs_within content (1 ∷ []) (2 ∷ []) ≡ others ++ (query.key, building_value query) ∷ [] }
 
     // The rows' pairs of each table are those of the rows alone.
-    ensures rows { (tables : List Table) (rows : Rows) (others : List Pair) (made : Made) (query : NewQuery) (content : Content) (t : ℕ)
+    ensures rows { (tables : List Table) (rows : Rows) (others : List Pair) (made : Made) (query : NewQuery)
+        (content : Content) (t : ℕ)
         → Keeps tables rows → AreBeside others → is_of_rows query.key ≡ false
         → IsFilling tables rows others made query content
         → row_pairs_in t content ≡ row_pairs_in t (content_pairs tables rows []) }
 
     // No intent is there.
-    ensures no_intent { (tables : List Table) (rows : Rows) (others : List Pair) (made : Made) (query : NewQuery) (content : Content)
+    ensures no_intent { (tables : List Table) (rows : Rows) (others : List Pair) (made : Made)
+        (query : NewQuery) (content : Content)
         → AreCatalog others → is_in_space 1 query.key ≡ true
         → IsFilling tables rows others made query content → get content intent_key ≡ None }
 
@@ -51,12 +54,13 @@ pub fn filling_law()
 /// definition's mark is no part of anything else.
 pub fn built_law()
     ensures holds { (origin : Origin) (target : Target) (query : NewQuery) (value : List ℕ) (now : Option Content)
-        → IsNewIn origin query → IsTarget origin target → now ≡ Some (whole origin target query value)
+        → IsNewIn origin query → IsTarget origin target → now ≡ Some (whole_content origin target query value)
         → HoldsRows now (tables_with origin target) origin.rows (origin.others ++ (query.key, value) ∷ []) }
 
     ensures marks { (tables : List Table) (rows : Rows) (others : List Pair) (query : NewQuery) (old new : List ℕ)
         → is_of_rows query.key ≡ false → find key_cmp query.key others ≡ None
-        → insert (defined_content tables rows others query old) query.key new ≡ defined_content tables rows others query new }
+        → insert (defined_content tables rows others query old) query.key new
+        ≡ defined_content tables rows others query new }
 {}
 
 /// The bound of a PREPARE depends on rows for a build alone, and a build uses just its bound.
@@ -64,7 +68,8 @@ pub fn bound_law()
     ensures fixed { (wanted : Option NewIndex) (most : Bound) (rows : Rows)
         → fixed_bound wanted ≡ Some most → prepare_bound wanted rows ≡ most }
 
-    ensures used { (origin : Origin) (target : Target) (query : NewQuery) (built : Built) (now : Option Content) (before after : Counts)
+    ensures used { (origin : Origin) (target : Target) (query : NewQuery) (built : Built) (now : Option Content)
+        (before after : Counts)
         → Makes origin target query built now → TakesBuild built before after
         → Takes (build_bound (rows_in origin target)).ops (build_bound (rows_in origin target)).entries before after }
 {}

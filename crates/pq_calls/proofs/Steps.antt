@@ -7,7 +7,7 @@ use Rattle.pq_store.specs.Content.{Content}
 use Rattle.pq_store.specs.declared.damage.Broke.{Broke}
 use Rattle.pq_store.specs.declared.damage.Broke.TheVariants.{Failed, NoMem, Damaged}
 use Rattle.pq_store.specs.declared.damage.Damage.{Damage}
-use Rattle.pq_calls.specs.Calls.{Uses, seen}
+use Rattle.pq_calls.specs.Calls.{Uses, seen_world}
 use Rattle.pq_calls.specs.World.{World, Affords, Reads, Explains, no_damage}
 use Rattle.pq_calls.specs.declared.calls.Calls.{Calls}
 
@@ -73,7 +73,7 @@ module _ {S L : Type 0} (content : S → Option Content) (faults : S → ℕ) {X
       let q = one_more g xs i x within at in
       let p' = sum_by-take-le f xs (i + 1) in
       let q' = sum_by-take-le g xs (i + 1) in
-      rest_left (seen content faults a) (seen content faults b) _ _ (f x) (g x) _ _ r.reads left (omega arith) (omega arith)
+      rest_left (seen_world content faults a) (seen_world content faults b) _ _ (f x) (g x) _ _ r.reads left (omega arith) (omega arith)
 
   pub uses_next : (a b c : Calls S L) → Uses content faults a b (sum_by f (take i xs)) (sum_by g (take i xs)) → Uses content faults b c (f x) (g x) → Uses content faults a c (sum_by f (take (i + 1) xs)) (sum_by g (take (i + 1) xs))
   uses_next a b c r s =

@@ -6,16 +6,19 @@ use Rattle.pq_store.specs.declared.damage.Damage.{Damage}
 use Rattle.pq_calls.specs.declared.calls.Calls.{Calls}
 use Rattle.pq_calls.specs.World.{World, world, Reads, Explains}
 
-abbrev pub seen : {S L : Type 0} → (S → Option Content) → (S → ℕ) → Calls S L → World
-seen content faults calls = world (content calls.store.now) (faults calls.store.now) calls.allowance.now calls.meter.now
+abbrev pub seen_world : {S L : Type 0} → (S → Option Content) → (S → ℕ) → Calls S L → World
+seen_world content faults calls = world (content calls.store.now) (faults calls.store.now) calls.allowance.now calls.meter.now
 
 -- it is the same store, allowance and meter, and at most so much was read
-pub record Uses {S L : Type 0} (content : S → Option Content) (faults : S → ℕ) (before after : Calls S L) (ops entries : ℕ) : Type 0 where
+pub record Uses {S L : Type 0} (content : S → Option Content) (faults : S
+    → ℕ) (before after : Calls S L) (ops entries : ℕ) : Type 0 where
   pub same_store : after.store.ghost_name ≡ before.store.ghost_name
   pub same_allowance : after.allowance.ghost_name ≡ before.allowance.ghost_name
   pub same_meter : after.meter.ghost_name ≡ before.meter.ghost_name
-  pub reads : Reads (seen content faults before) (seen content faults after) ops entries
+  pub reads : Reads (seen_world content faults before) (seen_world content faults after) ops entries
 
 -- why a call gives up
-abbrev pub Fails : (Option Content → Damage → Type 0) → {S L : Type 0} → (S → Option Content) → (S → ℕ) → Calls S L → Calls S L → Broke → Type 0
-Fails shows content faults before after error = Explains shows (seen content faults before) (seen content faults after) error
+abbrev pub Fails : (Option Content → Damage → Type 0) → {S L : Type 0} → (S → Option Content) → (S → ℕ)
+    → Calls S L → Calls S L → Broke → Type 0
+Fails shows content faults before after error =
+    Explains shows (seen_world content faults before) (seen_world content faults after) error

@@ -6,7 +6,7 @@ use Rattle.pq_key_code.specs.KeyCode.{row_key, entry_key}
 use Rattle.pq_schema.specs.declared.table.Access.{Access}
 use Rattle.pq_schema.specs.declared.table.Access.TheVariants.{Primary, Secondary}
 use Rattle.pq_schema.specs.declared.table.Table.{Table}
-use Rattle.pq_schema.specs.Keys.{dirs_of, given}
+use Rattle.pq_schema.specs.Keys.{dirs_of, given_value}
 use Rattle.pq_schema.specs.Sequences.{columns_of, index_sequence, index_numbered, sequence_of}
 use Rattle.pq_schema.specs.Tables.{types_at}
 
@@ -22,4 +22,4 @@ sequence_types table access = types_at table.columns (columns_of (sequence_of ta
 
 -- the key of the row that the entry with these values names
 abbrev pub named_key : Table → Access → List Value → List Value
-named_key table access values = map (given (columns_of (sequence_of table access)) values) table.key
+named_key table access values = map (given_value (columns_of (sequence_of table access)) values) table.key

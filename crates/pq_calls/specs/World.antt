@@ -1,7 +1,7 @@
 -- What calls over a store see and change, what they spend of an allowance, and why one gives up.
 use Rattle.std.specs.Prelude.{◌≡◌, ℕ, ◌≤◌, ◌+◌, Option, IfSome}
 use Rattle.pq_store.specs.Content.{Content, HasRisen}
-use Rattle.pq_store.specs.Counts.{Counts, Allowed}
+use Rattle.pq_store.specs.Counts.{Counts, AllowedCounts}
 use Rattle.pq_store.specs.declared.damage.Broke.{Broke}
 use Rattle.pq_store.specs.declared.damage.Broke.TheVariants as broke
 use Rattle.pq_store.specs.declared.damage.Damage.{Damage}
@@ -10,14 +10,14 @@ use Rattle.pq_store.specs.declared.damage.Damage.{Damage}
 pub record World : Type 0 where
   pub told : Option Content
   pub faults : ℕ
-  pub allowed : Allowed
+  pub allowed : AllowedCounts
   pub used : Counts
 
-abbrev pub world : Option Content → ℕ → Allowed → Counts → World
+abbrev pub world : Option Content → ℕ → AllowedCounts → Counts → World
 world told faults allowed used = record { told = told; faults = faults; allowed = allowed; used = used }
 
 -- so many operations and entries are left
-pub record Affords (allowed : Allowed) (ops entries : ℕ) : Type 0 where
+pub record Affords (allowed : AllowedCounts) (ops entries : ℕ) : Type 0 where
   pub ops_left : ops ≤ allowed.left.ops
   pub entries_left : entries ≤ allowed.left.entries
 
@@ -27,7 +27,8 @@ pub record Reads (before after : World) (ops entries : ℕ) : Type 0 where
   pub later : before.faults ≤ after.faults
   pub granted : after.allowed.granted ≡ before.allowed.granted
   pub spent_ops : after.allowed.left.ops + after.used.ops ≡ before.allowed.left.ops + before.used.ops
-  pub spent_entries : after.allowed.left.entries + after.used.entries ≡ before.allowed.left.entries + before.used.entries
+  pub spent_entries : after.allowed.left.entries + after.used.entries
+      ≡ before.allowed.left.entries + before.used.entries
   pub rise_ops : before.used.ops ≤ after.used.ops
   pub rise_entries : before.used.entries ≤ after.used.entries
   pub few_ops : after.used.ops ≤ before.used.ops + ops

@@ -24,7 +24,8 @@ impl<'a, S: Store<L>, L: Ledger> Calls<'a, S, L> {
         requires share { Affords self.old.allowance.now 1 1 }
         ensures uses { Uses S.content S.faults self.old self.new 1 1 }
         ensures cause { IfErr result (Fails no_damage S.content S.faults self.old self.new) }
-        ensures answer { IfOk result (λ found. IfSome (S.content self.old.store.now) (λ c. found ≡ value_at c key.now)) }
+        ensures answer { IfOk result (λ found. IfSome (S.content self.old.store.now)
+            (λ c. found ≡ value_at c key.now)) }
     {
         let answer = self.store.get(alloc, key, self.meter);
         match &answer {

@@ -86,9 +86,11 @@ impl<'a, S: Store<L>, L: Ledger> Calls<'a, S, L> {
     ) -> Result<Option<StoredRow>, Broke>
         requires share { Affords self.old.allowance.now 1 1 }
         ensures uses { Uses S.content S.faults self.old self.new 1 1 }
-        ensures cause { IfErr result (Fails (IsNoRowAt (types_of table.now) (row_key number key.now)) S.content S.faults self.old self.new) }
+        ensures cause { IfErr result (Fails (IsNoRowAt (types_of table.now) (row_key number key.now)) S.content
+            S.faults self.old self.new) }
         ensures read { IfOk result (λ found. IfSome (S.content self.old.store.now) (λ c.
-            IsRead (types_of table.now) (value_at c (row_key number key.now)) (option_map (λ stored. stored.row) found))) }
+            IsRead (types_of table.now) (value_at c (row_key number key.now)) (option_map
+            (λ stored. stored.row) found))) }
         ensures at { IfOk result (λ found. IfSome found (λ stored. stored.at ≡ row_key number key.now)) }
         ensures fits { IfOk result (λ found. IfSome found (λ stored. AllFit (types_of table.now) stored.row)) }
     {

@@ -5,12 +5,12 @@ use Rattle.pq_base.specs.declared.number.Choice.TheVariants.{Whole}
 use Rattle.pq_schema.specs.declared.table.Table.{Table}
 use Rattle.pq_schema.specs.declared.query.Query.{Query}
 use Rattle.pq_schema.specs.Costs.{is_less}
-use Rattle.pq_schema.specs.Candidates.{Candidate, lesser, least, candidates, whole, bound_at, reached_after, are_bounded}
+use Rattle.pq_schema.specs.Candidates.{Candidate, lesser, least, candidates, whole_candidates, bound_at, reached_after, are_bounded}
 use Rattle.pq_base.specs.Members.{In}
 use Rattle.pq_plan.specs.Plans.{HasChoice}
 use Rattle.pq_base.proofs.Members.{map_in, member_at}
 use Rattle.pq_plan.proofs.Choices.{Has, cost_of, candidate_has}
-use Rattle.pq_stop_push.specs.Pushes.{Planned, planned, planned_candidates}
+use Rattle.pq_stop_push.specs.Pushes.{PlannedPush, planned_push, planned_candidates}
 use Rattle.pq_compile.specs.Lowered.{lesser_planned, least_planned}
 use Rattle.pq_schema.specs.Wanted.{first_unbounded}
 use Rattle.pq_compile.specs.Chosen.{IsBest}
@@ -37,20 +37,20 @@ module _ (tables : List Table) (query : Query) where
       let m = length query.relations in
       let all : are_bounded tables query m ≡ true = found_none (λ rel. is_some (bound_at tables query rel)) (range_with_len 1 m) h in
       let one : Candidate = record { choice = Whole; bound = (reached_after tables query m).cost } in
-      no_first one (whole tables query) _ none (ap (λ b. cond b (one ∷ []) []) all)
+      no_first one (whole_candidates tables query) _ none (ap (λ b. cond b (one ∷ []) []) all)
 
-  fold_planned : (c : Candidate) (cs : List Candidate) → fold lesser_planned (planned tables query c) (map (planned tables query) cs) ≡ planned tables query (fold lesser c cs)
+  fold_planned : (c : Candidate) (cs : List Candidate) → fold lesser_planned (planned_push tables query c) (map (planned_push tables query) cs) ≡ planned_push tables query (fold lesser c cs)
   fold_planned c [] = refl
-  fold_planned c (x ∷ cs) = ap (λ b. fold lesser_planned b (map (planned tables query) cs)) (one (is_less x.bound c.bound)) ∙ fold_planned (lesser c x) cs
+  fold_planned c (x ∷ cs) = ap (λ b. fold lesser_planned b (map (planned_push tables query) cs)) (one (is_less x.bound c.bound)) ∙ fold_planned (lesser c x) cs
     where
-      one : (b : Bool) → cond b (planned tables query x) (planned tables query c) ≡ planned tables query (cond b x c)
+      one : (b : Bool) → cond b (planned_push tables query x) (planned_push tables query c) ≡ planned_push tables query (cond b x c)
       one true = refl
       one false = refl
 
   -- the least with its tree is the least, with its tree
-  pub least_map : (cs : List Candidate) → least_planned (map (planned tables query) cs) ≡ option_map (planned tables query) (least cs)
+  pub least_map : (cs : List Candidate) → least_planned (map (planned_push tables query) cs) ≡ option_map (planned_push tables query) (least cs)
   least_map [] = refl
-  least_map (c ∷ cs) = ap (λ (p : Planned). Some p) (fold_planned c cs)
+  least_map (c ∷ cs) = ap (λ (p : PlannedPush). Some p) (fold_planned c cs)
 
   in_fold : (c : Candidate) (cs : List Candidate) → In (fold lesser c cs) (c ∷ cs)
   in_fold c [] = inl refl
@@ -74,18 +74,18 @@ module _ (tables : List Table) (query : Query) where
   least_none [] h = refl
   least_none (c ∷ cs) h = let no_such : Some (fold lesser c cs) ≡ None = h in cc
 
-  mapped_none : (o : Option Candidate) → option_map (planned tables query) o ≡ None → o ≡ None
+  mapped_none : (o : Option Candidate) → option_map (planned_push tables query) o ≡ None → o ≡ None
   mapped_none None h = refl
-  mapped_none (Some c) h = let no_such : Some (planned tables query c) ≡ None = h in cc
+  mapped_none (Some c) h = let no_such : Some (planned_push tables query c) ≡ None = h in cc
 
   -- where there is no least, there is no candidate
-  pub none_there : (hs : List Planned) → hs ≡ planned_candidates tables query → None ≡ least_planned hs → candidates tables query ≡ []
+  pub none_there : (hs : List PlannedPush) → hs ≡ planned_candidates tables query → None ≡ least_planned hs → candidates tables query ≡ []
   none_there hs e n = least_none (candidates tables query) (mapped_none (least (candidates tables query)) (sym (least_map (candidates tables query)) ∙ ap least_planned (sym e) ∙ sym n))
 
   -- the least of them is the best
-  pub best_there : (hs : List Planned) (h : Planned) → hs ≡ planned_candidates tables query → Some h ≡ least_planned hs → IsBest tables query h
+  pub best_there : (hs : List PlannedPush) (h : PlannedPush) → hs ≡ planned_candidates tables query → Some h ≡ least_planned hs → IsBest tables query h
   best_there hs h e s =
-      elim (least (candidates tables query)) as (λ o. least (candidates tables query) ≡ o → option_map (planned tables query) o ≡ Some h → IsBest tables query h) [
+      elim (least (candidates tables query)) as (λ o. least (candidates tables query) ≡ o → option_map (planned_push tables query) o ≡ Some h → IsBest tables query h) [
         | None ↦ λ _ n. let no_such : None ≡ Some h = n in cc
-        | Some best ↦ λ is n. let same : h ≡ planned tables query best = cc in record { best = best; least = is; is = same }
+        | Some best ↦ λ is n. let same : h ≡ planned_push tables query best = cc in record { best = best; least = is; is = same }
       ] refl (sym (least_map (candidates tables query)) ∙ ap least_planned (sym e) ∙ sym s)

@@ -5,22 +5,23 @@ use Rattle.pq_schema.specs.declared.query.Query.{Query}
 use Rattle.pq_schema.specs.Costs.{is_less}
 use Rattle.pq_plan.specs.Meaning.{Tree, Unit, Read, DataStop, StopRead, Order, Cut, Project}
 use Rattle.pq_plan.specs.Nodes.{Node, stop_scan, sort, cut, project, read_nodes, stop_access}
-use Rattle.pq_stop_push.specs.Pushes.{Planned}
+use Rattle.pq_stop_push.specs.Pushes.{PlannedPush}
 
 -- a data stop needs no node, since it drops nothing
-abbrev pub lowered : List Table → Query → Tree → List Node
-lowered tables query Unit = []
-lowered tables query (Read input rel) = lowered tables query input ++ read_nodes tables query rel
-lowered tables query (DataStop input rel n) = lowered tables query input
-lowered tables query (StopRead input rel k) = lowered tables query input ++ stop_scan rel k (stop_access tables query rel) ∷ []
-lowered tables query (Order input) = lowered tables query input ++ sort ∷ []
-lowered tables query (Cut input k) = lowered tables query input ++ cut k ∷ []
-lowered tables query (Project input) = lowered tables query input ++ project ∷ []
+abbrev pub lowered_nodes : List Table → Query → Tree → List Node
+lowered_nodes tables query Unit = []
+lowered_nodes tables query (Read input rel) = lowered_nodes tables query input ++ read_nodes tables query rel
+lowered_nodes tables query (DataStop input rel n) = lowered_nodes tables query input
+lowered_nodes tables query (StopRead input rel k) =
+    lowered_nodes tables query input ++ stop_scan rel k (stop_access tables query rel) ∷ []
+lowered_nodes tables query (Order input) = lowered_nodes tables query input ++ sort ∷ []
+lowered_nodes tables query (Cut input k) = lowered_nodes tables query input ++ cut k ∷ []
+lowered_nodes tables query (Project input) = lowered_nodes tables query input ++ project ∷ []
 
-abbrev pub lesser_planned : Planned → Planned → Planned
+abbrev pub lesser_planned : PlannedPush → PlannedPush → PlannedPush
 lesser_planned best next = if is_less next.bound best.bound then next else best
 
 -- the first of the least
-abbrev pub least_planned : List Planned → Option Planned
+abbrev pub least_planned : List PlannedPush → Option PlannedPush
 least_planned [] = None
 least_planned (c ∷ cs) = Some (fold lesser_planned c cs)

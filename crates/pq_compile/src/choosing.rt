@@ -2,7 +2,7 @@
 
 ghost use Rattle.std.specs.Prelude.{◌≡◌, ◌<◌, Some, map, fold, option_map};
 ghost use Rattle.pq_schema.specs.Costs.{is_less};
-ghost use Rattle.pq_stop_push.specs.Pushes.{held};
+ghost use Rattle.pq_stop_push.specs.Pushes.{held_plan};
 ghost use Rattle.pq_compile.specs.Lowered.{lesser_planned, least_planned};
 
 use pq_base::Bound;
@@ -16,7 +16,7 @@ fn is_less(a: Bound, b: Bound) -> bool
 }
 
 fn lesser<'a>(best: &'a Candidate, next: &'a Candidate) -> &'a Candidate
-    ensures { held result.now ≡ lesser_planned (held best.now) (held next.now) }
+    ensures { held_plan result.now ≡ lesser_planned (held_plan best.now) (held_plan next.now) }
 {
     if is_less(next.bound, best.bound) {
         next
@@ -26,7 +26,7 @@ fn lesser<'a>(best: &'a Candidate, next: &'a Candidate) -> &'a Candidate
 }
 
 fn fewest<'a>(first: &'a Candidate, rest: &'a [Candidate]) -> &'a Candidate
-    ensures { held result.now ≡ fold lesser_planned (held first.now) (map held rest.now) }
+    ensures { held_plan result.now ≡ fold lesser_planned (held_plan first.now) (map held_plan rest.now) }
 {
     let mut best = first;
     for next in rest {
@@ -37,7 +37,7 @@ fn fewest<'a>(first: &'a Candidate, rest: &'a [Candidate]) -> &'a Candidate
 
 /// The first of the candidates with the fewest operations, and of these with the fewest entries.
 pub fn least(candidates: &[Candidate]) -> Option<&Candidate>
-    ensures { option_map (λ best. held best.now) result ≡ least_planned (map held candidates.now) }
+    ensures { option_map (λ best. held_plan best.now) result ≡ least_planned (map held_plan candidates.now) }
 {
     match candidates.split_first() {
         None => None,

@@ -4,8 +4,8 @@ ghost use Rattle.std.specs.Prelude.{◌≡◌, ◌≤◌, [], length, IfOk, IfEr
 ghost use Rattle.pq_base.specs.Answers.{Refuses};
 ghost use Rattle.pq_schema.specs.Sound.{IsQuery};
 ghost use Rattle.pq_schema.specs.Candidates.{candidates as candidates_of};
-ghost use Rattle.pq_stop_push.specs.Pushes.{held};
-ghost use Rattle.pq_schema.specs.Wanted.{is_large, first_unbounded, no_bound, Chosen, chosen};
+ghost use Rattle.pq_stop_push.specs.Pushes.{held_plan};
+ghost use Rattle.pq_schema.specs.Wanted.{is_large, first_unbounded, no_bound, ChosenCandidate, chosen_candidate};
 ghost use Rattle.pq_compile.specs.Chosen.{IsBest, IsCompiled};
 
 use crate::choosing::least;
@@ -51,7 +51,7 @@ fn first_unbounded(catalog: &Catalog, query: &Query) -> Option<u8>
 fn no_bound(alloc: Global, catalog: &Catalog, query: &Query) -> Stopped
     requires query { IsQuery catalog.now.tables query.now }
     requires none { candidates_of catalog.now.tables query.now ≡ [] }
-    ensures { Refuses {A = Chosen} result (Err (no_bound catalog.now.tables query.now)) }
+    ensures { Refuses {A = ChosenCandidate} result (Err (no_bound catalog.now.tables query.now)) }
 {
     let Some(rel) = first_unbounded(catalog, query) else {
         unreachable!();
@@ -70,9 +70,9 @@ fn compile_best(
     best: &Candidate,
 ) -> Result<Compiled, Stopped>
     requires query { IsQuery catalog.now.tables query.now }
-    requires best { IsBest catalog.now.tables query.now (held best.now) }
+    requires best { IsBest catalog.now.tables query.now (held_plan best.now) }
     ensures made { IfOk result (λ made. IsCompiled catalog.now.tables query.now made) }
-    ensures refused { IfErr result (λ stopped. Refuses stopped (chosen catalog.now.tables query.now)) }
+    ensures refused { IfErr result (λ stopped. Refuses stopped (chosen_candidate catalog.now.tables query.now)) }
 {
     if is_large(best.bound) {
         return Err(Stopped::Refused(Refusal::BoundLarge {
@@ -94,7 +94,7 @@ fn compile_best(
 pub fn compile(alloc: Global, catalog: &Catalog, query: &Query) -> Result<Compiled, Stopped>
     requires { IsQuery catalog.now.tables query.now }
     ensures made { IfOk result (λ made. IsCompiled catalog.now.tables query.now made) }
-    ensures refused { IfErr result (λ stopped. Refuses stopped (chosen catalog.now.tables query.now)) }
+    ensures refused { IfErr result (λ stopped. Refuses stopped (chosen_candidate catalog.now.tables query.now)) }
 {
     let list = candidates(alloc, catalog, query)?;
     match least(list.items()) {

@@ -8,7 +8,7 @@ ghost use Rattle.pq_schema.specs.Sequences.{group_access};
 ghost use Rattle.pq_plan.specs.Meaning.{tree_of};
 ghost use Rattle.pq_plan.specs.Nodes.{nodes, lookup, limit_range, keep, read_nodes, stop_access};
 ghost use Rattle.pq_stop_push.specs.Pushes.{IsOver};
-ghost use Rattle.pq_compile.specs.Lowered.{lowered};
+ghost use Rattle.pq_compile.specs.Lowered.{lowered_nodes};
 
 use crate::wanting::need_at;
 use pq_base::{ColSet, NoMem};
@@ -125,7 +125,7 @@ pub fn lower(
 ) -> Result<Physical, NoMem>
     requires query { IsQuery catalog.now.tables query.now }
     requires over { IsOver (length query.now.relations) (tree_of tree.now) }
-    ensures { IfOk result (λ made. nodes made ≡ lowered catalog.now.tables query.now (tree_of tree.now)) }
+    ensures { IfOk result (λ made. nodes made ≡ lowered_nodes catalog.now.tables query.now (tree_of tree.now)) }
 {
     match tree {
         Logical::Unit => Ok(Physical::Unit),

@@ -3,7 +3,7 @@
 ghost use Rattle.std.specs.Prelude.{◌≡◌, ◌≤◌, length};
 ghost use Rattle.pq_base.specs.Answers.{Answers};
 ghost use Rattle.pq_schema.specs.Sound.{IsQuery, AreRefs};
-ghost use Rattle.pq_schema.specs.Relations.{fixed, order_rest};
+ghost use Rattle.pq_schema.specs.Relations.{tied_set, order_rest};
 ghost use Rattle.pq_plan.specs.Plans.{HasChoice};
 ghost use Rattle.pq_index_pick.specs.Needs.{IsNeed};
 ghost use Rattle.pq_schema.specs.Wanted.{index_at, index_of};
@@ -20,7 +20,7 @@ const INDEXES: usize = 16;
 /// What a stop at the relation asks of a sequence.
 pub fn need_at(alloc: Global, query: &Query, p: u8) -> Need
     requires { AreRefs query.now }
-    ensures fixed { result.fixed ≡ fixed query.now p }
+    ensures fixed { result.fixed ≡ tied_set query.now p }
     ensures order { result.order.items ≡ order_rest query.now p }
     ensures need { IsNeed result }
 {

@@ -3,8 +3,8 @@ use Rattle.std.proofs.Common.{◌≡◌, ℕ, zero, suc, Bool, true, false, cond
 use Rattle.std.specs.Ordering.{eq_by_cmp}
 use Rattle.std.specs.Cmp.Lexicographic.{nat_list_cmp_total}
 use Rattle.std.specs.FinMap.{get, same_map, get-insert, get-remove, slice_cmp-IsAntisymmetric, nat_cmp-IsAntisymmetric, IsAntisymmetric}
-use Rattle.pq_content.specs.Pairs.{Change, changed}
-use Rattle.pq_store.specs.Content.{key_cmp, Content, written}
+use Rattle.pq_content.specs.Pairs.{Change, changed_content}
+use Rattle.pq_store.specs.Content.{key_cmp, Content, written_content}
 
 pub bytes_apart : IsAntisymmetric key_cmp
 bytes_apart = slice_cmp-IsAntisymmetric nat_cmp-IsAntisymmetric
@@ -18,13 +18,13 @@ abbrev pub after : List Change → List ℕ → Option (List ℕ) → Option (Li
 after [] q old = old
 after (e ∷ es) q old = after es q (cond (eq_by_cmp key_cmp q e.0) e.1 old)
 
-get-written : (k : List ℕ) (w : Option (List ℕ)) (c : Content) (q : List ℕ) → get (written k w c) q ≡ cond (eq_by_cmp key_cmp q k) w (get c q)
+get-written : (k : List ℕ) (w : Option (List ℕ)) (c : Content) (q : List ℕ) → get (written_content k w c) q ≡ cond (eq_by_cmp key_cmp q k) w (get c q)
 get-written k (Some v) c q = get-insert nat_list_cmp_total c k v q
 get-written k None c q = get-remove nat_list_cmp_total c k q
 
-pub get-changed : (es : List Change) (c : Content) (q : List ℕ) → get (changed es c) q ≡ after es q (get c q)
+pub get-changed : (es : List Change) (c : Content) (q : List ℕ) → get (changed_content es c) q ≡ after es q (get c q)
 get-changed [] c q = refl
-get-changed (e ∷ es) c q = get-changed es (written e.0 e.1 c) q ∙ ap (after es q) (get-written e.0 e.1 c q)
+get-changed (e ∷ es) c q = get-changed es (written_content e.0 e.1 c) q ∙ ap (after es q) (get-written e.0 e.1 c q)
 
 -- whether a change is of this key
 abbrev pub touches : List Change → List ℕ → Bool
@@ -62,5 +62,5 @@ after_again n es q old true h = after_touched es q _ _ h
 after_again n es q old false h = ap (after es q) (after_untouched (take n es) q old (untouched_before n es q h))
 
 -- some of the changes and then all of them are as all of them
-pub changed_again : (n : ℕ) (es : List Change) (c : Content) → changed es (changed (take n es) c) ≡ changed es c
-changed_again n es c = same_content _ _ (λ q. get-changed es (changed (take n es) c) q ∙ ap (after es q) (get-changed (take n es) c q) ∙ after_again n es q (get c q) (touches es q) refl ∙ sym (get-changed es c q))
+pub changed_again : (n : ℕ) (es : List Change) (c : Content) → changed_content es (changed_content (take n es) c) ≡ changed_content es c
+changed_again n es c = same_content _ _ (λ q. get-changed es (changed_content (take n es) c) q ∙ ap (after es q) (get-changed (take n es) c q) ∙ after_again n es q (get c q) (touches es q) refl ∙ sym (get-changed es c q))

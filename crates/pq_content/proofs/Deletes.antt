@@ -11,7 +11,7 @@ use Rattle.pq_base.specs.declared.value.Value.{Value}
 use Rattle.pq_base.specs.Values.{AllFit}
 use Rattle.pq_schema.specs.declared.table.Table.{Table}
 use Rattle.pq_schema.specs.Tables.{table_at}
-use Rattle.pq_content.specs.Pairs.{Pair, AreBeside, changed, removals, pairs_of_row, row_pairs, content_pairs}
+use Rattle.pq_content.specs.Pairs.{Pair, AreBeside, changed_content, removals, pairs_of_row, row_pairs, content_pairs}
 use Rattle.pq_store.specs.Content.{key_cmp}
 use Rattle.pq_content.specs.Tables.{Rows, rows_of, types_of, key_of, agrees, has_key, row_at, rows_without, AreApart, Keeps}
 use Rattle.pq_content.proofs.Changes.{same_content, get-changed}
@@ -60,7 +60,7 @@ apart_from tables t row e q v fits fits' found passes =
     ] refl
 
 -- the removals of a row's pair and its entries remove the row
-pub delete_only : (tables : List Table) (rows : Rows) (others : List Pair) (t : ℕ) (row : List Value) → IsOnly tables rows t row → EachFits tables rows → AllFit (types_of (table_at tables t)) row → AreBeside others → changed (removals (pairs_of_row t (table_at tables t) row)) (content_pairs tables rows others) ≡ content_pairs tables (rows_without tables t (key_of (table_at tables t) row) rows) others
+pub delete_only : (tables : List Table) (rows : Rows) (others : List Pair) (t : ℕ) (row : List Value) → IsOnly tables rows t row → EachFits tables rows → AllFit (types_of (table_at tables t)) row → AreBeside others → changed_content (removals (pairs_of_row t (table_at tables t) row)) (content_pairs tables rows others) ≡ content_pairs tables (rows_without tables t (key_of (table_at tables t) row) rows) others
 unfolding content_pairs
 delete_only tables rows others t row only each fits beside =
     let key = key_of (table_at tables t) row in
@@ -87,7 +87,7 @@ delete_only tables rows others t row only each fits beside =
     ∙ sym (get-from_entries nat_list_cmp_total (row_pairs tables kept ++ others) q))
 
 -- a row that is found by its key
-pub delete_row : (tables : List Table) (rows : Rows) (others : List Pair) (t : ℕ) (key row : List Value) → Keeps tables rows → AreBeside others → row_at tables rows t key ≡ Some row → changed (removals (pairs_of_row t (table_at tables t) row)) (content_pairs tables rows others) ≡ content_pairs tables (rows_without tables t key rows) others
+pub delete_row : (tables : List Table) (rows : Rows) (others : List Pair) (t : ℕ) (key row : List Value) → Keeps tables rows → AreBeside others → row_at tables rows t key ≡ Some row → changed_content (removals (pairs_of_row t (table_at tables t) row)) (content_pairs tables rows others) ≡ content_pairs tables (rows_without tables t key rows) others
 delete_row tables rows others t key row keeps beside found =
     let of_row = row_found tables rows t key row keeps found in
     let own = key_of (table_at tables t) row in

@@ -8,7 +8,7 @@ use Rattle.std.specs.Int.{w16, to_be_bytes}
 use Rattle.pq_base.specs.declared.value.Dir.{Dir}
 use Rattle.pq_base.specs.declared.value.Value.{Value}
 use Rattle.pq_base.specs.declared.value.Value.TheVariants as value
-use Rattle.pq_key_code.specs.KeyCode.{escaped, payload, turned, component, code_of}
+use Rattle.pq_key_code.specs.KeyCode.{escaped_text, payload, turned_byte, component, code_of}
 use Rattle.pq_row_code.specs.RowCode.{field, fields}
 use Rattle.pq_schema.specs.declared.table.Index.{Index}
 use Rattle.pq_schema.specs.declared.table.KeyPart.{KeyPart}
@@ -88,7 +88,7 @@ values_within n table row cols h = each cols (within_fields n row (omega arith))
     each [] short = tt
     each (col ∷ cols) short = (value_within n row col short, each cols short)
 
-length-escaped : (t : List ℕ) → length (escaped t) ≤ 2 * length t
+length-escaped : (t : List ℕ) → length (escaped_text t) ≤ 2 * length t
 length-escaped [] = omega arith
 length-escaped (zero ∷ t) = let rest = length-escaped t in omega arith
 length-escaped (suc b ∷ t) = let rest = length-escaped t in omega arith
@@ -97,13 +97,13 @@ length-payload : (n : ℕ) (x : Value) → IsWithinLength n x → length (payloa
 length-payload n (value.Int z) h = let eight : length (payload (value.Int z)) ≡ 8 = refl in omega arith
 length-payload n (value.Bool b) h = omega arith
 length-payload n (value.Text t) h =
-    let parts = length-append (escaped t) (0 ∷ 1 ∷ []) in
+    let parts = length-append (escaped_text t) (0 ∷ 1 ∷ []) in
     let most = length-escaped t in
     omega arith
 
 length-component : (n : ℕ) (d : Dir) (x : Value) → IsWithinLength n x → length (component d x) ≤ 2 * n + 9
 length-component n d x h =
-    let same = length-map (payload x) (turned d) in
+    let same = length-map (payload x) (turned_byte d) in
     let most = length-payload n x h in
     omega arith
 

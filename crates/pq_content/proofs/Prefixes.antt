@@ -10,7 +10,7 @@ use Rattle.pq_base.specs.declared.value.ColType.{ColType}
 use Rattle.pq_base.specs.declared.value.Dir.{Dir}
 use Rattle.pq_base.specs.declared.value.Dir.TheVariants.{Asc, Desc}
 use Rattle.pq_base.specs.declared.value.Value.{Value}
-use Rattle.pq_base.specs.Order.{value_cmp, directed}
+use Rattle.pq_base.specs.Order.{value_cmp, directed_order}
 use Rattle.pq_base.specs.Values.{AllFit, SameKinds}
 use Rattle.pq_key_code.specs.KeyOrder.{common_cmp}
 use Rattle.pq_schema.specs.declared.table.KeyPart.{KeyPart}
@@ -24,7 +24,7 @@ use Rattle.pq_content.proofs.Values.{both_ways, same_values_decides, same_from_t
 use Rattle.pq_key_code.specs.KeyCode.{code_of}
 use Rattle.pq_key_code.proofs.Order.{range_lem}
 
-is_eq_directed : (d : Dir) (r : Ordering) → is_eq (directed d r) ≡ is_eq r
+is_eq_directed : (d : Dir) (r : Ordering) → is_eq (directed_order d r) ≡ is_eq r
 is_eq_directed Asc r = refl
 is_eq_directed Desc Less = refl
 is_eq_directed Desc Equal = refl
@@ -43,7 +43,7 @@ common_same [] (p ∷ ps) (x ∷ xs) h k = absurd (omega arith)
 common_same (d ∷ ds) [] xs h k = refl
 common_same (d ∷ ds) (p ∷ ps) [] h k = absurd (omega arith)
 common_same (d ∷ ds) (p ∷ ps) (x ∷ xs) h k =
-    is_eq_then (directed d (value_cmp p x)) (common_cmp ds ps xs)
+    is_eq_then (directed_order d (value_cmp p x)) (common_cmp ds ps xs)
     ∙ (λ i. is_eq_directed d (value_cmp p x) i && common_same ds ps xs (omega arith) (omega arith) i)
 
 -- kinds of a list are those of its beginning

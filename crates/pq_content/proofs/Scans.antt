@@ -14,7 +14,7 @@ use Rattle.pq_key_code.proofs.StoreKeys.{code_of-ascending}
 use Rattle.pq_schema.specs.declared.table.Index.{Index}
 use Rattle.pq_schema.specs.declared.table.KeyPart.{KeyPart}
 use Rattle.pq_schema.specs.declared.table.Table.{Table}
-use Rattle.pq_schema.specs.Sequences.{ascending, columns_of, primary_sequence, index_sequence, begins_with}
+use Rattle.pq_schema.specs.Sequences.{ascending_part, columns_of, primary_sequence, index_sequence, begins_with}
 use Rattle.pq_schema.specs.Tables.{table_at}
 use Rattle.pq_content.specs.Pairs.{Pair, AreBeside, row_pair, entry_pair, content_pairs}
 use Rattle.pq_store.specs.Content.{pairs_within}
@@ -27,7 +27,7 @@ use Rattle.pq_content.proofs.Ranges.{in_range}
 use Rattle.pq_content.proofs.RowRanges.{row_range, row_count, key_bytes}
 use Rattle.pq_content.proofs.TableRows.{rows_are, values_of-primary, dirs_of-primary}
 
-pub columns_of-primary : (key : List ℕ) → columns_of (map ascending key) ≡ key
+pub columns_of-primary : (key : List ℕ) → columns_of (map ascending_part key) ≡ key
 columns_of-primary [] = refl
 columns_of-primary (col ∷ key) = ap (λ (cols : List ℕ). col ∷ cols) (columns_of-primary key)
 
@@ -49,7 +49,7 @@ module _ (tables : List Table) (rows : Rows) (others : List Pair) (fits : EachFi
       let sequence = primary_sequence table in
       let cols : columns_of sequence ≡ table.key = columns_of-primary table.key in
       let whole : AllOfKinds (take (length ps) (types_at table (columns_of sequence))) ps = subst (λ (cs : List ℕ). AllOfKinds (take (length ps) (types_at table cs)) ps) (sym cols) kinds in
-      let enough : length ps ≤ length sequence = omega (arith, length-map table.key ascending) in
+      let enough : length ps ≤ length sequence = omega (arith, length-map table.key ascending_part) in
       let code = primary_code table ps short in
       filter_agree _ _ (λ row. (λ i. in_range (code i) (past_code (code i)) (primary_bytes table row i))) (rows_of t rows)
       ∙ within_prefix table sequence ps (rows_of t rows) whole enough (rows_are tables rows t fits apart)

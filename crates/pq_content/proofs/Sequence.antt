@@ -9,7 +9,7 @@ use Rattle.pq_base.specs.declared.value.Value.{Value}
 use Rattle.pq_schema.specs.declared.table.Index.{Index}
 use Rattle.pq_schema.specs.declared.table.KeyPart.{KeyPart}
 use Rattle.pq_schema.specs.declared.table.Table.{Table}
-use Rattle.pq_schema.specs.Sequences.{ascending, columns_of, without, index_sequence}
+use Rattle.pq_schema.specs.Sequences.{ascending_part, columns_of, without, index_sequence}
 use Rattle.pq_content.specs.Tables.{value_of, cells, values_of, key_of}
 use Rattle.pq_content.proofs.Values.{values_of-columns_of}
 
@@ -87,20 +87,20 @@ same_halves (p ∷ ps) qs row other e =
     ((λ i. parts.0 i ∷ rest.0 i), rest.1)
 
 -- a key whose columns are in the set, or among the values that follow
-key_agrees : (set : ℕ) (key : List ℕ) (row other : List Value) → ((c : ℕ) → has_col set c ≡ true → value_of row c ≡ value_of other c) → values_of (map ascending (without set key)) row ≡ values_of (map ascending (without set key)) other → cells key row ≡ cells key other
+key_agrees : (set : ℕ) (key : List ℕ) (row other : List Value) → ((c : ℕ) → has_col set c ≡ true → value_of row c ≡ value_of other c) → values_of (map ascending_part (without set key)) row ≡ values_of (map ascending_part (without set key)) other → cells key row ≡ cells key other
 key_agrees set [] row other inside e = refl
 key_agrees set (c ∷ key) row other inside e =
     let G : Type 0 = cells (c ∷ key) row ≡ cells (c ∷ key) other in
-    elim (has_col set c) as (λ b. has_col set c ≡ b → values_of (map ascending (cond (not b) (c ∷ without set key) (without set key))) row ≡ values_of (map ascending (cond (not b) (c ∷ without set key) (without set key))) other → G) [
+    elim (has_col set c) as (λ b. has_col set c ≡ b → values_of (map ascending_part (cond (not b) (c ∷ without set key) (without set key))) row ≡ values_of (map ascending_part (cond (not b) (c ∷ without set key) (without set key))) other → G) [
       | true ↦ λ is e. (λ i. inside c is i ∷ key_agrees set key row other inside e i)
       | false ↦ λ _ e.
-          let parts = heads (value_of row c) (value_of other c) (values_of (map ascending (without set key)) row) (values_of (map ascending (without set key)) other) e in
+          let parts = heads (value_of row c) (value_of other c) (values_of (map ascending_part (without set key)) row) (values_of (map ascending_part (without set key)) other) e in
           (λ i. parts.0 i ∷ key_agrees set key row other inside parts.1 i)
     ] refl e
 
 pub key_from_sequence : (table : Table) (index : Index) (row other : List Value) → values_of (index_sequence table index) row ≡ values_of (index_sequence table index) other → key_of table row ≡ key_of table other
 key_from_sequence table index row other e =
     let set = set_of (columns_of index.cols) in
-    let parts = same_halves index.cols (map ascending (without set table.key)) row other e in
+    let parts = same_halves index.cols (map ascending_part (without set table.key)) row other e in
     let own : cells (columns_of index.cols) row ≡ cells (columns_of index.cols) other = sym (values_of-columns_of index.cols row) ∙ parts.0 ∙ values_of-columns_of index.cols other in
     key_agrees set table.key row other (λ c has. agree_in_set (columns_of index.cols) (value_of row) (value_of other) c own has) parts.1

@@ -12,7 +12,7 @@ use Rattle.pq_base.specs.declared.value.Value.{Value}
 use Rattle.pq_schema.specs.declared.table.Index.{Index}
 use Rattle.pq_schema.specs.declared.table.Table.{Table}
 use Rattle.pq_schema.specs.Sequences.{index_sequence}
-use Rattle.pq_content.specs.Pairs.{Pair, Change, changed, puts, removals, entry_pair, entries_from, pairs_of_row, entry_changes, update_changes, is_of_rows}
+use Rattle.pq_content.specs.Pairs.{Pair, Change, changed_content, puts, removals, entry_pair, entries_from, pairs_of_row, entry_changes, update_changes, is_of_rows}
 use Rattle.pq_store.specs.Content.{key_cmp, Content}
 use Rattle.pq_content.specs.Tables.{same_values, values_of}
 use Rattle.pq_content.specs.Standing.{change_of, AreIntended, IsIntent, SettlesTo, may_intend, AreOfRows}
@@ -44,9 +44,9 @@ pub intent_removed : (c : Content) (v : List ℕ) → get c intent_key ≡ None 
 intent_removed c v none = same_content _ _ (λ q. get-without_intent c v q none)
 
 -- changes of other keys and the removal of the intent can change places
-pub changed-remove : (cs : List Change) (c : Content) → touches cs intent_key ≡ false → remove (changed cs c) intent_key ≡ changed cs (remove c intent_key)
+pub changed-remove : (cs : List Change) (c : Content) → touches cs intent_key ≡ false → remove (changed_content cs c) intent_key ≡ changed_content cs (remove c intent_key)
 changed-remove cs c other = same_content _ _ (λ q.
-    get-remove nat_list_cmp_total (changed cs c) intent_key q
+    get-remove nat_list_cmp_total (changed_content cs c) intent_key q
     ∙ ap (cond (eq_by_cmp key_cmp q intent_key) None) (get-changed cs c q)
     ∙ elim (eq_by_cmp key_cmp q intent_key) as (λ b. eq_by_cmp key_cmp q intent_key ≡ b → cond b None (after cs q (get c q)) ≡ after cs q (cond b None (get c q))) [
       | true ↦ λ is. sym (after_untouched cs q None (ap (touches cs) (same_key q intent_key is) ∙ other))
@@ -55,56 +55,56 @@ changed-remove cs c other = same_content _ _ (λ q.
     ∙ ap (after cs q) (sym (get-remove nat_list_cmp_total c intent_key q))
     ∙ sym (get-changed cs (remove c intent_key) q))
 
-pub get-intent : (cs : List Change) (c : Content) → touches cs intent_key ≡ false → get (changed cs c) intent_key ≡ get c intent_key
+pub get-intent : (cs : List Change) (c : Content) → touches cs intent_key ≡ false → get (changed_content cs c) intent_key ≡ get c intent_key
 get-intent cs c other = get-changed cs c intent_key ∙ after_untouched cs intent_key (get c intent_key) other
 
 -- ---- a commit
 
 -- from the write of the intent on, the content settles to the changed one, whichever changes are made
-pub settles_partway : (c : Content) (cs : List Coded) (n : ℕ) → get c intent_key ≡ None → AreChanges cs → AreIntended (map change_of cs) → SettlesTo (changed (take n (map change_of cs)) (insert c intent_key (changes_code cs))) (changed (map change_of cs) c)
+pub settles_partway : (c : Content) (cs : List Coded) (n : ℕ) → get c intent_key ≡ None → AreChanges cs → AreIntended (map change_of cs) → SettlesTo (changed_content (take n (map change_of cs)) (insert c intent_key (changes_code cs))) (changed_content (map change_of cs) c)
 unfolding SettlesTo
 settles_partway c cs n none coded intended =
     let all = map change_of cs in
     let v = changes_code cs in
     let start = insert c intent_key v in
-    let now = changed (take n all) start in
-    let goal = changed all c in
+    let now = changed_content (take n all) start in
+    let goal = changed_content all c in
     let other : touches all intent_key ≡ false = no_intent_change all intended in
     let early : touches (take n all) intent_key ≡ false = untouched_before n all intent_key other in
     let found : get now intent_key ≡ Some v =
     get-intent (take n all) start early
     ∙ get-insert nat_list_cmp_total c intent_key v intent_key
     ∙ ap (λ b. cond b (Some v) (get c intent_key)) (key_itself intent_key) in
-    let makes : goal ≡ remove (changed all now) intent_key =
-    ap (changed all) (sym (intent_removed c v none))
+    let makes : goal ≡ remove (changed_content all now) intent_key =
+    ap (changed_content all) (sym (intent_removed c v none))
     ∙ sym (changed-remove all start other)
     ∙ ap (λ (x : Content). remove x intent_key) (sym (changed_again n all start)) in
     subst (λ (o : Option (List ℕ)). MatchOption o (goal ≡ now) (IsIntent now goal)) (sym found) (record { changes = cs; code = refl; coded = coded; intended = intended; makes = makes })
 
 -- and after the removal of the intent it is the changed one
-pub settled_at_last : (c : Content) (cs : List Change) (v : List ℕ) → get c intent_key ≡ None → AreIntended cs → remove (changed cs (insert c intent_key v)) intent_key ≡ changed cs c
-settled_at_last c cs v none intended = changed-remove cs (insert c intent_key v) (no_intent_change cs intended) ∙ ap (changed cs) (intent_removed c v none)
+pub settled_at_last : (c : Content) (cs : List Change) (v : List ℕ) → get c intent_key ≡ None → AreIntended cs → remove (changed_content cs (insert c intent_key v)) intent_key ≡ changed_content cs c
+settled_at_last c cs v none intended = changed-remove cs (insert c intent_key v) (no_intent_change cs intended) ∙ ap (changed_content cs) (intent_removed c v none)
 
 -- no intent is there after it
-pub no_intent_after : (c : Content) (cs : List Change) → get c intent_key ≡ None → AreIntended cs → get (changed cs c) intent_key ≡ None
+pub no_intent_after : (c : Content) (cs : List Change) → get c intent_key ≡ None → AreIntended cs → get (changed_content cs c) intent_key ≡ None
 no_intent_after c cs none intended = get-intent cs c (no_intent_change cs intended) ∙ none
 
 -- ---- an opening
 
 -- where an intent is found, what the content settles to stays the same at each call that makes its changes
-pub settles_again : (c p : Content) (v : List ℕ) (n : ℕ) (intent : IsIntent c p v) → get c intent_key ≡ Some v → SettlesTo (changed (take n (map change_of intent.changes)) c) p
+pub settles_again : (c p : Content) (v : List ℕ) (n : ℕ) (intent : IsIntent c p v) → get c intent_key ≡ Some v → SettlesTo (changed_content (take n (map change_of intent.changes)) c) p
 unfolding SettlesTo
 settles_again c p v n intent found =
     let all = map change_of intent.changes in
-    let now = changed (take n all) c in
+    let now = changed_content (take n all) c in
     let other : touches all intent_key ≡ false = no_intent_change all intent.intended in
     let still : get now intent_key ≡ Some v = get-intent (take n all) c (untouched_before n all intent_key other) ∙ found in
     subst (λ (o : Option (List ℕ)). MatchOption o (p ≡ now) (IsIntent now p)) (sym still) (record { changes = intent.changes; code = intent.code; coded = intent.coded; intended = intent.intended; makes = intent.makes ∙ ap (λ (x : Content). remove x intent_key) (sym (changed_again n all c)) })
 
 -- an intent's value tells its changes
-pub one_intent : (c p : Content) (v : List ℕ) (intent : IsIntent c p v) (cs : List Coded) → AreChanges cs → v ≡ changes_code cs → p ≡ remove (changed (map change_of cs) c) intent_key
+pub one_intent : (c p : Content) (v : List ℕ) (intent : IsIntent c p v) (cs : List Coded) → AreChanges cs → v ≡ changes_code cs → p ≡ remove (changed_content (map change_of cs) c) intent_key
 one_intent c p v intent cs coded code =
-    intent.makes ∙ ap (λ (ds : List Coded). remove (changed (map change_of ds) c) intent_key) (changes_code_injective intent.changes cs intent.coded coded (sym intent.code ∙ code))
+    intent.makes ∙ ap (λ (ds : List Coded). remove (changed_content (map change_of ds) c) intent_key) (changes_code_injective intent.changes cs intent.coded coded (sym intent.code ∙ code))
 
 -- a content settles to one
 pub settles_once : (c p r : Content) → SettlesTo c p → SettlesTo c r → p ≡ r

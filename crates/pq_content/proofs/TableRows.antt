@@ -13,7 +13,7 @@ use Rattle.pq_base.specs.Values.{AllFit}
 use Rattle.pq_schema.specs.declared.table.Index.{Index}
 use Rattle.pq_schema.specs.declared.table.KeyPart.{KeyPart}
 use Rattle.pq_schema.specs.declared.table.Table.{Table}
-use Rattle.pq_schema.specs.Sequences.{ascending, columns_of, primary_sequence, index_sequence}
+use Rattle.pq_schema.specs.Sequences.{ascending_part, columns_of, primary_sequence, index_sequence}
 use Rattle.pq_schema.specs.Tables.{table_at}
 use Rattle.pq_store.specs.Content.{key_cmp}
 use Rattle.pq_content.specs.Tables.{Rows, AllOfKinds, rows_of, types_of, types_at, value_of, key_of, agrees, has_key, values_of, dirs_of, AreApart}
@@ -60,11 +60,11 @@ rows_are tables (e ∷ es) t fits apart =
 pub Determines : Table → List KeyPart → Type 0
 Determines table sequence = (row other : List Value) → values_of sequence row ≡ values_of sequence other → key_of table row ≡ key_of table other
 
-pub values_of-primary : (key : List ℕ) (row : List Value) → values_of (map ascending key) row ≡ map (value_of row) key
+pub values_of-primary : (key : List ℕ) (row : List Value) → values_of (map ascending_part key) row ≡ map (value_of row) key
 values_of-primary [] row = refl
 values_of-primary (col ∷ key) row = ap (λ (xs : List Value). value_of row col ∷ xs) (values_of-primary key row)
 
-pub dirs_of-primary : (key : List ℕ) → dirs_of (map ascending key) ≡ replicate (length key) Asc
+pub dirs_of-primary : (key : List ℕ) → dirs_of (map ascending_part key) ≡ replicate (length key) Asc
 dirs_of-primary [] = refl
 dirs_of-primary (col ∷ key) = ap (λ (ds : List Dir). Asc ∷ ds) (dirs_of-primary key)
 

@@ -12,7 +12,7 @@ use Rattle.pq_schema.specs.declared.table.Index.{Index}
 use Rattle.pq_schema.specs.declared.table.Table.{Table}
 use Rattle.pq_schema.specs.Sequences.{index_sequence}
 use Rattle.pq_schema.specs.Tables.{table_at}
-use Rattle.pq_content.specs.Pairs.{Pair, Change, AreBeside, changed, puts, removals, entries_from, pairs_of_row, row_pairs, entry_changes, update_changes, content_pairs}
+use Rattle.pq_content.specs.Pairs.{Pair, Change, AreBeside, changed_content, puts, removals, entries_from, pairs_of_row, row_pairs, entry_changes, update_changes, content_pairs}
 use Rattle.pq_key_code.specs.KeyCode.{row_key, entry_key}
 use Rattle.pq_store.specs.Content.{key_cmp}
 use Rattle.pq_content.specs.Tables.{Rows, types_of, key_of, same_values, values_of, dirs_of, row_at, rows_without, Keeps, stored_code}
@@ -171,14 +171,14 @@ entry_own t i table (index ∷ indexes) row q x f =
     )
 
 -- the changes of an update put the new row in the place of the old one
-pub update_only : (tables : List Table) (rows : Rows) (others : List Pair) (t : ℕ) (old new : List Value) → In (t, old) rows → IsOnly tables rows t old → EachFits tables rows → AllFit (types_of (table_at tables t)) old → AreBeside others → key_of (table_at tables t) old ≡ key_of (table_at tables t) new → changed (update_changes t (table_at tables t) old new) (content_pairs tables rows others) ≡ content_pairs tables ((t, new) ∷ rows_without tables t (key_of (table_at tables t) old) rows) others
+pub update_only : (tables : List Table) (rows : Rows) (others : List Pair) (t : ℕ) (old new : List Value) → In (t, old) rows → IsOnly tables rows t old → EachFits tables rows → AllFit (types_of (table_at tables t)) old → AreBeside others → key_of (table_at tables t) old ≡ key_of (table_at tables t) new → changed_content (update_changes t (table_at tables t) old new) (content_pairs tables rows others) ≡ content_pairs tables ((t, new) ∷ rows_without tables t (key_of (table_at tables t) old) rows) others
 unfolding content_pairs
 update_only tables rows others t old new there only each fits beside key =
     let table = table_at tables t in
     let c = content_pairs tables rows others in
     let ps = pairs_of_row t table old in
     let ns = pairs_of_row t table new in
-    same_content (changed (update_changes t table old new) c) (changed (puts ns) (changed (removals ps) c)) (λ q.
+    same_content (changed_content (update_changes t table old new) c) (changed_content (puts ns) (changed_content (removals ps) c)) (λ q.
     get-changed (update_changes t table old new) c q
     ∙ after-update_changes t table old new q (get c q) key (entry_own t 1 table table.indexes old q (get c q) (λ u j ds v is found.
     get-from_entries nat_list_cmp_total (row_pairs tables rows ++ others) q
@@ -186,12 +186,12 @@ update_only tables rows others t old new there only each fits beside key =
     ∙ entry_there tables rows others (t, old) u j ds v there (sym (ap (λ (k : List ℕ). find key_cmp k (entries_from t 1 table table.indexes old)) is) ∙ found)))
     ∙ sym (after-puts ns q (cond (is_some (find key_cmp q ps)) None (get c q)) (pairs_apart t table new))
     ∙ ap (after (puts ns) q) (sym (after-removals ps q (get c q)) ∙ sym (get-changed (removals ps) c q))
-    ∙ sym (get-changed (puts ns) (changed (removals ps) c) q))
-    ∙ ap (changed (puts ns)) (delete_only tables rows others t old only each fits beside)
+    ∙ sym (get-changed (puts ns) (changed_content (removals ps) c) q))
+    ∙ ap (changed_content (puts ns)) (delete_only tables rows others t old only each fits beside)
     ∙ insert_row tables (rows_without tables t (key_of table old) rows) others t new
 
 -- an old row that is found by its key
-pub update_row : (tables : List Table) (rows : Rows) (others : List Pair) (t : ℕ) (old new : List Value) → Keeps tables rows → AreBeside others → row_at tables rows t (key_of (table_at tables t) old) ≡ Some old → key_of (table_at tables t) old ≡ key_of (table_at tables t) new → changed (update_changes t (table_at tables t) old new) (content_pairs tables rows others) ≡ content_pairs tables ((t, new) ∷ rows_without tables t (key_of (table_at tables t) old) rows) others
+pub update_row : (tables : List Table) (rows : Rows) (others : List Pair) (t : ℕ) (old new : List Value) → Keeps tables rows → AreBeside others → row_at tables rows t (key_of (table_at tables t) old) ≡ Some old → key_of (table_at tables t) old ≡ key_of (table_at tables t) new → changed_content (update_changes t (table_at tables t) old new) (content_pairs tables rows others) ≡ content_pairs tables ((t, new) ∷ rows_without tables t (key_of (table_at tables t) old) rows) others
 update_row tables rows others t old new keeps beside found same =
     let of_old = row_found tables rows t (key_of (table_at tables t) old) old keeps found in
     update_only tables rows others t old new (in_from_contains rows (t, old) of_old.there) (only_row tables rows t old keeps.apart found) keeps.fit of_old.fits beside same

@@ -9,7 +9,7 @@ use Rattle.pq_schema.specs.declared.table.Index.{Index}
 use Rattle.pq_schema.specs.declared.table.Table.{Table}
 use Rattle.pq_schema.specs.Sequences.{index_sequence}
 use Rattle.pq_schema.specs.Tables.{table_at}
-use Rattle.pq_content.specs.Pairs.{Pair, changed, puts, removals, entry_pair, entries_from, pairs_of_row, row_pairs, content_pairs}
+use Rattle.pq_content.specs.Pairs.{Pair, changed_content, puts, removals, entry_pair, entries_from, pairs_of_row, row_pairs, content_pairs}
 use Rattle.pq_key_code.specs.KeyCode.{row_key, entry_key}
 use Rattle.pq_store.specs.Content.{key_cmp}
 use Rattle.pq_content.specs.Tables.{Rows, key_of, dirs_of, values_of, stored_code}
@@ -64,7 +64,7 @@ pub pairs_apart : (t : ℕ) (table : Table) (row : List Value) → Apart (pairs_
 pairs_apart t table row = (no_entry t t 1 table table.indexes row (key_of table row), entries_apart t 1 table table.indexes row)
 
 -- a row's pair and its entries, written one after the other, add the row
-pub insert_row : (tables : List Table) (rows : Rows) (others : List Pair) (t : ℕ) (row : List Value) → changed (puts (pairs_of_row t (table_at tables t) row)) (content_pairs tables rows others) ≡ content_pairs tables ((t, row) ∷ rows) others
+pub insert_row : (tables : List Table) (rows : Rows) (others : List Pair) (t : ℕ) (row : List Value) → changed_content (puts (pairs_of_row t (table_at tables t) row)) (content_pairs tables rows others) ≡ content_pairs tables ((t, row) ∷ rows) others
 unfolding content_pairs
 insert_row tables rows others t row =
     let new = pairs_of_row t (table_at tables t) row in
@@ -83,5 +83,5 @@ insert_plain_row tables rows others t row none =
     let table = table_at tables t in
     let c = content_pairs tables rows others in
     let own : Pair = (row_key t (key_of table row), stored_code table row) in
-    ap (λ (indexes : List Index). changed (puts (own ∷ entries_from t 1 table indexes row)) c) (sym none)
+    ap (λ (indexes : List Index). changed_content (puts (own ∷ entries_from t 1 table indexes row)) c) (sym none)
     ∙ insert_row tables rows others t row

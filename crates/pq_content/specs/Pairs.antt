@@ -10,7 +10,7 @@ use Rattle.pq_schema.specs.Sequences.{index_sequence}
 use Rattle.pq_schema.specs.Tables.{table_at}
 use Rattle.pq_content.specs.Tables.{Rows, Keeps, key_of, values_of, dirs_of, same_values, stored_code}
 use Rattle.pq_key_code.specs.KeyCode.{row_key, entry_key}
-use Rattle.pq_store.specs.Content.{Content, written}
+use Rattle.pq_store.specs.Content.{Content, written_content}
 
 -- a key and its value
 abbrev pub Pair : Type 0
@@ -21,9 +21,9 @@ abbrev pub Change : Type 0
 Change = List ℕ × Option (List ℕ)
 
 -- the changes, one after the other
-abbrev pub changed : List Change → Content → Content
-changed [] content = content
-changed (change ∷ changes) content = changed changes (written change.0 change.1 content)
+abbrev pub changed_content : List Change → Content → Content
+changed_content [] content = content
+changed_content (change ∷ changes) content = changed_content changes (written_content change.0 change.1 content)
 
 -- the changes that write the pairs, and those that remove them
 abbrev pub puts : List Pair → List Change
@@ -92,8 +92,10 @@ abbrev pub entry_changes : ℕ → ℕ → Table → List Index → List Value �
 entry_changes t i table [] old new = []
 entry_changes t i table (index ∷ indexes) old new =
     (if same_values (values_of (index_sequence table index) old) (values_of (index_sequence table index) new) then []
-    else ((entry_pair t i (index_sequence table index) old).0, None) ∷ ((entry_pair t i (index_sequence table index) new).0, Some []) ∷ [])
+    else ((entry_pair t i (index_sequence table index) old).0, None)
+    ∷ ((entry_pair t i (index_sequence table index) new).0, Some []) ∷ [])
     ++ entry_changes t (i + 1) table indexes old new
 
 abbrev pub update_changes : ℕ → Table → List Value → List Value → List Change
-update_changes t table old new = (row_key t (key_of table new), Some (stored_code table new)) ∷ entry_changes t 1 table table.indexes old new
+update_changes t table old new =
+    (row_key t (key_of table new), Some (stored_code table new)) ∷ entry_changes t 1 table table.indexes old new

@@ -4,7 +4,7 @@ use Rattle.std.specs.List.{AllByRecursion}
 use Rattle.std.specs.FinMap.{get, remove, retain_keys}
 use Rattle.pq_row_code.specs.declared.changes.Change.{Change as Coded}
 use Rattle.pq_row_code.specs.Changes.{changes_code, AreChanges}
-use Rattle.pq_content.specs.Pairs.{Change, changed, is_of_rows}
+use Rattle.pq_content.specs.Pairs.{Change, changed_content, is_of_rows}
 use Rattle.pq_store.specs.Content.{Content}
 use Rattle.pq_key_code.specs.KeyCode.{intent_key}
 
@@ -29,7 +29,7 @@ pub record IsIntent (content settled : Content) (value : List ℕ) : Type 0 wher
   pub code : value ≡ changes_code changes
   pub coded : AreChanges changes
   pub intended : AreIntended (map change_of changes)
-  pub makes : settled ≡ remove (changed (map change_of changes) content) intent_key
+  pub makes : settled ≡ remove (changed_content (map change_of changes) content) intent_key
 
 -- the content itself where it has no intent, and else with the intent's changes made and without its key
 unfoldable pub SettlesTo : Content → Content → Type 0
@@ -37,7 +37,8 @@ SettlesTo content settled = MatchOption (get content intent_key) (settled ≡ co
 
 -- the whole content, but that some of the keys that may be missing are
 abbrev pub IsFilledPartOf : (List ℕ → Bool) → Content → Content → Type 0
-IsFilledPartOf may_miss whole part = (keep : List ℕ → Bool) × ((key : List ℕ) → may_miss key ≡ false → keep key ≡ true) × (part ≡ retain_keys whole keep)
+IsFilledPartOf may_miss whole part = (keep : List ℕ → Bool)
+    × ((key : List ℕ) → may_miss key ≡ false → keep key ≡ true) × (part ≡ retain_keys whole keep)
 
 -- whether bytes begin with these two numbers
 abbrev pub is_numbered : ℕ → ℕ → List ℕ → Bool

@@ -63,7 +63,8 @@ HasRoom t rows row limit = length (group_of t limit.cols (cells limit.cols row) 
 -- no row names the row of this table with this key
 abbrev pub IsUnreferenced : List Table → Rows → ℕ → List Value → Type 0
 IsUnreferenced tables rows t key =
-    (u : ℕ) → IsTableNumber tables u → AllByRecursion (λ foreign. foreign.table ≡ t → group_of u foreign.cols key rows ≡ []) (table_at tables u).foreign
+    (u : ℕ) → IsTableNumber tables u → AllByRecursion
+    (λ foreign. foreign.table ≡ t → group_of u foreign.cols key rows ≡ []) (table_at tables u).foreign
 
 -- the values at a limit's columns stay, or the group that the new row comes into has room
 abbrev pub MayChange : ℕ → Rows → List Value → List Value → Limit → Type 0
@@ -71,4 +72,5 @@ MayChange t rows old new limit = (cells limit.cols old ≡ cells limit.cols new)
 
 -- the values at a foreign key's columns stay, or the row that they name is there
 abbrev pub MayRefer : List Table → Rows → List Value → List Value → Foreign → Type 0
-MayRefer tables rows old new foreign = (cells foreign.cols old ≡ cells foreign.cols new) ⊎ HasParent tables rows new foreign
+MayRefer tables rows old new foreign = (cells foreign.cols old ≡ cells foreign.cols new)
+    ⊎ HasParent tables rows new foreign

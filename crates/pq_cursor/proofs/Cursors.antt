@@ -15,7 +15,7 @@ use Rattle.pq_base.specs.declared.value.Value.TheVariants as value
 use Rattle.pq_base.specs.declared.value.ColType.{ColType}
 use Rattle.pq_base.specs.declared.value.Dir.{Dir}
 use Rattle.pq_base.specs.declared.value.Value.{Value}
-use Rattle.pq_key_code.specs.KeyCode.{IsBytes, payload, turned, code_of}
+use Rattle.pq_key_code.specs.KeyCode.{IsBytes, payload, turned_byte, code_of}
 use Rattle.pq_key_code.specs.KeyReading.{key_at}
 use Rattle.pq_key_code.proofs.Order.{IsBytes-append, payload_bytes}
 use Rattle.pq_key_code.proofs.Reading.{IsBytes_at, IsBytes-drop, IsBytes-turned, key_takes, key_again, chosen}
@@ -39,7 +39,7 @@ code_bytes types [] p h = tt
 code_bytes types (d ∷ dirs) [] h = tt
 code_bytes [] (d ∷ dirs) (x ∷ p) h = absurd h
 code_bytes (t ∷ types) (d ∷ dirs) (x ∷ p) h =
-    IsBytes-append (16 ∷ map (turned d) (payload x)) (code_of dirs p) (omega arith, IsBytes-turned d (payload x) (payload_bytes x (value_fits t x h.0))) (code_bytes types dirs p h.1)
+    IsBytes-append (16 ∷ map (turned_byte d) (payload x)) (code_of dirs p) (omega arith, IsBytes-turned d (payload x) (payload_bytes x (value_fits t x h.0))) (code_bytes types dirs p h.1)
 
 -- the bytes of a text that decodes
 decoded : (r : Result (List ℕ) DecodeError) (bytes : List ℕ) → r ≡ Ok bytes → result_ok r ≡ Some bytes

@@ -28,7 +28,8 @@ unfoldable pub cursor_text : ℕ → List Dir → List Value → List ℕ
 cursor_text number dirs position = encode_of url_safe_no_pad (cursor_bytes number dirs position)
 
 -- the text is the cursor of this position, which fits the types
-pub record IsCursorOf (number : ℕ) (types : List ColType) (dirs : List Dir) (text : List ℕ) (position : List Value) : Type 0 where
+pub record IsCursorOf (number : ℕ) (types : List ColType) (dirs : List Dir) (text : List ℕ)
+    (position : List Value) : Type 0 where
   pub fits : AllFit types position
   pub is : text ≡ cursor_text number dirs position
 

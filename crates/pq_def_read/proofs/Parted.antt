@@ -11,7 +11,7 @@ use Rattle.pq_grammar.proofs.Repeats.{many_stops, cons}
 use Rattle.pq_schema.specs.declared.definition.LimitDef.{LimitDef}
 use Rattle.pq_schema.specs.declared.definition.ForeignDef.{ForeignDef}
 use Rattle.pq_shape.specs.declared.shape.Shape.{Shape}
-use Rattle.pq_def_read.specs.Definitions.{limits_of, foreign_of, parted, with_constraint}
+use Rattle.pq_def_read.specs.Definitions.{limits_of, foreign_of, parted_constraints, with_constraint}
 use Rattle.pq_def_read.specs.declared.definition.Constraint.{Constraint}
 use Rattle.pq_def_read.specs.declared.definition.Constraint.TheVariants as constraint
 use Rattle.pq_def_read.specs.declared.definition.Constraints.{Constraints}
@@ -45,9 +45,9 @@ parted_stops p r held ts total so_far is =
     let make : List LimitDef → List ForeignDef → Result (Constraints × List Shape) ℕ = λ v w. Ok (record { limits = v; foreign = w }, ts) in
     sym so_far ∙ ap (behind held) (many_stops p r (length ts) ts is) ∙ ap (λ (v : List LimitDef). make v (held.foreign ++ [])) (append-nil held.limits) ∙ ap (λ (w : List ForeignDef). make held.limits w) (append-nil held.foreign)
 
-by_result : (y : Result (List Constraint × List Shape) ℕ) → behind (record { limits = []; foreign = [] }) y ≡ (y >>= λ x. Ok (parted x.0, x.1))
+by_result : (y : Result (List Constraint × List Shape) ℕ) → behind (record { limits = []; foreign = [] }) y ≡ (y >>= λ x. Ok (parted_constraints x.0, x.1))
 by_result (Ok y) = refl
 by_result (Err n) = refl
 
-pub parted_starts : (p : Shape → Bool) (r : Reader Shape Constraint) (ts : List Shape) → behind (record { limits = []; foreign = [] }) (many_at p r ts) ≡ map_at parted (many_at p r) ts
+pub parted_starts : (p : Shape → Bool) (r : Reader Shape Constraint) (ts : List Shape) → behind (record { limits = []; foreign = [] }) (many_at p r ts) ≡ map_at parted_constraints (many_at p r) ts
 parted_starts p r ts = by_result (many_at p r ts)

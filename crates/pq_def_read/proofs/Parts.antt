@@ -1,6 +1,6 @@
 -- The readers of the parts of a table's definition read what the grammar says.
 use Rattle.std.proofs.Common.{◌≡◌, ℕ, ℤ, false, List, ◌++◌, inl, inr, refl, sym, subst}
-use Rattle.pq_grammar.specs.Language.{◌⋅◌, each, separated, made, one_or_other}
+use Rattle.pq_grammar.specs.Language.{◌⋅◌, each, separated_by, made_from, one_or_other}
 use Rattle.pq_grammar.specs.Reader.{begins, pair_at, skip_at, close_at, map_at, many_at}
 use Rattle.pq_grammar.proofs.Steps.{Reads, never, begins-never}
 use Rattle.pq_grammar.proofs.Readers.{close_reads, map_reads}
@@ -16,21 +16,21 @@ use Rattle.pq_shape.specs.declared.keyword.TheConstants.{BOOL, CARDINALITY, FORE
 use Rattle.pq_shape.specs.declared.mark.TheConstants.{CLOSE, COMMA, OPEN}
 use Rattle.pq_schema.specs.declared.definition.LimitDef.{LimitDef}
 use Rattle.pq_schema.specs.declared.definition.ForeignDef.{ForeignDef}
-use Rattle.pq_def_read.specs.Definitions.{names_at, cols_at, int_kind, bool_kind, text_kind, text_kind_at, kind_at, column_at, columns_at, limit_at, foreign_at, constraint_at, next_constraint_at, parted, constraints_at}
+use Rattle.pq_def_read.specs.Definitions.{names_at, cols_at, int_kind, bool_kind, text_kind, text_kind_at, kind_at, column_at, columns_at, limit_at, foreign_at, constraint_at, next_constraint_at, parted_constraints, constraints_at}
 use Rattle.pq_def_read.specs.Grammar.{cols, text_size, kind, column, limit, foreign, a_constraint, constraints}
 use Rattle.pq_def_read.specs.declared.definition.Constraint.{Constraint}
 use Rattle.pq_def_read.specs.declared.definition.Constraint.TheVariants as constraint
 use Rattle.pq_def_read.specs.declared.definition.Kind.{Kind}
 
-pub names_reads : Reads (separated comma name) (is_mark COMMA) names_at
+pub names_reads : Reads (separated_by comma name) (is_mark COMMA) names_at
 unfolding names_at
 names_reads = comma_separated name name_at name_reads
 
 pub cols_reads : Reads cols never cols_at
 unfolding cols_at is_mark
 cols_reads =
-    skip_free (mark OPEN) (λ ns. separated comma name ns ⋅ mark CLOSE) never (mark_at OPEN) (close_at names_at (mark_at CLOSE)) (mark_reads OPEN)
-    (close_reads (separated comma name) (mark CLOSE) (is_mark COMMA) never names_at (mark_at CLOSE) names_reads (mark_reads CLOSE) (λ v rest h e. one_shuts (is_mark COMMA) (shape.Mark CLOSE) refl v rest h))
+    skip_free (mark OPEN) (λ ns. separated_by comma name ns ⋅ mark CLOSE) never (mark_at OPEN) (close_at names_at (mark_at CLOSE)) (mark_reads OPEN)
+    (close_reads (separated_by comma name) (mark CLOSE) (is_mark COMMA) never names_at (mark_at CLOSE) names_reads (mark_reads CLOSE) (λ v rest h e. one_shuts (is_mark COMMA) (shape.Mark CLOSE) refl v rest h))
 
 -- ---- kinds
 
@@ -41,17 +41,17 @@ size_reads =
     (close_free number (mark CLOSE) never number_at (mark_at CLOSE) number_reads (mark_reads CLOSE)))
 
 abbrev plain_kind : Kind → ℕ → Kind → List Shape → Type 0
-plain_kind j k = made (λ (u : Unit {0}). j) (λ u. word k)
+plain_kind j k = made_from (λ (u : Unit {0}). j) (λ u. word k)
 
 plain_reads : (j : Kind) (k : ℕ) → Reads (plain_kind j k) never (map_at (λ u. j) (word_at k))
 plain_reads j k = made_reads (λ u. j) (λ u. word k) never (word_at k) (word_reads k)
 
-kind_to : (x : Kind) (w : List Shape) → one_or_other (made text_kind text_size) (one_or_other (plain_kind int_kind INT) (plain_kind bool_kind BOOL)) x w → kind x w
+kind_to : (x : Kind) (w : List Shape) → one_or_other (made_from text_kind text_size) (one_or_other (plain_kind int_kind INT) (plain_kind bool_kind BOOL)) x w → kind x w
 kind_to x w (inl h) = inl h
 kind_to x w (inr (inl h)) = inr (inl (sym h.1, h.2))
 kind_to x w (inr (inr h)) = inr (inr (sym h.1, h.2))
 
-kind_from : (x : Kind) (w : List Shape) → kind x w → one_or_other (made text_kind text_size) (one_or_other (plain_kind int_kind INT) (plain_kind bool_kind BOOL)) x w
+kind_from : (x : Kind) (w : List Shape) → kind x w → one_or_other (made_from text_kind text_size) (one_or_other (plain_kind int_kind INT) (plain_kind bool_kind BOOL)) x w
 kind_from x w (inl h) = inl h
 kind_from x w (inr (inl h)) = inr (inl (tt, sym h.0, h.1))
 kind_from x w (inr (inr h)) = inr (inr (tt, sym h.0, h.1))
@@ -64,8 +64,8 @@ no_size x w rest (inr h) = one_shuts (is_word TEXT) (shape.Keyword BOOL) refl w 
 pub kind_reads : Reads kind never kind_at
 unfolding kind_at text_kind_at is_word
 kind_reads =
-    same_set (one_or_other (made text_kind text_size) (one_or_other (plain_kind int_kind INT) (plain_kind bool_kind BOOL))) kind never kind_at kind_to kind_from
-    (choice_reads (made text_kind text_size) (one_or_other (plain_kind int_kind INT) (plain_kind bool_kind BOOL)) (is_word TEXT) text_kind_at _ never (made_reads text_kind text_size never _ size_reads)
+    same_set (one_or_other (made_from text_kind text_size) (one_or_other (plain_kind int_kind INT) (plain_kind bool_kind BOOL))) kind never kind_at kind_to kind_from
+    (choice_reads (made_from text_kind text_size) (one_or_other (plain_kind int_kind INT) (plain_kind bool_kind BOOL)) (is_word TEXT) text_kind_at _ never (made_reads text_kind text_size never _ size_reads)
     (choice_reads (plain_kind int_kind INT) (plain_kind bool_kind BOOL) (is_word INT) _ _ never (plain_reads int_kind INT) (plain_reads bool_kind BOOL)
     (λ x w h. one_opens (is_word INT) (shape.Keyword INT) refl w h.2) (λ y w rest h e. one_shuts (is_word INT) (shape.Keyword BOOL) refl w rest h.2))
     (λ x w h. then_opens (is_word TEXT) (shape.Keyword TEXT) (mark OPEN ⋅ number h.0 ⋅ mark CLOSE) refl w h.2) (λ y w rest h e. no_size y w rest h))
@@ -78,7 +78,7 @@ column_reads =
     map_reads (λ (x : List ℕ × Kind). name x.0 ⋅ kind x.1) column never (λ x. record { name = x.0; kind = x.1.name; size = x.1.size }) (pair_at name_at kind_at)
     (pair_free name kind never name_at kind_at name_reads kind_reads) (λ x w h. h) (λ c w h. ((c.name, record { name = c.kind; size = c.size }), refl, h))
 
-pub columns_reads : Reads (λ cs. separated comma column cs ⋅ comma) is_name columns_at
+pub columns_reads : Reads (λ cs. separated_by comma column cs ⋅ comma) is_name columns_at
 unfolding columns_at is_name
 columns_reads =
     ended_reads comma column is_name (mark_at COMMA) column_at (mark_reads COMMA) column_reads (λ c w h. then_opens is_name (shape.Name c.name) (kind (record { name = c.kind; size = c.size })) refl w h)
@@ -104,10 +104,10 @@ foreign_reads =
     (λ x w h. h) (λ f w h. ((f.cols, f.table), refl, h))
 
 abbrev foreign_made : Constraint → List Shape → Type 0
-foreign_made = made (λ f. constraint.Foreign f) foreign
+foreign_made = made_from (λ f. constraint.Foreign f) foreign
 
 abbrev limit_made : Constraint → List Shape → Type 0
-limit_made = made (λ l. constraint.Limit l) limit
+limit_made = made_from (λ l. constraint.Limit l) limit
 
 foreign_is : (f : ForeignDef) (x : Constraint) (w : List Shape) → constraint.Foreign f ≡ x → foreign f w → a_constraint x w
 foreign_is f (constraint.Foreign g) w e h = let same : f ≡ g = cc in subst (λ (v : ForeignDef). foreign v w) same h
@@ -135,6 +135,6 @@ constraint_reads =
 pub constraints_reads : Reads constraints (is_mark COMMA) constraints_at
 unfolding constraints_at next_constraint_at is_mark
 constraints_reads =
-    made_reads parted (each (λ c. comma ⋅ a_constraint c)) (is_mark COMMA) (many_at (is_mark COMMA) next_constraint_at)
+    made_reads parted_constraints (each (λ c. comma ⋅ a_constraint c)) (is_mark COMMA) (many_at (is_mark COMMA) next_constraint_at)
     (many_reads (λ c. comma ⋅ a_constraint c) (is_mark COMMA) never (is_mark COMMA) next_constraint_at (skip_free comma a_constraint never (mark_at COMMA) constraint_at (mark_reads COMMA) constraint_reads)
     (λ c w h. then_opens (is_mark COMMA) (shape.Mark COMMA) (a_constraint c) refl w h) (λ u e. refl) (λ rest e. begins-never rest) (λ rest e. e))

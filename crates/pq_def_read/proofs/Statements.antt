@@ -1,7 +1,7 @@
 -- The reader of statements reads what the grammar says.
 use Rattle.std.proofs.Common.{◌≡◌, ℕ, true, false, List, [], ◌∷◌, ◌++◌, Option, Some, None, inl, inr, refl, sym, ap, subst, ◌∙◌}
 use Rattle.pq_base.specs.declared.value.Value.{Value}
-use Rattle.pq_grammar.specs.Language.{◌⋅◌, anything, optional, separated, listed, made, one_or_other}
+use Rattle.pq_grammar.specs.Language.{◌⋅◌, anything, optional, separated_by, listed_by, made_from, one_or_other}
 use Rattle.pq_grammar.specs.Reader.{Reader, begins, pair_at, skip_at, close_at, map_at, option_at, items_of, rest_at}
 use Rattle.pq_grammar.proofs.Steps.{Reads, never, first_of_list, begins-never, wider_reads}
 use Rattle.pq_grammar.proofs.Readers.{pair_reads, close_reads, map_reads}
@@ -24,7 +24,7 @@ use Rattle.pq_def_read.specs.declared.statement.Statement.TheVariants.{Create, I
 use Rattle.pq_def_read.proofs.Parts.{cols_reads}
 use Rattle.pq_def_read.proofs.Tables.{stop, stop_reads, stop_shuts, create_reads}
 
-values_reads : Reads (separated comma a_value) (is_mark COMMA) values_at
+values_reads : Reads (separated_by comma a_value) (is_mark COMMA) values_at
 unfolding values_at
 values_reads = comma_separated a_value value_at value_reads
 
@@ -34,7 +34,7 @@ assign_reads =
     (pair_free name (λ v. mark EQUAL ⋅ a_value v) never name_at (skip_at (mark_at EQUAL) value_at) name_reads (skip_free (mark EQUAL) a_value never (mark_at EQUAL) value_at (mark_reads EQUAL) value_reads))
     (λ x w h. h) (λ a w h. ((a.col, a.value), refl, h))
 
-sets_reads : Reads (separated comma assign) (is_mark COMMA) sets_at
+sets_reads : Reads (separated_by comma assign) (is_mark COMMA) sets_at
 unfolding sets_at
 sets_reads = comma_separated assign assign_at assign_reads
 
@@ -54,7 +54,7 @@ option_cols : Reads (optional cols) (is_mark OPEN) (option_at (is_mark OPEN) col
 unfolding is_mark
 option_cols =
     option_reads cols (is_mark OPEN) (is_mark OPEN) cols_at (wider_reads cols never (is_mark OPEN) cols_at (λ rest e. begins-never rest) cols_reads)
-    (λ ns w h. then_opens (is_mark OPEN) (shape.Mark OPEN) (separated comma name ns ⋅ mark CLOSE) refl w h) (λ rest e. e)
+    (λ ns w h. then_opens (is_mark OPEN) (shape.Mark OPEN) (separated_by comma name ns ⋅ mark CLOSE) refl w h) (λ rest e. e)
 
 abbrev Inserted : Type 0
 Inserted = List ℕ × (Option (List (List ℕ)) × List Value)
@@ -62,18 +62,18 @@ Inserted = List ℕ × (Option (List (List ℕ)) × List Value)
 abbrev inserts : Inserted → List Shape → Type 0
 inserts x = insert x.0 x.1.0 x.1.1
 
-insert_reads : Reads (made (λ (x : Inserted). Insert x.0 x.1.0 x.1.1) inserts) never insert_at
+insert_reads : Reads (made_from (λ (x : Inserted). Insert x.0 x.1.0 x.1.1) inserts) never insert_at
 unfolding insert_at is_mark
 insert_reads =
     made_reads (λ (x : Inserted). Insert x.0 x.1.0 x.1.1) inserts never _
-    (skip_free (word INSERT) (λ (x : Inserted). word INTO ⋅ name x.0 ⋅ optional cols x.1.0 ⋅ word VALUES ⋅ mark OPEN ⋅ separated comma a_value x.1.1 ⋅ stop) never (word_at INSERT) _ (word_reads INSERT)
-    (skip_free (word INTO) (λ (x : Inserted). name x.0 ⋅ optional cols x.1.0 ⋅ word VALUES ⋅ mark OPEN ⋅ separated comma a_value x.1.1 ⋅ stop) never (word_at INTO) _ (word_reads INTO)
-    (pair_free name (λ (y : Option (List (List ℕ)) × List Value). optional cols y.0 ⋅ word VALUES ⋅ mark OPEN ⋅ separated comma a_value y.1 ⋅ stop) never name_at _ name_reads
-    (pair_reads (optional cols) (λ vs. word VALUES ⋅ mark OPEN ⋅ separated comma a_value vs ⋅ stop) (is_mark OPEN) never (option_at (is_mark OPEN) cols_at) _ option_cols
-    (skip_free (word VALUES) (λ vs. mark OPEN ⋅ separated comma a_value vs ⋅ stop) never (word_at VALUES) _ (word_reads VALUES)
-    (skip_free (mark OPEN) (λ vs. separated comma a_value vs ⋅ stop) never (mark_at OPEN) _ (mark_reads OPEN)
-    (close_reads (separated comma a_value) stop (is_mark COMMA) never values_at stop_at values_reads stop_reads (λ v rest h e. stop_shuts v rest h))))
-    (λ vs v rest h e. then_shuts (is_mark OPEN) (shape.Keyword VALUES) (mark OPEN ⋅ separated comma a_value vs ⋅ stop) refl v rest h)))))
+    (skip_free (word INSERT) (λ (x : Inserted). word INTO ⋅ name x.0 ⋅ optional cols x.1.0 ⋅ word VALUES ⋅ mark OPEN ⋅ separated_by comma a_value x.1.1 ⋅ stop) never (word_at INSERT) _ (word_reads INSERT)
+    (skip_free (word INTO) (λ (x : Inserted). name x.0 ⋅ optional cols x.1.0 ⋅ word VALUES ⋅ mark OPEN ⋅ separated_by comma a_value x.1.1 ⋅ stop) never (word_at INTO) _ (word_reads INTO)
+    (pair_free name (λ (y : Option (List (List ℕ)) × List Value). optional cols y.0 ⋅ word VALUES ⋅ mark OPEN ⋅ separated_by comma a_value y.1 ⋅ stop) never name_at _ name_reads
+    (pair_reads (optional cols) (λ vs. word VALUES ⋅ mark OPEN ⋅ separated_by comma a_value vs ⋅ stop) (is_mark OPEN) never (option_at (is_mark OPEN) cols_at) _ option_cols
+    (skip_free (word VALUES) (λ vs. mark OPEN ⋅ separated_by comma a_value vs ⋅ stop) never (word_at VALUES) _ (word_reads VALUES)
+    (skip_free (mark OPEN) (λ vs. separated_by comma a_value vs ⋅ stop) never (mark_at OPEN) _ (mark_reads OPEN)
+    (close_reads (separated_by comma a_value) stop (is_mark COMMA) never values_at stop_at values_reads stop_reads (λ v rest h e. stop_shuts v rest h))))
+    (λ vs v rest h e. then_shuts (is_mark OPEN) (shape.Keyword VALUES) (mark OPEN ⋅ separated_by comma a_value vs ⋅ stop) refl v rest h)))))
 
 -- ---- UPDATE and DELETE
 
@@ -83,14 +83,14 @@ Updated = List ℕ × (List Assign × List Assign)
 abbrev updates : Updated → List Shape → Type 0
 updates x = update x.0 x.1.0 x.1.1
 
-update_reads : Reads (made (λ (x : Updated). Update x.0 x.1.0 x.1.1) updates) never update_at
+update_reads : Reads (made_from (λ (x : Updated). Update x.0 x.1.0 x.1.1) updates) never update_at
 unfolding update_at is_mark
 update_reads =
     made_reads (λ (x : Updated). Update x.0 x.1.0 x.1.1) updates never _
-    (skip_free (word UPDATE) (λ (x : Updated). name x.0 ⋅ word SET ⋅ separated comma assign x.1.0 ⋅ word WHERE ⋅ key x.1.1 ⋅ mark SEMICOLON) never (word_at UPDATE) _ (word_reads UPDATE)
-    (pair_free name (λ (y : List Assign × List Assign). word SET ⋅ separated comma assign y.0 ⋅ word WHERE ⋅ key y.1 ⋅ mark SEMICOLON) never name_at _ name_reads
-    (skip_free (word SET) (λ (y : List Assign × List Assign). separated comma assign y.0 ⋅ word WHERE ⋅ key y.1 ⋅ mark SEMICOLON) never (word_at SET) _ (word_reads SET)
-    (pair_reads (separated comma assign) (λ ks. word WHERE ⋅ key ks ⋅ mark SEMICOLON) (is_mark COMMA) never sets_at _ sets_reads
+    (skip_free (word UPDATE) (λ (x : Updated). name x.0 ⋅ word SET ⋅ separated_by comma assign x.1.0 ⋅ word WHERE ⋅ key x.1.1 ⋅ mark SEMICOLON) never (word_at UPDATE) _ (word_reads UPDATE)
+    (pair_free name (λ (y : List Assign × List Assign). word SET ⋅ separated_by comma assign y.0 ⋅ word WHERE ⋅ key y.1 ⋅ mark SEMICOLON) never name_at _ name_reads
+    (skip_free (word SET) (λ (y : List Assign × List Assign). separated_by comma assign y.0 ⋅ word WHERE ⋅ key y.1 ⋅ mark SEMICOLON) never (word_at SET) _ (word_reads SET)
+    (pair_reads (separated_by comma assign) (λ ks. word WHERE ⋅ key ks ⋅ mark SEMICOLON) (is_mark COMMA) never sets_at _ sets_reads
     (skip_free (word WHERE) (λ ks. key ks ⋅ mark SEMICOLON) never (word_at WHERE) _ (word_reads WHERE) key_end_reads)
     (λ ks v rest h e. then_shuts (is_mark COMMA) (shape.Keyword WHERE) (key ks ⋅ mark SEMICOLON) refl v rest h)))))
 
@@ -100,7 +100,7 @@ Deleted = List ℕ × List Assign
 abbrev deletes : Deleted → List Shape → Type 0
 deletes x = delete x.0 x.1
 
-delete_reads : Reads (made (λ (x : Deleted). Delete x.0 x.1) deletes) never delete_at
+delete_reads : Reads (made_from (λ (x : Deleted). Delete x.0 x.1) deletes) never delete_at
 unfolding delete_at
 delete_reads =
     made_reads (λ (x : Deleted). Delete x.0 x.1) deletes never _
@@ -114,7 +114,7 @@ delete_reads =
 abbrev prepares : List ℕ → List Shape → Type 0
 prepares n = word PREPARE ⋅ name n ⋅ word AS ⋅ anything
 
-prepare_reads : Reads (made (λ n. Prepare n 3) prepares) always prepare_at
+prepare_reads : Reads (made_from (λ n. Prepare n 3) prepares) always prepare_at
 unfolding prepare_at
 prepare_reads =
     made_reads (λ n. Prepare n 3) prepares always _
@@ -124,40 +124,40 @@ prepare_reads =
 abbrev explains : Unit {0} → List Shape → Type 0
 explains u = word EXPLAIN ⋅ anything
 
-explain_reads : Reads (made (λ u. Explain 1) explains) always explain_at
+explain_reads : Reads (made_from (λ u. Explain 1) explains) always explain_at
 unfolding explain_at
 explain_reads = made_reads (λ u. Explain 1) explains always _ (skip_free (word EXPLAIN) (λ _. anything) always (word_at EXPLAIN) rest_at (word_reads EXPLAIN) rest_reads)
 
 -- ---- RUN
 
-listed_values_reads : Reads (listed comma a_value) (any_of (is_mark COMMA) is_value) listed_values_at
+listed_values_reads : Reads (listed_by comma a_value) (any_of (is_mark COMMA) is_value) listed_values_at
 unfolding listed_values_at
 listed_values_reads =
     listed_reads comma a_value is_value (is_mark COMMA) (any_of (is_mark COMMA) is_value) (mark_at COMMA) value_at
-    (wider_reads (separated comma a_value) (is_mark COMMA) (any_of (is_mark COMMA) is_value) _ (not_first (is_mark COMMA) is_value) (comma_separated a_value value_at value_reads))
+    (wider_reads (separated_by comma a_value) (is_mark COMMA) (any_of (is_mark COMMA) is_value) _ (not_first (is_mark COMMA) is_value) (comma_separated a_value value_at value_reads))
     value_opens (not_second (is_mark COMMA) is_value)
 
-between_reads : Reads (λ vs. mark OPEN ⋅ listed comma a_value vs ⋅ mark CLOSE) never (skip_at (mark_at OPEN) (close_at listed_values_at (mark_at CLOSE)))
+between_reads : Reads (λ vs. mark OPEN ⋅ listed_by comma a_value vs ⋅ mark CLOSE) never (skip_at (mark_at OPEN) (close_at listed_values_at (mark_at CLOSE)))
 unfolding is_mark is_value
 between_reads =
-    skip_free (mark OPEN) (λ vs. listed comma a_value vs ⋅ mark CLOSE) never (mark_at OPEN) _ (mark_reads OPEN)
-    (close_reads (listed comma a_value) (mark CLOSE) (any_of (is_mark COMMA) is_value) never listed_values_at (mark_at CLOSE) listed_values_reads (mark_reads CLOSE)
+    skip_free (mark OPEN) (λ vs. listed_by comma a_value vs ⋅ mark CLOSE) never (mark_at OPEN) _ (mark_reads OPEN)
+    (close_reads (listed_by comma a_value) (mark CLOSE) (any_of (is_mark COMMA) is_value) never listed_values_at (mark_at CLOSE) listed_values_reads (mark_reads CLOSE)
     (λ v rest h e. one_shuts (any_of (is_mark COMMA) is_value) (shape.Mark CLOSE) refl v rest h))
 
-arguments_to : (x : Option (List Value)) (w : List Shape) → optional (λ vs. mark OPEN ⋅ listed comma a_value vs ⋅ mark CLOSE) x w → arguments (items_of x) w
+arguments_to : (x : Option (List Value)) (w : List Shape) → optional (λ vs. mark OPEN ⋅ listed_by comma a_value vs ⋅ mark CLOSE) x w → arguments (items_of x) w
 arguments_to None w h = inl (refl, h)
 arguments_to (Some vs) w h = inr h
 
-arguments_from : (y : List Value) (w : List Shape) → arguments y w → (x : Option (List Value)) × (items_of x ≡ y) × optional (λ vs. mark OPEN ⋅ listed comma a_value vs ⋅ mark CLOSE) x w
+arguments_from : (y : List Value) (w : List Shape) → arguments y w → (x : Option (List Value)) × (items_of x ≡ y) × optional (λ vs. mark OPEN ⋅ listed_by comma a_value vs ⋅ mark CLOSE) x w
 arguments_from y w (inl h) = (None, sym h.0, h.1)
 arguments_from y w (inr h) = (Some y, refl, h)
 
 arguments_reads : Reads arguments (is_mark OPEN) arguments_at
 unfolding arguments_at is_mark
 arguments_reads =
-    map_reads (optional (λ vs. mark OPEN ⋅ listed comma a_value vs ⋅ mark CLOSE)) arguments (is_mark OPEN) items_of _
-    (option_reads (λ vs. mark OPEN ⋅ listed comma a_value vs ⋅ mark CLOSE) (is_mark OPEN) (is_mark OPEN) _ (wider_reads _ never (is_mark OPEN) _ (λ rest e. begins-never rest) between_reads)
-    (λ vs w h. then_opens (is_mark OPEN) (shape.Mark OPEN) (listed comma a_value vs ⋅ mark CLOSE) refl w h) (λ rest e. e))
+    map_reads (optional (λ vs. mark OPEN ⋅ listed_by comma a_value vs ⋅ mark CLOSE)) arguments (is_mark OPEN) items_of _
+    (option_reads (λ vs. mark OPEN ⋅ listed_by comma a_value vs ⋅ mark CLOSE) (is_mark OPEN) (is_mark OPEN) _ (wider_reads _ never (is_mark OPEN) _ (λ rest e. begins-never rest) between_reads)
+    (λ vs w h. then_opens (is_mark OPEN) (shape.Mark OPEN) (listed_by comma a_value vs ⋅ mark CLOSE) refl w h) (λ rest e. e))
     arguments_to arguments_from
 
 after_reads : Reads (optional cursor) (is_word AFTER) after_at
@@ -179,7 +179,7 @@ unfolding is_mark
 not_open None v rest h = begins_with (is_mark OPEN) (shape.Mark SEMICOLON) v rest (ap first_of_list (h.parts ∙ ap (λ (u : List Shape). u ++ h.back) h.fits_front) ∙ ap first_of_list h.fits_back)
 not_open (Some t) v rest h = begins_with (is_mark OPEN) (shape.Keyword AFTER) v rest (ap first_of_list (h.parts ∙ ap (λ (u : List Shape). u ++ h.back) (h.fits_front.parts ∙ ap (λ (u : List Shape). u ++ h.fits_front.back) h.fits_front.fits_front)))
 
-run_reads : Reads (made (λ (x : Started). Run x.0 x.1.0 x.1.1) runs) never run_at
+run_reads : Reads (made_from (λ (x : Started). Run x.0 x.1.0 x.1.1) runs) never run_at
 unfolding run_at is_word
 run_reads =
     made_reads (λ (x : Started). Run x.0 x.1.0 x.1.1) runs never _
@@ -194,35 +194,35 @@ run_reads =
 abbrev shows : Unit {0} → List Shape → Type 0
 shows u = word SHOW ⋅ mark SEMICOLON
 
-show_reads : Reads (made (λ u. Show) shows) never show_at
+show_reads : Reads (made_from (λ u. Show) shows) never show_at
 unfolding show_at
 show_reads = made_reads (λ u. Show) shows never _ (skip_free (word SHOW) (λ _. mark SEMICOLON) never (word_at SHOW) (mark_at SEMICOLON) (word_reads SHOW) (mark_reads SEMICOLON))
 
 -- ---- the choice
 
 abbrev a_create : Statement → List Shape → Type 0
-a_create = made (λ d. Create d) create
+a_create = made_from (λ d. Create d) create
 
 abbrev a_insert : Statement → List Shape → Type 0
-a_insert = made (λ (x : Inserted). Insert x.0 x.1.0 x.1.1) inserts
+a_insert = made_from (λ (x : Inserted). Insert x.0 x.1.0 x.1.1) inserts
 
 abbrev a_update : Statement → List Shape → Type 0
-a_update = made (λ (x : Updated). Update x.0 x.1.0 x.1.1) updates
+a_update = made_from (λ (x : Updated). Update x.0 x.1.0 x.1.1) updates
 
 abbrev a_delete : Statement → List Shape → Type 0
-a_delete = made (λ (x : Deleted). Delete x.0 x.1) deletes
+a_delete = made_from (λ (x : Deleted). Delete x.0 x.1) deletes
 
 abbrev a_prepare : Statement → List Shape → Type 0
-a_prepare = made (λ n. Prepare n 3) prepares
+a_prepare = made_from (λ n. Prepare n 3) prepares
 
 abbrev a_explain : Statement → List Shape → Type 0
-a_explain = made (λ u. Explain 1) explains
+a_explain = made_from (λ u. Explain 1) explains
 
 abbrev a_run : Statement → List Shape → Type 0
-a_run = made (λ (x : Started). Run x.0 x.1.0 x.1.1) runs
+a_run = made_from (λ (x : Started). Run x.0 x.1.0 x.1.1) runs
 
 abbrev a_show : Statement → List Shape → Type 0
-a_show = made (λ (u : Unit {0}). Show) shows
+a_show = made_from (λ (u : Unit {0}). Show) shows
 
 abbrev from_run : Statement → List Shape → Type 0
 from_run = one_or_other a_run a_show

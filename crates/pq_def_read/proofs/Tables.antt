@@ -1,6 +1,6 @@
 -- The reader of a table's definition reads what the grammar says.
 use Rattle.std.proofs.Common.{◌≡◌, ℕ, false, List, ◌++◌, refl}
-use Rattle.pq_grammar.specs.Language.{◌⋅◌, separated}
+use Rattle.pq_grammar.specs.Language.{◌⋅◌, separated_by}
 use Rattle.pq_grammar.specs.Reader.{begins, pair_at, skip_at, close_at}
 use Rattle.pq_grammar.proofs.Steps.{Reads, never}
 use Rattle.pq_grammar.proofs.Readers.{pair_reads, close_reads, map_reads}
@@ -43,14 +43,14 @@ body_reads =
 
 -- the columns with the comma behind them, and then the key
 abbrev from_columns : List ColumnDef × (List (List ℕ) × Constraints) → List Shape → Type 0
-from_columns y = separated comma column y.0 ⋅ comma ⋅ body y.1
+from_columns y = separated_by comma column y.0 ⋅ comma ⋅ body y.1
 
 from_columns_reads : Reads from_columns never (pair_at columns_at body_at)
 unfolding is_name
 from_columns_reads =
-    same_set (λ (y : List ColumnDef × (List (List ℕ) × Constraints)). (separated comma column y.0 ⋅ comma) ⋅ body y.1) from_columns never (pair_at columns_at body_at)
-    (λ y w h. regroup (separated comma column y.0) comma (body y.1) w h) (λ y w h. ungroup (separated comma column y.0) comma (body y.1) w h)
-    (pair_reads (λ cs. separated comma column cs ⋅ comma) body is_name never columns_at body_at columns_reads body_reads
+    same_set (λ (y : List ColumnDef × (List (List ℕ) × Constraints)). (separated_by comma column y.0 ⋅ comma) ⋅ body y.1) from_columns never (pair_at columns_at body_at)
+    (λ y w h. regroup (separated_by comma column y.0) comma (body y.1) w h) (λ y w h. ungroup (separated_by comma column y.0) comma (body y.1) w h)
+    (pair_reads (λ cs. separated_by comma column cs ⋅ comma) body is_name never columns_at body_at columns_reads body_reads
     (λ y v rest h e. then_shuts is_name (shape.Keyword PRIMARY) (word KEY ⋅ cols y.0 ⋅ constraints y.1 ⋅ stop) refl v rest h))
 
 abbrev Table : Type 0

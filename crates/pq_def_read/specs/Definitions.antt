@@ -33,7 +33,8 @@ unfoldable pub text_kind_at : Reader Shape Kind
 text_kind_at = map_at text_kind (skip_at (word_at TEXT) (skip_at (mark_at OPEN) (close_at number_at (mark_at CLOSE))))
 
 unfoldable pub kind_at : Reader Shape Kind
-kind_at = choice_at (is_word TEXT) text_kind_at (choice_at (is_word INT) (map_at (λ u. int_kind) (word_at INT)) (map_at (λ u. bool_kind) (word_at BOOL)))
+kind_at = choice_at (is_word TEXT) text_kind_at
+    (choice_at (is_word INT) (map_at (λ u. int_kind) (word_at INT)) (map_at (λ u. bool_kind) (word_at BOOL)))
 
 unfoldable pub column_at : Reader Shape ColumnDef
 column_at = map_at (λ x. record { name = x.0; kind = x.1.name; size = x.1.size }) (pair_at name_at kind_at)
@@ -46,13 +47,16 @@ unfoldable pub columns_at : Reader Shape (List ColumnDef)
 columns_at = ended_at is_name (mark_at COMMA) column_at
 
 unfoldable pub limit_at : Reader Shape LimitDef
-limit_at = map_at (λ x. record { n = x.0; cols = x.1 }) (skip_at (word_at CARDINALITY) (skip_at (word_at LIMIT) (pair_at number_at cols_at)))
+limit_at = map_at (λ x. record { n = x.0; cols = x.1 })
+    (skip_at (word_at CARDINALITY) (skip_at (word_at LIMIT) (pair_at number_at cols_at)))
 
 unfoldable pub foreign_at : Reader Shape ForeignDef
-foreign_at = map_at (λ x. record { cols = x.0; table = x.1 }) (skip_at (word_at FOREIGN) (skip_at (word_at KEY) (pair_at cols_at (skip_at (word_at REFERENCES) name_at))))
+foreign_at = map_at (λ x. record { cols = x.0; table = x.1 })
+    (skip_at (word_at FOREIGN) (skip_at (word_at KEY) (pair_at cols_at (skip_at (word_at REFERENCES) name_at))))
 
 unfoldable pub constraint_at : Reader Shape Constraint
-constraint_at = choice_at (is_word FOREIGN) (map_at (λ f. constraint.Foreign f) foreign_at) (map_at (λ l. constraint.Limit l) limit_at)
+constraint_at = choice_at (is_word FOREIGN) (map_at (λ f. constraint.Foreign f) foreign_at) (map_at
+    (λ l. constraint.Limit l) limit_at)
 
 unfoldable pub next_constraint_at : Reader Shape Constraint
 next_constraint_at = skip_at (mark_at COMMA) constraint_at
@@ -68,8 +72,8 @@ foreign_of (constraint.Limit l ∷ items) = foreign_of items
 foreign_of (constraint.Foreign f ∷ items) = f ∷ foreign_of items
 
 -- the limits in order, and the foreign keys in order
-abbrev pub parted : List Constraint → Constraints
-parted items = record { limits = limits_of items; foreign = foreign_of items }
+abbrev pub parted_constraints : List Constraint → Constraints
+parted_constraints items = record { limits = limits_of items; foreign = foreign_of items }
 
 -- one more of its kind
 abbrev pub with_constraint : Constraints → Constraint → Constraints
@@ -77,7 +81,7 @@ with_constraint held (constraint.Limit l) = record { limits = held.limits ++ l �
 with_constraint held (constraint.Foreign f) = record { limits = held.limits; foreign = held.foreign ++ f ∷ [] }
 
 unfoldable pub constraints_at : Reader Shape Constraints
-constraints_at = map_at parted (many_at (is_mark COMMA) next_constraint_at)
+constraints_at = map_at parted_constraints (many_at (is_mark COMMA) next_constraint_at)
 
 unfoldable pub stop_at : Reader Shape (Unit {0})
 stop_at = skip_at (mark_at CLOSE) (mark_at SEMICOLON)
@@ -88,5 +92,12 @@ body_at = skip_at (word_at PRIMARY) (skip_at (word_at KEY) (pair_at cols_at (clo
 
 unfoldable pub create_at : Reader Shape TableDef
 create_at =
-    map_at (λ x. record { name = x.0; columns = x.1.0; key = x.1.1.0; limits = x.1.1.1.limits; foreign = x.1.1.1.foreign })
-    (skip_at (word_at CREATE) (skip_at (word_at TABLE) (pair_at name_at (skip_at (mark_at OPEN) (pair_at columns_at body_at)))))
+    map_at (λ x. record {
+      name = x.0;
+      columns = x.1.0;
+      key = x.1.1.0;
+      limits = x.1.1.1.limits;
+      foreign = x.1.1.1.foreign;
+    })
+    (skip_at (word_at CREATE) (skip_at (word_at TABLE)
+    (pair_at name_at (skip_at (mark_at OPEN) (pair_at columns_at body_at)))))

@@ -9,7 +9,9 @@ use Rattle.pq_shape.specs.Shapes.{shapes_of}
 use Rattle.pq_shape.specs.Faults.{offset_at}
 use Rattle.pq_def_read.specs.Grammar.{Spells}
 
--- memory ran out, or this is the offset of the first token such that no statement begins with the tokens up to and with it
+-- memory ran out, or this is the offset of the first token such that no statement begins with the tokens up
+-- to and with it
 abbrev pub IsFault : List ℕ → List Token → Stopped → Type 0
 IsFault text ts NoMem = Unit {0}
-IsFault text ts (Refused r) = (place : ℕ) × IsFaultPlace Spells (shapes_of text ts) place × (r ≡ Syntax (offset_at text ts place))
+IsFault text ts (Refused r) = (place : ℕ) × IsFaultPlace Spells (shapes_of text ts) place
+    × (r ≡ Syntax (offset_at text ts place))

@@ -1,7 +1,7 @@
 -- The grammar: how each part of a statement is spelled, and each statement.
 use Rattle.std.specs.Prelude.{◌≡◌, ℕ, ℤ, List, [], Option, ◌⊎◌}
 use Rattle.pq_base.specs.declared.value.Value.{Value}
-use Rattle.pq_grammar.specs.Language.{◌⋅◌, nothing, anything, each, optional, separated, listed, made}
+use Rattle.pq_grammar.specs.Language.{◌⋅◌, nothing, anything, each, optional, separated_by, listed_by, made_from}
 use Rattle.pq_schema.specs.declared.definition.ColumnDef.{ColumnDef}
 use Rattle.pq_schema.specs.declared.definition.LimitDef.{LimitDef}
 use Rattle.pq_schema.specs.declared.definition.ForeignDef.{ForeignDef}
@@ -10,7 +10,7 @@ use Rattle.pq_shape.specs.Parts.{word, mark, comma, name, number, text, a_value}
 use Rattle.pq_shape.specs.declared.keyword.TheConstants.{AFTER, AND, AS, BOOL, CARDINALITY, CREATE, DELETE, EXPLAIN, FOREIGN, FROM, INSERT, INT, INTO, KEY, LIMIT, PREPARE, PRIMARY, REFERENCES, RUN, SET, SHOW, TABLE, TEXT, UPDATE, VALUES, WHERE}
 use Rattle.pq_shape.specs.declared.mark.TheConstants.{CLOSE, EQUAL, OPEN, SEMICOLON}
 use Rattle.pq_shape.specs.declared.shape.Shape.{Shape}
-use Rattle.pq_def_read.specs.Definitions.{int_kind, bool_kind, text_kind, parted}
+use Rattle.pq_def_read.specs.Definitions.{int_kind, bool_kind, text_kind, parted_constraints}
 use Rattle.pq_def_read.specs.declared.definition.Constraint.{Constraint}
 use Rattle.pq_def_read.specs.declared.definition.Constraint.TheVariants as constraint
 use Rattle.pq_def_read.specs.declared.definition.Constraints.{Constraints}
@@ -21,7 +21,7 @@ use Rattle.pq_def_read.specs.declared.statement.Statement.TheVariants.{Create, I
 
 -- "(" name { "," name } ")"
 abbrev pub cols : List (List ℕ) → List Shape → Type 0
-cols ns = mark OPEN ⋅ separated comma name ns ⋅ mark CLOSE
+cols ns = mark OPEN ⋅ separated_by comma name ns ⋅ mark CLOSE
 
 -- TEXT "(" number ")"
 abbrev pub text_size : ℤ → List Shape → Type 0
@@ -29,7 +29,7 @@ text_size n = word TEXT ⋅ mark OPEN ⋅ number n ⋅ mark CLOSE
 
 -- INT | BOOL | TEXT "(" number ")"
 abbrev pub kind : Kind → List Shape → Type 0
-kind k w = made text_kind text_size k w ⊎ (((k ≡ int_kind) × word INT w) ⊎ ((k ≡ bool_kind) × word BOOL w))
+kind k w = made_from text_kind text_size k w ⊎ (((k ≡ int_kind) × word INT w) ⊎ ((k ≡ bool_kind) × word BOOL w))
 
 -- name kind
 abbrev pub column : ColumnDef → List Shape → Type 0
@@ -49,17 +49,19 @@ a_constraint (constraint.Foreign f) = foreign f
 
 -- { "," ( limit | foreign ) }: the limits in order, and the foreign keys in order
 abbrev pub constraints : Constraints → List Shape → Type 0
-constraints = made parted (each (λ c. comma ⋅ a_constraint c))
+constraints = made_from parted_constraints (each (λ c. comma ⋅ a_constraint c))
 
 -- CREATE TABLE name "(" column { "," column } "," PRIMARY KEY cols { "," ( limit | foreign ) } ")"
 abbrev pub create : TableDef → List Shape → Type 0
 create d =
-    word CREATE ⋅ word TABLE ⋅ name d.name ⋅ mark OPEN ⋅ separated comma column d.columns ⋅ comma ⋅ word PRIMARY ⋅ word KEY ⋅ cols d.key
+    word CREATE ⋅ word TABLE ⋅ name d.name ⋅ mark OPEN ⋅ separated_by comma column d.columns ⋅ comma ⋅ word PRIMARY
+    ⋅ word KEY ⋅ cols d.key
     ⋅ constraints (record { limits = d.limits; foreign = d.foreign }) ⋅ mark CLOSE ⋅ mark SEMICOLON
 
 -- INSERT INTO name [ cols ] VALUES "(" value { "," value } ")"
 abbrev pub insert : List ℕ → Option (List (List ℕ)) → List Value → List Shape → Type 0
-insert table columns values = word INSERT ⋅ word INTO ⋅ name table ⋅ optional cols columns ⋅ word VALUES ⋅ mark OPEN ⋅ separated comma a_value values ⋅ mark CLOSE ⋅ mark SEMICOLON
+insert table columns values = word INSERT ⋅ word INTO ⋅ name table ⋅ optional cols columns ⋅ word VALUES
+    ⋅ mark OPEN ⋅ separated_by comma a_value values ⋅ mark CLOSE ⋅ mark SEMICOLON
 
 -- name "=" value
 abbrev pub assign : Assign → List Shape → Type 0
@@ -67,11 +69,12 @@ assign a = name a.col ⋅ mark EQUAL ⋅ a_value a.value
 
 -- assign { AND assign }
 abbrev pub key : List Assign → List Shape → Type 0
-key = separated (word AND) assign
+key = separated_by (word AND) assign
 
 -- UPDATE name SET assign { "," assign } WHERE key
 abbrev pub update : List ℕ → List Assign → List Assign → List Shape → Type 0
-update table sets row = word UPDATE ⋅ name table ⋅ word SET ⋅ separated comma assign sets ⋅ word WHERE ⋅ key row ⋅ mark SEMICOLON
+update table sets row = word UPDATE ⋅ name table ⋅ word SET ⋅ separated_by comma assign sets ⋅ word WHERE ⋅ key row
+    ⋅ mark SEMICOLON
 
 -- DELETE FROM name WHERE key
 abbrev pub delete : List ℕ → List Assign → List Shape → Type 0
@@ -79,7 +82,7 @@ delete table row = word DELETE ⋅ word FROM ⋅ name table ⋅ word WHERE ⋅ k
 
 -- [ "(" [ value { "," value } ] ")" ]
 abbrev pub arguments : List Value → List Shape → Type 0
-arguments values w = ((values ≡ []) × nothing w) ⊎ (mark OPEN ⋅ listed comma a_value values ⋅ mark CLOSE) w
+arguments values w = ((values ≡ []) × nothing w) ⊎ (mark OPEN ⋅ listed_by comma a_value values ⋅ mark CLOSE) w
 
 -- AFTER text
 abbrev pub cursor : List ℕ → List Shape → Type 0

@@ -28,15 +28,20 @@ key_at = separated_at (is_word AND) (word_at AND) assign_at
 unfoldable pub insert_at : Reader Shape Statement
 insert_at =
     map_at (λ x. Insert x.0 x.1.0 x.1.1)
-    (skip_at (word_at INSERT) (skip_at (word_at INTO) (pair_at name_at (pair_at (option_at (is_mark OPEN) cols_at) (skip_at (word_at VALUES) (skip_at (mark_at OPEN) (close_at values_at stop_at)))))))
+    (skip_at (word_at INSERT) (skip_at (word_at INTO)
+    (pair_at name_at (pair_at (option_at (is_mark OPEN) cols_at)
+    (skip_at (word_at VALUES) (skip_at (mark_at OPEN) (close_at values_at stop_at)))))))
 
 unfoldable pub update_at : Reader Shape Statement
 update_at =
     map_at (λ x. Update x.0 x.1.0 x.1.1)
-    (skip_at (word_at UPDATE) (pair_at name_at (skip_at (word_at SET) (pair_at sets_at (skip_at (word_at WHERE) (close_at key_at (mark_at SEMICOLON)))))))
+    (skip_at (word_at UPDATE) (pair_at name_at
+    (skip_at (word_at SET) (pair_at sets_at
+    (skip_at (word_at WHERE) (close_at key_at (mark_at SEMICOLON)))))))
 
 unfoldable pub delete_at : Reader Shape Statement
-delete_at = map_at (λ x. Delete x.0 x.1) (skip_at (word_at DELETE) (skip_at (word_at FROM) (pair_at name_at (skip_at (word_at WHERE) (close_at key_at (mark_at SEMICOLON))))))
+delete_at = map_at (λ x. Delete x.0 x.1) (skip_at (word_at DELETE)
+    (skip_at (word_at FROM) (pair_at name_at (skip_at (word_at WHERE) (close_at key_at (mark_at SEMICOLON))))))
 
 -- three tokens, and then any
 unfoldable pub prepare_at : Reader Shape Statement
@@ -50,13 +55,15 @@ unfoldable pub listed_values_at : Reader Shape (List Value)
 listed_values_at = listed_at is_value (is_mark COMMA) (mark_at COMMA) value_at
 
 unfoldable pub arguments_at : Reader Shape (List Value)
-arguments_at = map_at items_of (option_at (is_mark OPEN) (skip_at (mark_at OPEN) (close_at listed_values_at (mark_at CLOSE))))
+arguments_at = map_at items_of (option_at (is_mark OPEN)
+    (skip_at (mark_at OPEN) (close_at listed_values_at (mark_at CLOSE))))
 
 unfoldable pub after_at : Reader Shape (Option (List ℕ))
 after_at = option_at (is_word AFTER) (skip_at (word_at AFTER) text_at)
 
 unfoldable pub run_at : Reader Shape Statement
-run_at = map_at (λ x. Run x.0 x.1.0 x.1.1) (skip_at (word_at RUN) (pair_at name_at (pair_at arguments_at (close_at after_at (mark_at SEMICOLON)))))
+run_at = map_at (λ x. Run x.0 x.1.0 x.1.1) (skip_at (word_at RUN)
+    (pair_at name_at (pair_at arguments_at (close_at after_at (mark_at SEMICOLON)))))
 
 unfoldable pub show_at : Reader Shape Statement
 show_at = map_at (λ u. Show) (skip_at (word_at SHOW) (mark_at SEMICOLON))

@@ -9,4 +9,6 @@ pub assign_shrinks : Shrinks assign_at
 assign_shrinks =
     map_shrinks _ (pair_at name_at (skip_at (mark_at EQUAL) value_at))
     (pair_shrinks name_at (skip_at (mark_at EQUAL) value_at) (token_shrinks name_of)
-    (shrinks_keeps (skip_at (mark_at EQUAL) value_at) (skip_shrinks (mark_at EQUAL) value_at (token_shrinks (test_of (is_mark EQUAL))) (shrinks_keeps value_at (token_shrinks value_in)))))
+    (shrinks_keeps (skip_at (mark_at EQUAL) value_at)
+    (skip_shrinks (mark_at EQUAL) value_at (token_shrinks (test_of (is_mark EQUAL)))
+    (shrinks_keeps value_at (token_shrinks value_in)))))

@@ -264,7 +264,8 @@ pub fn read_statement(
     // What is read is spelled so.
     ensures found { IfOk result (λ s. Spells s (shapes_of text.now tokens.now)) }
     // What is spelled so is read, unless memory runs out.
-    ensures only { (s : declared.Statement) → Spells s (shapes_of text.now tokens.now) → MatchResult result (λ x. x ≡ s) IsNoMem }
+    ensures only { (s : declared.Statement) → Spells s (shapes_of text.now tokens.now)
+        → MatchResult result (λ x. x ≡ s) IsNoMem }
     // The place of the fault.
     ensures fault { IfErr result (IsFault text.now tokens.now) }
     // The statement that reading from left to right gives.

@@ -13,7 +13,7 @@ use Rattle.pq_key_code.specs.KeyCode.{row_key}
 use Rattle.pq_row_code.proofs.Rows.{row_code_injective}
 use Rattle.pq_schema.specs.declared.table.Access.TheVariants.{Secondary}
 use Rattle.pq_schema.specs.declared.table.Table.{Table}
-use Rattle.pq_schema.specs.Keys.{given, key_types, AllOfKinds}
+use Rattle.pq_schema.specs.Keys.{given_value, key_types, AllOfKinds}
 use Rattle.pq_schema.specs.Rows.{AreApart, agrees}
 use Rattle.pq_schema.specs.Sequences.{columns_of, index_sequence, index_numbered}
 use Rattle.pq_schema.specs.Tables.{table_at, type_at, types_at}
@@ -36,11 +36,11 @@ use Rattle.pq_entries.specs.Entries.{IsSequence, IsEntryThere}
 
 -- ---- the key that values name
 
-given_fits : (table : Table) (cols : List ℕ) (values : List Value) (col : ℕ) → AllFit (types_at table.columns cols) values → In col cols → FitsType (type_at table.columns col) (given cols values col)
+given_fits : (table : Table) (cols : List ℕ) (values : List Value) (col : ℕ) → AllFit (types_at table.columns cols) values → In col cols → FitsType (type_at table.columns col) (given_value cols values col)
 given_fits table [] values col fits here = absurd here
 given_fits table (c ∷ cols) [] col fits here = absurd fits
 given_fits table (c ∷ cols) (x ∷ values) col fits here =
-    elim (c == col) as (λ b. (c == col) ≡ b → FitsType (type_at table.columns col) (cond b x (given cols values col))) [
+    elim (c == col) as (λ b. (c == col) ≡ b → FitsType (type_at table.columns col) (cond b x (given_value cols values col))) [
       | true ↦ λ is. subst (λ (n : ℕ). FitsType (type_at table.columns n) x) (eqb-true c col is) fits.0
       | false ↦ λ is. elim here [
         | inl same ↦ absurd (false≢true (sym is ∙ eq-eqb c col same))
@@ -53,10 +53,10 @@ pub named_kinds : (table : Table) (index : ℕ) (values : List Value) → AllFit
 named_kinds table index values fits =
     let own = index_numbered table index in
     let cols = columns_of (index_sequence table own) in
-    kinds_from_fit (key_types table) (map (given cols values) table.key)
+    kinds_from_fit (key_types table) (map (given_value cols values) table.key)
     (each table.key (λ col here. given_fits table cols values col fits (key_column_there own.cols (set_of (columns_of own.cols)) table.key col (set_members (columns_of own.cols)) here)))
   where
-    each : (key : List ℕ) → ((col : ℕ) → In col key → FitsType (type_at table.columns col) (given (columns_of (index_sequence table (index_numbered table index))) values col)) → AllFit (types_at table.columns key) (map (given (columns_of (index_sequence table (index_numbered table index))) values) key)
+    each : (key : List ℕ) → ((col : ℕ) → In col key → FitsType (type_at table.columns col) (given_value (columns_of (index_sequence table (index_numbered table index))) values col)) → AllFit (types_at table.columns key) (map (given_value (columns_of (index_sequence table (index_numbered table index))) values) key)
     each [] h = tt
     each (col ∷ key) h = (h col (inl refl), each key (λ c here. h c (inr here)))
 
@@ -117,7 +117,7 @@ fetched tables t index values key found types names told read rows others row ho
     let sequence = index_sequence table (index_numbered table index) in
     let at = found_by_key tables rows t row holds.keeps.apart here in
     let fits = (row_found tables rows t (key_of table row) row holds.keeps at).fits in
-    let own : key ≡ key_of table row = names ∙ ap (λ (vs : List Value). map (given (columns_of sequence) vs) table.key) is ∙ entry_names table (index_numbered table index) row in
+    let own : key ≡ key_of table row = names ∙ ap (λ (vs : List Value). map (given_value (columns_of sequence) vs) table.key) is ∙ entry_names table (index_numbered table index) row in
     let held : get (content_pairs tables rows others) (row_key t key) ≡ Some (stored_code table row) =
     ap (λ (k : List Value). get (content_pairs tables rows others) (row_key t k)) own
     ∙ get_row tables rows others t (key_of table row) holds.keeps.fit (key_of_kinds table row fits) holds.beside

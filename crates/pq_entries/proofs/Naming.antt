@@ -14,7 +14,7 @@ use Rattle.pq_schema.specs.Sequences.{index_sequence, index_numbered}
 use Rattle.pq_schema.specs.Tables.{table_at}
 use Rattle.pq_store.specs.Content.{Content, pairs_within}
 use Rattle.pq_store.specs.declared.damage.Broke.{Broke}
-use Rattle.pq_calls.specs.Calls.{Uses, seen}
+use Rattle.pq_calls.specs.Calls.{Uses, seen_world}
 use Rattle.pq_calls.specs.World.{World, Affords, Reads}
 use Rattle.pq_calls.specs.declared.calls.Calls.{Calls}
 use Rattle.pq_calls.proofs.Steps.{reads_then, reads_within, rest_left}
@@ -42,7 +42,7 @@ uses_within content faults a b o e o' e' r ops entries = record {
 }
 
 pub share_left : {S L : Type 0} (content : S → Option Content) (faults : S → ℕ) (a b : Calls S L) (o e p q o' e' : ℕ) → Uses content faults a b o e → Affords a.allowance.now o' e' → o + p ≤ o' → e + q ≤ e' → Affords b.allowance.now p q
-share_left content faults a b o e p q o' e' r left ops entries = rest_left (seen content faults a) (seen content faults b) o e p q o' e' r.reads left ops entries
+share_left content faults a b o e p q o' e' r left ops entries = rest_left (seen_world content faults a) (seen_world content faults b) o e p q o' e' r.reads left ops entries
 
 -- what a content holds it holds after calls that read
 pub holds_later : (a b : World) (o e : ℕ) (tables : List Table) (rows : Rows) (others : List Pair) → Reads a b o e → HoldsRows a.told tables rows others → HoldsRows b.told tables rows others

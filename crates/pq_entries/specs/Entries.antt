@@ -61,7 +61,8 @@ pub record IsNoRowPair (types : List ColType) (pair : Pair) (damage : Damage) : 
   pub no_row : (row : List Value) → AllFit types row → row_code row ≢ pair.1
 
 -- its key, behind the first bytes, is the code of no values of these types
-pub record IsNoKeyPair (types : List ColType) (dirs : List Dir) (skipped : ℕ) (pair : Pair) (damage : Damage) : Type 0 where
+pub record IsNoKeyPair (types : List ColType) (dirs : List Dir) (skipped : ℕ) (pair : Pair) (damage : Damage) :
+    Type 0 where
   pub tells : TellsPair pair damage
   pub no_values : (values : List Value) → AllFit types values → code_of dirs values ≢ drop skipped pair.0
 
@@ -74,7 +75,8 @@ OneShows shows pairs damage = (pair : Pair) × In pair pairs × shows pair damag
 -- where the pairs of a range are those of some rows, the first rows of them
 abbrev pub AreFirstRows : ℕ → Table → List ℕ → List ℕ → ℕ → List (List Value) → Content → Type 0
 AreFirstRows t table low high limit found content =
-    (rows : List (List Value)) → AllByRecursion (AllFit (types_of table)) rows → pairs_within content low high ≡ map (row_pair t table) rows
+    (rows : List (List Value)) → AllByRecursion (AllFit (types_of table)) rows
+    → pairs_within content low high ≡ map (row_pair t table) rows
     → found ≡ take limit rows
 
 -- the pair of a row in a sequence
@@ -85,12 +87,14 @@ pair_of t table (Secondary index) row = entry_pair t index (index_sequence table
 -- the values of the first rows of them in the sequence
 abbrev pub AreFirstValues : ℕ → Table → Access → List ℕ → List ℕ → ℕ → List (List Value) → Content → Type 0
 AreFirstValues t table access low high limit found content =
-    (rows : List (List Value)) → AllByRecursion (AllFit (types_of table)) rows → pairs_within content low high ≡ map (pair_of t table access) rows
+    (rows : List (List Value)) → AllByRecursion (AllFit (types_of table)) rows
+    → pairs_within content low high ≡ map (pair_of t table access) rows
     → found ≡ map (values_of (sequence_of table access)) (take limit rows)
 
 -- a key of the sequence with these values is there
 abbrev pub IsKeyThere : ℕ → Table → Access → Option Content → List Value → Type 0
-IsKeyThere t table access told values = IfSome told (λ content. IsSome (get content (sequence_key t table access values)))
+IsKeyThere t table access told values = IfSome told
+    (λ content. IsSome (get content (sequence_key t table access values)))
 
 -- an entry of the index with these values is there
 abbrev pub IsEntryThere : ℕ → Table → ℕ → Option Content → List Value → Type 0

@@ -90,7 +90,8 @@ pub(crate) fn decoded_keys(
 ) -> Result<List<Row>, Broke>
     requires alike { length types.now ≡ length dirs.now }
     requires long { All (λ pair. skipped ≤ length pair.key) pairs.now }
-    ensures codes { IfOk result (λ found. map (code_of dirs.now) found ≡ map (λ pair. drop skipped pair.key) pairs.now) }
+    ensures codes { IfOk result (λ found. map (code_of dirs.now) found ≡ map
+        (λ pair. drop skipped pair.key) pairs.now) }
     ensures fit { IfOk result (AllByRecursion (AllFit types.now)) }
     ensures cause { IfErr result (IsUnread (OneShows (IsNoKeyPair types.now dirs.now skipped) (map entry pairs.now))) }
 {

@@ -37,13 +37,18 @@ pub fn named_row<S: Store<L>, L: Ledger>(
 ) -> Result<Row, Broke>
     requires sequence { IsSequence catalog.now.tables number (Access.Secondary index) }
     requires values { AllFit (sequence_types (table_at catalog.now.tables number) (Access.Secondary index)) values.now }
-    requires there { IsEntryThere number (table_at catalog.now.tables number) index (S.content calls.old.store.now) values.now }
+    requires there { IsEntryThere number (table_at catalog.now.tables number) index
+        (S.content calls.old.store.now) values.now }
     requires share { Affords calls.old.allowance.now 1 1 }
     ensures uses { Uses S.content S.faults calls.old calls.new 1 1 }
-    ensures cause { IfErr result (Fails (where_told (ShowsRead catalog.now.tables)) S.content S.faults calls.old calls.new) }
+    ensures cause { IfErr result (Fails (where_told (ShowsRead catalog.now.tables)) S.content S.faults calls.old
+        calls.new) }
     ensures fits { IfOk result (AllFit (types_of (table_at catalog.now.tables number))) }
-    ensures answer { IfOk result (λ found. (rows : Rows) (others : List Pair) (row : List Value) → HoldsRows (S.content calls.old.store.now) catalog.now.tables rows others →
-        In row (rows_of number rows) → values.now ≡ values_of (index_sequence (table_at catalog.now.tables number) (index_numbered (table_at catalog.now.tables number) index)) row → found ≡ row) }
+    ensures answer { IfOk result (λ found. (rows : Rows) (others : List Pair) (row : List Value)
+        → HoldsRows (S.content calls.old.store.now) catalog.now.tables rows others →
+        In row (rows_of number rows) → values.now
+        ≡ values_of (index_sequence (table_at catalog.now.tables number)
+        (index_numbered (table_at catalog.now.tables number) index)) row → found ≡ row) }
 {
     let access = Access::Secondary(index);
     let table = table_of(catalog, number, access);

@@ -1,6 +1,6 @@
 //! Keys of a table's sequences, and what they are made of.
 ghost use Rattle.std.specs.Prelude.{◌≡◌, ◌≤◌, map, take, length, IfOk};
-ghost use Rattle.pq_schema.specs.Keys.{dirs_of, given};
+ghost use Rattle.pq_schema.specs.Keys.{dirs_of, given_value};
 ghost use Rattle.pq_schema.specs.Sequences.{IsAccess, columns_of, sequence_of};
 ghost use Rattle.pq_schema.specs.Sound.{IsTable};
 ghost use Rattle.pq_schema.specs.Tables.{types_at};
@@ -92,7 +92,7 @@ pub fn sequence_key(
 
 /// The value that a column is given, where the columns of the parts are given these values.
 fn given(alloc: Global, parts: &[KeyPart], values: &[Value], col: u8) -> Result<Value, NoMem>
-    ensures { IfOk result (λ value. value ≡ given (columns_of parts.now) values.now col) }
+    ensures { IfOk result (λ value. value ≡ given_value (columns_of parts.now) values.now col) }
 {
     match (parts.split_first(), values.split_first()) {
         (Some((part, parts)), Some((value, values))) => {

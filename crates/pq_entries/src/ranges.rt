@@ -51,10 +51,13 @@ pub fn range_rows<S: Store<L>, L: Ledger>(
     requires limit { 1 ≤ limit }
     requires share { Affords calls.old.allowance.now 1 limit }
     ensures uses { Uses S.content S.faults calls.old calls.new 1 limit }
-    ensures cause { IfErr result (Fails (where_told (ShowsRead catalog.now.tables)) S.content S.faults calls.old calls.new) }
+    ensures cause { IfErr result (Fails (where_told (ShowsRead catalog.now.tables)) S.content S.faults calls.old
+        calls.new) }
     ensures few { IfOk result (λ rows. length rows ≤ limit) }
     ensures fit { IfOk result (AllByRecursion (AllFit (types_of (table_at catalog.now.tables number)))) }
-    ensures answer { IfOk result (λ rows. IfSome (S.content calls.old.store.now) (AreFirstRows number (table_at catalog.now.tables number) low.now high.now limit rows)) }
+    ensures answer { IfOk result
+        (λ rows. IfSome (S.content calls.old.store.now)
+        (AreFirstRows number (table_at catalog.now.tables number) low.now high.now limit rows)) }
 {
     let table = table_of(catalog, number, Access::Primary);
     let types = types_of(alloc, table)?;
@@ -109,11 +112,15 @@ pub fn range_values<S: Store<L>, L: Ledger>(
     requires limit { 1 ≤ limit }
     requires share { Affords calls.old.allowance.now 1 limit }
     ensures uses { Uses S.content S.faults calls.old calls.new 1 limit }
-    ensures cause { IfErr result (Fails (where_told (ShowsRead catalog.now.tables)) S.content S.faults calls.old calls.new) }
+    ensures cause { IfErr result (Fails (where_told (ShowsRead catalog.now.tables)) S.content S.faults calls.old
+        calls.new) }
     ensures few { IfOk result (λ found. length found ≤ limit) }
     ensures fit { IfOk result (AllByRecursion (AllFit (sequence_types (table_at catalog.now.tables number) access))) }
-    ensures there { IfOk result (AllByRecursion (IsKeyThere number (table_at catalog.now.tables number) access (S.content calls.old.store.now))) }
-    ensures answer { IfOk result (λ found. IfSome (S.content calls.old.store.now) (AreFirstValues number (table_at catalog.now.tables number) access low.now high.now limit found)) }
+    ensures there { IfOk result (AllByRecursion
+        (IsKeyThere number (table_at catalog.now.tables number) access (S.content calls.old.store.now))) }
+    ensures answer { IfOk result
+        (λ found. IfSome (S.content calls.old.store.now)
+        (AreFirstValues number (table_at catalog.now.tables number) access low.now high.now limit found)) }
 {
     let shape = key_shape(alloc, table_of(catalog, number, access), access)?;
     let skipped = front_len(access);

@@ -37,15 +37,21 @@ fn named_rows<S: Store<L>, L: Ledger>(
     calls: &mut Calls<S, L>,
 ) -> Result<List<Row>, Broke>
     requires sequence { IsSequence catalog.now.tables number (Access.Secondary index) }
-    requires values { AllByRecursion (AllFit (sequence_types (table_at catalog.now.tables number) (Access.Secondary index))) found.now }
-    requires there { AllByRecursion (IsEntryThere number (table_at catalog.now.tables number) index (S.content calls.old.store.now)) found.now }
+    requires values { AllByRecursion (AllFit
+        (sequence_types (table_at catalog.now.tables number) (Access.Secondary index))) found.now }
+    requires there { AllByRecursion (IsEntryThere number (table_at catalog.now.tables number) index
+        (S.content calls.old.store.now)) found.now }
     requires share { Affords calls.old.allowance.now (length found.now) (length found.now) }
     ensures uses { Uses S.content S.faults calls.old calls.new (length found.now) (length found.now) }
-    ensures cause { IfErr result (Fails (where_told (ShowsRead catalog.now.tables)) S.content S.faults calls.old calls.new) }
+    ensures cause { IfErr result (Fails (where_told (ShowsRead catalog.now.tables)) S.content S.faults calls.old
+        calls.new) }
     ensures long { IfOk result (λ rows. length rows ≡ length found.now) }
     ensures fit { IfOk result (AllByRecursion (AllFit (types_of (table_at catalog.now.tables number)))) }
-    ensures answer { IfOk result (λ named. (rows : Rows) (others : List Pair) (wanted : List (List Value)) → HoldsRows (S.content calls.old.store.now) catalog.now.tables rows others →
-        AllByRecursion (λ row. In row (rows_of number rows)) wanted → found.now ≡ map (values_of (index_sequence (table_at catalog.now.tables number) (index_numbered (table_at catalog.now.tables number) index))) wanted → named ≡ wanted) }
+    ensures answer { IfOk result (λ named. (rows : Rows) (others : List Pair) (wanted : List (List Value))
+        → HoldsRows (S.content calls.old.store.now) catalog.now.tables rows others →
+        AllByRecursion (λ row. In row (rows_of number rows)) wanted
+        → found.now ≡ map (values_of (index_sequence (table_at catalog.now.tables number)
+        (index_numbered (table_at catalog.now.tables number) index))) wanted → named ≡ wanted) }
 {
     let mut rows = List::new(alloc);
     for values in found {
@@ -70,13 +76,19 @@ pub fn sequence_rows<S: Store<L>, L: Ledger>(
     requires sequence { IsSequence catalog.now.tables number access }
     requires ends { AreEnds number access low.now high.now }
     requires limit { 1 ≤ limit }
-    requires share { Affords calls.old.allowance.now (limit_cost (is_primary_access access) limit).ops (limit_cost (is_primary_access access) limit).entries }
-    ensures uses { Uses S.content S.faults calls.old calls.new (limit_cost (is_primary_access access) limit).ops (limit_cost (is_primary_access access) limit).entries }
-    ensures cause { IfErr result (Fails (where_told (ShowsRead catalog.now.tables)) S.content S.faults calls.old calls.new) }
+    requires share { Affords calls.old.allowance.now (limit_cost (is_primary_access access) limit).ops
+        (limit_cost (is_primary_access access) limit).entries }
+    ensures uses { Uses S.content S.faults calls.old calls.new (limit_cost (is_primary_access access) limit).ops
+        (limit_cost (is_primary_access access) limit).entries }
+    ensures cause { IfErr result (Fails (where_told (ShowsRead catalog.now.tables)) S.content S.faults calls.old
+        calls.new) }
     ensures few { IfOk result (λ found. length found ≤ limit) }
     ensures fit { IfOk result (AllByRecursion (AllFit (types_of (table_at catalog.now.tables number)))) }
-    ensures answer { IfOk result (λ found. (rows : Rows) (others : List Pair) (within : List (List Value)) → HoldsRows (S.content calls.old.store.now) catalog.now.tables rows others →
-        AllByRecursion (λ row. In row (rows_of number rows)) within → pairs_within (content_pairs catalog.now.tables rows others) low.now high.now ≡ map (pair_of number (table_at catalog.now.tables number) access) within → found ≡ take limit within) }
+    ensures answer { IfOk result (λ found. (rows : Rows) (others : List Pair) (within : List (List Value))
+        → HoldsRows (S.content calls.old.store.now) catalog.now.tables rows others →
+        AllByRecursion (λ row. In row (rows_of number rows)) within
+        → pairs_within (content_pairs catalog.now.tables rows others) low.now high.now
+        ≡ map (pair_of number (table_at catalog.now.tables number) access) within → found ≡ take limit within) }
 {
     match access {
         Access::Primary => range_rows(alloc, catalog, number, low, high, limit, calls),

@@ -6,7 +6,7 @@ use Rattle.pq_schema.specs.declared.query.Query.{Query}
 use Rattle.pq_schema.specs.declared.table.Access.{Access}
 use Rattle.pq_schema.specs.declared.table.Table.{Table}
 use Rattle.pq_schema.specs.Candidates.{no_limit}
-use Rattle.pq_schema.specs.Costs.{Reached, start, bound, limit_cost}
+use Rattle.pq_schema.specs.Costs.{ReachedCost, start, bound, limit_cost}
 use Rattle.pq_schema.specs.Relations.{relation_at, no_relation}
 use Rattle.pq_schema.specs.Resolved.{IsResolved}
 use Rattle.pq_schema.specs.Sound.{AreMade}
@@ -26,7 +26,7 @@ GivesSome (cut k) = Unit {0}
 GivesSome project = Unit {0}
 
 -- where some relations were read, there are no more inputs than entries
-abbrev IsFew : ℕ → Reached → Type 0
+abbrev IsFew : ℕ → ReachedCost → Type 0
 IsFew count r = (0 < count → r.inputs ≤ r.cost.entries) × (1 ≤ r.inputs)
 
 some_product : (a b : ℕ) → 1 ≤ a → 1 ≤ b → 1 ≤ a * b
@@ -40,7 +40,7 @@ stop_few : (e z k : ℕ) (served : Bool) → 1 ≤ z → k ≤ e + z * k + (cond
 stop_few e z k true low = let more : 1 * k ≤ z * k = mul-le-mul_right k low in omega (arith, more)
 stop_few e z k false low = omega arith
 
-step_few : (count : ℕ) (r : Reached) (node : Node) → GivesSome node → IsFew count r → IsFew (after_node count node) (step r node)
+step_few : (count : ℕ) (r : ReachedCost) (node : Node) → GivesSome node → IsFew count r → IsFew (after_node count node) (step r node)
 step_few count r (lookup rel) some few = let low = few.1 in (λ _. omega arith, omega arith)
 step_few count r (limit_range rel limit n access) some few = (λ _. range_few r.cost.entries r.inputs n (is_primary_access access), some_product r.inputs n few.1 some)
 step_few count r (stop_scan rel k access) some few = (λ _. stop_few r.cost.entries r.inputs k (is_primary_access access) few.1, some)
@@ -49,7 +49,7 @@ step_few count r sort some few = few
 step_few count r (cut k) some few = few
 step_few count r project some few = few
 
-list_few : (list : List Node) (count : ℕ) (r : Reached) → AllByRecursion GivesSome list → IsFew count r → IsFew (after_nodes count list) (fold step r list)
+list_few : (list : List Node) (count : ℕ) (r : ReachedCost) → AllByRecursion GivesSome list → IsFew count r → IsFew (after_nodes count list) (fold step r list)
 list_few [] count r each few = few
 list_few (node ∷ rest) count r each few = list_few rest (after_node count node) (step r node) each.1 (step_few count r node each.0 few)
 

@@ -13,9 +13,9 @@ use Rattle.pq_schema.specs.declared.table.Table.{Table}
 use Rattle.pq_schema.specs.Sound.{IsQuery}
 use Rattle.pq_schema.proofs.Soundness.{resolved_is_query}
 use Rattle.pq_store.specs.Content.{Content}
-use Rattle.pq_store.specs.Counts.{Counts, Allowed, granted, used_of}
+use Rattle.pq_store.specs.Counts.{Counts, AllowedCounts, granted_counts, used_of}
 use Rattle.pq_plan.specs.declared.physical.Physical.{Physical}
-use Rattle.pq_plan.specs.Answer.{Asked, answered, position, selected}
+use Rattle.pq_plan.specs.Answer.{Question, answered, position, selected_values}
 use Rattle.pq_plan.specs.Executing.{Gives}
 use Rattle.pq_plan.specs.Nodes.{nodes, run_of}
 use Rattle.pq_plan.proofs.Choices.{choice_has}
@@ -74,22 +74,22 @@ module _ (tables : List Table) (query : Query) (params : List Value) (cursor : O
   pub all_fit : (combos : List (List (List Value))) → AreRun tables query (nodes tree) combos → AllByRecursion (FitsTables tables query (length query.relations)) combos
   all_fit combos given = subst (λ n. AllByRecursion (FitsTables tables query n) combos) all_read given.fit
 
-  pub plan_answers : (told : Option Content) (combos : List (List (List Value))) (answer : Answer) → RunAnswers told tables query params cursor (nodes tree) combos → answer.rows ≡ map (selected query) combos → IsLastPosition tables query combos answer.last → AnswersQuery told tables query params cursor answer
+  pub plan_answers : (told : Option Content) (combos : List (List (List Value))) (answer : Answer) → RunAnswers told tables query params cursor (nodes tree) combos → answer.rows ≡ map (selected_values query) combos → IsLastPosition tables query combos answer.last → AnswersQuery told tables query params cursor answer
   plan_answers told combos answer run rows_are last_is rows others holds =
-      let q : Asked = record { tables = tables; query = query; rows = rows; params = params } in
+      let q : Question = record { tables = tables; query = query; rows = rows; params = params } in
       let is = plan.plan.1 in
       let gives : Gives q cursor ([] ∷ []) (nodes tree) combos = run rows others holds in
       let found : combos ≡ answered q cursor = run_answers tables query rows params sound holds.keeps.schema cursor plan.plan.0 is.candidate combos (subst (λ list. Gives q cursor ([] ∷ []) list combos) is.built gives) in
       record {
-        rows = rows_are ∙ ap (map (selected query)) found;
+        rows = rows_are ∙ ap (map (selected_values query)) found;
         last = last_is rows params ∙ ap (λ (cs : List (List (List Value))). option_map (position q) (last_of cs)) found;
       }
 
-  pub plan_page : (combos : List (List (List Value))) (answer : Answer) → AreRun tables query (nodes tree) combos → answer.rows ≡ map (selected query) combos → IsLastPosition tables query combos answer.last → (AllByRecursion (FitsTables tables query (length query.relations)) combos → IfSome answer.last (AllFit (position_types tables query))) → IsPage tables query tree answer
+  pub plan_page : (combos : List (List (List Value))) (answer : Answer) → AreRun tables query (nodes tree) combos → answer.rows ≡ map (selected_values query) combos → IsLastPosition tables query combos answer.last → (AllByRecursion (FitsTables tables query (length query.relations)) combos → IfSome answer.last (AllFit (position_types tables query))) → IsPage tables query tree answer
   plan_page combos answer given rows_are last_is fits =
-      let q : Asked = record { tables = tables; query = query; rows = []; params = params } in
+      let q : Question = record { tables = tables; query = query; rows = []; params = params } in
       let at = last_is [] params in
-      let long : length answer.rows ≡ length combos = ap length rows_are ∙ length-map combos (selected query) in
+      let long : length answer.rows ≡ length combos = ap length rows_are ∙ length-map combos (selected_values query) in
       let few = given.few in
       let paid : (run_of (nodes tree)).inputs ≤ (run_of (nodes tree)).cost.entries =
       few_given tables query asked.made asked.resolved (nodes tree) plan.runnable.each
@@ -98,8 +98,8 @@ module _ (tables : List Table) (query : Query) (params : List Value) (cursor : O
       record {
         few = omega arith;
         fit = subst (AllByRecursion (AllFit (selected_types tables query))) (sym rows_are)
-            (each_map (FitsTables tables query (length query.relations)) (AllFit (selected_types tables query)) (selected query) (λ combo all. selected_fits tables query sound asked.resolved combo all) combos (all_fit combos given));
-        none = λ is. rows_are ∙ ap (map (selected query)) (none_last (position q) combos (sym at ∙ is));
+            (each_map (FitsTables tables query (length query.relations)) (AllFit (selected_types tables query)) (selected_values query) (λ combo all. selected_fits tables query sound asked.resolved combo all) combos (all_fit combos given));
+        none = λ is. rows_are ∙ ap (map (selected_values query)) (none_last (position q) combos (sym at ∙ is));
         some = with_last answer.last at (fits (all_fit combos given)) long;
       }
     where
@@ -115,12 +115,12 @@ pub rises_within : (a b : World) (bound : Bound) → Reads a b bound.ops bound.e
 rises_within a b bound reads = record { ops_rise = reads.rise_ops; entries_rise = reads.rise_entries; few_ops = reads.few_ops; few_entries = reads.few_entries }
 
 -- of an allowance that was granted for the plan
-pub rises_by : (a b : World) (o e : ℕ) (used : Used) → Reads a b o e → a.allowed ≡ granted o e → used ≡ used_of b.allowed → RisesBy used a.used b.used
+pub rises_by : (a b : World) (o e : ℕ) (used : Used) → Reads a b o e → a.allowed ≡ granted_counts o e → used ≡ used_of b.allowed → RisesBy used a.used b.used
 rises_by a b o e used reads given is =
-    let left_ops = ap (λ (x : Allowed). x.left.ops) given in
-    let left_entries = ap (λ (x : Allowed). x.left.entries) given in
-    let of_ops = ap (λ (x : Allowed). x.granted.ops) given in
-    let of_entries = ap (λ (x : Allowed). x.granted.entries) given in
+    let left_ops = ap (λ (x : AllowedCounts). x.left.ops) given in
+    let left_entries = ap (λ (x : AllowedCounts). x.left.entries) given in
+    let of_ops = ap (λ (x : AllowedCounts). x.granted.ops) given in
+    let of_entries = ap (λ (x : AllowedCounts). x.granted.entries) given in
     let same_ops = ap (λ (x : Counts). x.ops) reads.granted in
     let same_entries = ap (λ (x : Counts). x.entries) reads.granted in
     let used_ops = ap (λ (u : Used). u.ops) is in
@@ -132,8 +132,8 @@ rises_by a b o e used reads given is =
     record { ops = omega arith; entries = omega arith }
 
 -- what was granted suffices
-pub grant_suffices : (allowed : Allowed) (o e : ℕ) → allowed ≡ granted o e → Affords allowed o e
+pub grant_suffices : (allowed : AllowedCounts) (o e : ℕ) → allowed ≡ granted_counts o e → Affords allowed o e
 grant_suffices allowed o e given =
-    let ops = ap (λ (x : Allowed). x.left.ops) given in
-    let entries = ap (λ (x : Allowed). x.left.entries) given in
+    let ops = ap (λ (x : AllowedCounts). x.left.ops) given in
+    let entries = ap (λ (x : AllowedCounts). x.left.entries) given in
     record { ops_left = omega arith; entries_left = omega arith }

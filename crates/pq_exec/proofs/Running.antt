@@ -4,13 +4,13 @@ use Rattle.std.specs.List.{AllByRecursion}
 use Rattle.std.proofs.lemmas.List.Sums.{fold-append}
 use Rattle.pq_base.specs.declared.number.Bound.{Bound}
 use Rattle.pq_base.specs.declared.value.Value.{Value}
-use Rattle.pq_schema.specs.Costs.{Reached, start, plus}
+use Rattle.pq_schema.specs.Costs.{ReachedCost, start, plus}
 use Rattle.pq_schema.specs.declared.query.Query.{Query}
 use Rattle.pq_schema.specs.declared.table.Table.{Table}
-use Rattle.pq_store.specs.Counts.{Allowed}
+use Rattle.pq_store.specs.Counts.{AllowedCounts}
 use Rattle.pq_store.specs.declared.damage.Broke.{Broke}
 use Rattle.pq_content.specs.Pairs.{HoldsRows}
-use Rattle.pq_plan.specs.Answer.{Asked}
+use Rattle.pq_plan.specs.Answer.{Question}
 use Rattle.pq_plan.specs.Cost.{cost}
 use Rattle.pq_plan.specs.Executing.{Makes, Gives}
 use Rattle.pq_plan.specs.Nodes.{Node, lookup, limit_range, stop_scan, keep, sort, cut, project, nodes, step, run_of}
@@ -49,7 +49,7 @@ rows_after query count (cut k) at whole = sym whole
 rows_after query count project at whole = sym whole
 
 -- what is made of what the nodes before gave
-gives_then : (q : Asked) (cursor : Option (List Value)) (front : List Node) (node : Node) (inputs made found : List (List (List Value))) → Gives q cursor inputs front made → Makes q cursor made node found → Gives q cursor inputs (front ++ node ∷ []) found
+gives_then : (q : Question) (cursor : Option (List Value)) (front : List Node) (node : Node) (inputs made found : List (List (List Value))) → Gives q cursor inputs front made → Makes q cursor made node found → Gives q cursor inputs (front ++ node ∷ []) found
 gives_then q cursor [] node inputs made found given makes = (found, subst (λ i. Makes q cursor i node found) given makes, refl)
 gives_then q cursor (x ∷ front) node inputs made found given makes = (given.0, given.1, gives_then q cursor front node given.0 made found given.2 makes)
 
@@ -80,14 +80,14 @@ module _ (tables : List Table) (query : Query) (tree input : Physical) (over : n
   abbrev node : Node
   node = top_node tree
 
-  abbrev reached : Reached
+  abbrev reached : ReachedCost
   reached = run_of (nodes input)
 
   parts : IsRunnable tables query (cost tree) (nodes input) × IsRunnableNode tables query (cost tree) (nodes input) node
   parts = runnable_split tables query (cost tree) (nodes input) node (subst (IsRunnable tables query (cost tree)) over runnable)
 
   input_cost : (run_of (nodes input)).cost ≡ cost input
-  input_cost = ap (λ (r : Reached). r.cost) (sym (reach_nodes input))
+  input_cost = ap (λ (r : ReachedCost). r.cost) (sym (reach_nodes input))
 
   pub input_smaller : length (nodes input) < length (nodes tree)
   input_smaller =
@@ -109,7 +109,7 @@ module _ (tables : List Table) (query : Query) (tree input : Physical) (over : n
   input_paid : IsAtMost (cost input) (cost tree)
   input_paid = subst (λ (b : Bound). IsAtMost b (cost tree)) input_cost parts.0.paid
 
-  pub input_share : (allowed : Allowed) → Affords allowed (cost tree).ops (cost tree).entries → Affords allowed (cost input).ops (cost input).entries
+  pub input_share : (allowed : AllowedCounts) → Affords allowed (cost tree).ops (cost tree).entries → Affords allowed (cost input).ops (cost input).entries
   input_share allowed left =
       let paid = input_paid in
       let ops = paid.ops in
@@ -160,7 +160,7 @@ module _ (tables : List Table) (query : Query) (tree input : Physical) (over : n
       let small : length found ≤ (step reached node).inputs = omega arith in
       let rows : rows_behind query node ≡ after_nodes 0 (nodes input ++ node ∷ []) = rows_after query (after_nodes 0 (nodes input)) node parts.1.stands parts.1.whole ∙ sym (fold-append after_node 0 (nodes input) (node ∷ [])) in
       subst (λ list. AreRun tables query list found) (sym over) (record {
-        few = subst (λ (r : Reached). length found ≤ r.inputs) (sym last) small;
+        few = subst (λ (r : ReachedCost). length found ≤ r.inputs) (sym last) small;
         fit = subst (λ n. AllByRecursion (FitsTables tables query n) found) rows given.fit;
         unit = λ none. absurd (some_nodes none);
       })
@@ -173,7 +173,7 @@ module _ (tables : List Table) (query : Query) (tree input : Physical) (over : n
 
   pub tree_answers : (params : List Value) (cursor : Option (List Value)) (a b : World) (o e : ℕ) (inputs found : List (List (List Value))) → Reads a b o e → RunAnswers a.told tables query params cursor (nodes input) inputs → Answers b.told tables query params cursor inputs node found → RunAnswers a.told tables query params cursor (nodes tree) found
   tree_answers params cursor a b o e inputs found reads first answers rows others holds =
-      let q : Asked = record { tables = tables; query = query; rows = rows; params = params } in
+      let q : Question = record { tables = tables; query = query; rows = rows; params = params } in
       subst (λ list. Gives q cursor ([] ∷ []) list found) (sym over)
       (gives_then q cursor (nodes input) node ([] ∷ []) inputs found (first rows others holds)
       (answers rows others (subst (λ told. HoldsRows told tables rows others) (sym reads.same) holds)))

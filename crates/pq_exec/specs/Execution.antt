@@ -14,7 +14,7 @@ use Rattle.pq_store.specs.Counts.{Counts}
 use Rattle.pq_content.specs.Pairs.{Pair, HoldsRows}
 use Rattle.pq_plan.specs.declared.physical.Physical.{Physical}
 use Rattle.pq_plan.specs.declared.physical.Physical.TheVariants as tree
-use Rattle.pq_plan.specs.Answer.{Asked, answer, answered, first_past, past, position}
+use Rattle.pq_plan.specs.Answer.{Question, answer, answered, first_past, past, position}
 use Rattle.pq_plan.specs.Cost.{cost}
 use Rattle.pq_plan.specs.Executing.{Gives}
 use Rattle.pq_plan.specs.Nodes.{Node, lookup, limit_range, stop_scan, keep, sort, cut, project, nodes, run_of}
@@ -109,14 +109,14 @@ last_of (x ∷ y ∷ rest) = last_of (y ∷ rest)
 abbrev pub IsLastPosition : List Table → Query → List (List (List Value)) → Option (List Value) → Type 0
 IsLastPosition tables query combos last =
     (rows : Rows) (params : List Value) →
-    let q : Asked = record { tables = tables; query = query; rows = rows; params = params } in
+    let q : Question = record { tables = tables; query = query; rows = rows; params = params } in
     last ≡ option_map (position q) (last_of combos)
 
 -- the rows are those of the query's answer, and the position is that of the last combination, where there is one
 pub record IsAnswer (tables : List Table) (query : Query) (held : Rows) (params : List Value)
     (after : Option (List Value)) (result : Answer) : Type 0 where
   pub rows : result.rows ≡ answer tables query held params after
-  pub last : let q : Asked = record { tables = tables; query = query; rows = held; params = params } in
+  pub last : let q : Question = record { tables = tables; query = query; rows = held; params = params } in
       result.last ≡ option_map (position q) (last_of (answered q after))
 
 -- over a content that holds rows, it is the answer over these

@@ -5,7 +5,7 @@ use Rattle.std.proofs.lemmas.List.{length-map}
 use Rattle.std.proofs.lemmas.List.FromFn.{length-map-range_with_len}
 use Rattle.std.proofs.lemmas.Option.{slice_get_past}
 use Rattle.std.specs.List.{range_with_len, slice_get}
-use Rattle.pq_fill.specs.Script.{below, definitions, users, followed, sub, subs, thought, thoughts, runs, items, fill_script, fill_kinds, item_text, kind_of}
+use Rattle.pq_fill.specs.Script.{below, definitions, users, followed_user, sub, subs, thought, thoughts, runs, items, fill_script, fill_kinds, item_text, kind_of}
 use Rattle.pq_fill.specs.declared.item.Item.TheVariants as item
 
 -- ---- a list behind another
@@ -102,11 +102,11 @@ flat_long f k each a (suc n) =
 users_long : (n : ℕ) → length (users n) ≡ n
 users_long n = length-map-range_with_len (λ i. item.User i) 0 n
 
-subs_of_each : (n i : ℕ) → length (subs n i) ≡ followed n
-subs_of_each n i = length-map-range_with_len (sub n i) 1 (followed n)
+subs_of_each : (n i : ℕ) → length (subs n i) ≡ followed_user n
+subs_of_each n i = length-map-range_with_len (sub n i) 1 (followed_user n)
 
-subs_long : (n : ℕ) → length (flat_map (subs n) (below n)) ≡ n * followed n
-subs_long n = flat_long (subs n) (followed n) (subs_of_each n) 0 n
+subs_long : (n : ℕ) → length (flat_map (subs n) (below n)) ≡ n * followed_user n
+subs_long n = flat_long (subs n) (followed_user n) (subs_of_each n) 0 n
 
 thoughts_of_round : (n t : ℕ) → length (thoughts n t) ≡ n
 thoughts_of_round n t = length-map-range_with_len (thought n t) 0 n
@@ -117,7 +117,7 @@ thoughts_long n = flat_long (thoughts n) n (thoughts_of_round n) 0 5
 runs_long : (n : ℕ) → length (runs n) ≡ n
 runs_long n = length-map-range_with_len (λ i. item.Run i) 0 n
 
-pub script_long : (n : ℕ) → length (items n) ≡ 4 + n + n * followed n + 5 * n + n
+pub script_long : (n : ℕ) → length (items n) ≡ 4 + n + n * followed_user n + 5 * n + n
 unfolding items
 script_long n =
     let whole = five_long definitions (users n) (flat_map (subs n) (below n)) (flat_map (thoughts n) (below 5)) (runs n) in
@@ -126,7 +126,7 @@ script_long n =
     counted : {a b c d x y : ℕ} → a ≡ n → b ≡ x → c ≡ y → d ≡ n → 4 + a + b + c + d ≡ 4 + n + x + y + n
     counted p q r s = omega (arith, p, q, r, s)
 
-pub statements_long : (n : ℕ) → length (fill_script n) ≡ 4 + n + n * followed n + 5 * n + n
+pub statements_long : (n : ℕ) → length (fill_script n) ≡ 4 + n + n * followed_user n + 5 * n + n
 statements_long n = length-map (items n) item_text ∙ script_long n
 
 pub kinds_long : (n : ℕ) → length (fill_kinds n) ≡ length (fill_script n)
@@ -146,22 +146,22 @@ at_user n i p e h =
     ∙ at_each (λ i. item.User i) 0 n p h
     ∙ ap (λ k. Some (item.User k)) (omega arith)
 
-pub at_sub : (n i p : ℕ) → i ≡ 4 + n + p → p < n * followed n → slice_get (items n) i ≡ Some (sub n (p / followed n) (p % followed n + 1))
+pub at_sub : (n i p : ℕ) → i ≡ 4 + n + p → p < n * followed_user n → slice_get (items n) i ≡ Some (sub n (p / followed_user n) (p % followed_user n + 1))
 unfolding items
 at_sub n i p e h =
     let first = users_long n in
     let long = subs_long n in
-    let less : p % followed n < followed n = remainder n (followed n) p h in
+    let less : p % followed_user n < followed_user n = remainder n (followed_user n) p h in
     in_3rd definitions (users n) (flat_map (subs n) (below n)) (flat_map (thoughts n) (below 5)) (runs n) i p (omega (arith, e, first)) (omega (arith, h, long))
-    ∙ at_flat_place (subs n) (followed n) (subs_of_each n) n p h
-    ∙ at_each (sub n (p / followed n)) 1 (followed n) (p % followed n) less
-    ∙ ap (λ j. Some (sub n (p / followed n) j)) (omega arith)
+    ∙ at_flat_place (subs n) (followed_user n) (subs_of_each n) n p h
+    ∙ at_each (sub n (p / followed_user n)) 1 (followed_user n) (p % followed_user n) less
+    ∙ ap (λ j. Some (sub n (p / followed_user n) j)) (omega arith)
   where
     remainder : (n k p : ℕ) → p < n * k → p % k < k
     remainder n zero p h = absurd (omega arith)
     remainder n (suc k) p h = omega arith
 
-pub at_thought : (n i p : ℕ) → 1 ≤ n → i ≡ 4 + n + n * followed n + p → p < 5 * n → slice_get (items n) i ≡ Some (item.Thought (p % n) p)
+pub at_thought : (n i p : ℕ) → 1 ≤ n → i ≡ 4 + n + n * followed_user n + p → p < 5 * n → slice_get (items n) i ≡ Some (item.Thought (p % n) p)
 unfolding items
 at_thought n i p some e h =
     let first = users_long n in
@@ -176,7 +176,7 @@ at_thought n i p some e h =
     ∙ ap (λ time. Some (item.Thought (0 + p % n) time)) whole
     ∙ ap (λ owner. Some (item.Thought owner p)) here
 
-pub at_run : (n i p : ℕ) → i ≡ 4 + n + n * followed n + 5 * n + p → p < n → slice_get (items n) i ≡ Some (item.Run p)
+pub at_run : (n i p : ℕ) → i ≡ 4 + n + n * followed_user n + 5 * n + p → p < n → slice_get (items n) i ≡ Some (item.Run p)
 unfolding items
 at_run n i p e h =
     let first = users_long n in
@@ -186,7 +186,7 @@ at_run n i p e h =
     ∙ at_each (λ i. item.Run i) 0 n p h
     ∙ ap (λ k. Some (item.Run k)) (omega arith)
 
-pub past_end : (n i : ℕ) → 4 + n + n * followed n + 5 * n + n ≤ i → slice_get (items n) i ≡ None
+pub past_end : (n i : ℕ) → 4 + n + n * followed_user n + 5 * n + n ≤ i → slice_get (items n) i ≡ None
 past_end n i h =
     let long = script_long n in
     slice_get_past (items n) i (omega (arith, long))

@@ -2,14 +2,14 @@
 use Rattle.std.specs.Prelude.{◌≡◌, ℕ, ◌+◌, ◌*◌, ◌≤◌, List, [], ◌∷◌, ◌++◌, length, sum_by, Some}
 use Rattle.pq_print.specs.declared.report.Opened.{Opened}
 use Rattle.pq_print.specs.declared.report.Report.{Report}
-use Rattle.pq_fill.specs.Script.{followed, fill_script, fill_kinds, fill_kind}
+use Rattle.pq_fill.specs.Script.{followed_user, fill_script, fill_kinds, fill_kind}
 use Rattle.pq_fill.specs.Summary.{no_reports, with_report, summary_of}
 use Rattle.pq_fill.specs.declared.item.Kind.{Kind}
 use Rattle.pq_fill.specs.declared.numbers.Numbers.{Numbers}
 
 -- four definitions, and for each user one INSERT, those of the subscriptions, five of thoughts, and one RUN
 abbrev pub HasStatements : ℕ → Type 0
-HasStatements n = length (fill_script n) ≡ 4 + n + n * followed n + 5 * n + n
+HasStatements n = length (fill_script n) ≡ 4 + n + n * followed_user n + 5 * n + n
 
 -- each statement has one kind
 abbrev pub HasKinds : ℕ → Type 0

@@ -28,8 +28,8 @@ abbrev pub runs : ℕ → List Item
 runs n = map (λ i. item.Run i) (below n)
 
 -- to how many others a user subscribes: five, or all where there are fewer
-abbrev pub followed : ℕ → ℕ
-followed n = min 5 (n - 1)
+abbrev pub followed_user : ℕ → ℕ
+followed_user n = min 5 (n - 1)
 
 -- the subscription of a user to the j-th behind him, in a circle; the third isn't approved
 abbrev pub sub : ℕ → ℕ → ℕ → Item
@@ -37,7 +37,7 @@ sub n i j = item.Sub i ((i + j) % n) (not (j == 3))
 
 -- the subscriptions of a user
 abbrev pub subs : ℕ → ℕ → List Item
-subs n i = map (sub n i) (range_with_len 1 (followed n))
+subs n i = map (sub n i) (range_with_len 1 (followed_user n))
 
 -- the thought of a user in a round
 abbrev pub thought : ℕ → ℕ → ℕ → Item
@@ -77,9 +77,12 @@ insert_into table i = codes "INSERT INTO " ++ table ++ codes " VALUES (" ++ quot
 
 abbrev pub definition_text : Definition → List ℕ
 definition_text definition.Users = codes "CREATE TABLE users (name TEXT(16), city TEXT(16), PRIMARY KEY (name));"
-definition_text definition.Subs = codes "CREATE TABLE subs (owner TEXT(16), target TEXT(16), approved BOOL, PRIMARY KEY (owner, target), CARDINALITY LIMIT 100 (owner), FOREIGN KEY (owner) REFERENCES users, FOREIGN KEY (target) REFERENCES users);"
-definition_text definition.Thoughts = codes "CREATE TABLE thoughts (owner TEXT(16), ts INT, body TEXT(140), PRIMARY KEY (owner, ts), FOREIGN KEY (owner) REFERENCES users);"
-definition_text definition.Home = codes "PREPARE home AS SELECT t.owner, t.ts, t.body FROM subs s, thoughts t WHERE s.owner = [1: uname] AND s.approved = true AND t.owner = s.target ORDER BY t.ts DESC LIMIT 10;"
+definition_text definition.Subs =
+    codes "CREATE TABLE subs (owner TEXT(16), target TEXT(16), approved BOOL, PRIMARY KEY (owner, target), CARDINALITY LIMIT 100 (owner), FOREIGN KEY (owner) REFERENCES users, FOREIGN KEY (target) REFERENCES users);"
+definition_text definition.Thoughts =
+    codes "CREATE TABLE thoughts (owner TEXT(16), ts INT, body TEXT(140), PRIMARY KEY (owner, ts), FOREIGN KEY (owner) REFERENCES users);"
+definition_text definition.Home =
+    codes "PREPARE home AS SELECT t.owner, t.ts, t.body FROM subs s, thoughts t WHERE s.owner = [1: uname] AND s.approved = true AND t.owner = s.target ORDER BY t.ts DESC LIMIT 10;"
 
 abbrev pub bool_text : Bool → List ℕ
 bool_text true = codes "true"

@@ -43,14 +43,14 @@ abbrev pub greater_used : Used → Used → Used
 greater_used a b = record { ops = max a.ops b.ops; entries = max a.entries b.entries }
 
 -- how many rows are answered
-abbrev pub counted : End → ℕ
-counted end.Done = 0
-counted (end.Rows count next) = count
-counted (end.Refused why) = 0
+abbrev pub end_count : End → ℕ
+end_count end.Done = 0
+end_count (end.Rows count next) = count
+end_count (end.Refused why) = 0
 
 -- the rows that are answered: a report of rows has no other lines, so they are its first ones, as many as it counts
-abbrev pub answered : Report → List Line
-answered report = take (counted report.end) report.lines
+abbrev pub answer_lines : Report → List Line
+answer_lines report = take (end_count report.end) report.lines
 
 abbrev pub number_in : Value → ℤ
 number_in (value.Int n) = n
@@ -76,8 +76,8 @@ sum_of lines = fold (λ so_far item. so_far +ℤ line_number item) (pos 0) lines
 abbrev pub with_run : Report → Numbers → Numbers
 with_run report s = record s {
   runs = s.runs + 1;
-  rows = s.rows + counted report.end;
-  sum = s.sum +ℤ sum_of (answered report);
+  rows = s.rows + end_count report.end;
+  sum = s.sum +ℤ sum_of (answer_lines report);
   home = report.bound;
 }
 

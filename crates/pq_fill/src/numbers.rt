@@ -2,7 +2,7 @@
 ghost use Rattle.std.specs.Prelude.{ℕ, ◌≡◌, ◌≤◌, ◌<◌, ◌+◌, ◌^◌, length, List};
 ghost use Rattle.pq_print.specs.Report.{is_refusal};
 ghost use Rattle.pq_fill.specs.Summary.{no_reports, with_run, with_accepted, with_outcome, with_most, with_report};
-ghost use Rattle.pq_fill.specs.Summary.{counted, answered, second_number, line_number, sum_of, plus_used, greater_used};
+ghost use Rattle.pq_fill.specs.Summary.{end_count, answer_lines, second_number, line_number, sum_of, plus_used, greater_used};
 ghost use Rattle.pq_fill.specs.Summary.{IsShared, AreCounted, IsTotalOf, AreWithin};
 
 use crate::item::Kind;
@@ -41,7 +41,7 @@ pub struct Numbers {
 
 /// How many rows are answered.
 fn counted(end: &End) -> u32
-    ensures { result ≡ counted end.now }
+    ensures { result ≡ end_count end.now }
 {
     match end {
         End::Done | End::Refused(_) => 0,
@@ -52,7 +52,7 @@ fn counted(end: &End) -> u32
 #[tactic(auto, using(std::proofs::lemmas::List::take_min))]
 /// The rows that a report answers: its first lines, as many as it counts.
 fn answered(report: &Report) -> &[Line]
-    ensures lines { result.now ≡ answered report.now }
+    ensures lines { result.now ≡ answer_lines report.now }
     ensures few { length result.now < 2 ^ 32 }
 {
     let lines = report.lines.items();

@@ -2,7 +2,7 @@
 //!
 //! Places are counted from 0. Each is found by its number alone: no list of statements is made.
 ghost use Rattle.std.specs.Prelude.{◌≡◌, ◌≤◌, ◌<◌, ◌*◌, ◌-◌, ◌+◌, ◌^◌, length, slice_get, Some, IfOk};
-ghost use Rattle.pq_fill.specs.Script.{definitions, followed, sub, items, item_text, fill_script, fill_kinds, fill_statement, fill_kind};
+ghost use Rattle.pq_fill.specs.Script.{definitions, followed_user, sub, items, item_text, fill_script, fill_kinds, fill_statement, fill_kind};
 
 use crate::item::{Definition, Item, Kind};
 use crate::text::put_item;
@@ -12,7 +12,7 @@ use std::alloc::Global;
 /// To how many others each of so many users subscribes: five, or all where there are fewer.
 fn followed(users: u32) -> u32
     requires { 1 ≤ users }
-    ensures { result ≡ followed users }
+    ensures { result ≡ followed_user users }
 {
     (users - 1).min(5)
 }

@@ -1,6 +1,6 @@
 -- Readers of one set or another, of lists that may be empty, and of what a function makes.
 use Rattle.std.proofs.Common.{◌≡◌, ℕ, Bool, true, false, cond, List, [], ◌∷◌, ◌++◌, Option, Some, None, Result, Ok, Err, ◌⊎◌, inl, inr, refl, ap, ◌∙◌}
-use Rattle.pq_grammar.specs.Language.{◌⋅◌, one, optional, separated, listed, made, one_or_other}
+use Rattle.pq_grammar.specs.Language.{◌⋅◌, one, optional, separated_by, listed_by, made_from, one_or_other}
 use Rattle.pq_grammar.specs.Reader.{◌>>=◌, Reader, begins, test_of, test_at, map_at, either_at, choice_at, option_at, separated_at, items_of, listed_at}
 use Rattle.pq_grammar.proofs.Steps.{Reads, never, first_of_list, begins-append}
 use Rattle.pq_grammar.proofs.Readers.{read, one_reads, same_reads, map_reads}
@@ -46,8 +46,8 @@ not_second p q (t ∷ rest) e = (neither (p t) (q t) e).1
 
 -- ---- what a function makes
 
-pub made_reads : {T A B : Type 0} (f : A → B) (S : A → List T → Type 0) (m : T → Bool) (r : Reader T A) → Reads S m r → Reads (made f S) m (map_at f r)
-made_reads f S m r h = map_reads S (made f S) m f r h (λ x w s. (x, refl, s)) (λ y w s. s)
+pub made_reads : {T A B : Type 0} (f : A → B) (S : A → List T → Type 0) (m : T → Bool) (r : Reader T A) → Reads S m r → Reads (made_from f S) m (map_at f r)
+made_reads f S m r h = map_reads S (made_from f S) m f r h (λ x w s. (x, refl, s)) (λ y w s. s)
 
 -- ---- a choice by the first token
 
@@ -84,21 +84,21 @@ choice_reads {T} {A} S U p r s m h k opens shuts =
 
 -- ---- none or more, with a list of B between them
 
-pub separated_opens : {T X : Type 0} (o : T → Bool) (B : List T → Type 0) (S : X → List T → Type 0) → ((x : X) (w : List T) → S x w → begins o w ≡ true) → (xs : List X) (w : List T) → separated B S xs w → begins o w ≡ true
+pub separated_opens : {T X : Type 0} (o : T → Bool) (B : List T → Type 0) (S : X → List T → Type 0) → ((x : X) (w : List T) → S x w → begins o w ≡ true) → (xs : List X) (w : List T) → separated_by B S xs w → begins o w ≡ true
 separated_opens o B S opens [] w h = absurd h
 separated_opens o B S opens (x ∷ xs) w h = ap (begins o) h.parts ∙ begins-append o h.front h.back (opens x h.front h.fits_front)
 
-listed_to : {T X : Type 0} (B : List T → Type 0) (S : X → List T → Type 0) (x : Option (List X)) (w : List T) → optional (separated B S) x w → listed B S (items_of x) w
+listed_to : {T X : Type 0} (B : List T → Type 0) (S : X → List T → Type 0) (x : Option (List X)) (w : List T) → optional (separated_by B S) x w → listed_by B S (items_of x) w
 listed_to B S None w h = h
 listed_to B S (Some []) w h = absurd h
 listed_to B S (Some (x ∷ xs)) w h = h
 
-listed_from : {T X : Type 0} (B : List T → Type 0) (S : X → List T → Type 0) (y : List X) (w : List T) → listed B S y w → (x : Option (List X)) × (items_of x ≡ y) × optional (separated B S) x w
+listed_from : {T X : Type 0} (B : List T → Type 0) (S : X → List T → Type 0) (y : List X) (w : List T) → listed_by B S y w → (x : Option (List X)) × (items_of x ≡ y) × optional (separated_by B S) x w
 listed_from B S [] w h = (None, refl, h)
 listed_from B S (x ∷ xs) w h = (Some (x ∷ xs), refl, h)
 
-pub listed_reads : {T X : Type 0} (B : List T → Type 0) (S : X → List T → Type 0) (o p g : T → Bool) (s : Reader T (Unit {0})) (r : Reader T X) → Reads (separated B S) g (separated_at p s r)
-    → ((x : X) (w : List T) → S x w → begins o w ≡ true) → ((rest : List T) → begins g rest ≡ false → begins o rest ≡ false) → Reads (listed B S) g (listed_at o p s r)
+pub listed_reads : {T X : Type 0} (B : List T → Type 0) (S : X → List T → Type 0) (o p g : T → Bool) (s : Reader T (Unit {0})) (r : Reader T X) → Reads (separated_by B S) g (separated_at p s r)
+    → ((x : X) (w : List T) → S x w → begins o w ≡ true) → ((rest : List T) → begins g rest ≡ false → begins o rest ≡ false) → Reads (listed_by B S) g (listed_at o p s r)
 listed_reads B S o p g s r h opens shuts =
-    map_reads (optional (separated B S)) (listed B S) g items_of (option_at o (separated_at p s r))
-    (option_reads (separated B S) o g (separated_at p s r) h (separated_opens o B S opens) shuts) (listed_to B S) (listed_from B S)
+    map_reads (optional (separated_by B S)) (listed_by B S) g items_of (option_at o (separated_at p s r))
+    (option_reads (separated_by B S) o g (separated_at p s r) h (separated_opens o B S opens) shuts) (listed_to B S) (listed_from B S)

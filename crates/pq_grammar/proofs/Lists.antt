@@ -1,6 +1,6 @@
 -- Readers of lists with separators, and the conditions that most parts meet by their first token.
 use Rattle.std.proofs.Common.{◌≡◌, Bool, true, false, List, [], ◌∷◌, ◌++◌, refl, sym, ap, ◌∙◌, append_assoc}
-use Rattle.pq_grammar.specs.Language.{◌⋅◌, one, each, separated}
+use Rattle.pq_grammar.specs.Language.{◌⋅◌, one, each, separated_by}
 use Rattle.pq_grammar.specs.Reader.{Reader, begins, pair_at, skip_at, close_at, many_at, separated_at, ended_at}
 use Rattle.std.proofs.lemmas.List.{append-nil}
 use Rattle.pq_grammar.proofs.Steps.{Reads, never, begins-never, begins-append}
@@ -68,7 +68,7 @@ ungroup {T} A B C w h =
 
 -- ---- one or more, with a list of B between them
 
-separated_from : {T X : Type 0} (B : List T → Type 0) (S : X → List T → Type 0) (y : List X) (w : List T) → separated B S y w → (x : X × List X) × (x.0 ∷ x.1 ≡ y) × (S x.0 ⋅ each (λ z. B ⋅ S z) x.1) w
+separated_from : {T X : Type 0} (B : List T → Type 0) (S : X → List T → Type 0) (y : List X) (w : List T) → separated_by B S y w → (x : X × List X) × (x.0 ∷ x.1 ≡ y) × (S x.0 ⋅ each (λ z. B ⋅ S z) x.1) w
 separated_from B S [] w h = absurd h
 separated_from B S (x ∷ xs) w h = ((x, xs), refl, h)
 
@@ -78,10 +78,10 @@ front_opens p B C opens w h = ap (begins p) h.parts ∙ begins-append p h.front 
 
 pub separated_reads : {T X : Type 0} (B : List T → Type 0) (S : X → List T → Type 0) (p m g : T → Bool) (s : Reader T (Unit {0})) (r : Reader T X) → Reads (λ _. B) never s → Reads S m r
     → ((w : List T) → B w → begins p w ≡ true) → ((u : T) → p u ≡ true → m u ≡ false) → ((rest : List T) → begins g rest ≡ false → begins m rest ≡ false) → ((rest : List T) → begins g rest ≡ false → begins p rest ≡ false)
-    → Reads (separated B S) g (separated_at p s r)
+    → Reads (separated_by B S) g (separated_at p s r)
 separated_reads {T} {X} B S p m g s r q h is apart to_m to_p =
     let opens : (x : X) (w : List T) → (B ⋅ S x) w → begins p w ≡ true = λ x w. front_opens p B (S x) is w in
-    map_reads (λ (x : X × List X). S x.0 ⋅ each (λ y. B ⋅ S y) x.1) (separated B S) g (λ x. x.0 ∷ x.1) (pair_at r (many_at p (skip_at s r)))
+    map_reads (λ (x : X × List X). S x.0 ⋅ each (λ y. B ⋅ S y) x.1) (separated_by B S) g (λ x. x.0 ∷ x.1) (pair_at r (many_at p (skip_at s r)))
     (pair_reads S (each (λ y. B ⋅ S y)) m g r (many_at p (skip_at s r)) h
     (many_reads (λ y. B ⋅ S y) p m g (skip_at s r) (skip_free (B) S m s r q h) opens apart to_m to_p)
     (λ xs v rest u e. many_apart (λ y. B ⋅ S y) p m opens apart xs v rest u (to_m rest e)))
@@ -89,7 +89,7 @@ separated_reads {T} {X} B S p m g s r q h is apart to_m to_p =
 
 -- ---- one or more with a list of B behind each are one or more with a list of B between them, and one at the end
 
-shift_to : {T X : Type 0} (B : List T → Type 0) (S : X → List T → Type 0) (x : X) (xs : List X) (w : List T) → ((S x ⋅ B) ⋅ each (λ y. S y ⋅ B) xs) w → (separated B S (x ∷ xs) ⋅ B) w
+shift_to : {T X : Type 0} (B : List T → Type 0) (S : X → List T → Type 0) (x : X) (xs : List X) (w : List T) → ((S x ⋅ B) ⋅ each (λ y. S y ⋅ B) xs) w → (separated_by B S (x ∷ xs) ⋅ B) w
 shift_to {T} B S x [] w h =
     let i = h.fits_front in
     record {
@@ -119,7 +119,7 @@ shift_to {T} B S x (y ∷ xs) w h =
       parts = h.parts ∙ ap (λ (v : List T). v ++ h.back) i.parts ∙ ap (λ (v : List T). (i.front ++ i.back) ++ v) (j.parts ∙ ap (λ (v : List T). v ++ j.back) k.parts) ∙ simp append_assoc;
     }
 
-shift_from : {T X : Type 0} (B : List T → Type 0) (S : X → List T → Type 0) (x : X) (xs : List X) (w : List T) → (separated B S (x ∷ xs) ⋅ B) w → ((S x ⋅ B) ⋅ each (λ y. S y ⋅ B) xs) w
+shift_from : {T X : Type 0} (B : List T → Type 0) (S : X → List T → Type 0) (x : X) (xs : List X) (w : List T) → (separated_by B S (x ∷ xs) ⋅ B) w → ((S x ⋅ B) ⋅ each (λ y. S y ⋅ B) xs) w
 shift_from {T} B S x [] w h =
     let i = h.fits_front in
     record {
@@ -143,7 +143,7 @@ shift_from {T} B S x (y ∷ xs) w h =
       parts = h.parts ∙ ap (λ (v : List T). v ++ h.back) (i.parts ∙ ap (λ (v : List T). i.front ++ v) (k.parts ∙ ap (λ (v : List T). v ++ k.back) l.parts)) ∙ simp append_assoc;
     }
 
-ended_from : {T X : Type 0} (B : List T → Type 0) (S : X → List T → Type 0) (y : List X) (w : List T) → (separated B S y ⋅ B) w → (x : X × List X) × (x.0 ∷ x.1 ≡ y) × ((S x.0 ⋅ B) ⋅ each (λ z. S z ⋅ B) x.1) w
+ended_from : {T X : Type 0} (B : List T → Type 0) (S : X → List T → Type 0) (y : List X) (w : List T) → (separated_by B S y ⋅ B) w → (x : X × List X) × (x.0 ∷ x.1 ≡ y) × ((S x.0 ⋅ B) ⋅ each (λ z. S z ⋅ B) x.1) w
 ended_from B S [] w h = absurd h.fits_front
 ended_from B S (x ∷ xs) w h = ((x, xs), refl, shift_from B S x xs w h)
 
@@ -151,9 +151,9 @@ pub closed_opens : {T X : Type 0} (p : T → Bool) (S : X → List T → Type 0)
 closed_opens p S B opens x w h = ap (begins p) h.parts ∙ begins-append p h.front h.back (opens x h.front h.fits_front)
 
 pub ended_reads : {T X : Type 0} (B : List T → Type 0) (S : X → List T → Type 0) (p : T → Bool) (s : Reader T (Unit {0})) (r : Reader T X) → Reads (λ _. B) never s → Reads S never r
-    → ((x : X) (w : List T) → S x w → begins p w ≡ true) → Reads (λ xs. separated B S xs ⋅ B) p (ended_at p s r)
+    → ((x : X) (w : List T) → S x w → begins p w ≡ true) → Reads (λ xs. separated_by B S xs ⋅ B) p (ended_at p s r)
 ended_reads {T} {X} B S p s r q h opens =
-    map_reads (λ (x : X × List X). (S x.0 ⋅ B) ⋅ each (λ y. S y ⋅ B) x.1) (λ xs. separated B S xs ⋅ B) p (λ x. x.0 ∷ x.1) (pair_at (close_at r s) (many_at p (close_at r s)))
+    map_reads (λ (x : X × List X). (S x.0 ⋅ B) ⋅ each (λ y. S y ⋅ B) x.1) (λ xs. separated_by B S xs ⋅ B) p (λ x. x.0 ∷ x.1) (pair_at (close_at r s) (many_at p (close_at r s)))
     (pair_free (λ y. S y ⋅ B) (each (λ y. S y ⋅ B)) p (close_at r s) (many_at p (close_at r s)) (close_free S (B) never r s h q)
     (many_reads (λ y. S y ⋅ B) p never p (close_at r s) (close_free S (B) never r s h q) (closed_opens p S (B) opens) (λ u e. refl) (λ rest e. begins-never rest) (λ rest e. e)))
     (λ x w h. shift_to B S x.0 x.1 w h) (ended_from B S)

@@ -1,23 +1,23 @@
 -- One token, two parts and another value: the ways to join readers keep what they do.
 use Rattle.std.proofs.Common.{◌≡◌, ℕ, suc, Bool, false, List, [], ◌∷◌, ◌++◌, length, Option, Some, None, Result, Ok, Err, inl, inr, refl, sym, ap, subst, ◌∙◌, append_assoc}
 use Rattle.pq_grammar.specs.Language.{◌⋅◌, one}
-use Rattle.pq_grammar.specs.Reader.{◌>>=◌, Reader, begins, picked, token_at, pair_at, skip_at, close_at, map_at}
+use Rattle.pq_grammar.specs.Reader.{◌>>=◌, Reader, begins, picked_token, token_at, pair_at, skip_at, close_at, map_at}
 use Rattle.pq_grammar.proofs.Steps.{bind_ok, bind_err, done, ok_is, err_is, first_of_list, first-append, never, Found, Stuck, Reads}
 
 -- ---- one token
 
 one_found : {T X : Type 0} (f : T → Option X) (make : X → T) → ((t : T) (x : X) → f t ≡ Some x → t ≡ make x)
-    → (o : Option X) (t : T) (ts : List T) (x : X) (rest : List T) → f t ≡ o → picked o ts ≡ Ok (x, rest) → Found (λ y. one (make y)) (token_at f) (t ∷ ts) x rest
+    → (o : Option X) (t : T) (ts : List T) (x : X) (rest : List T) → f t ≡ o → picked_token o ts ≡ Ok (x, rest) → Found (λ y. one (make y)) (token_at f) (t ∷ ts) x rest
 one_found f make back None t ts x rest is e = absurd cc
 one_found {T} {X} f make back (Some y) t ts x rest is e =
     let h : y ≡ x = ap (λ (q : X × List T). q.0) (ok_is (y, ts) (x, rest) e) in
     let k : ts ≡ rest = ap (λ (q : X × List T). q.1) (ok_is (y, ts) (x, rest) e) in
     let n : f t ≡ Some x = is ∙ ap (λ (v : X). Some v) h in
     let m : t ≡ make x = back t x n in
-    record { front = make x ∷ []; spells = refl; parts = cc; kept = λ b same. ap (λ (o : Option X). picked o b) (ap f (sym m) ∙ n) }
+    record { front = make x ∷ []; spells = refl; parts = cc; kept = λ b same. ap (λ (o : Option X). picked_token o b) (ap f (sym m) ∙ n) }
 
 one_stuck : {T X : Type 0} (f : T → Option X) (make : X → T) (some : X)
-    → (o : Option X) (t : T) (ts : List T) (n : ℕ) → f t ≡ o → picked o ts ≡ Err n → Stuck (λ y. one (make y)) (token_at f) (t ∷ ts) n
+    → (o : Option X) (t : T) (ts : List T) (n : ℕ) → f t ≡ o → picked_token o ts ≡ Err n → Stuck (λ y. one (make y)) (token_at f) (t ∷ ts) n
 one_stuck f make some (Some y) t ts n is e = absurd cc
 one_stuck {T} {X} f make some None t ts n is e =
     record {
@@ -33,7 +33,7 @@ one_stuck {T} {X} f make some None t ts n is e =
   where
     stays : {T X : Type 0} (f : T → Option X) (t : T) (ts : List T) → f t ≡ None → (b : List T) → first_of_list b ≡ first_of_list (t ∷ ts) → token_at f b ≡ Err (length b)
     stays f t ts is [] same = absurd cc
-    stays {T} {X} f t ts is (u ∷ b) same = let h : u ≡ t = cc in ap (λ (o : Option X). picked o b) (ap f h ∙ is)
+    stays {T} {X} f t ts is (u ∷ b) same = let h : u ≡ t = cc in ap (λ (o : Option X). picked_token o b) (ap f h ∙ is)
 
 one_reads_found : {T X : Type 0} (f : T → Option X) (make : X → T) → ((t : T) (x : X) → f t ≡ Some x → t ≡ make x) → (ts : List T) (x : X) (rest : List T) → token_at f ts ≡ Ok (x, rest) → Found (λ y. one (make y)) (token_at f) ts x rest
 one_reads_found f make back [] x rest e = absurd cc
@@ -55,7 +55,7 @@ one_reads {T} {X} f make some back forth =
       sample = make some ∷ [];
       sampled = refl;
       found = one_reads_found f make back;
-      only = λ x w rest s e. ap (λ (v : List T). token_at f (v ++ rest)) s ∙ ap (λ (o : Option X). picked o rest) (forth x);
+      only = λ x w rest s e. ap (λ (v : List T). token_at f (v ++ rest)) s ∙ ap (λ (o : Option X). picked_token o rest) (forth x);
       stuck = one_reads_stuck f make some;
     }
 

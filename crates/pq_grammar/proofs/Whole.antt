@@ -2,21 +2,21 @@
 use Rattle.std.proofs.Common.{◌≡◌, ℕ, ◌+◌, ◌-◌, ◌≤◌, ◌<◌, Bool, List, [], ◌∷◌, ◌++◌, length, take, drop, Ok, Err, inl, inr, refl, sym, ap, subst, ◌∙◌, append_assoc, arith, length-append}
 use Rattle.std.proofs.lemmas.List.{append-nil, take-append-le, take-append-drop, take_at}
 use Rattle.pq_grammar.specs.Language.{IsViable, IsFaultPlace}
-use Rattle.pq_grammar.specs.Reader.{Reader, ended, all_at}
+use Rattle.pq_grammar.specs.Reader.{Reader, ended_read, all_at}
 use Rattle.pq_grammar.proofs.Steps.{bind_ok, bind_err, first_of_list, Reads, ok_is}
 
 -- what was read to the end
-ended_ok : {T X : Type 0} (x y : X) (rest : List T) → ended x rest ≡ Ok y → (x ≡ y) × (rest ≡ [])
+ended_ok : {T X : Type 0} (x y : X) (rest : List T) → ended_read x rest ≡ Ok y → (x ≡ y) × (rest ≡ [])
 ended_ok x y [] e = (cc, refl)
 ended_ok x y (t ∷ rest) e = absurd cc
 
-ended_err : {T X : Type 0} (x : X) (rest : List T) (n : ℕ) → ended x rest ≡ Err n → (n ≡ length rest) × (t : T) × (a : List T) × (rest ≡ t ∷ a)
+ended_err : {T X : Type 0} (x : X) (rest : List T) (n : ℕ) → ended_read x rest ≡ Err n → (n ≡ length rest) × (t : T) × (a : List T) × (rest ≡ t ∷ a)
 ended_err x [] n e = absurd cc
 ended_err x (t ∷ rest) n e = (cc, t, rest, refl)
 
 pub whole_found : {T X : Type 0} (S : X → List T → Type 0) (m : T → Bool) (r : Reader T X) → Reads S m r → (ts : List T) (x : X) → all_at r ts ≡ Ok x → S x ts
 whole_found {T} {X} S m r h ts x e =
-    let a = bind_ok (r ts) (λ a. ended a.0 a.1) x e in
+    let a = bind_ok (r ts) (λ a. ended_read a.0 a.1) x e in
     let f = h.found ts a.0.0 a.0.1 a.1 in
     let g = ended_ok a.0.0 x a.0.1 a.2 in
     let whole : f.front ≡ ts = sym (f.parts ∙ ap (λ (v : List T). f.front ++ v) g.1 ∙ append-nil f.front) in
@@ -57,7 +57,7 @@ viable_read S m r h front t more = ap r (sym (append_assoc front (t ∷ []) more
 
 pub whole_place : {T X : Type 0} (S : X → List T → Type 0) (m : T → Bool) (r : Reader T X) → Reads S m r → (ts : List T) (n : ℕ) → all_at r ts ≡ Err n → (n ≤ length ts) × IsFaultPlace S ts (length ts - n)
 whole_place {T} {X} S m r h ts n e =
-    elim (bind_err (r ts) (λ a. ended a.0 a.1) n e) [
+    elim (bind_err (r ts) (λ a. ended_read a.0 a.1) n e) [
       | inl first ↦
           let g = h.stuck ts n first in (
             omega (arith, ap length g.parts, length-append g.front g.rest, g.left),

@@ -36,18 +36,18 @@ abbrev pub anything : {T : Type 0} → List T → Type 0
 anything w = Unit {0}
 
 -- one or more, with a list of the first set between them
-abbrev pub separated : {T X : Type 0} → (List T → Type 0) → (X → List T → Type 0) → List X → List T → Type 0
-separated B S [] w = ⊥
-separated B S (x ∷ xs) w = (S x ⋅ each (λ y. B ⋅ S y) xs) w
+abbrev pub separated_by : {T X : Type 0} → (List T → Type 0) → (X → List T → Type 0) → List X → List T → Type 0
+separated_by B S [] w = ⊥
+separated_by B S (x ∷ xs) w = (S x ⋅ each (λ y. B ⋅ S y) xs) w
 
 -- none, or one or more with a list of the first set between them
-abbrev pub listed : {T X : Type 0} → (List T → Type 0) → (X → List T → Type 0) → List X → List T → Type 0
-listed B S [] = nothing
-listed B S (x ∷ xs) = separated B S (x ∷ xs)
+abbrev pub listed_by : {T X : Type 0} → (List T → Type 0) → (X → List T → Type 0) → List X → List T → Type 0
+listed_by B S [] = nothing
+listed_by B S (x ∷ xs) = separated_by B S (x ∷ xs)
 
 -- what f makes of what a set spells
-abbrev pub made : {T A B : Type 0} → (A → B) → (A → List T → Type 0) → B → List T → Type 0
-made {T} {A} f S y w = (x : A) × (f x ≡ y) × S x w
+abbrev pub made_from : {T A B : Type 0} → (A → B) → (A → List T → Type 0) → B → List T → Type 0
+made_from {T} {A} f S y w = (x : A) × (f x ≡ y) × S x w
 
 -- spelled by one set or by the other
 abbrev pub one_or_other : {T X : Type 0} → (X → List T → Type 0) → (X → List T → Type 0) → X → List T → Type 0

@@ -15,14 +15,14 @@ abbrev pub begins : {T : Type 0} → (T → Bool) → List T → Bool
 begins p [] = false
 begins p (t ∷ ts) = p t
 
-abbrev pub picked : {T X : Type 0} → Option X → List T → Result (X × List T) ℕ
-picked None ts = Err (suc (length ts))
-picked (Some x) ts = Ok (x, ts)
+abbrev pub picked_token : {T X : Type 0} → Option X → List T → Result (X × List T) ℕ
+picked_token None ts = Err (suc (length ts))
+picked_token (Some x) ts = Ok (x, ts)
 
 -- one token, of which f says what it stands for
 abbrev pub token_at : {T X : Type 0} → (T → Option X) → Reader T X
 token_at f [] = Err 0
-token_at f (t ∷ ts) = picked (f t) ts
+token_at f (t ∷ ts) = picked_token (f t) ts
 
 -- a token that passes the test
 abbrev pub test_of : {T : Type 0} → (T → Bool) → T → Option (Unit {0})
@@ -67,7 +67,8 @@ option_at p r ts = if begins p ts then (r ts >>= λ a. Ok (Some a.0, a.1)) else 
 -- as many as come, but no more than n
 unfoldable pub many_within : {T A : Type 0} → ℕ → (T → Bool) → Reader T A → Reader T (List A)
 many_within zero p r ts = Ok ([], ts)
-many_within (suc n) p r ts = if begins p ts then (r ts >>= λ a. many_within n p r a.1 >>= λ b. Ok (a.0 ∷ b.0, b.1)) else Ok ([], ts)
+many_within (suc n) p r ts = if begins p ts
+    then (r ts >>= λ a. many_within n p r a.1 >>= λ b. Ok (a.0 ∷ b.0, b.1)) else Ok ([], ts)
 
 -- as many as come
 abbrev pub many_at : {T A : Type 0} → (T → Bool) → Reader T A → Reader T (List A)
@@ -85,7 +86,8 @@ abbrev pub items_of : {A : Type 0} → Option (List A) → List A
 items_of None = []
 items_of (Some xs) = xs
 
--- none, or one or more that begin with a token of the first test, with a part between them that begins with a token of the second
+-- none, or one or more that begin with a token of the first test, with a part between them that begins with a
+-- token of the second
 abbrev pub listed_at : {T A : Type 0} → (T → Bool) → (T → Bool) → Reader T (Unit {0}) → Reader T A → Reader T (List A)
 listed_at o p s r = map_at items_of (option_at o (separated_at p s r))
 
@@ -94,10 +96,10 @@ abbrev pub with_front : {T A : Type 0} → List A → Result (List A × List T) 
 with_front front read = read >>= λ x. Ok (front ++ x.0, x.1)
 
 -- what was read, if no token is left
-abbrev pub ended : {T X : Type 0} → X → List T → Result X ℕ
-ended x [] = Ok x
-ended x (t ∷ ts) = Err (suc (length ts))
+abbrev pub ended_read : {T X : Type 0} → X → List T → Result X ℕ
+ended_read x [] = Ok x
+ended_read x (t ∷ ts) = Err (suc (length ts))
 
 -- the whole list
 abbrev pub all_at : {T X : Type 0} → Reader T X → List T → Result X ℕ
-all_at r ts = r ts >>= λ a. ended a.0 a.1
+all_at r ts = r ts >>= λ a. ended_read a.0 a.1

@@ -22,7 +22,7 @@ use Rattle.pq_row_code.specs.RowCode.{field, fields, IsShort}
 use Rattle.pq_schema.specs.declared.table.Column.{Column}
 use Rattle.pq_schema.specs.declared.table.Index.{Index}
 use Rattle.pq_schema.specs.declared.table.Table.{Table}
-use Rattle.pq_schema.specs.Sequences.{ascending, columns_of, without, index_sequence}
+use Rattle.pq_schema.specs.Sequences.{ascending_part, columns_of, without, index_sequence}
 use Rattle.pq_content.specs.Pairs.{Change, entry_pair, entries_from, pairs_of_row, entry_changes, puts, removals}
 use Rattle.pq_content.specs.Standing.{change_of, AreOfRows}
 use Rattle.pq_content.specs.Tables.{types_of, type_of, types_at, key_types, key_of, values_of, same_values, stored_code}
@@ -138,8 +138,8 @@ module _ (tables : List Table) (table : Table) (w : IsWritable tables table) (t 
   narrow_sequence : (index : Index) → length index.cols ≤ 36 → length (index_sequence table index) ≤ 40
   narrow_sequence index narrow =
       let left = set_of (columns_of index.cols) in
-      let parts = length-append index.cols (map ascending (without left table.key)) in
-      let same = length-map (without left table.key) ascending in
+      let parts = length-append index.cols (map ascending_part (without left table.key)) in
+      let same = length-map (without left table.key) ascending_part in
       let few = fewer left table.key in
       let short = w.is_table.short in
       omega arith

@@ -20,7 +20,7 @@ use Rattle.pq_schema.specs.Tables.{no_table, table_at}
 use Rattle.pq_schema.specs.declared.table.Column.{Column}
 use Rattle.pq_schema.specs.declared.table.Foreign.{Foreign}
 use Rattle.pq_schema.specs.declared.table.Table.{Table}
-use Rattle.pq_content.specs.Pairs.{Pair, Change, entries_from, removals, changed, content_pairs}
+use Rattle.pq_content.specs.Pairs.{Pair, Change, entries_from, removals, changed_content, content_pairs}
 use Rattle.pq_content.specs.Standing.{change_of}
 use Rattle.pq_content.specs.Tables.{Rows, AllOfKinds, IsTableNumber, IsUnreferenced, types_of, key_types, row_at, rows_without, group_of, stored_code}
 use Rattle.pq_content.proofs.Deletes.{delete_row}
@@ -29,7 +29,7 @@ use Rattle.pq_content.proofs.KeepingWrites.{keeps_delete}
 use Rattle.pq_store.specs.Content.{Content}
 use Rattle.pq_store.specs.declared.damage.Damage.{Damage}
 use Rattle.std.proofs.lemmas.Option.{same_Some}
-use Rattle.pq_index_keep.specs.Effects.{effect, changes_of, deleted, removal_of, child_refusal, names_key, referenced, no_row}
+use Rattle.pq_index_keep.specs.Effects.{effect, changes_of, deleted_rows, removal_of, child_refusal, names_key, referenced_refusal, no_row}
 use Rattle.pq_calls.specs.Evidence.{IsRead, IsNoRow}
 use Rattle.pq_calls.specs.World.{World, Explains, where_told}
 use Rattle.pq_calls.proofs.Steps.{explained_undamaged}
@@ -151,14 +151,14 @@ drop_here (x ∷ xs) (suc i) table less at = drop_here xs i table (omega arith) 
 module _ (rows : Rows) (t : ℕ) (key : List Value) where
   -- the first foreign key of the table at hand, else those of the tables after it
   pub child_here : (tables : List Table) (i : ℕ) (table : Table) → i < length tables → table ≡ get_or tables i table
-      → child_refusal rows t key (i + 1) (drop i tables) ≡ or_else (option_map (referenced table) (position (names_key rows t key (i + 1)) table.foreign)) (child_refusal rows t key (i + 1 + 1) (drop (i + 1) tables))
+      → child_refusal rows t key (i + 1) (drop i tables) ≡ or_else (option_map (referenced_refusal table) (position (names_key rows t key (i + 1)) table.foreign)) (child_refusal rows t key (i + 1 + 1) (drop (i + 1) tables))
   child_here tables i table less at = ap (child_refusal rows t key (i + 1)) (drop_here tables i table less at)
 
   no_child : (tables : List Table) (u : ℕ) → child_refusal rows t key u tables ≡ None → (k : ℕ) → k < length tables → AllByRecursion (λ (f : Foreign). names_key rows t key (u + k) f ≡ false) (get_or tables k no_table).foreign
   no_child [] u none k less = absurd (omega arith)
   no_child (x ∷ xs) u none zero less =
       let number : u ≡ u + 0 = omega arith in
-      let here : position (names_key rows t key u) x.foreign ≡ None = mapped_none (referenced x) _ (or_first _ _ none) in
+      let here : position (names_key rows t key u) x.foreign ≡ None = mapped_none (referenced_refusal x) _ (or_first _ _ none) in
       subst (λ (n : ℕ). AllByRecursion (λ (f : Foreign). names_key rows t key n f ≡ false) x.foreign) number (none_passes (names_key rows t key u) x.foreign here)
     where
       or_first : (a b : Option Refusal) → or_else a b ≡ None → a ≡ None
@@ -191,11 +191,11 @@ module _ (rows : Rows) (t : ℕ) (key : List Value) where
 module _ (tables : List Table) (rows : Rows) (others : List Pair) (t : ℕ) (key : List Value) where
   pub delete_absent : None ≡ row_at tables rows t key → Plans tables rows others (write.Delete t key) (planned.Refused (no_row tables t))
   unfolding effect
-  delete_absent is = ap (deleted tables rows t key) (sym is)
+  delete_absent is = ap (deleted_rows tables rows t key) (sym is)
 
   pub delete_refused : (old : List Value) (refusal : Refusal) → Some old ≡ row_at tables rows t key → Some refusal ≡ child_refusal rows t key 1 tables → Plans tables rows others (write.Delete t key) (planned.Refused refusal)
   unfolding effect
-  delete_refused old refusal found is = ap (deleted tables rows t key) (sym found) ∙ ap (λ (o : Option Refusal). or_ok o (rows_without tables t key rows)) (sym is)
+  delete_refused old refusal found is = ap (deleted_rows tables rows t key) (sym found) ∙ ap (λ (o : Option Refusal). or_ok o (rows_without tables t key rows)) (sym is)
 
   pub delete_made : (told : Option Content) (old : List Value) (changes : List Coded) → HoldsRows told tables rows others → Some old ≡ row_at tables rows t key → None ≡ child_refusal rows t key 1 tables → (at : List ℕ) → at ≡ row_key t key → map change_of changes ≡ (at, None) ∷ removals (entries_from t 1 (table_at tables t) (table_at tables t).indexes old)
       → Plans tables rows others (write.Delete t key) (planned.Changes changes)
@@ -205,8 +205,8 @@ module _ (tables : List Table) (rows : Rows) (others : List Pair) (t : ℕ) (key
       let made = own_removals t (table_at tables t) old at (map change_of changes) (is ∙ ap (row_key t) (sym key_is)) own in
       let makes : MakesRows tables rows others (write.Delete t key) changes (rows_without tables t key rows) = record {
         changes_are = made ∙ ap (removal_of (table_at tables t) t) found;
-        content = ap (λ (cs : List Change). changed cs (content_pairs tables rows others)) made ∙ delete_row tables rows others t key old s.keeps s.beside (sym found);
+        content = ap (λ (cs : List Change). changed_content cs (content_pairs tables rows others)) made ∙ delete_row tables rows others t key old s.keeps s.beside (sym found);
         keeps = keeps_delete tables rows t key s.keeps (unreferenced rows t key tables (sym none));
       } in
-      let effect_is : deleted tables rows t key (row_at tables rows t key) ≡ Ok (rows_without tables t key rows) = ap (deleted tables rows t key) (sym found) ∙ ap (λ (o : Option Refusal). or_ok o (rows_without tables t key rows)) (sym none) in
+      let effect_is : deleted_rows tables rows t key (row_at tables rows t key) ≡ Ok (rows_without tables t key rows) = ap (deleted_rows tables rows t key) (sym found) ∙ ap (λ (o : Option Refusal). or_ok o (rows_without tables t key rows)) (sym none) in
       subst (λ (r : Result Rows Refusal). MatchResult r (MakesRows tables rows others (write.Delete t key) changes) (λ (refusal : Refusal). ⊥)) (sym effect_is) makes

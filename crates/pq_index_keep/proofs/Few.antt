@@ -12,7 +12,7 @@ use Rattle.pq_index_keep.specs.declared.write.Scope.{Scope}
 use Rattle.pq_index_keep.specs.declared.write.Scope.TheVariants as scope
 use Rattle.pq_index_keep.specs.declared.write.Write.{Write}
 use Rattle.pq_index_keep.specs.declared.write.Write.TheVariants as write
-use Rattle.pq_index_keep.specs.Bounds.{commit_ops, tested_n, refers, referring, tests, write_bound, most_changes}
+use Rattle.pq_index_keep.specs.Bounds.{commit_ops, tested_n, refers, referring_count, tests, write_bound, most_changes}
 use Rattle.pq_index_keep.specs.Sound.{IsWritable, AreWritable, IsWrite}
 use Rattle.pq_index_keep.specs.Tested.{touches, touches_index, scope_of}
 use Rattle.pq_index_keep.proofs.Inserting.{writable_at}
@@ -34,7 +34,7 @@ tests_few tables table of sound =
     let few_limits = sound.is_table.few in
     (omega (arith, parents, limits, few_foreign, few_limits), omega (arith, parents, rows, few_foreign, few_limits))
 
-referring_few : (tables : List Table) (t : ℕ) → AreWritable tables → length tables ≤ 64 → referring tables t ≤ 256
+referring_few : (tables : List Table) (t : ℕ) → AreWritable tables → length tables ≤ 64 → referring_count tables t ≤ 256
 referring_few tables t sound few =
     let each = All-weaker (IsWritable tables) (λ table. refers t table ≤ 4)
     (λ table w. let most = count_by-le-length (λ (f : Foreign). f.table == t) table.foreign in let short = w.few_foreign in omega (arith, most, short)) tables sound in

@@ -28,16 +28,16 @@ use Rattle.pq_schema.specs.declared.table.NewIndex.{NewIndex}
 use Rattle.pq_schema.specs.declared.table.Table.{Table}
 use Rattle.pq_schema.specs.Candidates.{Candidate, candidates, least}
 use Rattle.pq_schema.specs.Definitions.{bare_table, new_table}
-use Rattle.pq_schema.specs.Relations.{relation_at, table_of, fixed, order_rest, is_rest, part_of}
+use Rattle.pq_schema.specs.Relations.{relation_at, table_of, tied_set, order_rest, is_rest, part_of}
 use Rattle.pq_schema.specs.Schema.{Schema, with_new_index, with_wanted}
-use Rattle.pq_schema.specs.Sequences.{ascending, group_access, groups, with_group, serving, new_index}
+use Rattle.pq_schema.specs.Sequences.{ascending_part, group_access, groups, with_group, serving_access, new_index}
 use Rattle.pq_schema.specs.Sound.{IsMade, IsMadeLimit, IsMadeForeign, AreMade}
 use Rattle.pq_schema.specs.Sound as sound
 use Rattle.pq_base.specs.Values.{same_kind}
 use Rattle.pq_schema.specs.Tables.{table_at, no_table, same_kinds}
 use Rattle.pq_schema.specs.Valid.{IsValid}
 use Rattle.pq_schema.specs.Valid.IsValid.{empty, then_table, then_query}
-use Rattle.pq_schema.specs.Wanted.{is_large, index_at, index_of, too_many_indexes, Chosen, with_index, chosen_of, IsWanted}
+use Rattle.pq_schema.specs.Wanted.{is_large, index_at, index_of, too_many_indexes, ChosenCandidate, with_index, chosen_of, IsWanted}
 use Rattle.pq_schema.proofs.Accepted.{all_groups, made_is}
 use Rattle.pq_schema.proofs.Counts.{count_with}
 use Rattle.pq_schema.proofs.Groups.{IsAsBefore, group_index, groups_as_before}
@@ -177,7 +177,7 @@ IsShort cols = length cols ≤ 4
 group_narrow : (table : Table) (cols : List ℕ) → All IsNarrow table.indexes → IsShort cols → All IsNarrow (with_group table cols).indexes
 group_narrow table cols all short =
     cond_both (is_some (group_access table (set_of cols))) table (with_new_index table (group_index cols)) (λ (t : Table). All IsNarrow t.indexes) (λ _. all)
-    (λ _. All-push IsNarrow table.indexes (group_index cols) all (let long = length-map cols ascending in omega (arith, long, short)))
+    (λ _. All-push IsNarrow table.indexes (group_index cols) all (let long = length-map cols ascending_part in omega (arith, long, short)))
 
 groups_narrow : (gs : List (List ℕ)) (table : Table) → All IsNarrow table.indexes → AllByRecursion IsShort gs → All IsNarrow (fold with_group table gs).indexes
 groups_narrow [] table all short = all
@@ -240,33 +240,33 @@ abbrev IsNarrowAnswer : Result (Option NewIndex) Refusal → Type 0
 IsNarrowAnswer (Ok wanted) = IfSome wanted (λ new. IsNarrow new.index)
 IsNarrowAnswer (Err why) = Unit {0}
 
-abbrev IsNarrowChoice : Result Chosen Refusal → Type 0
+abbrev IsNarrowChoice : Result ChosenCandidate Refusal → Type 0
 IsNarrowChoice (Ok chosen) = IfSome chosen.wanted (λ new. IsNarrow new.index)
 IsNarrowChoice (Err why) = Unit {0}
 
 module _ (tables : List Table) (query : Query) (few_columns : All (λ (t : Table). length t.columns ≤ 32) tables) (few_order : length query.order ≤ 4) where
   -- an index that a query wants has the columns of a table and of an order at most
-  narrow_new : (p : ℕ) → IsNarrow (new_index (table_of tables query p) (fixed query p) (order_rest query p))
+  narrow_new : (p : ℕ) → IsNarrow (new_index (table_of tables query p) (tied_set query p) (order_rest query p))
   narrow_new p =
       let table = table_of tables query p in
       let columns = range_with_len 0 (length table.columns) in
-      let front = filter (has_col (fixed query p)) columns in
-      let rest = filter (is_rest p (fixed query p)) query.order in
+      let front = filter (has_col (tied_set query p)) columns in
+      let rest = filter (is_rest p (tied_set query p)) query.order in
       let few : length table.columns ≤ 32 = at_any (λ (t : Table). length t.columns ≤ 32) tables (relation_at query p).table (omega arith) few_columns in
-      let front_few : length front ≤ length columns = subst (λ n. n ≤ length columns) (sym (length-filter (has_col (fixed query p)) columns)) (count_by-le-length (has_col (fixed query p)) columns) in
-      let rest_few : length rest ≤ length query.order = subst (λ n. n ≤ length query.order) (sym (length-filter (is_rest p (fixed query p)) query.order)) (count_by-le-length (is_rest p (fixed query p)) query.order) in
+      let front_few : length front ≤ length columns = subst (λ n. n ≤ length columns) (sym (length-filter (has_col (tied_set query p)) columns)) (count_by-le-length (has_col (tied_set query p)) columns) in
+      let rest_few : length rest ≤ length query.order = subst (λ n. n ≤ length query.order) (sym (length-filter (is_rest p (tied_set query p)) query.order)) (count_by-le-length (is_rest p (tied_set query p)) query.order) in
       let wide : length columns ≡ length table.columns = length-range_with_len 0 (length table.columns) in
-      let both = length-append (map ascending front) (order_rest query p) in
-      let one : length (map ascending front) ≡ length front = length-map front ascending in
+      let both = length-append (map ascending_part front) (order_rest query p) in
+      let one : length (map ascending_part front) ≡ length front = length-map front ascending_part in
       let two : length (order_rest query p) ≡ length rest = length-map rest part_of in
       omega (arith, both, one, two, wide, front_few, rest_few, few, few_order)
 
   narrow_answer : (p : ℕ) → IsNarrowAnswer (index_at tables query p)
   narrow_answer p =
       let table = table_of tables query p in
-      let new : NewIndex = record { table = (relation_at query p).table; number = length table.indexes + 1; index = new_index table (fixed query p) (order_rest query p) } in
+      let new : NewIndex = record { table = (relation_at query p).table; number = length table.indexes + 1; index = new_index table (tied_set query p) (order_rest query p) } in
       let full = nat_le 16 (length table.indexes) in
-      cond_both (is_some (serving table (fixed query p) (order_rest query p))) (Ok None) (cond full (Err too_many_indexes) (Ok (Some new))) IsNarrowAnswer (λ _. tt)
+      cond_both (is_some (serving_access table (tied_set query p) (order_rest query p))) (Ok None) (cond full (Err too_many_indexes) (Ok (Some new))) IsNarrowAnswer (λ _. tt)
       (λ _. cond_both full (Err too_many_indexes) (Ok (Some new)) IsNarrowAnswer (λ _. tt) (λ _. narrow_new p))
 
   narrow_index : (choice : Choice) → IsNarrowAnswer (index_of tables query choice)

@@ -16,7 +16,7 @@ use Rattle.pq_schema.specs.Tables.{no_table, table_at}
 use Rattle.pq_schema.specs.declared.table.Foreign.{Foreign}
 use Rattle.pq_schema.specs.declared.table.Limit.{Limit}
 use Rattle.pq_schema.specs.declared.table.Table.{Table}
-use Rattle.pq_content.specs.Pairs.{Pair, Change, pairs_of_row, puts, changed, content_pairs}
+use Rattle.pq_content.specs.Pairs.{Pair, Change, pairs_of_row, puts, changed_content, content_pairs}
 use Rattle.pq_content.specs.Standing.{change_of}
 use Rattle.pq_content.specs.Tables.{Rows, AllOfKinds, IsOfKind, IsTableNumber, HasRoom, HasParent, types_of, key_of, cells, row_at, group_of}
 use Rattle.pq_content.proofs.Keeping.{keeps_insert}
@@ -142,7 +142,7 @@ module _ (tables : List Table) (rows : Rows) (others : List Pair) (t : ℕ) (row
       (none_passes (lacks_room rows scope.All None t row) table.limits (mapped_none (no_room table) _ tests.1)) in
       let makes : MakesRows tables rows others (write.Insert t row) changes ((t, row) ∷ rows) = record {
         changes_are = made;
-        content = ap (λ (cs : List Change). changed cs (content_pairs tables rows others)) made ∙ insert_row tables rows others t row;
+        content = ap (λ (cs : List Change). changed_content cs (content_pairs tables rows others)) made ∙ insert_row tables rows others t row;
         keeps = keeps_insert tables rows t row s.keeps w.number w.fits w.short absent rooms parents;
       } in
       subst (λ (o : Option Refusal). MatchResult (or_ok o ((t, row) ∷ rows)) (MakesRows tables rows others (write.Insert t row) changes) (λ (refusal : Refusal). ⊥)) none makes

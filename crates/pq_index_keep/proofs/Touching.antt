@@ -8,12 +8,12 @@ use Rattle.pq_schema.specs.declared.table.Table.{Table}
 use Rattle.pq_index_keep.specs.declared.write.Scope.{Scope}
 use Rattle.pq_index_keep.specs.declared.write.Scope.TheVariants.{Columns}
 use Rattle.pq_index_keep.specs.Tested.{touches_index}
-use Rattle.pq_schema.specs.Sequences.{ascending, columns_of, without, then_key}
+use Rattle.pq_schema.specs.Sequences.{ascending_part, columns_of, without, then_key}
 
-any_rest : (set left : ℕ) (key : List ℕ) → list_any (λ col. not (has_col left col) && has_col set col) key ≡ list_any (has_col set) (columns_of (map ascending (without left key)))
+any_rest : (set left : ℕ) (key : List ℕ) → list_any (λ col. not (has_col left col) && has_col set col) key ≡ list_any (has_col set) (columns_of (map ascending_part (without left key)))
 any_rest set left [] = refl
 any_rest set left (col ∷ key) =
-    elim (has_col left col) as (λ b. (not b && has_col set col || list_any (λ c. not (has_col left c) && has_col set c) key) ≡ list_any (has_col set) (columns_of (map ascending (cond (not b) (col ∷ without left key) (without left key))))) [
+    elim (has_col left col) as (λ b. (not b && has_col set col || list_any (λ c. not (has_col left c) && has_col set c) key) ≡ list_any (has_col set) (columns_of (map ascending_part (cond (not b) (col ∷ without left key) (without left key))))) [
       | true ↦ any_rest set left key
       | false ↦ ap (λ b. has_col set col || b) (any_rest set left key)
     ]

@@ -23,7 +23,7 @@ use Rattle.pq_schema.specs.Tables.{table_at}
 use Rattle.pq_schema.specs.declared.table.Foreign.{Foreign}
 use Rattle.pq_schema.specs.declared.table.Limit.{Limit}
 use Rattle.pq_schema.specs.declared.table.Table.{Table}
-use Rattle.pq_content.specs.Pairs.{Pair, Change, entry_changes, changed, content_pairs}
+use Rattle.pq_content.specs.Pairs.{Pair, Change, entry_changes, changed_content, content_pairs}
 use Rattle.pq_content.specs.Standing.{change_of}
 use Rattle.pq_content.specs.Tables.{Rows, Keeps, MayChange, MayRefer, types_of, value_of, cells, values_of, key_of, row_at, rows_without, same_values, stored_code}
 use Rattle.pq_content.proofs.Keeping.{row_found}
@@ -32,7 +32,7 @@ use Rattle.pq_base.specs.Members.{In}
 use Rattle.pq_content.proofs.Updates.{update_row}
 use Rattle.pq_content.proofs.Values.{same_from_test, values_of-columns_of}
 use Rattle.pq_store.specs.Content.{Content}
-use Rattle.pq_index_keep.specs.Effects.{effect, changes_of, updated, update_of, update_refusal, parent_refusal, room_refusal, lacks_parent, lacks_room, no_parent, no_room, no_row, is_missing, is_full}
+use Rattle.pq_index_keep.specs.Effects.{effect, changes_of, updated_rows, update_of, update_refusal, parent_refusal, room_refusal, lacks_parent, lacks_room, no_parent, no_room, no_row, is_missing, is_full}
 use Rattle.pq_index_keep.specs.Promises.{HoldsRows, MakesRows, Plans}
 use Rattle.pq_index_keep.specs.Sound.{IsSet, IsUpdate}
 use Rattle.pq_index_keep.specs.Tested.{touches, touches_index, set_columns, scope_of, with_sets}
@@ -117,11 +117,11 @@ may_refer tables rows sets old foreign h = by (touches (scope_of sets) foreign.c
 module _ (tables : List Table) (rows : Rows) (others : List Pair) (t : ℕ) (key : List Value) (sets : List SetCol) where
   pub update_absent : None ≡ row_at tables rows t key → Plans tables rows others (write.Update t key sets) (planned.Refused (no_row tables t))
   unfolding effect
-  update_absent is = ap (updated tables rows t key sets) (sym is)
+  update_absent is = ap (updated_rows tables rows t key sets) (sym is)
 
   pub update_refused : (old : List Value) (refusal : Refusal) → Some old ≡ row_at tables rows t key → Some refusal ≡ update_refusal tables rows (scope_of sets) t old (with_sets sets old) → Plans tables rows others (write.Update t key sets) (planned.Refused refusal)
   unfolding effect
-  update_refused old refusal found is = ap (updated tables rows t key sets) (sym found) ∙ ap (λ (o : Option Refusal). or_ok o ((t, with_sets sets old) ∷ rows_without tables t key rows)) (sym is)
+  update_refused old refusal found is = ap (updated_rows tables rows t key sets) (sym found) ∙ ap (λ (o : Option Refusal). or_ok o ((t, with_sets sets old) ∷ rows_without tables t key rows)) (sym is)
 
   pub update_made : (told : Option Content) (old : List Value) (changes : List Coded) → HoldsRows told tables rows others → IsUpdate tables t key sets → Some old ≡ row_at tables rows t key → None ≡ update_refusal tables rows (scope_of sets) t old (with_sets sets old)
       → (at : List ℕ) → at ≡ row_key t key → map change_of changes ≡ (at, Some (stored_code (table_at tables t) (with_sets sets old))) ∷ entry_changes t 1 (table_at tables t) (table_at tables t).indexes old (with_sets sets old) → Plans tables rows others (write.Update t key sets) (planned.Changes changes)
@@ -146,10 +146,10 @@ module _ (tables : List Table) (rows : Rows) (others : List Pair) (t : ℕ) (key
       let gone : List Value → Rows = λ (k : List Value). (t, new) ∷ rows_without tables t k rows in
       let makes : MakesRows tables rows others (write.Update t key sets) changes ((t, new) ∷ rows_without tables t key rows) = record {
         changes_are = made ∙ ap (update_of table t sets) found;
-        content = ap (λ (cs : List Change). changed cs (content_pairs tables rows others)) made ∙ update_row tables rows others t old new s.keeps s.beside at same ∙ ap (λ (k : List Value). content_pairs tables (gone k) others) own;
+        content = ap (λ (cs : List Change). changed_content cs (content_pairs tables rows others)) made ∙ update_row tables rows others t old new s.keeps s.beside at same ∙ ap (λ (k : List Value). content_pairs tables (gone k) others) own;
         keeps = subst (λ (k : List Value). Keeps tables ((t, new) ∷ rows_without tables t k rows)) own (keeps_update tables rows t old new s.keeps at same (fit_sets table sets old w.each of_old.fits) short changes_may names);
       } in
-      let effect_is : updated tables rows t key sets (row_at tables rows t key) ≡ Ok ((t, new) ∷ rows_without tables t key rows) = ap (updated tables rows t key sets) (sym found) ∙ ap (λ (o : Option Refusal). or_ok o ((t, new) ∷ rows_without tables t key rows)) (sym none) in
+      let effect_is : updated_rows tables rows t key sets (row_at tables rows t key) ≡ Ok ((t, new) ∷ rows_without tables t key rows) = ap (updated_rows tables rows t key sets) (sym found) ∙ ap (λ (o : Option Refusal). or_ok o ((t, new) ∷ rows_without tables t key rows)) (sym none) in
       subst (λ (r : Result Rows Refusal). MatchResult r (MakesRows tables rows others (write.Update t key sets) changes) (λ (refusal : Refusal). ⊥)) (sym effect_is) makes
 
 -- ---- what the code hands on

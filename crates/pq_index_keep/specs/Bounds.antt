@@ -35,8 +35,8 @@ tested_n of limit = if touches of limit.cols then limit.n else 0
 abbrev pub refers : ℕ → Table → ℕ
 refers t table = count_by (λ f. f.table == t) table.foreign
 
-abbrev pub referring : List Table → ℕ → ℕ
-referring tables t = sum_by (refers t) tables
+abbrev pub referring_count : List Table → ℕ → ℕ
+referring_count tables t = sum_by (refers t) tables
 
 -- ---- operations and entries of the tests
 
@@ -49,12 +49,13 @@ tests of table = record {
 abbrev pub write_tests : List Table → Write → Bound
 write_tests tables (write.Insert t row) = tests scope.All (table_at tables t)
 write_tests tables (write.Update t key sets) = tests (scope_of sets) (table_at tables t)
-write_tests tables (write.Delete t key) = record { ops = 1 + referring tables t; entries = 1 + referring tables t }
+write_tests tables (write.Delete t key) = record { ops = 1 + referring_count tables t; entries = 1 + referring_count tables t }
 
 -- the greatest number of pairs that change
 abbrev pub most_changes : List Table → Write → ℕ
 most_changes tables (write.Insert t row) = 1 + length (table_at tables t).indexes
-most_changes tables (write.Update t key sets) = 1 + 2 * count_by (touches_index (scope_of sets) (table_at tables t)) (table_at tables t).indexes
+most_changes tables (write.Update t key sets) =
+    1 + 2 * count_by (touches_index (scope_of sets) (table_at tables t)) (table_at tables t).indexes
 most_changes tables (write.Delete t key) = 1 + length (table_at tables t).indexes
 
 abbrev pub write_bound : List Table → Write → Bound

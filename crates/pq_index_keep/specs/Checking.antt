@@ -6,7 +6,7 @@ use Rattle.pq_base.specs.Values.{fits_type}
 use Rattle.pq_base.specs.declared.refusal.Refusal.{Refusal}
 use Rattle.pq_base.specs.declared.refusal.Refusal.TheVariants as refusal
 use Rattle.pq_base.specs.declared.value.Value.{Value}
-use Rattle.pq_schema.specs.Definitions.{first_repeated, no_column, repeated, refused_if, or_ok}
+use Rattle.pq_schema.specs.Definitions.{first_repeated, no_column, repeated_name, refused_if, or_ok}
 use Rattle.pq_schema.specs.Schema.{Schema, find_column, find_table}
 use Rattle.pq_schema.specs.Tables.{table_at}
 use Rattle.pq_schema.specs.declared.table.Column.{Column}
@@ -56,7 +56,7 @@ abbrev pub unknown_refusal : Table → List (List ℕ) → Option Refusal
 unknown_refusal table names = option_map no_column (find (is_unknown table) names)
 
 abbrev pub repeated_refusal : List (List ℕ) → Option Refusal
-repeated_refusal names = option_map repeated (first_repeated names)
+repeated_refusal names = option_map repeated_name (first_repeated names)
 
 -- ---- values at columns
 
@@ -66,7 +66,9 @@ are_among cols others = list_all (is_among others) cols
 
 -- the first value that doesn't fit its column, by the column's name
 abbrev pub misfit_refusal : Table → List (List ℕ) → List ℕ → List Value → Option Refusal
-misfit_refusal table (n ∷ ns) (c ∷ cs) (x ∷ xs) = if fits_type (type_of table c) x then misfit_refusal table ns cs xs else Some (refusal.ValueKind table.name n)
+misfit_refusal table (n ∷ ns) (c ∷ cs) (x ∷ xs) =
+    if fits_type (type_of table c) x then misfit_refusal table ns cs xs
+    else Some (refusal.ValueKind table.name n)
 misfit_refusal table _ _ _ = None
 
 -- ---- INSERT
@@ -98,7 +100,8 @@ abbrev pub insert_row : Table → List ℕ → List Value → List Value
 insert_row table places values = map (given places values) (all_columns table)
 
 abbrev pub long_refusal : Table → List Value → Option Refusal
-long_refusal table row = refused_if (nat_lt 4096 (length (stored_code table row))) (refusal.RowLong table.name (length (stored_code table row)))
+long_refusal table row = refused_if (nat_lt 4096 (length (stored_code table row)))
+    (refusal.RowLong table.name (length (stored_code table row)))
 
 abbrev pub insert_values_refusal : Table → List (List ℕ) → List ℕ → List Value → Option Refusal
 insert_values_refusal table names places values =
@@ -108,7 +111,8 @@ insert_values_refusal table names places values =
 
 abbrev pub insert_checked : Table → ℕ → Option (List (List ℕ)) → List Value → Result Write Refusal
 insert_checked table t names values =
-    or_ok (or_else (insert_names_refusal table names) (insert_values_refusal table (insert_names table names) (insert_places table names) values))
+    or_ok (or_else (insert_names_refusal table names)
+    (insert_values_refusal table (insert_names table names) (insert_places table names) values))
     (write.Insert t (insert_row table (insert_places table names) values))
 
 -- ---- UPDATE and DELETE
@@ -116,7 +120,8 @@ insert_checked table t names values =
 -- all unknown columns first, SET before WHERE, and then the repeated ones of SET and those of WHERE
 abbrev pub keyed_names_refusal : Table → List (List ℕ) → List (List ℕ) → Option Refusal
 keyed_names_refusal table sets key =
-    or_else (unknown_refusal table sets) (or_else (unknown_refusal table key) (or_else (repeated_refusal sets) (repeated_refusal key)))
+    or_else (unknown_refusal table sets) (or_else (unknown_refusal table key)
+    (or_else (repeated_refusal sets) (repeated_refusal key)))
 
 -- a set column is of the key, or the WHERE columns aren't exactly the key
 abbrev pub is_keyed_wrong : Table → List ℕ → List ℕ → Bool
@@ -124,11 +129,13 @@ is_keyed_wrong table sets key =
     list_any (is_among table.key) sets || not (are_among table.key key) || not (are_among key table.key)
 
 abbrev pub assigned_misfit : Table → List Assign → Option Refusal
-assigned_misfit table assigns = misfit_refusal table (names_in assigns) (places_of table (names_in assigns)) (values_in assigns)
+assigned_misfit table assigns = misfit_refusal table (names_in assigns) (places_of table (names_in assigns))
+    (values_in assigns)
 
 abbrev pub keyed_values_refusal : Table → List Assign → List Assign → Option Refusal
 keyed_values_refusal table sets key =
-    or_else (refused_if (is_keyed_wrong table (places_of table (names_in sets)) (places_of table (names_in key))) (refusal.WrongColumns table.name))
+    or_else (refused_if (is_keyed_wrong table (places_of table (names_in sets))
+    (places_of table (names_in key))) (refusal.WrongColumns table.name))
     (or_else (assigned_misfit table sets) (assigned_misfit table key))
 
 abbrev pub keyed_refusal : Table → List Assign → List Assign → Option Refusal
@@ -144,7 +151,8 @@ abbrev pub key_given : Table → List Assign → List Value
 key_given table key = map (given (places_of table (names_in key)) (values_in key)) table.key
 
 abbrev pub update_checked : Table → ℕ → List Assign → List Assign → Result Write Refusal
-update_checked table t sets key = or_ok (keyed_refusal table sets key) (write.Update t (key_given table key) (map (set_of_assign table) sets))
+update_checked table t sets key =
+    or_ok (keyed_refusal table sets key) (write.Update t (key_given table key) (map (set_of_assign table) sets))
 
 abbrev pub delete_checked : Table → ℕ → List Assign → Result Write Refusal
 delete_checked table t key = or_ok (keyed_refusal table [] key) (write.Delete t (key_given table key))
@@ -160,12 +168,15 @@ abbrev pub no_write : Result Write Refusal
 no_write = Err (refusal.Syntax 0)
 
 -- the write, or the first refusal found by reading
-unfoldable pub checked : Schema → Statement → Result Write Refusal
-checked schema (statement.Insert name cols values) = in_table name (find_table schema name) (λ t. insert_checked (table_at schema.tables t) t cols values)
-checked schema (statement.Update name sets key) = in_table name (find_table schema name) (λ t. update_checked (table_at schema.tables t) t sets key)
-checked schema (statement.Delete name key) = in_table name (find_table schema name) (λ t. delete_checked (table_at schema.tables t) t key)
-checked schema (statement.Create def) = no_write
-checked schema (statement.Prepare name from) = no_write
-checked schema (statement.Explain from) = no_write
-checked schema (statement.Run name params after) = no_write
-checked schema statement.Show = no_write
+unfoldable pub checked_write : Schema → Statement → Result Write Refusal
+checked_write schema (statement.Insert name cols values) =
+    in_table name (find_table schema name) (λ t. insert_checked (table_at schema.tables t) t cols values)
+checked_write schema (statement.Update name sets key) =
+    in_table name (find_table schema name) (λ t. update_checked (table_at schema.tables t) t sets key)
+checked_write schema (statement.Delete name key) =
+    in_table name (find_table schema name) (λ t. delete_checked (table_at schema.tables t) t key)
+checked_write schema (statement.Create def) = no_write
+checked_write schema (statement.Prepare name from) = no_write
+checked_write schema (statement.Explain from) = no_write
+checked_write schema (statement.Run name params after) = no_write
+checked_write schema statement.Show = no_write

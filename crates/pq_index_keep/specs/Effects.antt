@@ -32,7 +32,8 @@ no_parent table place = refusal.NoParent table.name (place + 1)
 
 -- the first foreign key that is touched and whose row is not there
 abbrev pub parent_refusal : List Table → Rows → Scope → Table → List Value → Option Refusal
-parent_refusal tables rows of table row = option_map (no_parent table) (position (lacks_parent tables rows of row) table.foreign)
+parent_refusal tables rows of table row =
+    option_map (no_parent table) (position (lacks_parent tables rows of row) table.foreign)
 
 -- ---- limits
 
@@ -67,46 +68,50 @@ room_refusal rows of old t table row = option_map (no_room table) (position (lac
 abbrev pub names_key : Rows → ℕ → List Value → ℕ → Foreign → Bool
 names_key rows t key u foreign = foreign.table == t && nat_lt 0 (length (group_of u foreign.cols key rows))
 
-abbrev pub referenced : Table → ℕ → Refusal
-referenced table place = refusal.Referenced table.name (place + 1)
+abbrev pub referenced_refusal : Table → ℕ → Refusal
+referenced_refusal table place = refusal.Referenced table.name (place + 1)
 
 -- the first of the tables, which are numbered from u, and the first of its foreign keys by which some row names the key
 abbrev pub child_refusal : Rows → ℕ → List Value → ℕ → List Table → Option Refusal
 child_refusal rows t key u [] = None
 child_refusal rows t key u (table ∷ tables) =
-    or_else (option_map (referenced table) (position (names_key rows t key u) table.foreign)) (child_refusal rows t key (u + 1) tables)
+    or_else (option_map (referenced_refusal table) (position (names_key rows t key u) table.foreign))
+    (child_refusal rows t key (u + 1) tables)
 
 -- ---- the writes
 
 abbrev pub insert_refusal : List Table → Rows → ℕ → List Value → Option Refusal
 insert_refusal tables rows t row =
-    or_else (refused_if (is_some (row_at tables rows t (key_of (table_at tables t) row))) (refusal.DuplicateKey (table_at tables t).name))
+    or_else (refused_if (is_some (row_at tables rows t (key_of (table_at tables t) row)))
+    (refusal.DuplicateKey (table_at tables t).name))
     (or_else (parent_refusal tables rows scope.All (table_at tables t) row)
     (room_refusal rows scope.All None t (table_at tables t) row))
 
 abbrev pub update_refusal : List Table → Rows → Scope → ℕ → List Value → List Value → Option Refusal
 update_refusal tables rows of t old new =
-    or_else (refused_if (nat_lt 4096 (length (stored_code (table_at tables t) new))) (refusal.RowLong (table_at tables t).name (length (stored_code (table_at tables t) new))))
+    or_else (refused_if (nat_lt 4096 (length (stored_code (table_at tables t) new)))
+    (refusal.RowLong (table_at tables t).name (length (stored_code (table_at tables t) new))))
     (or_else (parent_refusal tables rows of (table_at tables t) new)
     (room_refusal rows of (Some old) t (table_at tables t) new))
 
 abbrev pub no_row : List Table → ℕ → Refusal
 no_row tables t = refusal.NoRow (table_at tables t).name
 
-abbrev pub updated : List Table → Rows → ℕ → List Value → List SetCol → Option (List Value) → Result Rows Refusal
-updated tables rows t key sets None = Err (no_row tables t)
-updated tables rows t key sets (Some old) =
-    or_ok (update_refusal tables rows (scope_of sets) t old (with_sets sets old)) ((t, with_sets sets old) ∷ rows_without tables t key rows)
+abbrev pub updated_rows : List Table → Rows → ℕ → List Value → List SetCol → Option (List Value) → Result Rows Refusal
+updated_rows tables rows t key sets None = Err (no_row tables t)
+updated_rows tables rows t key sets (Some old) =
+    or_ok (update_refusal tables rows (scope_of sets) t old (with_sets sets old))
+    ((t, with_sets sets old) ∷ rows_without tables t key rows)
 
-abbrev pub deleted : List Table → Rows → ℕ → List Value → Option (List Value) → Result Rows Refusal
-deleted tables rows t key None = Err (no_row tables t)
-deleted tables rows t key (Some old) = or_ok (child_refusal rows t key 1 tables) (rows_without tables t key rows)
+abbrev pub deleted_rows : List Table → Rows → ℕ → List Value → Option (List Value) → Result Rows Refusal
+deleted_rows tables rows t key None = Err (no_row tables t)
+deleted_rows tables rows t key (Some old) = or_ok (child_refusal rows t key 1 tables) (rows_without tables t key rows)
 
 -- the rows after the write, or its first refusal
 unfoldable pub effect : List Table → Rows → Write → Result Rows Refusal
 effect tables rows (write.Insert t row) = or_ok (insert_refusal tables rows t row) ((t, row) ∷ rows)
-effect tables rows (write.Update t key sets) = updated tables rows t key sets (row_at tables rows t key)
-effect tables rows (write.Delete t key) = deleted tables rows t key (row_at tables rows t key)
+effect tables rows (write.Update t key sets) = updated_rows tables rows t key sets (row_at tables rows t key)
+effect tables rows (write.Delete t key) = deleted_rows tables rows t key (row_at tables rows t key)
 
 -- ---- the changes of the pairs
 

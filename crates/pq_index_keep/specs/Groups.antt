@@ -9,7 +9,7 @@ use Rattle.pq_schema.specs.declared.table.Table.{Table}
 use Rattle.pq_schema.specs.Sequences.{index_sequence, index_numbered, sequence_of, group_access}
 use Rattle.pq_content.specs.Tables.{dirs_of, first_columns}
 use Rattle.pq_calls.specs.Keys.{sequence_key}
-use Rattle.pq_schema.specs.Keys.{given}
+use Rattle.pq_schema.specs.Keys.{given_value}
 
 -- the first sequence that begins with the columns
 abbrev pub access_of : Table → List ℕ → Access
@@ -17,8 +17,9 @@ access_of table cols = unwrap_or (group_access table (set_of cols)) Primary
 
 -- the values that its first columns are given, where these columns have these values
 abbrev pub first_values : Table → Access → List ℕ → List Value → List Value
-first_values table access cols values = map (given cols values) (first_columns (sequence_of table access) cols)
+first_values table access cols values = map (given_value cols values) (first_columns (sequence_of table access) cols)
 
 -- the beginning of the keys of the rows with these values at these columns
 unfoldable pub group_key : ℕ → Table → List ℕ → List Value → List ℕ
-group_key t table cols values = sequence_key t table (access_of table cols) (first_values table (access_of table cols) cols values)
+group_key t table cols values = sequence_key t table (access_of table cols)
+    (first_values table (access_of table cols) cols values)

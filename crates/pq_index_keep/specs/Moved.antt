@@ -11,4 +11,5 @@ use Rattle.pq_content.specs.Tables.{values_of, same_values}
 abbrev pub entry_change : ℕ → ℕ → Table → Index → List Value → List Value → List Change
 entry_change t i table index old new =
     if same_values (values_of (index_sequence table index) old) (values_of (index_sequence table index) new) then []
-    else ((entry_pair t i (index_sequence table index) old).0, None) ∷ ((entry_pair t i (index_sequence table index) new).0, Some []) ∷ []
+    else ((entry_pair t i (index_sequence table index) old).0, None)
+    ∷ ((entry_pair t i (index_sequence table index) new).0, Some []) ∷ []

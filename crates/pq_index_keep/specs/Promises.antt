@@ -10,12 +10,12 @@ use Rattle.pq_row_code.specs.Changes.{AreChanges}
 use Rattle.pq_row_code.specs.RowCode.{row_code}
 use Rattle.pq_schema.specs.declared.table.Table.{Table}
 use Rattle.pq_schema.specs.Tables.{table_at}
-use Rattle.pq_content.specs.Pairs.{Pair, changed, content_pairs, pairs_of_row, puts}
+use Rattle.pq_content.specs.Pairs.{Pair, changed_content, content_pairs, pairs_of_row, puts}
 pub use Rattle.pq_content.specs.Pairs.{HoldsRows}
 use Rattle.pq_content.specs.Standing.{change_of, AreOfRows}
 use Rattle.pq_content.specs.Tables.{Rows, AllOfKinds, IsTableNumber, types_of, key_types, cells, Keeps}
 use Rattle.pq_store.specs.Content.{Content, HasRisen}
-use Rattle.pq_store.specs.Counts.{Counts, Allowed}
+use Rattle.pq_store.specs.Counts.{Counts, AllowedCounts}
 use Rattle.pq_store.specs.declared.damage.Broke.{Broke}
 use Rattle.pq_store.specs.declared.damage.Broke.TheVariants as broke
 use Rattle.pq_store.specs.declared.damage.Damage.{Damage}
@@ -28,7 +28,8 @@ use Rattle.pq_index_keep.specs.declared.write.Write.TheVariants as write
 -- values of a row that its table's keys, limits and foreign keys may be tested by
 pub record IsTested (tables : List Table) (table : Table) (row : List Value) : Type 0 where
   pub fits : AllFit (types_of table) row
-  pub parents : All (λ foreign. AllOfKinds (key_types (table_at tables foreign.table)) (cells foreign.cols row)) table.foreign
+  pub parents : All (λ foreign. AllOfKinds (key_types (table_at tables foreign.table)) (cells foreign.cols row))
+      table.foreign
 
 -- changes of rows and entries: at least one and at most so many, each of lengths that an intent can hold
 pub record ArePlanned (most : ℕ) (changes : List Change) : Type 0 where
@@ -38,14 +39,16 @@ pub record ArePlanned (most : ℕ) (changes : List Change) : Type 0 where
   pub of_rows : AreOfRows (map change_of changes)
 
 -- the changes make the effect's rows of these, and keep their tables
-pub record MakesRows (tables : List Table) (rows : Rows) (others : List Pair) (write : Write) (changes : List Change) (made : Rows) : Type 0 where
+pub record MakesRows (tables : List Table) (rows : Rows) (others : List Pair) (write : Write)
+    (changes : List Change) (made : Rows) : Type 0 where
   pub changes_are : map change_of changes ≡ changes_of tables rows write
-  pub content : changed (map change_of changes) (content_pairs tables rows others) ≡ content_pairs tables made others
+  pub content : changed_content (map change_of changes) (content_pairs tables rows others) ≡ content_pairs tables made others
   pub keeps : Keeps tables made
 
 -- over these rows, the changes where the write has an effect, and else its refusal
 abbrev pub Plans : List Table → Rows → List Pair → Write → Planned → Type 0
-Plans tables rows others write (planned.Changes changes) = MatchResult (effect tables rows write) (MakesRows tables rows others write changes) (λ refusal. ⊥)
+Plans tables rows others write (planned.Changes changes) =
+    MatchResult (effect tables rows write) (MakesRows tables rows others write changes) (λ refusal. ⊥)
 Plans tables rows others write (planned.Refused refusal) = effect tables rows write ≡ Err refusal
 
 -- what is promised of changes, whatever the store tells
@@ -57,8 +60,10 @@ IsPlannedWithin most (planned.Refused refusal) = Unit {0}
 -- at the row's key, and a DELETE removes it
 abbrev pub HasOwn : List Table → Write → List (List ℕ × Option (List ℕ)) → Type 0
 HasOwn tables (write.Insert t row) changes = changes ≡ puts (pairs_of_row t (table_at tables t) row)
-HasOwn tables (write.Update t key sets) changes = (value : List ℕ) × (rest : List (List ℕ × Option (List ℕ))) × (changes ≡ (row_key t key, Some value) ∷ rest)
-HasOwn tables (write.Delete t key) changes = (rest : List (List ℕ × Option (List ℕ))) × (changes ≡ (row_key t key, None) ∷ rest)
+HasOwn tables (write.Update t key sets) changes =
+    (value : List ℕ) × (rest : List (List ℕ × Option (List ℕ))) × (changes ≡ (row_key t key, Some value) ∷ rest)
+HasOwn tables (write.Delete t key) changes =
+    (rest : List (List ℕ × Option (List ℕ))) × (changes ≡ (row_key t key, None) ∷ rest)
 
 -- what is planned changes the row's own pair, whatever the store tells
 abbrev pub ChangesOwn : List Table → Write → Planned → Type 0

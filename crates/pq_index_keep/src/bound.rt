@@ -4,7 +4,7 @@ ghost use Rattle.std.specs.List.{list_any, sum_by, count_by};
 ghost use Rattle.pq_base.specs.Columns.{has_col};
 ghost use Rattle.pq_schema.specs.Sound.{AreColumns, AreParts};
 ghost use Rattle.pq_schema.specs.Tables.{table_at};
-ghost use Rattle.pq_index_keep.specs.Bounds.{tested_foreign, tested_limits, tested_n, refers, referring, tests, commit_ops, most_changes, write_tests, write_bound};
+ghost use Rattle.pq_index_keep.specs.Bounds.{tested_foreign, tested_limits, tested_n, refers, referring_count, tests, commit_ops, most_changes, write_tests, write_bound};
 ghost use Rattle.pq_index_keep.specs.Sound.{AreWritable, IsWritable, IsWrite};
 ghost use Rattle.pq_index_keep.specs.Tested.{touches, touches_index};
 
@@ -127,7 +127,7 @@ fn refers(number: u8, table: &Table) -> usize
 
 /// How many foreign keys refer to the table.
 fn referring(tables: &[Table], number: u8) -> u128
-    ensures sum { result ≡ referring tables.now number }
+    ensures sum { result ≡ referring_count tables.now number }
     ensures few { result ≤ 2 ^ 64 * length tables.now }
 {
     let mut sum: u128 = 0;

@@ -56,7 +56,9 @@ pub(crate) fn puts(
     requires few { length table.now.indexes ≤ 16 }
     requires columns { length row.now ≤ 32 }
     requires texts { All IsShort row.now }
-    ensures { IfOk result (λ changes. map change_of changes ≡ (at, Some (stored_code table.now row.now)) ∷ puts (entries_from number 1 table.now table.now.indexes row.now)) }
+    ensures { IfOk result (λ changes. map change_of changes
+        ≡ (at, Some (stored_code table.now row.now))
+        ∷ puts (entries_from number 1 table.now table.now.indexes row.now)) }
 {
     let mut changes = List::new(alloc);
     changes.push(alloc, put_row(alloc, at, row)?)?;
@@ -83,7 +85,8 @@ fn put_entries(
     requires key { AreColumns table.now.key }
     requires parts { All (λ index. AreParts index.cols) indexes.now }
     requires few { length indexes.now ≤ 16 }
-    ensures { OnOk result (map change_of changes.new ≡ map change_of changes.old ++ puts (entries_from number 1 table.now indexes.now row.now)) }
+    ensures { OnOk result (map change_of changes.new
+        ≡ map change_of changes.old ++ puts (entries_from number 1 table.now indexes.now row.now)) }
 {
     for (i, index) in indexes.iter().enumerate() {
         let key = entry_of(alloc, number, i as u8 + 1, table, index, row)?;
@@ -104,7 +107,8 @@ pub(crate) fn removals(
     requires key { AreColumns table.now.key }
     requires parts { All (λ index. AreParts index.cols) table.now.indexes }
     requires few { length table.now.indexes ≤ 16 }
-    ensures { IfOk result (λ changes. map change_of changes ≡ (at, None) ∷ removals (entries_from number 1 table.now table.now.indexes row.now)) }
+    ensures { IfOk result (λ changes. map change_of changes
+        ≡ (at, None) ∷ removals (entries_from number 1 table.now table.now.indexes row.now)) }
 {
     let mut changes = List::new(alloc);
     changes.push(alloc, Change { key: at, new: None })?;
@@ -131,7 +135,8 @@ fn remove_entries(
     requires key { AreColumns table.now.key }
     requires parts { All (λ index. AreParts index.cols) indexes.now }
     requires few { length indexes.now ≤ 16 }
-    ensures { OnOk result (map change_of changes.new ≡ map change_of changes.old ++ removals (entries_from number 1 table.now indexes.now row.now)) }
+    ensures { OnOk result (map change_of changes.new
+        ≡ map change_of changes.old ++ removals (entries_from number 1 table.now indexes.now row.now)) }
 {
     for (i, index) in indexes.iter().enumerate() {
         let key = entry_of(alloc, number, i as u8 + 1, table, index, row)?;
@@ -154,7 +159,8 @@ fn move_entry(
 ) -> Result<(), NoMem>
     requires key { AreColumns table.now.key }
     requires parts { AreParts index.now.cols }
-    ensures { OnOk result (map change_of changes.new ≡ map change_of changes.old ++ entry_change number place table.now index.now old.now new.now) }
+    ensures { OnOk result (map change_of changes.new
+        ≡ map change_of changes.old ++ entry_change number place table.now index.now old.now new.now) }
 {
     let parts = index_sequence(alloc, table, index)?;
     let before = values_of(alloc, parts.items(), old)?;
@@ -184,7 +190,9 @@ pub(crate) fn updates(
     requires few { length table.now.indexes ≤ 16 }
     requires columns { length new.now ≤ 32 }
     requires texts { All IsShort new.now }
-    ensures { IfOk result (λ changes. map change_of changes ≡ (at, Some (stored_code table.now new.now)) ∷ entry_changes number 1 table.now table.now.indexes old.now new.now) }
+    ensures { IfOk result (λ changes. map change_of changes
+        ≡ (at, Some (stored_code table.now new.now))
+        ∷ entry_changes number 1 table.now table.now.indexes old.now new.now) }
 {
     let mut changes = List::new(alloc);
     changes.push(alloc, put_row(alloc, at, new)?)?;
@@ -212,7 +220,8 @@ fn move_entries(
     requires key { AreColumns table.now.key }
     requires parts { All (λ index. AreParts index.cols) indexes.now }
     requires few { length indexes.now ≤ 16 }
-    ensures { OnOk result (map change_of changes.new ≡ map change_of changes.old ++ entry_changes number 1 table.now indexes.now old.now new.now) }
+    ensures { OnOk result (map change_of changes.new
+        ≡ map change_of changes.old ++ entry_changes number 1 table.now indexes.now old.now new.now) }
 {
     for (i, index) in indexes.iter().enumerate() {
         move_entry(alloc, number, i as u8 + 1, table, index, old, new, changes)?;

@@ -9,7 +9,7 @@ ghost use Rattle.pq_schema.specs.Schema.{find_column, find_table};
 ghost use Rattle.pq_schema.specs.Tables.{table_at};
 ghost use Rattle.pq_content.specs.Tables.{IsTableNumber, type_of, types_of, stored_code};
 ghost use Rattle.pq_row_code.specs.RowCode.{IsShort};
-ghost use Rattle.pq_index_keep.specs.Checking.{IsWriting, in_table, names_in, values_in, is_unknown, place_of, places_of, unknown_refusal, repeated_refusal, are_among, all_columns, insert_places, insert_names_refusal, is_insert_wrong, insert_row, misfit_refusal, long_refusal, insert_values_refusal, insert_checked, keyed_names_refusal, is_keyed_wrong, keyed_values_refusal, keyed_refusal, key_given, set_of_assign, update_checked, delete_checked, checked, column_names, insert_names, assigned_misfit};
+ghost use Rattle.pq_index_keep.specs.Checking.{IsWriting, in_table, names_in, values_in, is_unknown, place_of, places_of, unknown_refusal, repeated_refusal, are_among, all_columns, insert_places, insert_names_refusal, is_insert_wrong, insert_row, misfit_refusal, long_refusal, insert_values_refusal, insert_checked, keyed_names_refusal, is_keyed_wrong, keyed_values_refusal, keyed_refusal, key_given, set_of_assign, update_checked, delete_checked, checked_write, column_names, insert_names, assigned_misfit};
 ghost use Rattle.pq_index_keep.specs.Sound.{is_among, IsShortType, AreWritable, IsWrite};
 
 use crate::rows::all_given;
@@ -311,7 +311,8 @@ fn check_insert_values(
     requires few { length table.now.columns ≤ 32 }
     requires sized { All (λ column. IsShortType column.ty) table.now.columns }
     requires named { length names.now ≡ length places.now }
-    ensures answer { Answers result (or_ok (insert_values_refusal table.now names.now places.now values.now) (insert_row table.now places.now values.now)) }
+    ensures answer { Answers result (or_ok (insert_values_refusal table.now names.now places.now values.now)
+        (insert_row table.now places.now values.now)) }
     ensures fits { IfOk result (AllFit (types_of table.now)) }
     ensures short { IfOk result (λ row. length (stored_code table.now row) ≤ 4096) }
 {
@@ -507,7 +508,8 @@ fn check_into(
     values: &[Value],
 ) -> Result<Write, Stopped>
     requires sound { AreWritable catalog.now.tables }
-    ensures answer { Answers result (in_table name.now (find_table catalog.now name.now) (λ t. insert_checked (table_at catalog.now.tables t) t cols.now values.now)) }
+    ensures answer { Answers result (in_table name.now (find_table catalog.now name.now)
+        (λ t. insert_checked (table_at catalog.now.tables t) t cols.now values.now)) }
     ensures write { IfOk result (IsWrite catalog.now.tables) }
 {
     match catalog.find_table(name) {
@@ -524,7 +526,8 @@ fn check_set(
     key: &[Assign],
 ) -> Result<Write, Stopped>
     requires sound { AreWritable catalog.now.tables }
-    ensures answer { Answers result (in_table name.now (find_table catalog.now name.now) (λ t. update_checked (table_at catalog.now.tables t) t sets.now key.now)) }
+    ensures answer { Answers result (in_table name.now (find_table catalog.now name.now)
+        (λ t. update_checked (table_at catalog.now.tables t) t sets.now key.now)) }
     ensures write { IfOk result (IsWrite catalog.now.tables) }
 {
     match catalog.find_table(name) {
@@ -540,7 +543,8 @@ fn check_from(
     key: &[Assign],
 ) -> Result<Write, Stopped>
     requires sound { AreWritable catalog.now.tables }
-    ensures answer { Answers result (in_table name.now (find_table catalog.now name.now) (λ t. delete_checked (table_at catalog.now.tables t) t key.now)) }
+    ensures answer { Answers result (in_table name.now (find_table catalog.now name.now)
+        (λ t. delete_checked (table_at catalog.now.tables t) t key.now)) }
     ensures write { IfOk result (IsWrite catalog.now.tables) }
 {
     match catalog.find_table(name) {
@@ -551,14 +555,14 @@ fn check_from(
 
 /// The write of an INSERT, UPDATE or DELETE, or the first refusal found by reading: the table, an
 /// unknown column, a repeated one, the wrong columns, a value that doesn't fit, and a row too long.
-#[tactic(auto, unfolding(crate::specs::Checking::checked))]
+#[tactic(auto, unfolding(crate::specs::Checking::checked_write))]
 pub fn check_write(
     alloc: Global,
     catalog: &Catalog,
     statement: &Statement,
 ) -> Result<Write, Stopped>
     requires writing { IsWriting statement.now }
-    ensures answer { Answers result (checked catalog.now statement.now) }
+    ensures answer { Answers result (checked_write catalog.now statement.now) }
     ensures write { IfOk result (IsWrite catalog.now.tables) }
 {
     catalog.known();

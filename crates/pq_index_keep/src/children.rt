@@ -36,10 +36,13 @@ fn names_key<S: Store<L>, L: Ledger>(
     requires columns { AreColumns foreign.now.cols }
     requires table { IsTable table.now }
     requires access { IsSome (group_access table.now (set_of foreign.now.cols)) }
-    requires share { Affords calls.old.allowance.now (one_if (foreign.now.table == number)) (one_if (foreign.now.table == number)) }
-    ensures uses { Uses S.content S.faults calls.old calls.new (one_if (foreign.now.table == number)) (one_if (foreign.now.table == number)) }
+    requires share { Affords calls.old.allowance.now (one_if (foreign.now.table == number))
+        (one_if (foreign.now.table == number)) }
+    ensures uses { Uses S.content S.faults calls.old calls.new (one_if (foreign.now.table == number))
+        (one_if (foreign.now.table == number)) }
     ensures cause { IfErr result (Fails no_damage S.content S.faults calls.old calls.new) }
-    ensures answer { IfOk result (λ named. (tables : List Definition) (rows : Rows) (others : List Pair) → HoldsRows (S.content calls.old.store.now) tables rows others → table.now ≡ table_at tables child →
+    ensures answer { IfOk result (λ named. (tables : List Definition) (rows : Rows) (others : List Pair)
+        → HoldsRows (S.content calls.old.store.now) tables rows others → table.now ≡ table_at tables child →
         MayName table.now number key.now foreign.now → named ≡ names_key rows number key.now child foreign.now) }
 {
     if foreign.table != number {
@@ -70,11 +73,15 @@ pub(crate) fn first_naming<S: Store<L>, L: Ledger>(
     requires columns { All (λ f. AreColumns f.cols) foreign.now }
     requires table { IsTable table.now }
     requires access { All (λ f. IsSome (group_access table.now (set_of f.cols))) foreign.now }
-    requires share { Affords calls.old.allowance.now (count_by (λ f. f.table == number) foreign.now) (count_by (λ f. f.table == number) foreign.now) }
-    ensures uses { Uses S.content S.faults calls.old calls.new (count_by (λ f. f.table == number) foreign.now) (count_by (λ f. f.table == number) foreign.now) }
+    requires share { Affords calls.old.allowance.now (count_by (λ f. f.table == number) foreign.now) (count_by
+        (λ f. f.table == number) foreign.now) }
+    ensures uses { Uses S.content S.faults calls.old calls.new (count_by
+        (λ f. f.table == number) foreign.now) (count_by (λ f. f.table == number) foreign.now) }
     ensures cause { IfErr result (Fails no_damage S.content S.faults calls.old calls.new) }
-    ensures answer { IfOk result (λ at. (tables : List Definition) (rows : Rows) (others : List Pair) → HoldsRows (S.content calls.old.store.now) tables rows others → table.now ≡ table_at tables child →
-        All (MayName table.now number key.now) foreign.now → at ≡ position (names_key rows number key.now child) foreign.now) }
+    ensures answer { IfOk result (λ at. (tables : List Definition) (rows : Rows) (others : List Pair)
+        → HoldsRows (S.content calls.old.store.now) tables rows others → table.now ≡ table_at tables child →
+        All (MayName table.now number key.now) foreign.now
+        → at ≡ position (names_key rows number key.now child) foreign.now) }
     ensures within { IfOk result (λ at. IfSome at (λ i. i < length foreign.now)) }
 {
     for (i, own) in foreign.iter().enumerate() {

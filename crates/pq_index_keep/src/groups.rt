@@ -116,7 +116,9 @@ fn primary_key(
     values: &[Value],
 ) -> Result<Bytes, NoMem>
     requires { AreColumns cols.now }
-    ensures { IfOk result (λ key. key ≡ sequence_key number table.now Access.Primary (first_values table.now Access.Primary cols.now values.now)) }
+    ensures { IfOk result (λ key. key
+        ≡ sequence_key number table.now Access.Primary
+        (first_values table.now Access.Primary cols.now values.now)) }
 {
     let parts = primary_sequence(alloc, table)?;
     let first = first_columns(alloc, parts.items(), ColSet::of(cols))?;
@@ -152,7 +154,9 @@ fn secondary_key(
     requires table { IsTable table.now }
     requires from_one { 1 ≤ index }
     requires there { index ≤ length table.now.indexes }
-    ensures { IfOk result (λ key. key ≡ sequence_key number table.now (Access.Secondary index) (first_values table.now (Access.Secondary index) cols.now values.now)) }
+    ensures { IfOk result (λ key. key
+        ≡ sequence_key number table.now (Access.Secondary index)
+        (first_values table.now (Access.Secondary index) cols.now values.now)) }
 {
     let parts = index_sequence(alloc, table, &table.indexes.items()[index as usize - 1])?;
     let first = first_columns(alloc, parts.items(), ColSet::of(cols))?;
@@ -198,7 +202,9 @@ pub(crate) fn count_group<S: Store<L>, L: Ledger>(
     requires share { Affords calls.old.allowance.now 1 cap }
     ensures uses { Uses S.content S.faults calls.old calls.new 1 cap }
     ensures cause { IfErr result (Fails no_damage S.content S.faults calls.old calls.new) }
-    ensures answer { IfOk result (λ n. IfSome (S.content calls.old.store.now) (λ c. n ≡ min cap (length (pairs_within c (group_key number table.now cols.now values.now) (past_code (group_key number table.now cols.now values.now)))))) }
+    ensures answer { IfOk result (λ n. IfSome (S.content calls.old.store.now)
+        (λ c. n ≡ min cap (length (pairs_within c (group_key number table.now cols.now values.now)
+        (past_code (group_key number table.now cols.now values.now)))))) }
 {
     let low = group_key(alloc, number, table, cols, values)?;
     let high = past(alloc, Bytes::of_bytes(alloc, low.items())?)?;

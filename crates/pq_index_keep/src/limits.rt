@@ -55,7 +55,8 @@ fn is_full<S: Store<L>, L: Ledger>(
     requires share { Affords calls.old.allowance.now 1 limit.now.n }
     ensures uses { Uses S.content S.faults calls.old calls.new 1 limit.now.n }
     ensures cause { IfErr result (Fails no_damage S.content S.faults calls.old calls.new) }
-    ensures answer { IfOk result (λ full. (tables : List Definition) (rows : Rows) (others : List Pair) → HoldsRows (S.content calls.old.store.now) tables rows others → table.now ≡ table_at tables number →
+    ensures answer { IfOk result (λ full. (tables : List Definition) (rows : Rows) (others : List Pair)
+        → HoldsRows (S.content calls.old.store.now) tables rows others → table.now ≡ table_at tables number →
         AllFit (types_of table.now) row.now → full ≡ is_full rows number row.now limit.now) }
 {
     let values = values_at(alloc, row.items(), limit.cols.items())?;
@@ -85,10 +86,13 @@ fn lacks_room<S: Store<L>, L: Ledger>(
     requires columns { AreColumns limit.now.cols }
     requires table { IsTable table.now }
     requires access { IsSome (group_access table.now (set_of limit.now.cols)) }
-    requires share { Affords calls.old.allowance.now (one_if (touches scope.now limit.now.cols)) (tested_n scope.now limit.now) }
-    ensures uses { Uses S.content S.faults calls.old calls.new (one_if (touches scope.now limit.now.cols)) (tested_n scope.now limit.now) }
+    requires share { Affords calls.old.allowance.now (one_if (touches scope.now limit.now.cols))
+        (tested_n scope.now limit.now) }
+    ensures uses { Uses S.content S.faults calls.old calls.new (one_if (touches scope.now limit.now.cols))
+        (tested_n scope.now limit.now) }
     ensures cause { IfErr result (Fails no_damage S.content S.faults calls.old calls.new) }
-    ensures answer { IfOk result (λ lacks. (tables : List Definition) (rows : Rows) (others : List Pair) → HoldsRows (S.content calls.old.store.now) tables rows others → table.now ≡ table_at tables number →
+    ensures answer { IfOk result (λ lacks. (tables : List Definition) (rows : Rows) (others : List Pair)
+        → HoldsRows (S.content calls.old.store.now) tables rows others → table.now ≡ table_at tables number →
         AllFit (types_of table.now) row.now → lacks ≡ lacks_room rows scope.now old.now number row.now limit.now) }
 {
     if !scope.touches(limit.cols.items()) {
@@ -115,11 +119,15 @@ pub(crate) fn first_full<S: Store<L>, L: Ledger>(
     requires table { IsTable table.now }
     requires columns { All (λ limit. AreColumns limit.cols) limits.now }
     requires access { All (λ limit. IsSome (group_access table.now (set_of limit.cols))) limits.now }
-    requires share { Affords calls.old.allowance.now (tested_limits scope.now limits.now) (sum_by (tested_n scope.now) limits.now) }
-    ensures uses { Uses S.content S.faults calls.old calls.new (tested_limits scope.now limits.now) (sum_by (tested_n scope.now) limits.now) }
+    requires share { Affords calls.old.allowance.now (tested_limits scope.now limits.now)
+        (sum_by (tested_n scope.now) limits.now) }
+    ensures uses { Uses S.content S.faults calls.old calls.new (tested_limits scope.now limits.now)
+        (sum_by (tested_n scope.now) limits.now) }
     ensures cause { IfErr result (Fails no_damage S.content S.faults calls.old calls.new) }
-    ensures answer { IfOk result (λ at. (tables : List Definition) (rows : Rows) (others : List Pair) → HoldsRows (S.content calls.old.store.now) tables rows others → table.now ≡ table_at tables number →
-        AllFit (types_of table.now) row.now → at ≡ position (lacks_room rows scope.now old.now number row.now) limits.now) }
+    ensures answer { IfOk result (λ at. (tables : List Definition) (rows : Rows) (others : List Pair)
+        → HoldsRows (S.content calls.old.store.now) tables rows others → table.now ≡ table_at tables number →
+        AllFit (types_of table.now) row.now → at
+        ≡ position (lacks_room rows scope.now old.now number row.now) limits.now) }
     ensures within { IfOk result (λ at. IfSome at (λ i. i < length limits.now)) }
 {
     for (i, limit) in limits.iter().enumerate() {

@@ -32,8 +32,10 @@ fn is_missing<S: Store<L>, L: Ledger>(
     requires share { Affords calls.old.allowance.now 1 1 }
     ensures uses { Uses S.content S.faults calls.old calls.new 1 1 }
     ensures cause { IfErr result (Fails no_damage S.content S.faults calls.old calls.new) }
-    ensures answer { IfOk result (λ missing. (tables : List Definition) (rows : Rows) (others : List Pair) → HoldsRows (S.content calls.old.store.now) tables rows others →
-        AllOfKinds (key_types (table_at tables foreign.now.table)) (cells foreign.now.cols row.now) → missing ≡ is_missing tables rows row.now foreign.now) }
+    ensures answer { IfOk result (λ missing. (tables : List Definition) (rows : Rows) (others : List Pair)
+        → HoldsRows (S.content calls.old.store.now) tables rows others →
+        AllOfKinds (key_types (table_at tables foreign.now.table)) (cells foreign.now.cols row.now)
+        → missing ≡ is_missing tables rows row.now foreign.now) }
 {
     let key = values_at(alloc, row.items(), foreign.cols.items())?;
     let there = calls.has_row(alloc, foreign.table, &key)?;
@@ -49,11 +51,15 @@ fn lacks_parent<S: Store<L>, L: Ledger>(
     calls: &mut Calls<S, L>,
 ) -> Result<bool, Broke>
     requires columns { AreColumns foreign.now.cols }
-    requires share { Affords calls.old.allowance.now (one_if (touches scope.now foreign.now.cols)) (one_if (touches scope.now foreign.now.cols)) }
-    ensures uses { Uses S.content S.faults calls.old calls.new (one_if (touches scope.now foreign.now.cols)) (one_if (touches scope.now foreign.now.cols)) }
+    requires share { Affords calls.old.allowance.now (one_if (touches scope.now foreign.now.cols))
+        (one_if (touches scope.now foreign.now.cols)) }
+    ensures uses { Uses S.content S.faults calls.old calls.new (one_if (touches scope.now foreign.now.cols))
+        (one_if (touches scope.now foreign.now.cols)) }
     ensures cause { IfErr result (Fails no_damage S.content S.faults calls.old calls.new) }
-    ensures answer { IfOk result (λ lacks. (tables : List Definition) (rows : Rows) (others : List Pair) → HoldsRows (S.content calls.old.store.now) tables rows others →
-        AllOfKinds (key_types (table_at tables foreign.now.table)) (cells foreign.now.cols row.now) → lacks ≡ lacks_parent tables rows scope.now row.now foreign.now) }
+    ensures answer { IfOk result (λ lacks. (tables : List Definition) (rows : Rows) (others : List Pair)
+        → HoldsRows (S.content calls.old.store.now) tables rows others →
+        AllOfKinds (key_types (table_at tables foreign.now.table)) (cells foreign.now.cols row.now)
+        → lacks ≡ lacks_parent tables rows scope.now row.now foreign.now) }
 {
     if scope.touches(foreign.cols.items()) {
         is_missing(alloc, foreign, row, calls)
@@ -71,11 +77,15 @@ pub(crate) fn first_lacking<S: Store<L>, L: Ledger>(
     calls: &mut Calls<S, L>,
 ) -> Result<Option<usize>, Broke>
     requires columns { All (λ f. AreColumns f.cols) foreign.now }
-    requires share { Affords calls.old.allowance.now (tested_foreign scope.now foreign.now) (tested_foreign scope.now foreign.now) }
-    ensures uses { Uses S.content S.faults calls.old calls.new (tested_foreign scope.now foreign.now) (tested_foreign scope.now foreign.now) }
+    requires share { Affords calls.old.allowance.now (tested_foreign scope.now foreign.now)
+        (tested_foreign scope.now foreign.now) }
+    ensures uses { Uses S.content S.faults calls.old calls.new (tested_foreign scope.now foreign.now)
+        (tested_foreign scope.now foreign.now) }
     ensures cause { IfErr result (Fails no_damage S.content S.faults calls.old calls.new) }
-    ensures answer { IfOk result (λ at. (tables : List Definition) (rows : Rows) (others : List Pair) → HoldsRows (S.content calls.old.store.now) tables rows others →
-        All (λ f. AllOfKinds (key_types (table_at tables f.table)) (cells f.cols row.now)) foreign.now → at ≡ position (lacks_parent tables rows scope.now row.now) foreign.now) }
+    ensures answer { IfOk result (λ at. (tables : List Definition) (rows : Rows) (others : List Pair)
+        → HoldsRows (S.content calls.old.store.now) tables rows others →
+        All (λ f. AllOfKinds (key_types (table_at tables f.table)) (cells f.cols row.now)) foreign.now
+        → at ≡ position (lacks_parent tables rows scope.now row.now) foreign.now) }
     ensures within { IfOk result (λ at. IfSome at (λ i. i < length foreign.now)) }
 {
     for (i, key) in foreign.iter().enumerate() {

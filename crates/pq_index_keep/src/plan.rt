@@ -8,7 +8,7 @@ ghost use Rattle.pq_schema.specs.Sound.{IsTable, AreColumns, AreParts};
 ghost use Rattle.pq_schema.specs.Tables.{table_at};
 ghost use Rattle.pq_content.specs.Pairs.{Pair};
 ghost use Rattle.pq_content.specs.Tables.{Rows, AllOfKinds, IsTableNumber, key_types, types_of, key_of, row_at};
-ghost use Rattle.pq_index_keep.specs.Bounds.{referring, tests};
+ghost use Rattle.pq_index_keep.specs.Bounds.{referring_count, tests};
 ghost use Rattle.pq_calls.specs.Calls.{Uses, Fails};
 ghost use Rattle.pq_calls.specs.Evidence.{IsNoRow};
 ghost use Rattle.pq_calls.specs.World.{Affords, no_damage, where_told};
@@ -77,12 +77,17 @@ pub(crate) fn plan_insert<S: Store<L>, L: Ledger>(
 ) -> Result<Planned, Broke>
     requires sound { AreWritable catalog.now.tables }
     requires insert { IsInsert catalog.now.tables number row.now }
-    requires share { Affords calls.old.allowance.now (tests Scope.All (table_at catalog.now.tables number)).ops (tests Scope.All (table_at catalog.now.tables number)).entries }
-    ensures uses { Uses S.content S.faults calls.old calls.new (tests Scope.All (table_at catalog.now.tables number)).ops (tests Scope.All (table_at catalog.now.tables number)).entries }
+    requires share { Affords calls.old.allowance.now (tests Scope.All (table_at catalog.now.tables number)).ops
+        (tests Scope.All (table_at catalog.now.tables number)).entries }
+    ensures uses { Uses S.content S.faults calls.old calls.new
+        (tests Scope.All (table_at catalog.now.tables number)).ops
+        (tests Scope.All (table_at catalog.now.tables number)).entries }
     ensures cause { IfErr result (Fails no_damage S.content S.faults calls.old calls.new) }
     ensures plan { IfOk result (IsPlannedWithin (1 + length (table_at catalog.now.tables number).indexes)) }
     ensures own { IfOk result (ChangesOwn catalog.now.tables (Write.Insert number row.now)) }
-    ensures answer { IfOk result (λ planned. (rows : Rows) (others : List Pair) → HoldsRows (S.content calls.old.store.now) catalog.now.tables rows others → Plans catalog.now.tables rows others (Write.Insert number row.now) planned) }
+    ensures answer { IfOk result (λ planned. (rows : Rows) (others : List Pair)
+        → HoldsRows (S.content calls.old.store.now) catalog.now.tables rows others
+        → Plans catalog.now.tables rows others (Write.Insert number row.now) planned) }
 {
     let table = table_of(catalog, number);
     let at = own_key(alloc, number, table, row)?;
@@ -109,10 +114,14 @@ pub(crate) fn find_row<S: Store<L>, L: Ledger>(
     requires kinds { AllOfKinds (key_types (table_at catalog.now.tables number)) key.now }
     requires share { Affords calls.old.allowance.now 1 1 }
     ensures uses { Uses S.content S.faults calls.old calls.new 1 1 }
-    ensures cause { IfErr result (Fails (where_told (IsNoRow catalog.now.tables)) S.content S.faults calls.old calls.new) }
-    ensures answer { IfOk result (λ found. (rows : Rows) (others : List Pair) → HoldsRows (S.content calls.old.store.now) catalog.now.tables rows others → option_map (λ stored. stored.row) found ≡ row_at catalog.now.tables rows number key.now) }
+    ensures cause { IfErr result (Fails (where_told (IsNoRow catalog.now.tables)) S.content S.faults calls.old
+        calls.new) }
+    ensures answer { IfOk result (λ found. (rows : Rows) (others : List Pair)
+        → HoldsRows (S.content calls.old.store.now) catalog.now.tables rows others
+        → option_map (λ stored. stored.row) found ≡ row_at catalog.now.tables rows number key.now) }
     ensures at { IfOk result (λ found. IfSome found (λ stored. stored.at ≡ row_key number key.now)) }
-    ensures fits { IfOk result (λ found. IfSome found (λ stored. AllFit (types_of (table_at catalog.now.tables number)) stored.row)) }
+    ensures fits { IfOk result (λ found. IfSome found
+        (λ stored. AllFit (types_of (table_at catalog.now.tables number)) stored.row)) }
 {
     match calls.row(alloc, number, table_of(catalog, number), key) {
         Err(error) => Err(error),
@@ -133,13 +142,17 @@ fn plan_removal<S: Store<L>, L: Ledger>(
     requires delete { IsDelete catalog.now.tables number key.now }
     requires at { found.at ≡ row_key number key.now }
     requires fits { AllFit (types_of (table_at catalog.now.tables number)) found.row }
-    requires share { Affords calls.old.allowance.now (referring catalog.now.tables number) (referring catalog.now.tables number) }
-    ensures uses { Uses S.content S.faults calls.old calls.new (referring catalog.now.tables number) (referring catalog.now.tables number) }
+    requires share { Affords calls.old.allowance.now (referring_count catalog.now.tables number)
+        (referring_count catalog.now.tables number) }
+    ensures uses { Uses S.content S.faults calls.old calls.new (referring_count catalog.now.tables number)
+        (referring_count catalog.now.tables number) }
     ensures cause { IfErr result (Fails no_damage S.content S.faults calls.old calls.new) }
     ensures plan { IfOk result (IsPlannedWithin (1 + length (table_at catalog.now.tables number).indexes)) }
     ensures own { IfOk result (ChangesOwn catalog.now.tables (Write.Delete number key.now)) }
-    ensures answer { IfOk result (λ planned. (rows : Rows) (others : List Pair) → HoldsRows (S.content calls.old.store.now) catalog.now.tables rows others →
-        Some found.row ≡ row_at catalog.now.tables rows number key.now → Plans catalog.now.tables rows others (Write.Delete number key.now) planned) }
+    ensures answer { IfOk result (λ planned. (rows : Rows) (others : List Pair)
+        → HoldsRows (S.content calls.old.store.now) catalog.now.tables rows others →
+        Some found.row ≡ row_at catalog.now.tables rows number key.now
+        → Plans catalog.now.tables rows others (Write.Delete number key.now) planned) }
 {
     let table = table_of(catalog, number);
     let tables = catalog.tables();
@@ -162,12 +175,17 @@ pub(crate) fn plan_delete<S: Store<L>, L: Ledger>(
 ) -> Result<Planned, Broke>
     requires sound { AreWritable catalog.now.tables }
     requires delete { IsDelete catalog.now.tables number key.now }
-    requires share { Affords calls.old.allowance.now (1 + referring catalog.now.tables number) (1 + referring catalog.now.tables number) }
-    ensures uses { Uses S.content S.faults calls.old calls.new (1 + referring catalog.now.tables number) (1 + referring catalog.now.tables number) }
-    ensures cause { IfErr result (Fails (where_told (IsNoRow catalog.now.tables)) S.content S.faults calls.old calls.new) }
+    requires share { Affords calls.old.allowance.now (1 + referring_count catalog.now.tables number)
+        (1 + referring_count catalog.now.tables number) }
+    ensures uses { Uses S.content S.faults calls.old calls.new (1 + referring_count catalog.now.tables number)
+        (1 + referring_count catalog.now.tables number) }
+    ensures cause { IfErr result (Fails (where_told (IsNoRow catalog.now.tables)) S.content S.faults calls.old
+        calls.new) }
     ensures plan { IfOk result (IsPlannedWithin (1 + length (table_at catalog.now.tables number).indexes)) }
     ensures own { IfOk result (ChangesOwn catalog.now.tables (Write.Delete number key.now)) }
-    ensures answer { IfOk result (λ planned. (rows : Rows) (others : List Pair) → HoldsRows (S.content calls.old.store.now) catalog.now.tables rows others → Plans catalog.now.tables rows others (Write.Delete number key.now) planned) }
+    ensures answer { IfOk result (λ planned. (rows : Rows) (others : List Pair)
+        → HoldsRows (S.content calls.old.store.now) catalog.now.tables rows others
+        → Plans catalog.now.tables rows others (Write.Delete number key.now) planned) }
 {
     match find_row(alloc, catalog, number, key, calls) {
         Err(error) => Err(error),

@@ -2,8 +2,8 @@
 ghost use Rattle.std.specs.Prelude.{◌≡◌, ◌≤◌, ◌<◌, List, All, length, IfOk, IfErr};
 ghost use Rattle.pq_content.specs.Pairs.{Pair};
 ghost use Rattle.pq_content.specs.Tables.{Rows};
-ghost use Rattle.pq_index_keep.specs.Bounds.{referring};
-ghost use Rattle.pq_index_keep.specs.Effects.{referenced, child_refusal};
+ghost use Rattle.pq_index_keep.specs.Bounds.{referring_count};
+ghost use Rattle.pq_index_keep.specs.Effects.{referenced_refusal, child_refusal};
 ghost use Rattle.pq_calls.specs.Calls.{Uses, Fails};
 ghost use Rattle.pq_calls.specs.World.{Affords, no_damage};
 ghost use Rattle.pq_index_keep.specs.Promises.{HoldsRows};
@@ -19,7 +19,7 @@ use std::sync::ledger::Ledger;
 
 fn referenced(alloc: Global, table: &Table, place: usize) -> Result<Refusal, NoMem>
     requires { place < 4 }
-    ensures { IfOk result (λ refusal. refusal ≡ referenced table.now place) }
+    ensures { IfOk result (λ refusal. refusal ≡ referenced_refusal table.now place) }
 {
     Ok(Refusal::Referenced {
         table: table.name.copy(alloc)?,
@@ -38,10 +38,13 @@ pub(crate) fn child_refusal<S: Store<L>, L: Ledger>(
     requires few { length tables.now ≤ 64 }
     requires sound { AreWritable tables.now }
     requires may { All (λ table. All (MayName table number key.now) table.foreign) tables.now }
-    requires share { Affords calls.old.allowance.now (referring tables.now number) (referring tables.now number) }
-    ensures uses { Uses S.content S.faults calls.old calls.new (referring tables.now number) (referring tables.now number) }
+    requires share { Affords calls.old.allowance.now (referring_count tables.now number) (referring_count tables.now number) }
+    ensures uses { Uses S.content S.faults calls.old calls.new (referring_count tables.now number)
+        (referring_count tables.now number) }
     ensures cause { IfErr result (Fails no_damage S.content S.faults calls.old calls.new) }
-    ensures answer { IfOk result (λ refusal. (rows : Rows) (others : List Pair) → HoldsRows (S.content calls.old.store.now) tables.now rows others → refusal ≡ child_refusal rows number key.now 1 tables.now) }
+    ensures answer { IfOk result (λ refusal. (rows : Rows) (others : List Pair)
+        → HoldsRows (S.content calls.old.store.now) tables.now rows others
+        → refusal ≡ child_refusal rows number key.now 1 tables.now) }
 {
     for (i, table) in tables.iter().enumerate() {
         let foreign = table.foreign.items();

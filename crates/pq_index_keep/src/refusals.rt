@@ -59,11 +59,15 @@ fn parent_refusal<S: Store<L>, L: Ledger>(
 ) -> Result<Option<Refusal>, Broke>
     requires columns { All (λ f. AreColumns f.cols) table.now.foreign }
     requires few { length table.now.foreign ≤ 4 }
-    requires share { Affords calls.old.allowance.now (tested_foreign scope.now table.now.foreign) (tested_foreign scope.now table.now.foreign) }
-    ensures uses { Uses S.content S.faults calls.old calls.new (tested_foreign scope.now table.now.foreign) (tested_foreign scope.now table.now.foreign) }
+    requires share { Affords calls.old.allowance.now (tested_foreign scope.now table.now.foreign)
+        (tested_foreign scope.now table.now.foreign) }
+    ensures uses { Uses S.content S.faults calls.old calls.new (tested_foreign scope.now table.now.foreign)
+        (tested_foreign scope.now table.now.foreign) }
     ensures cause { IfErr result (Fails no_damage S.content S.faults calls.old calls.new) }
-    ensures answer { IfOk result (λ refusal. (tables : List Definition) (rows : Rows) (others : List Pair) → HoldsRows (S.content calls.old.store.now) tables rows others →
-        All (λ f. AllOfKinds (key_types (table_at tables f.table)) (cells f.cols row.now)) table.now.foreign → refusal ≡ parent_refusal tables rows scope.now table.now row.now) }
+    ensures answer { IfOk result (λ refusal. (tables : List Definition) (rows : Rows) (others : List Pair)
+        → HoldsRows (S.content calls.old.store.now) tables rows others →
+        All (λ f. AllOfKinds (key_types (table_at tables f.table)) (cells f.cols row.now)) table.now.foreign
+        → refusal ≡ parent_refusal tables rows scope.now table.now row.now) }
 {
     match first_lacking(alloc, scope, table.foreign.items(), row, calls)? {
         None => Ok(None),
@@ -84,10 +88,13 @@ fn room_refusal<S: Store<L>, L: Ledger>(
 ) -> Result<Option<Refusal>, Broke>
     requires table { IsTable table.now }
     requires access { All (λ limit. IsSome (group_access table.now (set_of limit.cols))) table.now.limits }
-    requires share { Affords calls.old.allowance.now (tested_limits scope.now table.now.limits) (sum_by (tested_n scope.now) table.now.limits) }
-    ensures uses { Uses S.content S.faults calls.old calls.new (tested_limits scope.now table.now.limits) (sum_by (tested_n scope.now) table.now.limits) }
+    requires share { Affords calls.old.allowance.now (tested_limits scope.now table.now.limits)
+        (sum_by (tested_n scope.now) table.now.limits) }
+    ensures uses { Uses S.content S.faults calls.old calls.new (tested_limits scope.now table.now.limits)
+        (sum_by (tested_n scope.now) table.now.limits) }
     ensures cause { IfErr result (Fails no_damage S.content S.faults calls.old calls.new) }
-    ensures answer { IfOk result (λ refusal. (tables : List Definition) (rows : Rows) (others : List Pair) → HoldsRows (S.content calls.old.store.now) tables rows others → table.now ≡ table_at tables number →
+    ensures answer { IfOk result (λ refusal. (tables : List Definition) (rows : Rows) (others : List Pair)
+        → HoldsRows (S.content calls.old.store.now) tables rows others → table.now ≡ table_at tables number →
         AllFit (types_of table.now) row.now → refusal ≡ room_refusal rows scope.now old.now number table.now row.now) }
 {
     let limits = table.limits.items();
@@ -111,11 +118,18 @@ pub(crate) fn tested_refusal<S: Store<L>, L: Ledger>(
     requires columns { All (λ f. AreColumns f.cols) table.now.foreign }
     requires few { length table.now.foreign ≤ 4 }
     requires access { All (λ limit. IsSome (group_access table.now (set_of limit.cols))) table.now.limits }
-    requires share { Affords calls.old.allowance.now (tested_foreign scope.now table.now.foreign + tested_limits scope.now table.now.limits) (tested_foreign scope.now table.now.foreign + sum_by (tested_n scope.now) table.now.limits) }
-    ensures uses { Uses S.content S.faults calls.old calls.new (tested_foreign scope.now table.now.foreign + tested_limits scope.now table.now.limits) (tested_foreign scope.now table.now.foreign + sum_by (tested_n scope.now) table.now.limits) }
+    requires share { Affords calls.old.allowance.now
+        (tested_foreign scope.now table.now.foreign + tested_limits scope.now table.now.limits)
+        (tested_foreign scope.now table.now.foreign + sum_by (tested_n scope.now) table.now.limits) }
+    ensures uses { Uses S.content S.faults calls.old calls.new
+        (tested_foreign scope.now table.now.foreign + tested_limits scope.now table.now.limits)
+        (tested_foreign scope.now table.now.foreign + sum_by (tested_n scope.now) table.now.limits) }
     ensures cause { IfErr result (Fails no_damage S.content S.faults calls.old calls.new) }
-    ensures answer { IfOk result (λ refusal. (tables : List Definition) (rows : Rows) (others : List Pair) → HoldsRows (S.content calls.old.store.now) tables rows others → table.now ≡ table_at tables number →
-        IsTested tables table.now row.now → refusal ≡ or_else (parent_refusal tables rows scope.now table.now row.now) (room_refusal rows scope.now old.now number table.now row.now)) }
+    ensures answer { IfOk result (λ refusal. (tables : List Definition) (rows : Rows) (others : List Pair)
+        → HoldsRows (S.content calls.old.store.now) tables rows others → table.now ≡ table_at tables number →
+        IsTested tables table.now row.now → refusal
+        ≡ or_else (parent_refusal tables rows scope.now table.now row.now)
+        (room_refusal rows scope.now old.now number table.now row.now)) }
 {
     if let Some(refusal) = parent_refusal(alloc, scope, table, row, calls)? {
         return Ok(Some(refusal));
@@ -137,10 +151,13 @@ pub(crate) fn insert_refusal<S: Store<L>, L: Ledger>(
     requires few { length table.now.foreign ≤ 4 }
     requires access { All (λ limit. IsSome (group_access table.now (set_of limit.cols))) table.now.limits }
     requires at { at.now ≡ row_key number (key_of table.now row.now) }
-    requires share { Affords calls.old.allowance.now (tests Scope.All table.now).ops (tests Scope.All table.now).entries }
-    ensures uses { Uses S.content S.faults calls.old calls.new (tests Scope.All table.now).ops (tests Scope.All table.now).entries }
+    requires share { Affords calls.old.allowance.now (tests Scope.All table.now).ops
+        (tests Scope.All table.now).entries }
+    ensures uses { Uses S.content S.faults calls.old calls.new (tests Scope.All table.now).ops
+        (tests Scope.All table.now).entries }
     ensures cause { IfErr result (Fails no_damage S.content S.faults calls.old calls.new) }
-    ensures answer { IfOk result (λ refusal. (tables : List Definition) (rows : Rows) (others : List Pair) → HoldsRows (S.content calls.old.store.now) tables rows others → table.now ≡ table_at tables number →
+    ensures answer { IfOk result (λ refusal. (tables : List Definition) (rows : Rows) (others : List Pair)
+        → HoldsRows (S.content calls.old.store.now) tables rows others → table.now ≡ table_at tables number →
         IsTested tables table.now row.now → refusal ≡ insert_refusal tables rows number row.now) }
 {
     if calls.has_value(alloc, at)? {

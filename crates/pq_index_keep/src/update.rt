@@ -74,7 +74,9 @@ fn scope_of(sets: &List<SetCol>) -> Scope
 fn long_refusal(alloc: Global, table: &Table, row: &Row) -> Result<Option<Refusal>, NoMem>
     requires columns { length row.now ≤ 32 }
     requires texts { All IsShort row.now }
-    ensures { IfOk result (λ refusal. refusal ≡ refused_if (nat_lt 4096 (length (stored_code table.now row.now))) (Refusal.RowLong table.now.name (length (stored_code table.now row.now)))) }
+    ensures { IfOk result (λ refusal. refusal
+        ≡ refused_if (nat_lt 4096 (length (stored_code table.now row.now)))
+        (Refusal.RowLong table.now.name (length (stored_code table.now row.now)))) }
 {
     let length = row_code_len(row);
     if 4096 < length {
@@ -100,12 +102,20 @@ fn update_refusal<S: Store<L>, L: Ledger>(
     requires access { All (λ limit. IsSome (group_access table.now (set_of limit.cols))) table.now.limits }
     requires long { length new.now ≤ 32 }
     requires texts { All IsShort new.now }
-    requires share { Affords calls.old.allowance.now (tested_foreign scope.now table.now.foreign + tested_limits scope.now table.now.limits) (tested_foreign scope.now table.now.foreign + sum_by (tested_n scope.now) table.now.limits) }
-    ensures uses { Uses S.content S.faults calls.old calls.new (tested_foreign scope.now table.now.foreign + tested_limits scope.now table.now.limits) (tested_foreign scope.now table.now.foreign + sum_by (tested_n scope.now) table.now.limits) }
+    requires share { Affords calls.old.allowance.now
+        (tested_foreign scope.now table.now.foreign + tested_limits scope.now table.now.limits)
+        (tested_foreign scope.now table.now.foreign + sum_by (tested_n scope.now) table.now.limits) }
+    ensures uses { Uses S.content S.faults calls.old calls.new
+        (tested_foreign scope.now table.now.foreign + tested_limits scope.now table.now.limits)
+        (tested_foreign scope.now table.now.foreign + sum_by (tested_n scope.now) table.now.limits) }
     ensures cause { IfErr result (Fails no_damage S.content S.faults calls.old calls.new) }
-    ensures answer { IfOk result (λ refusal. (tables : List Definition) (rows : Rows) (others : List Pair) → HoldsRows (S.content calls.old.store.now) tables rows others → table.now ≡ table_at tables number →
-        IsTested tables table.now new.now → refusal ≡ or_else (refused_if (nat_lt 4096 (length (stored_code table.now new.now))) (Refusal.RowLong table.now.name (length (stored_code table.now new.now))))
-        (or_else (parent_refusal tables rows scope.now table.now new.now) (room_refusal rows scope.now old.now number table.now new.now))) }
+    ensures answer { IfOk result (λ refusal. (tables : List Definition) (rows : Rows) (others : List Pair)
+        → HoldsRows (S.content calls.old.store.now) tables rows others → table.now ≡ table_at tables number →
+        IsTested tables table.now new.now → refusal
+        ≡ or_else (refused_if (nat_lt 4096 (length (stored_code table.now new.now)))
+        (Refusal.RowLong table.now.name (length (stored_code table.now new.now))))
+        (or_else (parent_refusal tables rows scope.now table.now new.now)
+        (room_refusal rows scope.now old.now number table.now new.now))) }
 {
     let long = long_refusal(alloc, table, new)?;
     if let Some(refusal) = long {
@@ -129,13 +139,25 @@ fn plan_change<S: Store<L>, L: Ledger>(
     requires update { IsUpdate catalog.now.tables number key.now sets.now }
     requires at { found.at ≡ row_key number key.now }
     requires fits { AllFit (types_of (table_at catalog.now.tables number)) found.row }
-    requires share { Affords calls.old.allowance.now (tested_foreign (scope_of sets.now) (table_at catalog.now.tables number).foreign + tested_limits (scope_of sets.now) (table_at catalog.now.tables number).limits) (tested_foreign (scope_of sets.now) (table_at catalog.now.tables number).foreign + sum_by (tested_n (scope_of sets.now)) (table_at catalog.now.tables number).limits) }
-    ensures uses { Uses S.content S.faults calls.old calls.new (tested_foreign (scope_of sets.now) (table_at catalog.now.tables number).foreign + tested_limits (scope_of sets.now) (table_at catalog.now.tables number).limits) (tested_foreign (scope_of sets.now) (table_at catalog.now.tables number).foreign + sum_by (tested_n (scope_of sets.now)) (table_at catalog.now.tables number).limits) }
+    requires share { Affords calls.old.allowance.now
+        (tested_foreign (scope_of sets.now) (table_at catalog.now.tables number).foreign
+        + tested_limits (scope_of sets.now) (table_at catalog.now.tables number).limits)
+        (tested_foreign (scope_of sets.now) (table_at catalog.now.tables number).foreign
+        + sum_by (tested_n (scope_of sets.now)) (table_at catalog.now.tables number).limits) }
+    ensures uses { Uses S.content S.faults calls.old calls.new
+        (tested_foreign (scope_of sets.now) (table_at catalog.now.tables number).foreign
+        + tested_limits (scope_of sets.now) (table_at catalog.now.tables number).limits)
+        (tested_foreign (scope_of sets.now) (table_at catalog.now.tables number).foreign
+        + sum_by (tested_n (scope_of sets.now)) (table_at catalog.now.tables number).limits) }
     ensures cause { IfErr result (Fails no_damage S.content S.faults calls.old calls.new) }
-    ensures plan { IfOk result (IsPlannedWithin (1 + 2 * count_by (touches_index (scope_of sets.now) (table_at catalog.now.tables number)) (table_at catalog.now.tables number).indexes)) }
+    ensures plan { IfOk result (IsPlannedWithin
+        (1 + 2 * count_by (touches_index (scope_of sets.now) (table_at catalog.now.tables number))
+        (table_at catalog.now.tables number).indexes)) }
     ensures own { IfOk result (ChangesOwn catalog.now.tables (Write.Update number key.now sets.now)) }
-    ensures answer { IfOk result (λ planned. (rows : Rows) (others : List Pair) → HoldsRows (S.content calls.old.store.now) catalog.now.tables rows others →
-        Some found.row ≡ row_at catalog.now.tables rows number key.now → Plans catalog.now.tables rows others (Write.Update number key.now sets.now) planned) }
+    ensures answer { IfOk result (λ planned. (rows : Rows) (others : List Pair)
+        → HoldsRows (S.content calls.old.store.now) catalog.now.tables rows others →
+        Some found.row ≡ row_at catalog.now.tables rows number key.now
+        → Plans catalog.now.tables rows others (Write.Update number key.now sets.now) planned) }
 {
     let table = table_of(catalog, number);
     let scope = scope_of(sets);
@@ -163,12 +185,21 @@ pub(crate) fn plan_update<S: Store<L>, L: Ledger>(
 ) -> Result<Planned, Broke>
     requires sound { AreWritable catalog.now.tables }
     requires update { IsUpdate catalog.now.tables number key.now sets.now }
-    requires share { Affords calls.old.allowance.now (tests (scope_of sets.now) (table_at catalog.now.tables number)).ops (tests (scope_of sets.now) (table_at catalog.now.tables number)).entries }
-    ensures uses { Uses S.content S.faults calls.old calls.new (tests (scope_of sets.now) (table_at catalog.now.tables number)).ops (tests (scope_of sets.now) (table_at catalog.now.tables number)).entries }
-    ensures cause { IfErr result (Fails (where_told (IsNoRow catalog.now.tables)) S.content S.faults calls.old calls.new) }
-    ensures plan { IfOk result (IsPlannedWithin (1 + 2 * count_by (touches_index (scope_of sets.now) (table_at catalog.now.tables number)) (table_at catalog.now.tables number).indexes)) }
+    requires share { Affords calls.old.allowance.now
+        (tests (scope_of sets.now) (table_at catalog.now.tables number)).ops
+        (tests (scope_of sets.now) (table_at catalog.now.tables number)).entries }
+    ensures uses { Uses S.content S.faults calls.old calls.new
+        (tests (scope_of sets.now) (table_at catalog.now.tables number)).ops
+        (tests (scope_of sets.now) (table_at catalog.now.tables number)).entries }
+    ensures cause { IfErr result (Fails (where_told (IsNoRow catalog.now.tables)) S.content S.faults calls.old
+        calls.new) }
+    ensures plan { IfOk result (IsPlannedWithin
+        (1 + 2 * count_by (touches_index (scope_of sets.now) (table_at catalog.now.tables number))
+        (table_at catalog.now.tables number).indexes)) }
     ensures own { IfOk result (ChangesOwn catalog.now.tables (Write.Update number key.now sets.now)) }
-    ensures answer { IfOk result (λ planned. (rows : Rows) (others : List Pair) → HoldsRows (S.content calls.old.store.now) catalog.now.tables rows others → Plans catalog.now.tables rows others (Write.Update number key.now sets.now) planned) }
+    ensures answer { IfOk result (λ planned. (rows : Rows) (others : List Pair)
+        → HoldsRows (S.content calls.old.store.now) catalog.now.tables rows others
+        → Plans catalog.now.tables rows others (Write.Update number key.now sets.now) planned) }
 {
     match find_row(alloc, catalog, number, key, calls) {
         Err(error) => Err(error),

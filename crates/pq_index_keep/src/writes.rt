@@ -28,14 +28,17 @@ fn plan_by<S: Store<L>, L: Ledger>(
 ) -> Result<Planned, Broke>
     requires sound { AreWritable catalog.now.tables }
     requires write { IsWrite catalog.now.tables write.now }
-    requires share { Affords calls.old.allowance.now (write_tests catalog.now.tables write.now).ops (write_tests catalog.now.tables write.now).entries }
+    requires share { Affords calls.old.allowance.now (write_tests catalog.now.tables write.now).ops
+        (write_tests catalog.now.tables write.now).entries }
     ensures uses { Uses S.content S.faults calls.old calls.new
         (write_tests catalog.now.tables write.now).ops (write_tests catalog.now.tables write.now).entries }
-    ensures cause { IfErr result (Fails (where_told (IsNoRow catalog.now.tables)) S.content S.faults calls.old calls.new) }
+    ensures cause { IfErr result (Fails (where_told (IsNoRow catalog.now.tables)) S.content S.faults calls.old
+        calls.new) }
     ensures plan { IfOk result (IsPlannedWithin (most_changes catalog.now.tables write.now)) }
     ensures own { IfOk result (ChangesOwn catalog.now.tables write.now) }
     ensures answer { IfOk result (λ planned. (rows : Rows) (others : List Pair) →
-        HoldsRows (S.content calls.old.store.now) catalog.now.tables rows others → Plans catalog.now.tables rows others write.now planned) }
+        HoldsRows (S.content calls.old.store.now) catalog.now.tables rows others
+        → Plans catalog.now.tables rows others write.now planned) }
 {
     match write {
         Write::Insert { table, row } => {
@@ -70,7 +73,8 @@ pub fn plan_write<S: Store<L>, L: Ledger>(
     meter: &mut Meter<L>,
 ) -> Result<Planned, Broke>
     requires write { IsWrite catalog.now.tables write.now }
-    requires share { Affords allowance.old (write_bound catalog.now.tables write.now).ops (write_bound catalog.now.tables write.now).entries }
+    requires share { Affords allowance.old (write_bound catalog.now.tables write.now).ops
+        (write_bound catalog.now.tables write.now).entries }
     ensures reads { Reads (world (S.content store.old) (S.faults store.old) allowance.old meter.old)
         (world (S.content store.new) (S.faults store.new) allowance.new meter.new)
         (write_tests catalog.now.tables write.now).ops (write_tests catalog.now.tables write.now).entries }
@@ -78,11 +82,14 @@ pub fn plan_write<S: Store<L>, L: Ledger>(
     ensures cause { IfErr result (Explains (where_told (IsNoRow catalog.now.tables))
         (world (S.content store.old) (S.faults store.old) allowance.old meter.old)
         (world (S.content store.new) (S.faults store.new) allowance.new meter.new)) }
-    ensures undamaged { IfErr result (λ error. (rows : Rows) (others : List Pair) → HoldsRows (S.content store.old) catalog.now.tables rows others → IsUndamaged error) }
+    ensures undamaged { IfErr result (λ error. (rows : Rows) (others : List Pair)
+        → HoldsRows (S.content store.old) catalog.now.tables rows others → IsUndamaged error) }
     ensures plan { IfOk result (IsPlannedWithin (most_changes catalog.now.tables write.now)) }
     // The row's own pair is among the changes over every store, told or not.
     ensures own { IfOk result (ChangesOwn catalog.now.tables write.now) }
-    ensures answer { IfOk result (λ planned. (rows : Rows) (others : List Pair) → HoldsRows (S.content store.old) catalog.now.tables rows others → Plans catalog.now.tables rows others write.now planned) }
+    ensures answer { IfOk result (λ planned. (rows : Rows) (others : List Pair)
+        → HoldsRows (S.content store.old) catalog.now.tables rows others
+        → Plans catalog.now.tables rows others write.now planned) }
 {
     catalog.known();
     let mut calls = Calls {

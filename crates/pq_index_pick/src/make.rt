@@ -4,7 +4,7 @@ ghost use Rattle.std.specs.Prelude.{◌≡◌, ◌++◌, IfOk, OnOk, OnErr, filt
 ghost use Rattle.std.specs.List.{range_with_len};
 ghost use Rattle.pq_base.specs.Columns.{has_col};
 ghost use Rattle.pq_schema.specs.Sound.{IsTable};
-ghost use Rattle.pq_schema.specs.Sequences.{ascending, new_index};
+ghost use Rattle.pq_schema.specs.Sequences.{ascending_part, new_index};
 
 use crate::pick::Need;
 use pq_base::{ColSet, Dir, List, NoMem};
@@ -19,7 +19,8 @@ fn push_fixed(
     fixed: ColSet,
 ) -> Result<(), NoMem>
     requires { IsTable table.now }
-    ensures { OnOk result (cols.new ≡ cols.old ++ map ascending (filter (has_col fixed) (range_with_len 0 (length table.now.columns)))) }
+    ensures { OnOk result (cols.new ≡ cols.old
+        ++ map ascending_part (filter (has_col fixed) (range_with_len 0 (length table.now.columns)))) }
 {
     for col in 0..table.columns.items().len() as u8 {
         if fixed.has(col) {

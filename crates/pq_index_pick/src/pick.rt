@@ -3,7 +3,7 @@
 ghost use Rattle.std.specs.Prelude.{◌≡◌, ◌==◌, ◌&&◌, ◌^◌, ◌<◌, ◌≤◌, length, drop, position};
 ghost use Rattle.pq_schema.specs.Sound.{IsTable, AreParts, AreColumns};
 ghost use Rattle.pq_index_pick.specs.Needs.{IsNeed};
-ghost use Rattle.pq_schema.specs.Sequences.{then_key, columns_of, same_dir, same_parts, serves_with, serves, primary_sequence, index_sequence, serving};
+ghost use Rattle.pq_schema.specs.Sequences.{then_key, columns_of, same_dir, same_parts, serves_with, serves, primary_sequence, index_sequence, serving_access};
 
 use pq_base::{ColSet, Dir};
 use pq_schema::{Access, Index, KeyPart, KeyParts, Table, begins, columns_in, part_at};
@@ -103,7 +103,8 @@ fn first_serving(table: &Table, fixed: ColSet, order: &[KeyPart]) -> Option<usiz
     requires table { IsTable table.now }
     requires order { AreParts order.now }
     requires few { length order.now ≤ 4 }
-    ensures { result ≡ position (λ index. serves table.now fixed order.now (index_sequence table.now index)) table.now.indexes }
+    ensures { result ≡ position (λ index. serves table.now fixed order.now (index_sequence table.now index))
+        table.now.indexes }
 {
     table
         .indexes
@@ -116,7 +117,7 @@ fn first_serving(table: &Table, fixed: ColSet, order: &[KeyPart]) -> Option<usiz
 pub fn serving(table: &Table, need: &Need) -> Option<Access>
     requires table { IsTable table.now }
     requires need { IsNeed need.now }
-    ensures { result ≡ serving table.now need.now.fixed need.now.order.items }
+    ensures { result ≡ serving_access table.now need.now.fixed need.now.order.items }
 {
     let order = need.order.as_slice();
     if primary_serves(table, need.fixed, order) {

@@ -16,12 +16,12 @@ use Rattle.pq_schema.specs.Costs.{times, limit_cost}
 use Rattle.pq_schema.specs.Relations.{table_of}
 use Rattle.pq_schema.specs.Rows.{types_of}
 use Rattle.pq_store.specs.Content.{Content}
-use Rattle.pq_store.specs.Counts.{Allowed}
+use Rattle.pq_store.specs.Counts.{AllowedCounts}
 use Rattle.pq_store.specs.declared.damage.Broke.{Broke}
 use Rattle.pq_calls.specs.Calls.{Uses}
 use Rattle.pq_calls.specs.World.{World, Affords}
 use Rattle.pq_calls.specs.declared.calls.Calls.{Calls}
-use Rattle.pq_plan.specs.Answer.{Asked}
+use Rattle.pq_plan.specs.Answer.{Question}
 use Rattle.pq_plan.specs.Cost.{is_primary_access}
 use Rattle.pq_plan.specs.Running.{matching, ranged, limit_columns}
 use Rattle.pq_nodes.specs.Combos.{FitsTables}
@@ -29,7 +29,7 @@ use Rattle.pq_nodes.specs.Operators.{AreInputs, AffordsNode, AreFound, Answers, 
 use Rattle.pq_nodes.specs.Paid.{node_cost}
 use Rattle.pq_nodes.proofs.Undamaged.{read_undamaged}
 use Rattle.pq_index_scan.specs.declared.limit.LimitRange.{LimitRange}
-use Rattle.pq_index_scan.specs.Ranged.{own_limit, limit_node, IsRangeOf, asked, AreMatching, AddsRanged}
+use Rattle.pq_index_scan.specs.Ranged.{own_limit, limit_node, IsRangeOf, question, AreMatching, AddsRanged}
 use Rattle.pq_index_scan.proofs.Ranging.{fits_next}
 
 -- ---- one input
@@ -51,7 +51,7 @@ follow_fit tables query rel low input fits old rows fit all =
 module _ (told : Option Content) (tables : List Table) (query : Query) (params : List Value) (rel limit : ℕ) where
   pub follow_ranged : (input : List (List Value)) (old : List (List (List Value))) (found : List (List Value)) → AreMatching told tables query params rel limit input found → AddsRanged told tables query params rel limit (input ∷ []) old (old ++ map (λ row. input ++ row ∷ []) found)
   follow_ranged input old found h = λ rows others holds.
-      let q = asked tables query rows params in
+      let q = question tables query rows params in
       let f = λ (row : List Value). input ++ row ∷ [] in (
         map f found,
         refl,
@@ -61,14 +61,14 @@ module _ (told : Option Content) (tables : List Table) (query : Query) (params :
 
   -- ---- one input after another
 
-  ranged_more : (q : Asked) (cols : List ℕ) (inputs : List (List (List Value))) (i : ℕ) (input : List (List Value)) → i < length inputs → input ≡ get_or inputs i input → ranged q rel cols (take (i + 1) inputs) ≡ ranged q rel cols (take i inputs) ++ ranged q rel cols (input ∷ [])
+  ranged_more : (q : Question) (cols : List ℕ) (inputs : List (List (List Value))) (i : ℕ) (input : List (List Value)) → i < length inputs → input ≡ get_or inputs i input → ranged q rel cols (take (i + 1) inputs) ≡ ranged q rel cols (take i inputs) ++ ranged q rel cols (input ∷ [])
   ranged_more q cols inputs i input low at =
       ap (ranged q rel cols) (take_more inputs i input low ∙ ap (λ (c : List (List Value)). take i inputs ++ c ∷ []) (sym at))
       ∙ flat_map-append (λ combo. map (λ row. combo ++ row ∷ []) (matching q rel cols combo)) (take i inputs) (input ∷ [])
 
   pub next_ranged : (later : Option Content) (inputs : List (List (List Value))) (i : ℕ) (input : List (List Value)) (found more : List (List (List Value))) → later ≡ told → i < length inputs → input ≡ get_or inputs i input → AddsRanged told tables query params rel limit (take i inputs) [] found → AddsRanged later tables query params rel limit (input ∷ []) found more → AddsRanged told tables query params rel limit (take (i + 1) inputs) [] more
   next_ranged later inputs i input found more same low at h k = λ rows others holds.
-      let q = asked tables query rows params in
+      let q = question tables query rows params in
       let cols = limit_columns q rel limit in
       let a = h rows others holds in
       let b = k rows others (record { keeps = holds.keeps; beside = holds.beside; is = same ∙ holds.is }) in (
@@ -116,7 +116,7 @@ uses_none content faults a o e = record {
 }
 
 module _ (tables : List Table) (query : Query) (range : LimitRange) (is : IsRangeOf tables query range) where
-  pub range_affords : (allowed : Allowed) (inputs : ℕ) → AffordsNode allowed inputs (limit_node tables query range.rel range.limit range.access) → Affords allowed (inputs * (limit_cost (is_primary_access range.access) range.n).ops) (inputs * (limit_cost (is_primary_access range.access) range.n).entries)
+  pub range_affords : (allowed : AllowedCounts) (inputs : ℕ) → AffordsNode allowed inputs (limit_node tables query range.rel range.limit range.access) → Affords allowed (inputs * (limit_cost (is_primary_access range.access) range.n).ops) (inputs * (limit_cost (is_primary_access range.access) range.n).entries)
   range_affords allowed inputs left = subst (λ (n : ℕ). Affords allowed (inputs * (limit_cost (is_primary_access range.access) n).ops) (inputs * (limit_cost (is_primary_access range.access) n).entries)) (sym is.n) left
 
   -- ---- the node's clauses, from those of its range
@@ -131,7 +131,7 @@ module _ (tables : List Table) (query : Query) (range : LimitRange) (is : IsRang
     pub node_inputs : (inputs : List (List (List Value))) → AreInputs tables query rel inputs → AreInputs tables query range.rel inputs
     node_inputs inputs h = subst (λ (r : ℕ). AreInputs tables query r inputs) (sym own_rel) h
 
-    pub node_share : (allowed : Allowed) (inputs : ℕ) → AffordsNode allowed inputs (limit_node tables query rel limit access) → AffordsNode allowed inputs (limit_node tables query range.rel range.limit range.access)
+    pub node_share : (allowed : AllowedCounts) (inputs : ℕ) → AffordsNode allowed inputs (limit_node tables query rel limit access) → AffordsNode allowed inputs (limit_node tables query range.rel range.limit range.access)
     node_share allowed inputs h =
         let same : node_cost inputs (limit_node tables query rel limit access) ≡ node_cost inputs (limit_node tables query range.rel range.limit range.access) =
         sym (node_cost_is inputs) ∙ (λ i. times inputs (limit_cost (is_primary_access range.access) (is.n i))) in
@@ -150,7 +150,7 @@ module _ (tables : List Table) (query : Query) (range : LimitRange) (is : IsRang
     pub node_answers : (told : Option Content) (params : List Value) (inputs : List (List (List Value))) (result : Result (List (List (List Value))) Broke) → IfOk result (AddsRanged told tables query params range.rel range.limit inputs []) → IfOk result (Answers told tables query params None inputs (limit_node tables query rel limit access))
     node_answers told params inputs (Err error) h = tt
     node_answers told params inputs (Ok found) h = λ rows others holds.
-        let q = asked tables query rows params in
+        let q = question tables query rows params in
         let own : AddsRanged told tables query params rel limit inputs [] found =
         subst (λ (m : ℕ). AddsRanged told tables query params rel m inputs [] found) own_limit_is
         (subst (λ (r : ℕ). AddsRanged told tables query params r range.limit inputs [] found) own_rel h) in

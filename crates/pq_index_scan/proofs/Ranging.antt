@@ -24,7 +24,7 @@ use Rattle.pq_schema.specs.Keys.{dirs_of}
 use Rattle.pq_schema.specs.Relations.{relation_at, table_of, no_relation}
 use Rattle.pq_schema.specs.Resolved.{IsResolved, IsRelation}
 use Rattle.pq_schema.specs.Rows.{Rows, IsTableNumber, IsWithin, agrees, group_of, rows_of, types_of}
-use Rattle.pq_schema.specs.Sequences.{ascending, columns_of, IsAccess, index_numbered, no_index, sequence_of}
+use Rattle.pq_schema.specs.Sequences.{ascending_part, columns_of, IsAccess, index_numbered, no_index, sequence_of}
 use Rattle.pq_schema.specs.Tables.{table_at}
 use Rattle.pq_store.specs.Content.{Content, pairs_within}
 use Rattle.pq_store.specs.declared.damage.Broke.{Broke}
@@ -32,7 +32,7 @@ use Rattle.pq_calls.specs.Keys.{sequence_key}
 use Rattle.pq_content.specs.Pairs.{Pair, AreBeside, content_pairs, row_pair}
 use Rattle.pq_content.specs.Tables.{AllOfKinds, Keeps, first_columns, types_at, values_of}
 use Rattle.pq_content.proofs.Scans.{rows_under, entries_under, columns_of-primary}
-use Rattle.pq_plan.specs.Answer.{Asked, row_of}
+use Rattle.pq_plan.specs.Answer.{Question, row_of}
 use Rattle.pq_plan.specs.Running.{matching}
 use Rattle.pq_plan.proofs.Fixed.{last, earlier_row}
 use Rattle.pq_nodes.specs.Combos.{FitsTables}
@@ -45,7 +45,7 @@ use Rattle.pq_operands.specs.Ties.{cells_tied}
 use Rattle.pq_entries.specs.Entries.{IsSequence, AreEnds, pair_of}
 use Rattle.pq_entries.proofs.Naming.{FindsFirst}
 use Rattle.pq_index_scan.specs.declared.limit.LimitRange.{LimitRange}
-use Rattle.pq_index_scan.specs.Ranged.{own_limit, start_of, IsRangeOf, asked, AreMatching}
+use Rattle.pq_index_scan.specs.Ranged.{own_limit, start_of, IsRangeOf, question, AreMatching}
 
 -- ---- the relation, its table and its limit
 
@@ -81,7 +81,7 @@ range_from_one tables query params range given is =
 pub start_short : (tables : List Table) (query : Query) (params : List Value) (range : LimitRange) (input : List (List Value)) → IsRangeOf tables query range → length (cells_tied query params range.rel input range.first) ≤ length (sequence_of (table_of tables query range.rel) range.access)
 start_short tables query params range input is =
     let sequence = sequence_of (table_of tables query range.rel) range.access in
-    let q = asked tables query [] params in
+    let q = question tables query [] params in
     let count = count_ones (set_of (own_limit tables query range.rel range.limit).cols) in
     let first = ap (λ (cols : List ℕ). length (tied_cells q range.rel cols input)) is.first in
     let values = values_long q (take count (columns_of sequence)) in
@@ -89,7 +89,7 @@ start_short tables query params range input is =
     let columns = length-map sequence (λ (part : KeyPart). part.col) in
     omega (arith, first, values, taken, columns)
   where
-    values_long : (q : Asked) (cols : List ℕ) → length (tied_cells q range.rel cols input) ≡ length cols
+    values_long : (q : Question) (cols : List ℕ) → length (tied_cells q range.rel cols input) ≡ length cols
     values_long q [] = refl
     values_long q (col ∷ cols) = ap suc (values_long q cols)
 
@@ -116,7 +116,7 @@ module _ (tables : List Table) (rows : Rows) (others : List Pair) (keeps : Keeps
   pairs_under Primary is ps kinds short =
       let table = table_at tables t in
       let cols = columns_of-primary table.key in
-      let long = length-map table.key ascending in
+      let long = length-map table.key ascending_part in
       rows_under tables rows others keeps.fit keeps.apart beside t ps
       (subst (λ (cs : List ℕ). AllOfKinds (take (length ps) (types_at table cs)) ps) cols kinds) (omega (arith, long, short))
       ∙ ap (λ (cs : List ℕ). map (row_pair t table) (sort_by (position_cmp (dirs_of (sequence_of table Primary))) (values_of (sequence_of table Primary)) (group_of t (take (length ps) cs) ps rows))) (sym cols)
@@ -130,8 +130,8 @@ module _ (tables : List Table) (rows : Rows) (others : List Pair) (keeps : Keeps
 -- ---- what a range gives
 
 module _ (tables : List Table) (query : Query) (params : List Value) (given : IsAsked tables query params) (range : LimitRange) (is : IsRangeOf tables query range) (input : List (List Value)) (fits : FitsTables tables query (range.rel - 1) input) (rows : Rows) (others : List Pair) (keeps : Keeps tables rows) (beside : AreBeside others) where
-  abbrev q : Asked
-  q = asked tables query rows params
+  abbrev q : Question
+  q = question tables query rows params
 
   abbrev t : ℕ
   t = (relation_at query range.rel).table
@@ -199,13 +199,13 @@ range_matches tables query params range input told low high given is fits from u
     (subst (λ (t : ℕ). pairs_within (content_pairs tables rows others) (sequence_key t (table_at tables t) range.access values) (past_code (sequence_key t (table_at tables t) range.access values)) ≡ map (pair_of t (table_at tables t) range.access) within) (sym is.number) pairs))))
   where
     values : List Value
-    values = tied_cells (asked tables query [] params) range.rel (first_columns (sequence_of (table_of tables query range.rel) range.access) (own_limit tables query range.rel range.limit).cols) input
+    values = tied_cells (question tables query [] params) range.rel (first_columns (sequence_of (table_of tables query range.rel) range.access) (own_limit tables query range.rel range.limit).cols) input
 
     start : List ℕ
     start = sequence_key range.number (table_at tables range.number) range.access values
 
     low_is : low ≡ start
-    low_is = from ∙ (λ i. sequence_key range.number (range_table tables query range is i) range.access (tied_cells (asked tables query [] params) range.rel (is.first i) input))
+    low_is = from ∙ (λ i. sequence_key range.number (range_table tables query range is i) range.access (tied_cells (question tables query [] params) range.rel (is.first i) input))
 
 -- ---- combinations
 

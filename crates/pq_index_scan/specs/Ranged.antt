@@ -11,7 +11,7 @@ use Rattle.pq_schema.specs.Sequences.{sequence_of}
 use Rattle.pq_store.specs.Content.{Content}
 use Rattle.pq_content.specs.Pairs.{Pair, HoldsRows}
 use Rattle.pq_content.specs.Tables.{first_columns}
-use Rattle.pq_plan.specs.Answer.{Asked}
+use Rattle.pq_plan.specs.Answer.{Question}
 use Rattle.pq_plan.specs.Nodes.{Node, limit_range}
 use Rattle.pq_plan.specs.Running.{matching, ranged, limit_columns}
 use Rattle.pq_nodes.specs.Inverse.{limit_at}
@@ -33,25 +33,30 @@ pub record IsRangeOf (tables : List Table) (query : Query) (range : LimitRange) 
   pub ready : IsReady tables query (limit_node tables query range.rel range.limit range.access)
   pub number : range.number ≡ (relation_at query range.rel).table
   pub n : range.n ≡ (own_limit tables query range.rel range.limit).n
-  pub first : range.first ≡ first_columns (sequence_of (table_of tables query range.rel) range.access) (own_limit tables query range.rel range.limit).cols
+  pub first : range.first ≡ first_columns (sequence_of (table_of tables query range.rel) range.access)
+      (own_limit tables query range.rel range.limit).cols
 
 -- the beginning of the keys of the range behind an input: the tied values of its first columns
 abbrev pub start_of : List Table → Query → List Value → LimitRange → List (List Value) → List ℕ
 start_of tables query params range input =
-    sequence_key range.number (table_of tables query range.rel) range.access (cells_tied query params range.rel input range.first)
+    sequence_key range.number (table_of tables query range.rel) range.access
+    (cells_tied query params range.rel input range.first)
 
-abbrev pub asked : List Table → Query → Rows → List Value → Asked
-asked tables query rows params = record { tables = tables; query = query; rows = rows; params = params }
+abbrev pub question : List Table → Query → Rows → List Value → Question
+question tables query rows params = record { tables = tables; query = query; rows = rows; params = params }
 
 -- over a content that holds rows, the rows that have the tied values at the limit's columns, in some order
-abbrev pub AreMatching : Option Content → List Table → Query → List Value → ℕ → ℕ → List (List Value) → List (List Value) → Type 0
+abbrev pub AreMatching : Option Content → List Table → Query → List Value → ℕ → ℕ → List (List Value)
+    → List (List Value) → Type 0
 AreMatching told tables query params rel limit input found =
     (rows : Rows) (others : List Pair) → HoldsRows told tables rows others →
-    let q = asked tables query rows params in IsPermutation (matching q rel (limit_columns q rel limit) input) found
+    let q = question tables query rows params in IsPermutation (matching q rel (limit_columns q rel limit) input) found
 
 -- over such a content, what was found is followed by what the range makes of the inputs, in some order
-abbrev pub AddsRanged : Option Content → List Table → Query → List Value → ℕ → ℕ → List (List (List Value)) → List (List (List Value)) → List (List (List Value)) → Type 0
+abbrev pub AddsRanged : Option Content → List Table → Query → List Value → ℕ → ℕ → List (List (List Value))
+    → List (List (List Value)) → List (List (List Value)) → Type 0
 AddsRanged told tables query params rel limit inputs before after =
     (rows : Rows) (others : List Pair) → HoldsRows told tables rows others →
-    let q = asked tables query rows params in
-    (made : List (List (List Value))) × (after ≡ before ++ made) × IsPermutation (ranged q rel (limit_columns q rel limit) inputs) made
+    let q = question tables query rows params in
+    (made : List (List (List Value))) × (after ≡ before ++ made)
+    × IsPermutation (ranged q rel (limit_columns q rel limit) inputs) made

@@ -117,12 +117,19 @@ fn matching_rows<S: Store<L>, L: Ledger>(
     requires asked { IsAsked catalog.now.tables query.now params.now }
     requires range { IsRangeOf catalog.now.tables query.now range.now }
     requires input { FitsTables catalog.now.tables query.now (range.now.rel - 1) input.now }
-    requires share { Affords calls.old.allowance.now (limit_cost (is_primary_access range.now.access) range.now.n).ops (limit_cost (is_primary_access range.now.access) range.now.n).entries }
-    ensures uses { Uses S.content S.faults calls.old calls.new (limit_cost (is_primary_access range.now.access) range.now.n).ops (limit_cost (is_primary_access range.now.access) range.now.n).entries }
-    ensures cause { IfErr result (Fails (where_told (ShowsRead catalog.now.tables)) S.content S.faults calls.old calls.new) }
+    requires share { Affords calls.old.allowance.now
+        (limit_cost (is_primary_access range.now.access) range.now.n).ops
+        (limit_cost (is_primary_access range.now.access) range.now.n).entries }
+    ensures uses { Uses S.content S.faults calls.old calls.new
+        (limit_cost (is_primary_access range.now.access) range.now.n).ops
+        (limit_cost (is_primary_access range.now.access) range.now.n).entries }
+    ensures cause { IfErr result (Fails (where_told (ShowsRead catalog.now.tables)) S.content S.faults calls.old
+        calls.new) }
     ensures few { IfOk result (λ rows. length rows ≤ range.now.n) }
-    ensures fit { IfOk result (AllByRecursion (AllFit (types_of (table_of catalog.now.tables query.now range.now.rel)))) }
-    ensures answer { IfOk result (AreMatching (S.content calls.old.store.now) catalog.now.tables query.now params.now range.now.rel range.now.limit input.now) }
+    ensures fit { IfOk result (AllByRecursion
+        (AllFit (types_of (table_of catalog.now.tables query.now range.now.rel)))) }
+    ensures answer { IfOk result (AreMatching (S.content calls.old.store.now) catalog.now.tables query.now
+        params.now range.now.rel range.now.limit input.now) }
 {
     let low = range_start(alloc, catalog, query, params, range, input)?;
     let high = past(alloc, Bytes::of_bytes(alloc, low.items())?)?;
@@ -176,13 +183,19 @@ fn range_one<S: Store<L>, L: Ledger>(
     requires asked { IsAsked catalog.now.tables query.now params.now }
     requires range { IsRangeOf catalog.now.tables query.now range.now }
     requires input { FitsTables catalog.now.tables query.now (range.now.rel - 1) input.now }
-    requires share { Affords calls.old.allowance.now (limit_cost (is_primary_access range.now.access) range.now.n).ops (limit_cost (is_primary_access range.now.access) range.now.n).entries }
-    ensures uses { Uses S.content S.faults calls.old calls.new (limit_cost (is_primary_access range.now.access) range.now.n).ops (limit_cost (is_primary_access range.now.access) range.now.n).entries }
-    ensures cause { IfErr result (Fails (where_told (ShowsRead catalog.now.tables)) S.content S.faults calls.old calls.new) }
+    requires share { Affords calls.old.allowance.now
+        (limit_cost (is_primary_access range.now.access) range.now.n).ops
+        (limit_cost (is_primary_access range.now.access) range.now.n).entries }
+    ensures uses { Uses S.content S.faults calls.old calls.new
+        (limit_cost (is_primary_access range.now.access) range.now.n).ops
+        (limit_cost (is_primary_access range.now.access) range.now.n).entries }
+    ensures cause { IfErr result (Fails (where_told (ShowsRead catalog.now.tables)) S.content S.faults calls.old
+        calls.new) }
     ensures few { OnOk result (length found.new ≤ length found.old + range.now.n) }
     ensures fit { OnOk result (AllByRecursion (FitsTables catalog.now.tables query.now range.now.rel) found.old
         → AllByRecursion (FitsTables catalog.now.tables query.now range.now.rel) found.new) }
-    ensures answer { OnOk result (AddsRanged (S.content calls.old.store.now) catalog.now.tables query.now params.now range.now.rel range.now.limit (input.now ∷ []) found.old found.new) }
+    ensures answer { OnOk result (AddsRanged (S.content calls.old.store.now) catalog.now.tables query.now
+        params.now range.now.rel range.now.limit (input.now ∷ []) found.old found.new) }
 {
     let rows = matching_rows(alloc, catalog, query, params, range, input, calls)?;
     follow(alloc, input, rows, found)?;
@@ -202,12 +215,17 @@ fn range_each<S: Store<L>, L: Ledger>(
     requires asked { IsAsked catalog.now.tables query.now params.now }
     requires range { IsRangeOf catalog.now.tables query.now range.now }
     requires inputs { AreInputs catalog.now.tables query.now range.now.rel inputs.now }
-    requires share { AffordsNode calls.old.allowance.now (length inputs.now) (limit_node catalog.now.tables query.now range.now.rel range.now.limit range.now.access) }
-    ensures uses { Uses S.content S.faults calls.old calls.new (length inputs.now * (limit_cost (is_primary_access range.now.access) range.now.n).ops) (length inputs.now * (limit_cost (is_primary_access range.now.access) range.now.n).entries) }
-    ensures cause { IfErr result (Fails (where_told (ShowsRead catalog.now.tables)) S.content S.faults calls.old calls.new) }
+    requires share { AffordsNode calls.old.allowance.now (length inputs.now)
+        (limit_node catalog.now.tables query.now range.now.rel range.now.limit range.now.access) }
+    ensures uses { Uses S.content S.faults calls.old calls.new
+        (length inputs.now * (limit_cost (is_primary_access range.now.access) range.now.n).ops)
+        (length inputs.now * (limit_cost (is_primary_access range.now.access) range.now.n).entries) }
+    ensures cause { IfErr result (Fails (where_told (ShowsRead catalog.now.tables)) S.content S.faults calls.old
+        calls.new) }
     ensures few { IfOk result (λ found. length found ≤ length inputs.now * range.now.n) }
     ensures fit { IfOk result (AllByRecursion (FitsTables catalog.now.tables query.now range.now.rel)) }
-    ensures answer { IfOk result (AddsRanged (S.content calls.old.store.now) catalog.now.tables query.now params.now range.now.rel range.now.limit inputs.now []) }
+    ensures answer { IfOk result (AddsRanged (S.content calls.old.store.now) catalog.now.tables query.now
+        params.now range.now.rel range.now.limit inputs.now []) }
 {
     let mut found = List::new(alloc);
     for input in inputs.items() {
@@ -233,11 +251,17 @@ fn run_range<S: Store<L>, L: Ledger>(
     requires asked { IsAsked catalog.now.tables query.now params.now }
     requires ready { IsReady catalog.now.tables query.now (limit_node catalog.now.tables query.now rel limit access) }
     requires inputs { AreInputs catalog.now.tables query.now rel inputs.now }
-    requires share { AffordsNode calls.old.allowance.now (length inputs.now) (limit_node catalog.now.tables query.now rel limit access) }
-    ensures uses { Uses S.content S.faults calls.old calls.new (node_cost (length inputs.now) (limit_node catalog.now.tables query.now rel limit access)).ops (node_cost (length inputs.now) (limit_node catalog.now.tables query.now rel limit access)).entries }
-    ensures cause { IfErr result (Fails (where_told (ShowsRead catalog.now.tables)) S.content S.faults calls.old calls.new) }
-    ensures found { IfOk result (AreFound catalog.now.tables query.now rel (length inputs.now) (limit_node catalog.now.tables query.now rel limit access)) }
-    ensures answer { IfOk result (Answers (S.content calls.old.store.now) catalog.now.tables query.now params.now None inputs.now (limit_node catalog.now.tables query.now rel limit access)) }
+    requires share { AffordsNode calls.old.allowance.now (length inputs.now)
+        (limit_node catalog.now.tables query.now rel limit access) }
+    ensures uses { Uses S.content S.faults calls.old calls.new
+        (node_cost (length inputs.now) (limit_node catalog.now.tables query.now rel limit access)).ops
+        (node_cost (length inputs.now) (limit_node catalog.now.tables query.now rel limit access)).entries }
+    ensures cause { IfErr result (Fails (where_told (ShowsRead catalog.now.tables)) S.content S.faults calls.old
+        calls.new) }
+    ensures found { IfOk result (AreFound catalog.now.tables query.now rel (length inputs.now)
+        (limit_node catalog.now.tables query.now rel limit access)) }
+    ensures answer { IfOk result (Answers (S.content calls.old.store.now) catalog.now.tables query.now
+        params.now None inputs.now (limit_node catalog.now.tables query.now rel limit access)) }
 {
     let range = range_of(alloc, catalog, query, rel, limit, access)?;
     range_each(alloc, catalog, query, params, &range, inputs, calls)
@@ -263,12 +287,17 @@ pub fn limit_range<S: Store<L>, L: Ledger>(
     requires asked { IsAsked catalog.now.tables query.now params.now }
     requires ready { IsReady catalog.now.tables query.now (limit_node catalog.now.tables query.now rel limit access) }
     requires inputs { AreInputs catalog.now.tables query.now rel inputs }
-    requires share { AffordsNode allowance.old (length inputs) (limit_node catalog.now.tables query.now rel limit access) }
-    ensures answer { IfOk result (Answers (S.content store.old) catalog.now.tables query.now params.now None inputs (limit_node catalog.now.tables query.now rel limit access)) }
+    requires share { AffordsNode allowance.old (length inputs)
+        (limit_node catalog.now.tables query.now rel limit access) }
+    ensures answer { IfOk result (Answers (S.content store.old) catalog.now.tables query.now params.now None
+        inputs (limit_node catalog.now.tables query.now rel limit access)) }
     ensures reads { ReadsNode (world (S.content store.old) (S.faults store.old) allowance.old meter.old)
-        (world (S.content store.new) (S.faults store.new) allowance.new meter.new) (length inputs) (limit_node catalog.now.tables query.now rel limit access) }
-    ensures found { IfOk result (AreFound catalog.now.tables query.now rel (length inputs) (limit_node catalog.now.tables query.now rel limit access)) }
-    ensures cause { IfErr result (StopsReading catalog.now.tables (world (S.content store.old) (S.faults store.old) allowance.old meter.old)
+        (world (S.content store.new) (S.faults store.new) allowance.new meter.new) (length inputs)
+        (limit_node catalog.now.tables query.now rel limit access) }
+    ensures found { IfOk result (AreFound catalog.now.tables query.now rel (length inputs)
+        (limit_node catalog.now.tables query.now rel limit access)) }
+    ensures cause { IfErr result (StopsReading catalog.now.tables
+        (world (S.content store.old) (S.faults store.old) allowance.old meter.old)
         (world (S.content store.new) (S.faults store.new) allowance.new meter.new)) }
     ensures undamaged { IfErr result (IsSoundOverRows (S.content store.old) catalog.now.tables) }
 {

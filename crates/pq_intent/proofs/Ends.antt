@@ -10,7 +10,7 @@ use Rattle.std.specs.Cmp.Lexicographic.{nat_list_cmp_total}
 use Rattle.std.specs.FinMap.{get, insert, remove, get-remove}
 use Rattle.pq_row_code.specs.declared.changes.Change.{Change as Coded}
 use Rattle.pq_row_code.specs.Changes.{changes_code, AreChanges}
-use Rattle.pq_content.specs.Pairs.{Change, changed}
+use Rattle.pq_content.specs.Pairs.{Change, changed_content}
 use Rattle.pq_content.specs.Standing.{change_of, AreIntended, IsIntent, SettlesTo}
 use Rattle.pq_key_code.specs.KeyCode.{intent_key}
 use Rattle.pq_content.proofs.Keys.{key_itself}
@@ -38,33 +38,33 @@ is_settled old c settled s p =
 
 -- ---- from the intent on
 
-after_removal : (cs : List Coded) (start : Content) → after (with_removal cs) (Some start) ≡ Some (remove (changed (map change_of cs) start) intent_key)
+after_removal : (cs : List Coded) (start : Content) → after (with_removal cs) (Some start) ≡ Some (remove (changed_content (map change_of cs) start) intent_key)
 after_removal cs start = after-append (map change_of cs) ((intent_key, None) ∷ []) (Some start)
 
 -- what is left partway settles to the goal, where it does so after some of the changes, and is the goal after all
 through : (cs : List Coded) (start goal : Content) (new : Option Content)
-    → ((n : ℕ) → SettlesTo (changed (take n (map change_of cs)) start) goal) → remove (changed (map change_of cs) start) intent_key ≡ goal → get goal intent_key ≡ None
+    → ((n : ℕ) → SettlesTo (changed_content (take n (map change_of cs)) start) goal) → remove (changed_content (map change_of cs) start) intent_key ≡ goal → get goal intent_key ≡ None
     → IsPartway (with_removal cs) (Some start) new → Settles new goal
 through cs start goal new partway last none p =
     elim (take_split p.made (map change_of cs) (intent_key, None)) as (λ _. Settles new goal) [
-      | inl r ↦ record { pairs = changed (take r.0 (map change_of cs)) start; told = p.is ∙ ap (λ (l : List Change). after l (Some start)) r.1; settles = partway r.0 }
+      | inl r ↦ record { pairs = changed_content (take r.0 (map change_of cs)) start; told = p.is ∙ ap (λ (l : List Change). after l (Some start)) r.1; settles = partway r.0 }
       | inr r ↦ settles_itself new goal (p.is ∙ ap (λ (l : List Change). after l (Some start)) r ∙ after_removal cs start ∙ ap Some last) none
     ]
 
 -- ---- a commit
 
 module _ (c : Content) (cs : List Coded) (none : get c intent_key ≡ None) (coded : AreChanges cs) (intended : AreIntended (map change_of cs)) where
-  pub commit_started : (new : Option Content) (v : List ℕ) → v ≡ changes_code cs → (new ≡ Some c) ⊎ (new ≡ Some (insert c intent_key v)) → Settles new c ⊎ Settles new (changed (map change_of cs) c)
+  pub commit_started : (new : Option Content) (v : List ℕ) → v ≡ changes_code cs → (new ≡ Some c) ⊎ (new ≡ Some (insert c intent_key v)) → Settles new c ⊎ Settles new (changed_content (map change_of cs) c)
   commit_started new v code (inl same) = inl (settles_itself new c same none)
   commit_started new v code (inr made) = inr (record { pairs = insert c intent_key (changes_code cs); told = made ∙ ap (λ (w : List ℕ). Some (insert c intent_key w)) code; settles = settles_partway c cs 0 none coded intended })
 
-  pub commit_stopped : (mid new : Option Content) (v : List ℕ) → v ≡ changes_code cs → mid ≡ Some (insert c intent_key v) → IsPartway (with_removal cs) mid new → Settles new c ⊎ Settles new (changed (map change_of cs) c)
+  pub commit_stopped : (mid new : Option Content) (v : List ℕ) → v ≡ changes_code cs → mid ≡ Some (insert c intent_key v) → IsPartway (with_removal cs) mid new → Settles new c ⊎ Settles new (changed_content (map change_of cs) c)
   commit_stopped mid new v code is p =
       let start = insert c intent_key (changes_code cs) in
-      inr (through cs start (changed (map change_of cs) c) new (λ n. settles_partway c cs n none coded intended) (settled_at_last c (map change_of cs) (changes_code cs) none intended) (no_intent_after c (map change_of cs) none intended)
+      inr (through cs start (changed_content (map change_of cs) c) new (λ n. settles_partway c cs n none coded intended) (settled_at_last c (map change_of cs) (changes_code cs) none intended) (no_intent_after c (map change_of cs) none intended)
       (subst (λ (o : Option Content). IsPartway (with_removal cs) o new) (is ∙ ap (λ (w : List ℕ). Some (insert c intent_key w)) code) p))
 
-  pub commit_made : (mid new : Option Content) (v : List ℕ) → mid ≡ Some (insert c intent_key v) → new ≡ after (with_removal cs) mid → new ≡ Some (changed (map change_of cs) c)
+  pub commit_made : (mid new : Option Content) (v : List ℕ) → mid ≡ Some (insert c intent_key v) → new ≡ after (with_removal cs) mid → new ≡ Some (changed_content (map change_of cs) c)
   commit_made mid new v is made = made ∙ ap (after (with_removal cs)) is ∙ after_removal cs (insert c intent_key v) ∙ ap Some (settled_at_last c (map change_of cs) v none intended)
 
 -- the intent's key is there already
@@ -79,9 +79,9 @@ there_already (Some c) key k done is same refused answer =
     record { value = v.0; at = is; has = refl; there = v.1 }
 
 -- one change is made or not
-pub one_stopped : (c : Content) (x : Coded) (old new : Option Content) → IsSettled old c → AreIntended (map change_of (x ∷ [])) → MayChange (change_of x) old new → Settles new c ⊎ Settles new (changed (map change_of (x ∷ [])) c)
+pub one_stopped : (c : Content) (x : Coded) (old new : Option Content) → IsSettled old c → AreIntended (map change_of (x ∷ [])) → MayChange (change_of x) old new → Settles new c ⊎ Settles new (changed_content (map change_of (x ∷ [])) c)
 one_stopped c x old new s intended (inl same) = inl (settles_itself new c (same ∙ s.told) s.no_intent)
-one_stopped c x old new s intended (inr made) = inr (settles_itself new (changed (map change_of (x ∷ [])) c) (made ∙ ap (after (change_of x ∷ [])) s.told) (no_intent_after c (map change_of (x ∷ [])) s.no_intent intended))
+one_stopped c x old new s intended (inr made) = inr (settles_itself new (changed_content (map change_of (x ∷ [])) c) (made ∙ ap (after (change_of x ∷ [])) s.told) (no_intent_after c (map change_of (x ∷ [])) s.no_intent intended))
 
 single : (cs : List Coded) (x : Coded) → 1 ≤ length cs → length cs < 2 → x ≡ get_or cs 0 x → cs ≡ x ∷ []
 single [] x some few is = absurd (omega arith)
@@ -89,10 +89,10 @@ single (y ∷ []) x some few is = ap (λ (z : Coded). z ∷ []) (sym is)
 single (y ∷ z ∷ cs) x some few is = absurd (omega arith)
 
 pub single_stopped : (cs items : List Coded) (x : Coded) (old new : Option Content) → items ≡ cs → 1 ≤ length items → length items < 2 → x ≡ get_or items 0 x → AreIntended (map change_of cs) → MayChange (change_of x) old new
-    → (c : Content) → IsSettled old c → Settles new c ⊎ Settles new (changed (map change_of cs) c)
+    → (c : Content) → IsSettled old c → Settles new c ⊎ Settles new (changed_content (map change_of cs) c)
 single_stopped cs items x old new same some few at intended may c s =
     let is : cs ≡ x ∷ [] = sym same ∙ single items x some few at in
-    subst (λ (l : List Coded). Settles new c ⊎ Settles new (changed (map change_of l) c)) (sym is) (one_stopped c x old new s (subst (λ (l : List Coded). AreIntended (map change_of l)) is intended) may)
+    subst (λ (l : List Coded). Settles new c ⊎ Settles new (changed_content (map change_of l) c)) (sym is) (one_stopped c x old new s (subst (λ (l : List Coded). AreIntended (map change_of l)) is intended) may)
 
 -- ---- a settling
 
@@ -100,27 +100,27 @@ get_removed : (c : Content) → get (remove c intent_key) intent_key ≡ None
 get_removed c = get-remove nat_list_cmp_total c intent_key intent_key ∙ ap (λ b. cond b None (get c intent_key)) (key_itself intent_key)
 
 module _ (c : Content) (value : List ℕ) (cs : List Coded) (found : get c intent_key ≡ Some value) (intent : IsIntentOf cs value) where
-  is_intent : IsIntent c (remove (changed (map change_of cs) c) intent_key) value
+  is_intent : IsIntent c (remove (changed_content (map change_of cs) c) intent_key) value
   is_intent = record { changes = cs; code = sym intent.code; coded = intent.coded; intended = intent.intended; makes = refl }
 
-  settles_made : SettlesTo c (remove (changed (map change_of cs) c) intent_key)
+  settles_made : SettlesTo c (remove (changed_content (map change_of cs) c) intent_key)
   unfolding SettlesTo
-  settles_made = subst (λ (o : Option (List ℕ)). MatchOption o (remove (changed (map change_of cs) c) intent_key ≡ c) (IsIntent c (remove (changed (map change_of cs) c) intent_key))) (sym found) is_intent
+  settles_made = subst (λ (o : Option (List ℕ)). MatchOption o (remove (changed_content (map change_of cs) c) intent_key ≡ c) (IsIntent c (remove (changed_content (map change_of cs) c) intent_key))) (sym found) is_intent
 
   pub settle_made : (old new : Option Content) → old ≡ Some c → new ≡ after (with_removal cs) old → LeavesSettled c new
   settle_made old new told made = record {
-    settled = remove (changed (map change_of cs) c) intent_key;
+    settled = remove (changed_content (map change_of cs) c) intent_key;
     settles = settles_made;
-    stands = record { told = made ∙ ap (after (with_removal cs)) told ∙ after_removal cs c; no_intent = get_removed (changed (map change_of cs) c) };
+    stands = record { told = made ∙ ap (after (with_removal cs)) told ∙ after_removal cs c; no_intent = get_removed (changed_content (map change_of cs) c) };
   }
 
   pub settle_stopped : (old new : Option Content) (settled : Content) → old ≡ Some c → IsPartway (with_removal cs) old new → Settles old settled → Settles new settled
   unfolding is_intent
   settle_stopped old new settled told p s =
       let same : s.pairs ≡ c = same_Some _ _ (sym s.told ∙ told) in
-      let is : remove (changed (map change_of cs) c) intent_key ≡ settled = settles_once c (remove (changed (map change_of cs) c) intent_key) settled settles_made (subst (λ (d : Content). SettlesTo d settled) same s.settles) in
+      let is : remove (changed_content (map change_of cs) c) intent_key ≡ settled = settles_once c (remove (changed_content (map change_of cs) c) intent_key) settled settles_made (subst (λ (d : Content). SettlesTo d settled) same s.settles) in
       subst (Settles new) is
-      (through cs c (remove (changed (map change_of cs) c) intent_key) new (λ n. settles_again c (remove (changed (map change_of cs) c) intent_key) value n is_intent found) refl (get_removed (changed (map change_of cs) c))
+      (through cs c (remove (changed_content (map change_of cs) c) intent_key) new (λ n. settles_again c (remove (changed_content (map change_of cs) c) intent_key) value n is_intent found) refl (get_removed (changed_content (map change_of cs) c))
       (subst (λ (o : Option Content). IsPartway (with_removal cs) o new) told p))
 
 -- what is there after a settling is what the content settled to

@@ -3,8 +3,8 @@ use Rattle.std.proofs.Common.{◌≡◌, ℕ, zero, suc, ◌+◌, ◌<◌, List,
 use Rattle.std.specs.Prelude.{Result, Ok, Err, OnErr}
 use Rattle.std.specs.Option.{option_map}
 use Rattle.pq_row_code.specs.declared.changes.Change.{Change as Coded}
-use Rattle.pq_content.specs.Pairs.{Change, changed}
-use Rattle.pq_store.specs.Content.{Content, written}
+use Rattle.pq_content.specs.Pairs.{Change, changed_content}
+use Rattle.pq_store.specs.Content.{Content, written_content}
 use Rattle.pq_content.specs.Standing.{change_of}
 use Rattle.pq_intent.specs.Changing.{after, IsPartway, MayChange}
 
@@ -16,9 +16,9 @@ pub after_none : (old : Option Content) → after [] old ≡ old
 after_none None = refl
 after_none (Some c) = refl
 
-changed-append : (xs ys : List Change) (c : Content) → changed (xs ++ ys) c ≡ changed ys (changed xs c)
+changed-append : (xs ys : List Change) (c : Content) → changed_content (xs ++ ys) c ≡ changed_content ys (changed_content xs c)
 changed-append [] ys c = refl
-changed-append (x ∷ xs) ys c = changed-append xs ys (written x.0 x.1 c)
+changed-append (x ∷ xs) ys c = changed-append xs ys (written_content x.0 x.1 c)
 
 pub after-append : (xs ys : List Change) (old : Option Content) → after (xs ++ ys) old ≡ after ys (after xs old)
 after-append xs ys None = refl
@@ -31,12 +31,12 @@ take_suc (y ∷ cs) (suc i) x h e = ap (λ (l : List Change). change_of y ∷ l)
 
 -- the changes up to the next one
 pub after_more : (cs : List Coded) (i : ℕ) (x : Coded) (old : Option Content) → i < length cs → x ≡ get_or cs i x
-    → after (take (i + 1) (map change_of cs)) old ≡ option_map (written x.key x.new) (after (take i (map change_of cs)) old)
+    → after (take (i + 1) (map change_of cs)) old ≡ option_map (written_content x.key x.new) (after (take i (map change_of cs)) old)
 after_more cs i x old h e = rw add-one (ap (λ (l : List Change). after l old) (take_suc cs i x h e) ∙ after-append (take i (map change_of cs)) (change_of x ∷ []) old)
 
 pub made_more : (cs : List Coded) (i : ℕ) (x : Coded) (old mid new : Option Content) → i < length cs → x ≡ get_or cs i x
-    → mid ≡ after (take i (map change_of cs)) old → new ≡ option_map (written x.key x.new) mid → new ≡ after (take (i + 1) (map change_of cs)) old
-made_more cs i x old mid new h e m made = made ∙ ap (option_map (written x.key x.new)) m ∙ sym (after_more cs i x old h e)
+    → mid ≡ after (take i (map change_of cs)) old → new ≡ option_map (written_content x.key x.new) mid → new ≡ after (take (i + 1) (map change_of cs)) old
+made_more cs i x old mid new h e m made = made ∙ ap (option_map (written_content x.key x.new)) m ∙ sym (after_more cs i x old h e)
 
 -- the next one, made or not
 pub partway_more : (cs : List Coded) (i : ℕ) (x : Coded) (old mid new : Option Content) → i < length cs → x ≡ get_or cs i x
@@ -66,10 +66,10 @@ partway_last xs x old mid new m (inl same) =
     record { made = t.0; is = same ∙ m ∙ sym (after_none (after xs old)) ∙ sym (after-append xs [] old) ∙ ap (λ (l : List Change). after l old) (sym t.1) }
 partway_last xs x old mid new m (inr made) =
     let t = take_back 1 xs (x ∷ []) in
-    record { made = t.0; is = made ∙ ap (option_map (written x.0 x.1)) m ∙ sym (after-append xs (x ∷ []) old) ∙ ap (λ (l : List Change). after l old) (sym t.1) }
+    record { made = t.0; is = made ∙ ap (option_map (written_content x.0 x.1)) m ∙ sym (after-append xs (x ∷ []) old) ∙ ap (λ (l : List Change). after l old) (sym t.1) }
 
-pub after_last : (xs : List Change) (x : Change) (old mid new : Option Content) → mid ≡ after xs old → new ≡ option_map (written x.0 x.1) mid → new ≡ after (xs ++ x ∷ []) old
-after_last xs x old mid new m made = made ∙ ap (option_map (written x.0 x.1)) m ∙ sym (after-append xs (x ∷ []) old)
+pub after_last : (xs : List Change) (x : Change) (old mid new : Option Content) → mid ≡ after xs old → new ≡ option_map (written_content x.0 x.1) mid → new ≡ after (xs ++ x ∷ []) old
+after_last xs x old mid new m made = made ∙ ap (option_map (written_content x.0 x.1)) m ∙ sym (after-append xs (x ∷ []) old)
 
 take_nil : (m : ℕ) → ◌≡◌ {A = List Change} (take m []) []
 take_nil zero = refl

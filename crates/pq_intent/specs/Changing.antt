@@ -1,12 +1,12 @@
 -- What calls that make changes leave of a content, at whichever of them they stop.
 use Rattle.std.specs.Prelude.{◌≡◌, ◌⊎◌, ℕ, List, take, Option}
 use Rattle.std.specs.Option.{option_map}
-use Rattle.pq_content.specs.Pairs.{Change, changed}
-use Rattle.pq_store.specs.Content.{Content, written}
+use Rattle.pq_content.specs.Pairs.{Change, changed_content}
+use Rattle.pq_store.specs.Content.{Content, written_content}
 
 -- the content after the changes, where it is told
 abbrev pub after : List Change → Option Content → Option Content
-after changes old = option_map (changed changes) old
+after changes old = option_map (changed_content changes) old
 
 -- the content after some of the changes, from the first on
 pub record IsPartway (changes : List Change) (old new : Option Content) : Type 0 where
@@ -15,4 +15,4 @@ pub record IsPartway (changes : List Change) (old new : Option Content) : Type 0
 
 -- the content as it was, or after this change
 abbrev pub MayChange : Change → Option Content → Option Content → Type 0
-MayChange change old new = (new ≡ old) ⊎ (new ≡ option_map (written change.0 change.1) old)
+MayChange change old new = (new ≡ old) ⊎ (new ≡ option_map (written_content change.0 change.1) old)

@@ -23,7 +23,8 @@ pub record CountsIntent (value : List ℕ) (settled : Settled) : Type 0 where
 
 -- the numbers are those of what the content has at the intent's key
 abbrev pub Counts : Content → Settled → Type 0
-Counts content settled = MatchOption (get content intent_key) (settled ≡ nothing_settled) (λ value. CountsIntent value settled)
+Counts content settled = MatchOption (get content intent_key) (settled ≡ nothing_settled)
+    (λ value. CountsIntent value settled)
 
 -- so many changes, where there are any, fit in an intent
 abbrev pub AreFewChanges : Option ℕ → Type 0

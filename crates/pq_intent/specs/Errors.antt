@@ -11,4 +11,5 @@ use Rattle.pq_intent.specs.Settling.{IsNoIntent}
 abbrev pub ShowsNoIntent : Content → Broke → Type 0
 ShowsNoIntent content Failed = ⊤
 ShowsNoIntent content NoMem = ⊤
-ShowsNoIntent content (Damaged damage) = (value : List ℕ) × (damage.key ≡ intent_key) × (damage.value ≡ Some value) × (get content intent_key ≡ Some value) × IsNoIntent value
+ShowsNoIntent content (Damaged damage) = (value : List ℕ) × (damage.key ≡ intent_key)
+    × (damage.value ≡ Some value) × (get content intent_key ≡ Some value) × IsNoIntent value

@@ -2,11 +2,11 @@
 use Rattle.std.specs.Prelude.{◌≡◌, ℕ, ◌+◌, ◌≤◌, ◌<◌, ◌==◌, if◌then◌else◌, Option, Some, None}
 use Rattle.pq_base.specs.declared.number.Bound.{Bound}
 use Rattle.pq_store.specs.Content.{Content}
-use Rattle.pq_store.specs.Counts.{Counts, Allowed}
+use Rattle.pq_store.specs.Counts.{Counts, AllowedCounts}
 use Rattle.pq_intent.specs.Counting.{HasChanges}
 
 -- at most so many operations and no entries, and exactly those that the meter rose by are spent
-pub record Spends (limit : ℕ) (before after : Allowed) (counts now : Counts) : Type 0 where
+pub record Spends (limit : ℕ) (before after : AllowedCounts) (counts now : Counts) : Type 0 where
   pub granted : after.granted ≡ before.granted
   pub ops : after.left.ops + now.ops ≡ before.left.ops + counts.ops
   pub rise : counts.ops ≤ now.ops
@@ -25,7 +25,8 @@ pub record TakesAtMost (most : Bound) (before after : Counts) : Type 0 where
   pub ops : after.ops ≤ before.ops + most.ops
   pub entries : after.entries ≤ before.entries + most.entries
 
--- without an intent one read, which finds nothing; and with one of so many changes one read with its entry, the changes, and
+-- without an intent one read, which finds nothing; and with one of so many changes one read with its entry,
+-- the changes, and
 -- the removal of the intent
 abbrev pub settling_bound : Option ℕ → Bound
 settling_bound None = record { ops = 1; entries = 0 }
@@ -39,4 +40,5 @@ pub record IsWithinSettling (before after : Counts) : Type 0 where
 
 -- within the settling of what this content has at the intent's key
 abbrev pub IsWithinSettlingOf : Counts → Counts → Content → Type 0
-IsWithinSettlingOf before after content = (changes : Option ℕ) → HasChanges content changes → TakesAtMost (settling_bound changes) before after
+IsWithinSettlingOf before after content = (changes : Option ℕ) → HasChanges content changes
+    → TakesAtMost (settling_bound changes) before after

@@ -2,7 +2,7 @@
 ghost use Rattle.std.specs.Prelude.{◌≡◌, ◌≤◌, ◌<◌, ◌+◌, ◌⊎◌, None, Some, length, map, IfOk, IfErr, IfSome, IsErr, OnOk, OnErr};
 ghost use Rattle.std.specs.FinMap.{insert};
 ghost use Rattle.pq_row_code.specs.Changes.{changes_code, AreChanges};
-ghost use Rattle.pq_content.specs.Pairs.{changed};
+ghost use Rattle.pq_content.specs.Pairs.{changed_content};
 ghost use Rattle.pq_content.specs.Standing.{change_of, AreIntended};
 ghost use Rattle.pq_key_code.specs.KeyCode.{intent_key};
 ghost use Rattle.pq_store.specs.Content.{HasBrokeCause, Content};
@@ -30,11 +30,13 @@ fn put_intent<S: Store<L>, L: Ledger>(
     requires key { key ≡ intent_key }
     requires left { 1 ≤ allowance.old.left.ops }
     ensures back { IfOk result (λ back. back ≡ intent_key) }
-    ensures put { OnOk result ((pairs : Content) → IsSettled (S.content store.old) pairs → S.content store.new ≡ Some (insert pairs intent_key code.now)) }
+    ensures put { OnOk result ((pairs : Content) → IsSettled (S.content store.old) pairs
+        → S.content store.new ≡ Some (insert pairs intent_key code.now)) }
     ensures stopped { OnErr result ((pairs : Content) → IsSettled (S.content store.old) pairs
         → (S.content store.new ≡ Some pairs) ⊎ (S.content store.new ≡ Some (insert pairs intent_key code.now))) }
     ensures taken { HasIntent (S.content store.old) → IsErr result × (S.content store.new ≡ S.content store.old) }
-    ensures damage { IfErr result (λ broke. IfSome (S.content store.old) (λ pairs. IfDamaged (IsPresent intent_key pairs) broke)) }
+    ensures damage { IfErr result (λ broke. IfSome (S.content store.old)
+        (λ pairs. IfDamaged (IsPresent intent_key pairs) broke)) }
     ensures spends { Spends 1 allowance.old allowance.new meter.old meter.new }
     ensures cause { HasBrokeCause (S.faults store.old) (S.faults store.new) result }
 {
@@ -57,11 +59,14 @@ fn commit_by_intent<S: Store<L>, L: Ledger>(
     requires coded { AreChanges changes.now }
     requires intended { AreIntended (map change_of changes.now) }
     requires left { length changes.now + 2 ≤ allowance.old.left.ops }
-    ensures made { OnOk result ((pairs : Content) → IsSettled (S.content store.old) pairs → S.content store.new ≡ Some (changed (map change_of changes.now) pairs)) }
+    ensures made { OnOk result ((pairs : Content) → IsSettled (S.content store.old) pairs
+        → S.content store.new ≡ Some (changed_content (map change_of changes.now) pairs)) }
     ensures stopped { OnErr result ((pairs : Content) → IsSettled (S.content store.old) pairs
-        → Settles (S.content store.new) pairs ⊎ Settles (S.content store.new) (changed (map change_of changes.now) pairs)) }
+        → Settles (S.content store.new) pairs
+        ⊎ Settles (S.content store.new) (changed_content (map change_of changes.now) pairs)) }
     ensures taken { HasIntent (S.content store.old) → IsErr result × (S.content store.new ≡ S.content store.old) }
-    ensures damage { IfErr result (λ broke. IfSome (S.content store.old) (λ pairs. IfDamaged (IsPresent intent_key pairs) broke)) }
+    ensures damage { IfErr result (λ broke. IfSome (S.content store.old)
+        (λ pairs. IfDamaged (IsPresent intent_key pairs) broke)) }
     ensures spends { Spends (length changes.now + 2) allowance.old allowance.new meter.old meter.new }
     ensures cause { HasBrokeCause (S.faults store.old) (S.faults store.new) result }
 {
@@ -85,13 +90,17 @@ pub fn commit<S: Store<L>, L: Ledger>(
     requires coded { AreChanges changes }
     requires intended { AreIntended (map change_of changes) }
     requires left { write_ops (length changes) ≤ allowance.old.left.ops }
-    ensures made { OnOk result ((pairs : Content) → IsSettled (S.content store.old) pairs → S.content store.new ≡ Some (changed (map change_of changes) pairs)) }
+    ensures made { OnOk result ((pairs : Content) → IsSettled (S.content store.old) pairs
+        → S.content store.new ≡ Some (changed_content (map change_of changes) pairs)) }
     // Whichever call was the last one, the content settles to the old one or to the changed one.
     ensures stopped { OnErr result ((pairs : Content) → IsSettled (S.content store.old) pairs
-        → Settles (S.content store.new) pairs ⊎ Settles (S.content store.new) (changed (map change_of changes) pairs)) }
-    ensures sound { IfErr result (λ broke. (pairs : Content) → IsSettled (S.content store.old) pairs → IsUndamaged broke) }
-    ensures taken { 2 ≤ length changes → HasIntent (S.content store.old) → IsErr result × (S.content store.new ≡ S.content store.old) }
-    ensures damage { IfErr result (λ broke. IfSome (S.content store.old) (λ pairs. IfDamaged (IsPresent intent_key pairs) broke)) }
+        → Settles (S.content store.new) pairs ⊎ Settles (S.content store.new) (changed_content (map change_of changes) pairs)) }
+    ensures sound { IfErr result (λ broke. (pairs : Content) → IsSettled (S.content store.old) pairs
+        → IsUndamaged broke) }
+    ensures taken { 2 ≤ length changes → HasIntent (S.content store.old)
+        → IsErr result × (S.content store.new ≡ S.content store.old) }
+    ensures damage { IfErr result (λ broke. IfSome (S.content store.old)
+        (λ pairs. IfDamaged (IsPresent intent_key pairs) broke)) }
     // Over every store, told or not, and also on an error.
     ensures spends { Spends (write_ops (length changes)) allowance.old allowance.new meter.old meter.new }
     ensures cause { HasBrokeCause (S.faults store.old) (S.faults store.new) result }

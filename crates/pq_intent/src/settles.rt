@@ -45,8 +45,10 @@ fn settle_changes<S: Store<L>, L: Ledger>(
     meter: &mut Meter<L>,
 ) -> Result<Settled, Broke>
     requires { length changes.now < 2 ^ 16 }
-    ensures made { OnOk result (S.content store.new ≡ after (map change_of changes.now ++ (key.now, None) ∷ []) (S.content store.old)) }
-    ensures stopped { OnErr result (IsPartway (map change_of changes.now ++ (key.now, None) ∷ []) (S.content store.old) (S.content store.new)) }
+    ensures made { OnOk result (S.content store.new
+        ≡ after (map change_of changes.now ++ (key.now, None) ∷ []) (S.content store.old)) }
+    ensures stopped { OnErr result (IsPartway (map change_of changes.now ++ (key.now, None) ∷ [])
+        (S.content store.old) (S.content store.new)) }
     ensures sound { IfErr result IsUndamaged }
     ensures counts { IfOk result (λ settled. settled ≡ settled_changes (length changes.now)) }
     ensures ops { IfOk result (λ settled. meter.new.ops + 1 ≡ meter.old.ops + settled.used.ops) }
@@ -75,11 +77,14 @@ pub fn settle<S: Store<L>, L: Ledger>(
     meter: &mut Meter<L>,
 ) -> Result<Settled, Broke>
     // What the content settled to is there, with no intent.
-    ensures made { OnOk result ((settled : Content) → Settles (S.content store.old) settled → IsSettled (S.content store.new) settled) }
+    ensures made { OnOk result ((settled : Content) → Settles (S.content store.old) settled
+        → IsSettled (S.content store.new) settled) }
     // Over a told content there is such a one.
     ensures settles { OnOk result (IfSome (S.content store.old) (λ pairs. LeavesSettled pairs (S.content store.new))) }
-    ensures stopped { OnErr result ((settled : Content) → Settles (S.content store.old) settled → Settles (S.content store.new) settled) }
-    ensures sound { IfErr result (λ broke. (settled : Content) → Settles (S.content store.old) settled → IsUndamaged broke) }
+    ensures stopped { OnErr result ((settled : Content) → Settles (S.content store.old) settled
+        → Settles (S.content store.new) settled) }
+    ensures sound { IfErr result (λ broke. (settled : Content) → Settles (S.content store.old) settled
+        → IsUndamaged broke) }
     // Damage is a value at the intent's key that is no code of changes that an intent may hold.
     // Nothing is changed then.
     ensures damage { IfErr result (λ broke. IfSome (S.content store.old) (λ pairs. ShowsNoIntent pairs broke)) }

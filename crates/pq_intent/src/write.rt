@@ -2,7 +2,7 @@
 ghost use Rattle.std.specs.Prelude.{◌≡◌, ◌≤◌, ◌+◌, ◌++◌, ◌∷◌, [], None, length, map, OnOk, OnErr, IfErr};
 ghost use Rattle.std.specs.Option.{option_map, option_copied};
 ghost use Rattle.pq_content.specs.Standing.{change_of};
-ghost use Rattle.pq_store.specs.Content.{HasBrokeCause, written};
+ghost use Rattle.pq_store.specs.Content.{HasBrokeCause, written_content};
 ghost use Rattle.pq_intent.specs.Changing.{after, IsPartway, MayChange};
 ghost use Rattle.pq_store.specs.Breaks.{IsUndamaged};
 ghost use Rattle.pq_intent.specs.Spending.{Spends};
@@ -22,8 +22,10 @@ pub fn put<S: Store<L>, L: Ledger>(
     meter: &mut Meter<L>,
 ) -> Result<(), Broke>
     requires { 1 ≤ allowance.old.left.ops }
-    ensures made { OnOk result (S.content store.new ≡ option_map (written key.now (option_copied new.entry)) (S.content store.old)) }
-    ensures stopped { OnErr result (MayChange (key.now, option_copied new.entry) (S.content store.old) (S.content store.new)) }
+    ensures made { OnOk result (S.content store.new
+        ≡ option_map (written_content key.now (option_copied new.entry)) (S.content store.old)) }
+    ensures stopped { OnErr result (MayChange (key.now, option_copied new.entry) (S.content store.old)
+        (S.content store.new)) }
     ensures sound { IfErr result IsUndamaged }
     ensures spends { Spends 1 allowance.old allowance.new meter.old meter.new }
     ensures one { meter.new.ops ≡ meter.old.ops + 1 }
@@ -45,7 +47,8 @@ pub fn write_change<S: Store<L>, L: Ledger>(
     meter: &mut Meter<L>,
 ) -> Result<(), Broke>
     requires { 1 ≤ allowance.old.left.ops }
-    ensures made { OnOk result (S.content store.new ≡ option_map (written change.now.key change.now.new) (S.content store.old)) }
+    ensures made { OnOk result (S.content store.new
+        ≡ option_map (written_content change.now.key change.now.new) (S.content store.old)) }
     ensures stopped { OnErr result (MayChange (change_of change.now) (S.content store.old) (S.content store.new)) }
     ensures sound { IfErr result IsUndamaged }
     ensures spends { Spends 1 allowance.old allowance.new meter.old meter.new }
@@ -91,8 +94,10 @@ pub fn finish<S: Store<L>, L: Ledger>(
     meter: &mut Meter<L>,
 ) -> Result<(), Broke>
     requires { length changes.now + 1 ≤ allowance.old.left.ops }
-    ensures made { OnOk result (S.content store.new ≡ after (map change_of changes.now ++ (key.now, None) ∷ []) (S.content store.old)) }
-    ensures stopped { OnErr result (IsPartway (map change_of changes.now ++ (key.now, None) ∷ []) (S.content store.old) (S.content store.new)) }
+    ensures made { OnOk result (S.content store.new
+        ≡ after (map change_of changes.now ++ (key.now, None) ∷ []) (S.content store.old)) }
+    ensures stopped { OnErr result (IsPartway (map change_of changes.now ++ (key.now, None) ∷ [])
+        (S.content store.old) (S.content store.new)) }
     ensures sound { IfErr result IsUndamaged }
     ensures spends { Spends (length changes.now + 1) allowance.old allowance.new meter.old meter.new }
     ensures each { OnOk result (meter.new.ops ≡ meter.old.ops + (length changes.now + 1)) }

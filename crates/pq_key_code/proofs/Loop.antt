@@ -8,22 +8,22 @@ use Rattle.std.proofs.lemmas.Str.{IsUtf8-from_is_utf8, is_utf8-from_IsUtf8}
 use Rattle.pq_base.specs.declared.value.Dir.{Dir}
 use Rattle.pq_base.specs.declared.value.ColType.{ColType}
 use Rattle.pq_base.specs.declared.value.Value.{Value}
-use Rattle.pq_key_code.specs.KeyCode.{turned}
-use Rattle.pq_key_code.specs.KeyReading.{◌>>=◌, behind, checked, text_at, component_at, row_at}
+use Rattle.pq_key_code.specs.KeyCode.{turned_byte}
+use Rattle.pq_key_code.specs.KeyReading.{◌>>=◌, behind, text_within, text_at, component_at, row_at}
 
 -- ---- texts
 
-pub checked_ok : (n : ℕ) (t : List ℕ) → length t ≤ n → IsUtf8 t → checked n t ≡ Some t
+pub checked_ok : (n : ℕ) (t : List ℕ) → length t ≤ n → IsUtf8 t → text_within n t ≡ Some t
 checked_ok n t le u = rw (le-ltb n (length t) le, is_utf8-from_IsUtf8 t u) refl
 
 none_or : (b : Bool) (t : List ℕ) → (b ≡ true → ⊥) → cond b (Some t) None ≡ None
 none_or true t h = absurd (h refl)
 none_or false t h = refl
 
-pub checked_err : (n : ℕ) (t : List ℕ) → length t ≤ n → (IsUtf8 t → ⊥) → checked n t ≡ None
+pub checked_err : (n : ℕ) (t : List ℕ) → length t ≤ n → (IsUtf8 t → ⊥) → text_within n t ≡ None
 checked_err n t le u = rw (le-ltb n (length t) le) (none_or (is_utf8 t) t (λ e. u (IsUtf8-from_is_utf8 t e)))
 
-pub checked_answer : {E : Type 0} (n : ℕ) (bs : List ℕ) (r : Result (Option (List ℕ)) E) → length bs ≤ n → IfOk r (λ o. MatchOption o (IsUtf8 bs → ⊥) (λ t. IsUtf8 bs × (t ≡ bs))) → IfOk r (λ o. o ≡ checked n bs)
+pub checked_answer : {E : Type 0} (n : ℕ) (bs : List ℕ) (r : Result (Option (List ℕ)) E) → length bs ≤ n → IfOk r (λ o. MatchOption o (IsUtf8 bs → ⊥) (λ t. IsUtf8 bs × (t ≡ bs))) → IfOk r (λ o. o ≡ text_within n bs)
 checked_answer n bs (Ok None) le h = sym (checked_err n bs le h)
 checked_answer n bs (Ok (Some t)) le h = ap Some h.1 ∙ sym (checked_ok n bs le h.0)
 checked_answer n bs (Err e) le h = tt
@@ -43,14 +43,14 @@ two_at' bs i lt = drop_more bs (i + 1) 0 lt ∙ ap (λ (k : ℕ). get_or bs (i +
 two_at : (bs : List ℕ) (i : ℕ) → i + 1 < length bs → drop i bs ≡ get_or bs i 0 ∷ get_or bs (i + 1) 0 ∷ drop (i + 2) bs
 two_at bs i lt = drop_more bs i 0 (omega arith) ∙ ap (λ (t : List ℕ). get_or bs i 0 ∷ t) (two_at' bs i lt)
 
-pub plain_byte : (d : Dir) (front new bs : List ℕ) (i b : ℕ) (total : Option (List ℕ × List ℕ)) → i + 1 < length bs → b ≡ turned d (get_or bs i 0) → b ≢ 0 → new ≡ front ++ b ∷ []
+pub plain_byte : (d : Dir) (front new bs : List ℕ) (i b : ℕ) (total : Option (List ℕ × List ℕ)) → i + 1 < length bs → b ≡ turned_byte d (get_or bs i 0) → b ≢ 0 → new ≡ front ++ b ∷ []
     → texts_behind front (text_at d (drop i bs)) ≡ total → texts_behind new (text_at d (drop (i + 1) bs)) ≡ total
 unfolding text_at
 plain_byte d front new bs i b total lt is ne put so_far =
     let one : text_at d (drop i bs) ≡ behind b (text_at d (drop (i + 1) bs)) = rw (two_at bs i lt, ← is, ne_eqb b 0 ne) (ap (λ (t : List ℕ). behind b (text_at d t)) (sym (two_at' bs i lt))) in
     ap (λ (f : List ℕ). texts_behind f (text_at d (drop (i + 1) bs))) put ∙ sym (regroup front b (text_at d (drop (i + 1) bs))) ∙ ap (texts_behind front) (sym one) ∙ so_far
 
-pub zero_byte : (d : Dir) (front new bs : List ℕ) (i b c : ℕ) (total : Option (List ℕ × List ℕ)) → i + 1 < length bs → b ≡ turned d (get_or bs i 0) → b ≡ 0 → c ≡ turned d (get_or bs (i + 1) 0) → c ≡ 255 → new ≡ front ++ 0 ∷ []
+pub zero_byte : (d : Dir) (front new bs : List ℕ) (i b c : ℕ) (total : Option (List ℕ × List ℕ)) → i + 1 < length bs → b ≡ turned_byte d (get_or bs i 0) → b ≡ 0 → c ≡ turned_byte d (get_or bs (i + 1) 0) → c ≡ 255 → new ≡ front ++ 0 ∷ []
     → texts_behind front (text_at d (drop i bs)) ≡ total → texts_behind new (text_at d (drop (i + 2) bs)) ≡ total
 unfolding text_at
 zero_byte d front new bs i b c total lt b-is e c-is f put so_far =

@@ -19,9 +19,9 @@ use Rattle.pq_base.specs.declared.value.Dir.TheVariants.{Asc, Desc}
 use Rattle.pq_base.specs.declared.value.Value.{Value}
 use Rattle.pq_base.specs.declared.value.Value.TheVariants as values
 use Rattle.pq_base.specs.Values.{IsValue, AreValues, SameKind, SameKinds}
-use Rattle.pq_base.specs.Order.{value_cmp, directed, position_cmp}
+use Rattle.pq_base.specs.Order.{value_cmp, directed_order, position_cmp}
 use Rattle.pq_key_code.specs.KeyOrder.{common_cmp}
-use Rattle.pq_key_code.specs.KeyCode.{IsBytes, above_least, truth_byte, escaped, payload, turned, component, code_of, past_code}
+use Rattle.pq_key_code.specs.KeyCode.{IsBytes, above_least, truth_byte, escaped_text, payload, turned_byte, component, code_of, past_code}
 use Rattle.pq_key_code.proofs.Bytes.{Apart, then_assoc, cmp_apart, Apart_from_length, Apart_prefix, complement_apart, complement_reverse, worth, worth_cmp, worth_be, IsBytes-to_be}
 
 -- ---- bytes
@@ -56,7 +56,7 @@ encodes_bytes (c ∷ cs) e = let h = both_true (scalar c) (scalars cs) e in IsBy
 pub utf8_bytes : (bs : List ℕ) → IsUtf8 bs → IsBytes bs
 utf8_bytes bs u = subst IsBytes u.1.1 (encodes_bytes u.0 u.1.0)
 
-escaped_bytes : (t : List ℕ) → IsBytes t → IsBytes (escaped t)
+escaped_bytes : (t : List ℕ) → IsBytes t → IsBytes (escaped_text t)
 escaped_bytes [] f = tt
 escaped_bytes (zero ∷ t) f = (omega arith, (omega arith, escaped_bytes t f.1))
 escaped_bytes (suc b ∷ t) f = (f.0, escaped_bytes t f.1)
@@ -65,7 +65,7 @@ pub payload_bytes : (x : Value) → IsValue x → IsBytes (payload x)
 payload_bytes (values.Int z) v = IsBytes-to_be (above_least z)
 payload_bytes (values.Bool false) v = (omega arith, tt)
 payload_bytes (values.Bool true) v = (omega arith, tt)
-payload_bytes (values.Text t) v = IsBytes-append (escaped t) (0 ∷ 1 ∷ []) (escaped_bytes t (utf8_bytes t v)) (omega arith, (omega arith, tt))
+payload_bytes (values.Text t) v = IsBytes-append (escaped_text t) (0 ∷ 1 ∷ []) (escaped_bytes t (utf8_bytes t v)) (omega arith, (omega arith, tt))
 
 -- ---- numbers
 
@@ -95,7 +95,7 @@ suc_zero : (b : ℕ) → nat_cmp (suc b) 0 ≡ Greater
 suc_zero b = sym (nat_cmp_is (suc b) 0 Greater (omega arith))
 
 abbrev written : List ℕ → List ℕ
-written t = escaped t ++ 0 ∷ 1 ∷ []
+written t = escaped_text t ++ 0 ∷ 1 ∷ []
 
 written_apart : (s t : List ℕ) → Apart (written s) (written t)
 written_apart [] [] = λ _ _. tt
@@ -139,11 +139,11 @@ payload_cmp (values.Bool a) (values.Bool b) f g k = truth_cmp a b
 payload_cmp (values.Text s) (values.Text t) f g k = written_cmp s t
 payload_cmp _ _ f g k = absurd k
 
-turned_apart : (d : Dir) (p q : List ℕ) → IsBytes p → IsBytes q → Apart p q → Apart (map (turned d) p) (map (turned d) q)
+turned_apart : (d : Dir) (p q : List ℕ) → IsBytes p → IsBytes q → Apart p q → Apart (map (turned_byte d) p) (map (turned_byte d) q)
 turned_apart Asc p q f g a = rw (map-id p, map-id q) a
 turned_apart Desc p q f g a = complement_apart p q f g a
 
-turned_cmp : (d : Dir) (p q : List ℕ) → IsBytes p → IsBytes q → Apart p q → slice_cmp nat_cmp (map (turned d) p) (map (turned d) q) ≡ directed d (slice_cmp nat_cmp p q)
+turned_cmp : (d : Dir) (p q : List ℕ) → IsBytes p → IsBytes q → Apart p q → slice_cmp nat_cmp (map (turned_byte d) p) (map (turned_byte d) q) ≡ directed_order d (slice_cmp nat_cmp p q)
 turned_cmp Asc p q f g a = rw (map-id p, map-id q) refl
 turned_cmp Desc p q f g a = complement_reverse p q f g a
 
@@ -151,10 +151,10 @@ pub component_apart : (d : Dir) (x y : Value) → IsValue x → IsValue y → Sa
 component_apart d x y f g k = λ _. turned_apart d (payload x) (payload y) (payload_bytes x f) (payload_bytes y g) (payload_apart x y k)
 
 -- the bytes after two components decide only where the values are equal
-pub component_cmp : (d : Dir) (x y : Value) (r s : List ℕ) → IsValue x → IsValue y → SameKind x y → slice_cmp nat_cmp (component d x ++ r) (component d y ++ s) ≡ ordering_then (directed d (value_cmp x y)) (slice_cmp nat_cmp r s)
+pub component_cmp : (d : Dir) (x y : Value) (r s : List ℕ) → IsValue x → IsValue y → SameKind x y → slice_cmp nat_cmp (component d x ++ r) (component d y ++ s) ≡ ordering_then (directed_order d (value_cmp x y)) (slice_cmp nat_cmp r s)
 component_cmp d x y r s f g k =
     cmp_apart (component d x) (component d y) r s (component_apart d x y f g k)
-    ∙ ap (λ (o : Ordering). ordering_then o (slice_cmp nat_cmp r s)) (turned_cmp d (payload x) (payload y) (payload_bytes x f) (payload_bytes y g) (payload_apart x y k) ∙ ap (directed d) (payload_cmp x y f g k))
+    ∙ ap (λ (o : Ordering). ordering_then o (slice_cmp nat_cmp r s)) (turned_cmp d (payload x) (payload y) (payload_bytes x f) (payload_bytes y g) (payload_apart x y k) ∙ ap (directed_order d) (payload_cmp x y f g k))
 
 -- ---- lists
 
@@ -170,9 +170,9 @@ past_cmp (d ∷ ds) (p ∷ ps) [] f g k = refl
 past_cmp (d ∷ ds) (p ∷ ps) (x ∷ xs) f g k =
     ap (λ (c : List ℕ). slice_cmp nat_cmp c (component d x ++ code_of ds xs)) (append_assoc (component d p) (code_of ds ps) (32 ∷ []))
     ∙ component_cmp d p x (past_code (code_of ds ps)) (code_of ds xs) f.0 g.0 k.0
-    ∙ then_assoc (directed d (value_cmp p x)) (slice_cmp nat_cmp (past_code (code_of ds ps)) (code_of ds xs)) (common_cmp ds ps xs) Greater (λ _. past_cmp ds ps xs f.1 g.1 k.1)
+    ∙ then_assoc (directed_order d (value_cmp p x)) (slice_cmp nat_cmp (past_code (code_of ds ps)) (code_of ds xs)) (common_cmp ds ps xs) Greater (λ _. past_cmp ds ps xs f.1 g.1 k.1)
 
-in_dir_equal : (d : Dir) (o : Ordering) → directed d o ≡ Equal → o ≡ Equal
+in_dir_equal : (d : Dir) (o : Ordering) → directed_order d o ≡ Equal → o ≡ Equal
 in_dir_equal Asc o e = e
 in_dir_equal Desc Less e = absurd cc
 in_dir_equal Desc Equal e = refl
@@ -205,7 +205,7 @@ extends_equal (d ∷ ds) [] (x ∷ xs) rest f g k e = refl
 extends_equal (d ∷ ds) (p ∷ ps) [] rest f g k e = refl
 extends_equal (d ∷ ds) (p ∷ ps) (x ∷ xs) rest f g k e =
     let grouped : component d p ++ (code_of ds ps ++ rest) ≡ component d x ++ code_of ds xs = sym (append_assoc (component d p) (code_of ds ps) rest) ∙ sym e in
-    let split = then_equal (directed d (value_cmp p x)) (slice_cmp nat_cmp (code_of ds ps ++ rest) (code_of ds xs)) (sym (component_cmp d p x (code_of ds ps ++ rest) (code_of ds xs) f.0 g.0 k.0) ∙ same_equal (component d p ++ (code_of ds ps ++ rest)) (component d x ++ code_of ds xs) grouped) in
+    let split = then_equal (directed_order d (value_cmp p x)) (slice_cmp nat_cmp (code_of ds ps ++ rest) (code_of ds xs)) (sym (component_cmp d p x (code_of ds ps ++ rest) (code_of ds xs) f.0 g.0 k.0) ∙ same_equal (component d p ++ (code_of ds ps ++ rest)) (component d x ++ code_of ds xs) grouped) in
     ap (λ (o : Ordering). ordering_then o (common_cmp ds ps xs)) split.0 ∙ extends_equal ds ps xs rest f.1 g.1 k.1 (sym (exact_bytes (code_of ds ps ++ rest) (code_of ds xs) split.1))
 
 pub above_lem : (ds : List Dir) (ps xs : List Value) (rest : List ℕ) → AreValues ps → AreValues xs → SameKinds ps xs → code_of ds xs ≡ code_of ds ps ++ rest → slice_cmp nat_cmp (code_of ds xs) (past_code (code_of ds ps)) ≡ Less
@@ -223,7 +223,7 @@ below_less [] ps xs f g k begins less = absurd (begins [] refl)
 below_less (d ∷ ds) [] xs f g k begins less = absurd (begins (code_of (d ∷ ds) xs) refl)
 below_less (d ∷ ds) (p ∷ ps) [] f g k begins less = absurd cc
 below_less (d ∷ ds) (p ∷ ps) (x ∷ xs) f g k begins less =
-    then_less (directed d (value_cmp p x)) (slice_cmp nat_cmp (code_of ds ps) (code_of ds xs)) (common_cmp ds ps xs)
+    then_less (directed_order d (value_cmp p x)) (slice_cmp nat_cmp (code_of ds ps) (code_of ds xs)) (common_cmp ds ps xs)
     (λ same. below_less ds ps xs f.1 g.1 k.1
     (λ rest e. begins rest (
     ap (λ (c : List ℕ). component d x ++ c) e
@@ -243,7 +243,7 @@ codes_apart (d ∷ ds) [] (y ∷ ys) r s f g k len long e = absurd (omega arith)
 codes_apart (d ∷ ds) (x ∷ xs) [] r s f g k len long e = absurd (omega arith)
 codes_apart (d ∷ ds) (x ∷ xs) (y ∷ ys) r s f g k len long e =
     let grouped : component d x ++ (code_of ds xs ++ r) ≡ component d y ++ (code_of ds ys ++ s) = sym (append_assoc (component d x) (code_of ds xs) r) ∙ e ∙ append_assoc (component d y) (code_of ds ys) s in
-    let split = then_equal (directed d (value_cmp x y)) (slice_cmp nat_cmp (code_of ds xs ++ r) (code_of ds ys ++ s)) (sym (component_cmp d x y (code_of ds xs ++ r) (code_of ds ys ++ s) f.0 g.0 k.0) ∙ same_equal _ _ grouped) in
+    let split = then_equal (directed_order d (value_cmp x y)) (slice_cmp nat_cmp (code_of ds xs ++ r) (code_of ds ys ++ s)) (sym (component_cmp d x y (code_of ds xs ++ r) (code_of ds ys ++ s) f.0 g.0 k.0) ∙ same_equal _ _ grouped) in
     let others = codes_apart ds xs ys r s f.1 g.1 k.1 (omega arith) (omega arith) (exact_bytes (code_of ds xs ++ r) (code_of ds ys ++ s) split.1) in
     (ap (λ (z : Value). z ∷ xs) (data_equal x y k.0 (in_dir_equal d (value_cmp x y) split.0)) ∙ ap (λ (zs : List Value). y ∷ zs) others.0, others.1)
 
@@ -261,8 +261,8 @@ prefix_cmp (d ∷ ds) [] (x ∷ xs) f g k le long = sym (zero_suc (length xs))
 prefix_cmp (d ∷ ds) (p ∷ ps) [] f g k le long = sym (suc_zero (length ps))
 prefix_cmp (d ∷ ds) (p ∷ ps) (x ∷ xs) f g k le long =
     component_cmp d p x (code_of ds ps) (code_of ds xs) f.0 g.0 k.0
-    ∙ then_assoc (directed d (value_cmp p x)) (slice_cmp nat_cmp (code_of ds ps) (code_of ds xs)) (common_cmp ds ps xs) (nat_cmp (length ps) (length xs)) (λ _. prefix_cmp ds ps xs f.1 g.1 k.1 (omega arith) (omega arith))
-    ∙ ap (ordering_then (ordering_then (directed d (value_cmp p x)) (common_cmp ds ps xs))) (sym (suc_cmp (length ps) (length xs)))
+    ∙ then_assoc (directed_order d (value_cmp p x)) (slice_cmp nat_cmp (code_of ds ps) (code_of ds xs)) (common_cmp ds ps xs) (nat_cmp (length ps) (length xs)) (λ _. prefix_cmp ds ps xs f.1 g.1 k.1 (omega arith) (omega arith))
+    ∙ ap (ordering_then (ordering_then (directed_order d (value_cmp p x)) (common_cmp ds ps xs))) (sym (suc_cmp (length ps) (length xs)))
 
 -- the order of rows is the order by the places that both have, and then by the lengths
 pub position_cmp-common : (ds : List Dir) (xs ys : List Value) → length xs ≤ length ds → length ys ≤ length ds → position_cmp ds xs ys ≡ ordering_then (common_cmp ds xs ys) (nat_cmp (length xs) (length ys))
@@ -273,8 +273,8 @@ position_cmp-common (d ∷ ds) [] [] le long = refl
 position_cmp-common (d ∷ ds) [] (y ∷ ys) le long = sym (zero_suc (length ys))
 position_cmp-common (d ∷ ds) (x ∷ xs) [] le long = sym (suc_zero (length xs))
 position_cmp-common (d ∷ ds) (x ∷ xs) (y ∷ ys) le long =
-    then_assoc (directed d (value_cmp x y)) (position_cmp ds xs ys) (common_cmp ds xs ys) (nat_cmp (length xs) (length ys)) (λ _. position_cmp-common ds xs ys (omega arith) (omega arith))
-    ∙ ap (ordering_then (ordering_then (directed d (value_cmp x y)) (common_cmp ds xs ys))) (sym (suc_cmp (length xs) (length ys)))
+    then_assoc (directed_order d (value_cmp x y)) (position_cmp ds xs ys) (common_cmp ds xs ys) (nat_cmp (length xs) (length ys)) (λ _. position_cmp-common ds xs ys (omega arith) (omega arith))
+    ∙ ap (ordering_then (ordering_then (directed_order d (value_cmp x y)) (common_cmp ds xs ys))) (sym (suc_cmp (length xs) (length ys)))
 
 -- lists of equal length are ordered by the places that both have
 pub position_cmp-same_length : (ds : List Dir) (xs ys : List Value) → length xs ≡ length ys → length xs ≤ length ds → position_cmp ds xs ys ≡ common_cmp ds xs ys
@@ -283,7 +283,7 @@ position_cmp-same_length ds [] (y ∷ ys) e le = absurd (omega arith)
 position_cmp-same_length ds (x ∷ xs) [] e le = absurd (omega arith)
 position_cmp-same_length [] (x ∷ xs) (y ∷ ys) e le = absurd (omega arith)
 position_cmp-same_length (d ∷ ds) [] [] e le = refl
-position_cmp-same_length (d ∷ ds) (x ∷ xs) (y ∷ ys) e le = ap (ordering_then (directed d (value_cmp x y))) (position_cmp-same_length ds xs ys (omega arith) (omega arith))
+position_cmp-same_length (d ∷ ds) (x ∷ xs) (y ∷ ys) e le = ap (ordering_then (directed_order d (value_cmp x y))) (position_cmp-same_length ds xs ys (omega arith) (omega arith))
 
 -- the order of the codes' bytes is the order of the lists
 pub codes_cmp : (ds : List Dir) (xs ys : List Value) → AreValues xs → AreValues ys → SameKinds xs ys → length xs ≤ length ds → length ys ≤ length ds → slice_cmp nat_cmp (code_of ds xs) (code_of ds ys) ≡ position_cmp ds xs ys
@@ -309,7 +309,7 @@ take_from_common_cmp ds [] xs k le long e = refl
 take_from_common_cmp ds (p ∷ ps) [] k le long e = absurd (omega arith)
 take_from_common_cmp [] (p ∷ ps) (x ∷ xs) k le long e = absurd (omega arith)
 take_from_common_cmp (d ∷ ds) (p ∷ ps) (x ∷ xs) k le long e =
-    let split = then_equal (directed d (value_cmp p x)) (common_cmp ds ps xs) e in
+    let split = then_equal (directed_order d (value_cmp p x)) (common_cmp ds ps xs) e in
     ap (λ (y : Value). y ∷ take (length ps) xs) (sym (data_equal p x k.0 (in_dir_equal d (value_cmp p x) split.0))) ∙ ap (λ (ys : List Value). p ∷ ys) (take_from_common_cmp ds ps xs k.1 (omega arith) (omega arith) split.1)
 
 pub is_eq_equal : (o : Ordering) → is_eq o ≡ true → o ≡ Equal

@@ -16,8 +16,8 @@ use Rattle.pq_base.specs.declared.value.ColType.TheVariants as types
 use Rattle.pq_base.specs.declared.value.Value.{Value}
 use Rattle.pq_base.specs.declared.value.Value.TheVariants as values
 use Rattle.pq_base.specs.Values.{FitsType, AllFit}
-use Rattle.pq_key_code.specs.KeyCode.{IsBytes, above_least, escaped, payload, turned, component, code_of}
-use Rattle.pq_key_code.specs.KeyReading.{◌>>=◌, from_least, number_at, truth_at, behind, text_at, checked, payload_at, component_at, row_at, key_at}
+use Rattle.pq_key_code.specs.KeyCode.{IsBytes, above_least, escaped_text, payload, turned_byte, component, code_of}
+use Rattle.pq_key_code.specs.KeyReading.{◌>>=◌, from_least, number_at, truth_at, behind, text_at, text_within, payload_at, component_at, row_at, key_at}
 use Rattle.pq_key_code.proofs.Bytes.{IsBytes-to_be}
 use Rattle.pq_key_code.proofs.Order.{utf8_bytes, above_least_below}
 
@@ -42,25 +42,25 @@ IsBytes-drop zero p f = f
 IsBytes-drop (suc n) [] f = tt
 IsBytes-drop (suc n) (b ∷ p) f = IsBytes-drop n p f.1
 
-turned_below : (d : Dir) (b : ℕ) → b < 256 → turned d b < 256
+turned_below : (d : Dir) (b : ℕ) → b < 256 → turned_byte d b < 256
 turned_below Asc b lt = lt
 turned_below Desc b lt = omega arith
 
-pub IsBytes-turned : (d : Dir) (p : List ℕ) → IsBytes p → IsBytes (map (turned d) p)
+pub IsBytes-turned : (d : Dir) (p : List ℕ) → IsBytes p → IsBytes (map (turned_byte d) p)
 IsBytes-turned d [] f = tt
 IsBytes-turned d (b ∷ p) f = (turned_below d b f.0, IsBytes-turned d p f.1)
 
-turned_back : (d : Dir) (b : ℕ) → b < 256 → turned d (turned d b) ≡ b
+turned_back : (d : Dir) (b : ℕ) → b < 256 → turned_byte d (turned_byte d b) ≡ b
 turned_back Asc b lt = refl
 turned_back Desc b lt = omega arith
 
 -- a byte by what it is turned to
-pub turned_is : (d : Dir) (b c : ℕ) → b < 256 → turned d b ≡ c → b ≡ turned d c
-turned_is d b c lt e = sym (turned_back d b lt) ∙ ap (turned d) e
+pub turned_is : (d : Dir) (b c : ℕ) → b < 256 → turned_byte d b ≡ c → b ≡ turned_byte d c
+turned_is d b c lt e = sym (turned_back d b lt) ∙ ap (turned_byte d) e
 
-maps_back : (d : Dir) (p : List ℕ) → IsBytes p → map (turned d) (map (turned d) p) ≡ p
+maps_back : (d : Dir) (p : List ℕ) → IsBytes p → map (turned_byte d) (map (turned_byte d) p) ≡ p
 maps_back d [] f = refl
-maps_back d (b ∷ p) f = ap (λ (c : ℕ). c ∷ map (turned d) (map (turned d) p)) (turned_back d b f.0) ∙ ap (λ (q : List ℕ). b ∷ q) (maps_back d p f.1)
+maps_back d (b ∷ p) f = ap (λ (c : ℕ). c ∷ map (turned_byte d) (map (turned_byte d) p)) (turned_back d b f.0) ∙ ap (λ (q : List ℕ). b ∷ q) (maps_back d p f.1)
 
 -- ---- options
 
@@ -105,34 +105,34 @@ from_fits n lt = by (ltb n (2 ^ 63)) refl where
 pub be_below : (p : List ℕ) → IsBytes p → from_be_bytes w64 p < 2 ^ 64
 be_below p f = omega (arith, IsBytes_at p f 0, IsBytes_at p f 1, IsBytes_at p f 2, IsBytes_at p f 3, IsBytes_at p f 4, IsBytes_at p f 5, IsBytes_at p f 6, IsBytes_at p f 7)
 
-number_parts : (d : Dir) (bs front : List ℕ) → map (turned d) (take 8 bs) ≡ front → 8 ≤ length bs → IsBytes bs → IsBytes front → length front ≡ 8 → (z : ℤ) (rest : List ℕ) → ◌≡◌ {A = ℤ × List ℕ} (from_least (from_be_bytes w64 front), drop 8 bs) (z, rest) → FitsSigned w64 z × Takes bs (map (turned d) (payload (values.Int z))) rest
+number_parts : (d : Dir) (bs front : List ℕ) → map (turned_byte d) (take 8 bs) ≡ front → 8 ≤ length bs → IsBytes bs → IsBytes front → length front ≡ 8 → (z : ℤ) (rest : List ℕ) → ◌≡◌ {A = ℤ × List ℕ} (from_least (from_be_bytes w64 front), drop 8 bs) (z, rest) → FitsSigned w64 z × Takes bs (map (turned_byte d) (payload (values.Int z))) rest
 number_parts d bs front is long f front_fits len z rest e =
     let below : from_be_bytes w64 front < 2 ^ 64 = be_below front front_fits in
     let be : to_be_bytes w64 (from_be_bytes w64 front) ≡ front = be_bytes_8 front (from_be_bytes w64 front) len (IsBytes_at front front_fits) refl in
-    let parts : map (turned d) (to_be_bytes w64 (above_least (from_least (from_be_bytes w64 front)))) ++ drop 8 bs ≡ bs =
-    ap (λ (k : ℕ). map (turned d) (to_be_bytes w64 k) ++ drop 8 bs) (above_from (from_be_bytes w64 front) below)
-    ∙ ap (λ (p : List ℕ). map (turned d) p ++ drop 8 bs) (be ∙ sym is)
+    let parts : map (turned_byte d) (to_be_bytes w64 (above_least (from_least (from_be_bytes w64 front)))) ++ drop 8 bs ≡ bs =
+    ap (λ (k : ℕ). map (turned_byte d) (to_be_bytes w64 k) ++ drop 8 bs) (above_from (from_be_bytes w64 front) below)
+    ∙ ap (λ (p : List ℕ). map (turned_byte d) p ++ drop 8 bs) (be ∙ sym is)
     ∙ ap (λ (p : List ℕ). p ++ drop 8 bs) (maps_back d (take 8 bs) (IsBytes-take 8 bs f))
     ∙ take-append-drop 8 bs in
-    let at : FitsSigned w64 (from_least (from_be_bytes w64 front)) × Takes bs (map (turned d) (payload (values.Int (from_least (from_be_bytes w64 front))))) (drop 8 bs) =
+    let at : FitsSigned w64 (from_least (from_be_bytes w64 front)) × Takes bs (map (turned_byte d) (payload (values.Int (from_least (from_be_bytes w64 front))))) (drop 8 bs) =
     (from_fits (from_be_bytes w64 front) below, record { parts = sym parts; rest_fits = IsBytes-drop 8 bs f }) in
-    subst (λ (x : ℤ × List ℕ). FitsSigned w64 x.0 × Takes bs (map (turned d) (payload (values.Int x.0))) x.1) e at
+    subst (λ (x : ℤ × List ℕ). FitsSigned w64 x.0 × Takes bs (map (turned_byte d) (payload (values.Int x.0))) x.1) e at
 
-number_takes : (d : Dir) (bs : List ℕ) (z : ℤ) (rest : List ℕ) → IsBytes bs → number_at d bs ≡ Some (z, rest) → FitsSigned w64 z × Takes bs (map (turned d) (payload (values.Int z))) rest
+number_takes : (d : Dir) (bs : List ℕ) (z : ℤ) (rest : List ℕ) → IsBytes bs → number_at d bs ≡ Some (z, rest) → FitsSigned w64 z × Takes bs (map (turned_byte d) (payload (values.Int z))) rest
 number_takes d bs z rest f e =
-    let front_fits : IsBytes (map (turned d) (take 8 bs)) = IsBytes-turned d (take 8 bs) (IsBytes-take 8 bs f) in
-    let g = guarded (ltb (length bs) 8) (from_least (from_be_bytes w64 (map (turned d) (take 8 bs))), drop 8 bs) (z, rest) e in
+    let front_fits : IsBytes (map (turned_byte d) (take 8 bs)) = IsBytes-turned d (take 8 bs) (IsBytes-take 8 bs f) in
+    let g = guarded (ltb (length bs) 8) (from_least (from_be_bytes w64 (map (turned_byte d) (take 8 bs))), drop 8 bs) (z, rest) e in
     let long : 8 ≤ length bs = ltb-false _ _ g.0 in
-    let len : length (map (turned d) (take 8 bs)) ≡ 8 = omega (arith, length-map (take 8 bs) (turned d), length-take 8 bs) in
-    number_parts d bs (map (turned d) (take 8 bs)) refl long f front_fits len z rest g.1
+    let len : length (map (turned_byte d) (take 8 bs)) ≡ 8 = omega (arith, length-map (take 8 bs) (turned_byte d), length-take 8 bs) in
+    number_parts d bs (map (turned_byte d) (take 8 bs)) refl long f front_fits len z rest g.1
 
-number_again_at : (d : Dir) (q rest : List ℕ) → IsBytes q → length q ≡ 8 → number_at d (map (turned d) q ++ rest) ≡ Some (from_least (from_be_bytes w64 q), rest)
+number_again_at : (d : Dir) (q rest : List ℕ) → IsBytes q → length q ≡ 8 → number_at d (map (turned_byte d) q ++ rest) ≡ Some (from_least (from_be_bytes w64 q), rest)
 number_again_at d q rest f len =
-    let turned_len : length (map (turned d) q) ≡ 8 = length-map q (turned d) ∙ len in
-    let long : ltb (length (map (turned d) q ++ rest)) 8 ≡ false = le-ltb _ _ (omega (arith, length-append (map (turned d) q) rest)) in
-    rw (long, take_at (map (turned d) q) rest 8 turned_len, drop_at (map (turned d) q) rest 8 turned_len, maps_back d q f) refl
+    let turned_len : length (map (turned_byte d) q) ≡ 8 = length-map q (turned_byte d) ∙ len in
+    let long : ltb (length (map (turned_byte d) q ++ rest)) 8 ≡ false = le-ltb _ _ (omega (arith, length-append (map (turned_byte d) q) rest)) in
+    rw (long, take_at (map (turned_byte d) q) rest 8 turned_len, drop_at (map (turned_byte d) q) rest 8 turned_len, maps_back d q f) refl
 
-number_again : (d : Dir) (z : ℤ) (rest : List ℕ) → FitsSigned w64 z → number_at d (map (turned d) (payload (values.Int z)) ++ rest) ≡ Some (z, rest)
+number_again : (d : Dir) (z : ℤ) (rest : List ℕ) → FitsSigned w64 z → number_at d (map (turned_byte d) (payload (values.Int z)) ++ rest) ≡ Some (z, rest)
 number_again d z rest f =
     number_again_at d (to_be_bytes w64 (above_least z)) rest (IsBytes-to_be (above_least z)) refl
     ∙ ap (λ (k : ℕ). Some (from_least k, rest)) (from_be_bytes-to_be_bytes_8 (above_least z) (above_least_below z f))
@@ -140,20 +140,20 @@ number_again d z rest f =
 
 -- ---- truth values
 
-truth_takes : (d : Dir) (bs : List ℕ) (b : Bool) (rest : List ℕ) → IsBytes bs → truth_at d bs ≡ Some (b, rest) → Takes bs (map (turned d) (payload (values.Bool b))) rest
+truth_takes : (d : Dir) (bs : List ℕ) (b : Bool) (rest : List ℕ) → IsBytes bs → truth_at d bs ≡ Some (b, rest) → Takes bs (map (turned_byte d) (payload (values.Bool b))) rest
 truth_takes d [] b rest f e = none_some _ e
 truth_takes d (c ∷ bs) b rest f e =
-    elim (chosen (eqb (turned d c) 0) (Some (false, bs)) (cond (eqb (turned d c) 1) (Some (true, bs)) None) (Some (b, rest)) e) [
-      | inl h ↦ subst (λ (x : Bool × List ℕ). Takes (c ∷ bs) (map (turned d) (payload (values.Bool x.0))) x.1) (same_Some _ _ h.1)
+    elim (chosen (eqb (turned_byte d c) 0) (Some (false, bs)) (cond (eqb (turned_byte d c) 1) (Some (true, bs)) None) (Some (b, rest)) e) [
+      | inl h ↦ subst (λ (x : Bool × List ℕ). Takes (c ∷ bs) (map (turned_byte d) (payload (values.Bool x.0))) x.1) (same_Some _ _ h.1)
           (record { parts = ap (λ (k : ℕ). k ∷ bs) (turned_is d c 0 f.0 (eqb-true _ _ h.0)); rest_fits = f.1 })
-      | inr h ↦ elim (chosen (eqb (turned d c) 1) (Some (true, bs)) None (Some (b, rest)) h.1) [
-        | inl k ↦ subst (λ (x : Bool × List ℕ). Takes (c ∷ bs) (map (turned d) (payload (values.Bool x.0))) x.1) (same_Some _ _ k.1)
+      | inr h ↦ elim (chosen (eqb (turned_byte d c) 1) (Some (true, bs)) None (Some (b, rest)) h.1) [
+        | inl k ↦ subst (λ (x : Bool × List ℕ). Takes (c ∷ bs) (map (turned_byte d) (payload (values.Bool x.0))) x.1) (same_Some _ _ k.1)
             (record { parts = ap (λ (m : ℕ). m ∷ bs) (turned_is d c 1 f.0 (eqb-true _ _ k.0)); rest_fits = f.1 })
         | inr k ↦ none_some _ k.1
       ]
     ]
 
-truth_again : (d : Dir) (b : Bool) (rest : List ℕ) → truth_at d (map (turned d) (payload (values.Bool b)) ++ rest) ≡ Some (b, rest)
+truth_again : (d : Dir) (b : Bool) (rest : List ℕ) → truth_at d (map (turned_byte d) (payload (values.Bool b)) ++ rest) ≡ Some (b, rest)
 truth_again Asc false rest = refl
 truth_again Asc true rest = refl
 truth_again Desc false rest = refl
@@ -161,55 +161,55 @@ truth_again Desc true rest = refl
 
 -- ---- texts
 
-escaped_plain : (b : ℕ) (t : List ℕ) → b ≢ 0 → escaped (b ∷ t) ≡ b ∷ escaped t
+escaped_plain : (b : ℕ) (t : List ℕ) → b ≢ 0 → escaped_text (b ∷ t) ≡ b ∷ escaped_text t
 escaped_plain zero t ne = absurd (ne refl)
 escaped_plain (suc b) t ne = refl
 
-text_takes : (d : Dir) (bs t rest : List ℕ) → IsBytes bs → text_at d bs ≡ Some (t, rest) → Takes bs (map (turned d) (payload (values.Text t))) rest
+text_takes : (d : Dir) (bs t rest : List ℕ) → IsBytes bs → text_at d bs ≡ Some (t, rest) → Takes bs (map (turned_byte d) (payload (values.Text t))) rest
 unfolding text_at
 text_takes d [] t rest f e = none_some _ e
 text_takes d (b ∷ []) t rest f e = none_some _ e
 text_takes d (b ∷ c ∷ bs) t rest f e =
-    elim (chosen (eqb (turned d b) 0) (cond (eqb (turned d c) 1) (Some ([], bs)) (cond (eqb (turned d c) 255) (behind 0 (text_at d bs)) None)) (behind (turned d b) (text_at d (c ∷ bs))) (Some (t, rest)) e) [
-      | inl h ↦ elim (chosen (eqb (turned d c) 1) (Some ([], bs)) (cond (eqb (turned d c) 255) (behind 0 (text_at d bs)) None) (Some (t, rest)) h.1) [
-        | inl k ↦ subst (λ (x : List ℕ × List ℕ). Takes (b ∷ c ∷ bs) (map (turned d) (payload (values.Text x.0))) x.1) (same_Some _ _ k.1)
-            (record { parts = ap (λ (m : ℕ). m ∷ c ∷ bs) (turned_is d b 0 f.0 (eqb-true _ _ h.0)) ∙ ap (λ (m : ℕ). turned d 0 ∷ m ∷ bs) (turned_is d c 1 f.1.0 (eqb-true _ _ k.0)); rest_fits = f.1.1 })
-        | inr k ↦ elim (chosen (eqb (turned d c) 255) (behind 0 (text_at d bs)) None (Some (t, rest)) k.1) [
+    elim (chosen (eqb (turned_byte d b) 0) (cond (eqb (turned_byte d c) 1) (Some ([], bs)) (cond (eqb (turned_byte d c) 255) (behind 0 (text_at d bs)) None)) (behind (turned_byte d b) (text_at d (c ∷ bs))) (Some (t, rest)) e) [
+      | inl h ↦ elim (chosen (eqb (turned_byte d c) 1) (Some ([], bs)) (cond (eqb (turned_byte d c) 255) (behind 0 (text_at d bs)) None) (Some (t, rest)) h.1) [
+        | inl k ↦ subst (λ (x : List ℕ × List ℕ). Takes (b ∷ c ∷ bs) (map (turned_byte d) (payload (values.Text x.0))) x.1) (same_Some _ _ k.1)
+            (record { parts = ap (λ (m : ℕ). m ∷ c ∷ bs) (turned_is d b 0 f.0 (eqb-true _ _ h.0)) ∙ ap (λ (m : ℕ). turned_byte d 0 ∷ m ∷ bs) (turned_is d c 1 f.1.0 (eqb-true _ _ k.0)); rest_fits = f.1.1 })
+        | inr k ↦ elim (chosen (eqb (turned_byte d c) 255) (behind 0 (text_at d bs)) None (Some (t, rest)) k.1) [
           | inl l ↦
               let y = bind_some (text_at d bs) (λ x. Some (0 ∷ x.0, x.1)) (t, rest) l.1 in
               let more = text_takes d bs y.0.0 y.0.1 f.1.1 y.1 in
-              subst (λ (x : List ℕ × List ℕ). Takes (b ∷ c ∷ bs) (map (turned d) (payload (values.Text x.0))) x.1) (same_Some _ _ y.2)
-              (record { parts = ap (λ (m : ℕ). m ∷ c ∷ bs) (turned_is d b 0 f.0 (eqb-true _ _ h.0)) ∙ ap (λ (m : ℕ). turned d 0 ∷ m ∷ bs) (turned_is d c 255 f.1.0 (eqb-true _ _ l.0)) ∙ ap (λ (r : List ℕ). turned d 0 ∷ turned d 255 ∷ r) more.parts; rest_fits = more.rest_fits })
+              subst (λ (x : List ℕ × List ℕ). Takes (b ∷ c ∷ bs) (map (turned_byte d) (payload (values.Text x.0))) x.1) (same_Some _ _ y.2)
+              (record { parts = ap (λ (m : ℕ). m ∷ c ∷ bs) (turned_is d b 0 f.0 (eqb-true _ _ h.0)) ∙ ap (λ (m : ℕ). turned_byte d 0 ∷ m ∷ bs) (turned_is d c 255 f.1.0 (eqb-true _ _ l.0)) ∙ ap (λ (r : List ℕ). turned_byte d 0 ∷ turned_byte d 255 ∷ r) more.parts; rest_fits = more.rest_fits })
           | inr l ↦ none_some _ l.1
         ]
       ]
       | inr h ↦
-          let y = bind_some (text_at d (c ∷ bs)) (λ x. Some (turned d b ∷ x.0, x.1)) (t, rest) h.1 in
+          let y = bind_some (text_at d (c ∷ bs)) (λ x. Some (turned_byte d b ∷ x.0, x.1)) (t, rest) h.1 in
           let more = text_takes d (c ∷ bs) y.0.0 y.0.1 f.1 y.1 in
-          subst (λ (x : List ℕ × List ℕ). Takes (b ∷ c ∷ bs) (map (turned d) (payload (values.Text x.0))) x.1) (same_Some _ _ y.2)
-          (record { parts = ap (λ (m : ℕ). m ∷ c ∷ bs) (sym (turned_back d b f.0)) ∙ ap (λ (r : List ℕ). turned d (turned d b) ∷ r) more.parts ∙ ap (λ (q : List ℕ). map (turned d) (q ++ 0 ∷ 1 ∷ []) ++ y.0.1) (sym (escaped_plain (turned d b) y.0.0 (eqb-false _ _ h.0))); rest_fits = more.rest_fits })
+          subst (λ (x : List ℕ × List ℕ). Takes (b ∷ c ∷ bs) (map (turned_byte d) (payload (values.Text x.0))) x.1) (same_Some _ _ y.2)
+          (record { parts = ap (λ (m : ℕ). m ∷ c ∷ bs) (sym (turned_back d b f.0)) ∙ ap (λ (r : List ℕ). turned_byte d (turned_byte d b) ∷ r) more.parts ∙ ap (λ (q : List ℕ). map (turned_byte d) (q ++ 0 ∷ 1 ∷ []) ++ y.0.1) (sym (escaped_plain (turned_byte d b) y.0.0 (eqb-false _ _ h.0))); rest_fits = more.rest_fits })
     ]
 
-text_plain : (d : Dir) (b : ℕ) (bs : List ℕ) → turned d b ≢ 0 → 0 < length bs → text_at d (b ∷ bs) ≡ behind (turned d b) (text_at d bs)
+text_plain : (d : Dir) (b : ℕ) (bs : List ℕ) → turned_byte d b ≢ 0 → 0 < length bs → text_at d (b ∷ bs) ≡ behind (turned_byte d b) (text_at d bs)
 unfolding text_at
 text_plain d b [] ne lt = absurd (omega arith)
-text_plain d b (c ∷ bs) ne lt = rw (ne_eqb (turned d b) 0 ne) refl
+text_plain d b (c ∷ bs) ne lt = rw (ne_eqb (turned_byte d b) 0 ne) refl
 
-text_again : (d : Dir) (t rest : List ℕ) → IsBytes t → text_at d (map (turned d) (payload (values.Text t)) ++ rest) ≡ Some (t, rest)
+text_again : (d : Dir) (t rest : List ℕ) → IsBytes t → text_at d (map (turned_byte d) (payload (values.Text t)) ++ rest) ≡ Some (t, rest)
 unfolding text_at
 text_again Asc [] rest f = refl
 text_again Desc [] rest f = refl
 text_again Asc (zero ∷ t) rest f = ap (behind 0) (text_again Asc t rest f.1)
 text_again Desc (zero ∷ t) rest f = ap (behind 0) (text_again Desc t rest f.1)
 text_again d (suc b ∷ t) rest f =
-    let back : turned d (turned d (suc b)) ≡ suc b = turned_back d (suc b) f.0 in
-    text_plain d (turned d (suc b)) (map (turned d) (payload (values.Text t)) ++ rest) (λ e. absurd (omega (arith, back))) (omega (arith, length-append (map (turned d) (payload (values.Text t))) rest, length-map (payload (values.Text t)) (turned d), length-append (escaped t) (0 ∷ 1 ∷ [])))
-    ∙ ap (λ (m : ℕ). behind m (text_at d (map (turned d) (payload (values.Text t)) ++ rest))) back
+    let back : turned_byte d (turned_byte d (suc b)) ≡ suc b = turned_back d (suc b) f.0 in
+    text_plain d (turned_byte d (suc b)) (map (turned_byte d) (payload (values.Text t)) ++ rest) (λ e. absurd (omega (arith, back))) (omega (arith, length-append (map (turned_byte d) (payload (values.Text t))) rest, length-map (payload (values.Text t)) (turned_byte d), length-append (escaped_text t) (0 ∷ 1 ∷ [])))
+    ∙ ap (λ (m : ℕ). behind m (text_at d (map (turned_byte d) (payload (values.Text t)) ++ rest))) back
     ∙ ap (behind (suc b)) (text_again d t rest f.1)
 
 -- ---- components
 
-pub checked_is : (n : ℕ) (t s : List ℕ) → checked n t ≡ Some s → (IsUtf8 t × (length t ≤ n)) × (t ≡ s)
+pub checked_is : (n : ℕ) (t s : List ℕ) → text_within n t ≡ Some s → (IsUtf8 t × (length t ≤ n)) × (t ≡ s)
 checked_is n t s e =
     elim (chosen (ltb n (length t)) None (cond (is_utf8 t) (Some t) None) (Some s) e) [
       | inl h ↦ none_some _ h.1
@@ -219,34 +219,34 @@ checked_is n t s e =
       ]
     ]
 
-pub checked_again : (n : ℕ) (t : List ℕ) → IsUtf8 t → length t ≤ n → checked n t ≡ Some t
+pub checked_again : (n : ℕ) (t : List ℕ) → IsUtf8 t → length t ≤ n → text_within n t ≡ Some t
 checked_again n t u le = rw (le-ltb n (length t) le, is_utf8-from_IsUtf8 t u) refl
 
-payload_takes : (ty : ColType) (d : Dir) (bs : List ℕ) (x : Value) (rest : List ℕ) → IsBytes bs → payload_at ty d bs ≡ Some (x, rest) → FitsType ty x × Takes bs (map (turned d) (payload x)) rest
+payload_takes : (ty : ColType) (d : Dir) (bs : List ℕ) (x : Value) (rest : List ℕ) → IsBytes bs → payload_at ty d bs ≡ Some (x, rest) → FitsType ty x × Takes bs (map (turned_byte d) (payload x)) rest
 unfolding payload_at
 payload_takes types.Int d bs x rest f e =
     let y = bind_some (number_at d bs) (λ x. Some (values.Int x.0, x.1)) (x, rest) e in
     let t = number_takes d bs y.0.0 y.0.1 f y.1 in
-    subst (λ (x : Value × List ℕ). FitsType types.Int x.0 × Takes bs (map (turned d) (payload x.0)) x.1) (same_Some _ _ y.2) t
+    subst (λ (x : Value × List ℕ). FitsType types.Int x.0 × Takes bs (map (turned_byte d) (payload x.0)) x.1) (same_Some _ _ y.2) t
 payload_takes types.Bool d bs x rest f e =
     let y = bind_some (truth_at d bs) (λ x. Some (values.Bool x.0, x.1)) (x, rest) e in
     let t = truth_takes d bs y.0.0 y.0.1 f y.1 in
-    subst (λ (x : Value × List ℕ). FitsType types.Bool x.0 × Takes bs (map (turned d) (payload x.0)) x.1) (same_Some _ _ y.2) (tt, t)
+    subst (λ (x : Value × List ℕ). FitsType types.Bool x.0 × Takes bs (map (turned_byte d) (payload x.0)) x.1) (same_Some _ _ y.2) (tt, t)
 payload_takes (types.Text n) d bs x rest f e =
-    let y = bind_some (text_at d bs) (λ x. checked n x.0 >>= λ t. Some (values.Text t, x.1)) (x, rest) e in
-    let z = bind_some (checked n y.0.0) (λ t. Some (values.Text t, y.0.1)) (x, rest) y.2 in
+    let y = bind_some (text_at d bs) (λ x. text_within n x.0 >>= λ t. Some (values.Text t, x.1)) (x, rest) e in
+    let z = bind_some (text_within n y.0.0) (λ t. Some (values.Text t, y.0.1)) (x, rest) y.2 in
     let t = text_takes d bs y.0.0 y.0.1 f y.1 in
     let c = checked_is n y.0.0 z.0 z.1 in
-    let at : FitsType (types.Text n) (values.Text y.0.0) × Takes bs (map (turned d) (payload (values.Text y.0.0))) y.0.1 = (c.0, t) in
+    let at : FitsType (types.Text n) (values.Text y.0.0) × Takes bs (map (turned_byte d) (payload (values.Text y.0.0))) y.0.1 = (c.0, t) in
     let pair : List ℕ → Value × List ℕ = λ s. (values.Text s, y.0.1) in
-    subst (λ (x : Value × List ℕ). FitsType (types.Text n) x.0 × Takes bs (map (turned d) (payload x.0)) x.1) (ap pair c.1 ∙ same_Some _ _ z.2) at
+    subst (λ (x : Value × List ℕ). FitsType (types.Text n) x.0 × Takes bs (map (turned_byte d) (payload x.0)) x.1) (ap pair c.1 ∙ same_Some _ _ z.2) at
 
-payload_again : (ty : ColType) (d : Dir) (x : Value) (rest : List ℕ) → FitsType ty x → payload_at ty d (map (turned d) (payload x) ++ rest) ≡ Some (x, rest)
+payload_again : (ty : ColType) (d : Dir) (x : Value) (rest : List ℕ) → FitsType ty x → payload_at ty d (map (turned_byte d) (payload x) ++ rest) ≡ Some (x, rest)
 unfolding payload_at
 payload_again types.Int d (values.Int z) rest fits = ap (λ (o : Option (ℤ × List ℕ)). o >>= λ x. Some (values.Int x.0, x.1)) (number_again d z rest fits)
 payload_again types.Bool d (values.Bool b) rest fits = ap (λ (o : Option (Bool × List ℕ)). o >>= λ x. Some (values.Bool x.0, x.1)) (truth_again d b rest)
 payload_again (types.Text n) d (values.Text t) rest fits =
-    ap (λ (o : Option (List ℕ × List ℕ)). o >>= λ x. checked n x.0 >>= λ t. Some (values.Text t, x.1)) (text_again d t rest (utf8_bytes t fits.0))
+    ap (λ (o : Option (List ℕ × List ℕ)). o >>= λ x. text_within n x.0 >>= λ t. Some (values.Text t, x.1)) (text_again d t rest (utf8_bytes t fits.0))
     ∙ ap (λ (o : Option (List ℕ)). o >>= λ t. Some (values.Text t, rest)) (checked_again n t fits.0 fits.1)
 payload_again _ d _ rest fits = absurd fits
 

@@ -21,28 +21,28 @@ truth_byte false = 0
 truth_byte true = 1
 
 -- 00 is written 00 FF
-abbrev pub escaped : List ℕ → List ℕ
-escaped [] = []
-escaped (zero ∷ bs) = 0 ∷ 255 ∷ escaped bs
-escaped (suc b ∷ bs) = suc b ∷ escaped bs
+abbrev pub escaped_text : List ℕ → List ℕ
+escaped_text [] = []
+escaped_text (zero ∷ bs) = 0 ∷ 255 ∷ escaped_text bs
+escaped_text (suc b ∷ bs) = suc b ∷ escaped_text bs
 
 -- eight bytes, one byte, or the escaped bytes and 00 01
 abbrev pub payload : Value → List ℕ
 payload (values.Int z) = to_be_bytes w64 (above_least z)
 payload (values.Bool b) = truth_byte b ∷ []
-payload (values.Text t) = escaped t ++ 0 ∷ 1 ∷ []
+payload (values.Text t) = escaped_text t ++ 0 ∷ 1 ∷ []
 
 -- a descending component complements each payload byte, and not the marker
-abbrev pub turned : Dir → ℕ → ℕ
-turned Asc b = b
-turned Desc b = 255 - b
+abbrev pub turned_byte : Dir → ℕ → ℕ
+turned_byte Asc b = b
+turned_byte Desc b = 255 - b
 
 -- each kind of value has the marker 10
 abbrev pub marker : Dir → Value → ℕ
 marker d x = 16
 
 abbrev pub component : Dir → Value → List ℕ
-component d x = marker d x ∷ map (turned d) (payload x)
+component d x = marker d x ∷ map (turned_byte d) (payload x)
 
 -- a component for each place that has a direction
 abbrev pub code_of : List Dir → List Value → List ℕ

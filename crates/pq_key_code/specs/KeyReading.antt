@@ -7,7 +7,7 @@ use Rattle.pq_base.specs.declared.value.ColType.TheVariants as types
 use Rattle.pq_base.specs.declared.value.Dir.{Dir}
 use Rattle.pq_base.specs.declared.value.Value.{Value}
 use Rattle.pq_base.specs.declared.value.Value.TheVariants as values
-use Rattle.pq_key_code.specs.KeyCode.{turned}
+use Rattle.pq_key_code.specs.KeyCode.{turned_byte}
 
 infixl 10 ◌>>=◌
 abbrev pub ◌>>=◌ : {A B : Type 0} → Option A → (A → Option B) → Option B
@@ -19,11 +19,13 @@ abbrev pub from_least : ℕ → ℤ
 from_least n = if nat_lt n (2 ^ 63) then negsuc (2 ^ 63 - suc n) else pos (n - 2 ^ 63)
 
 abbrev pub number_at : Dir → List ℕ → Option (ℤ × List ℕ)
-number_at d bytes = if nat_lt (length bytes) 8 then None else Some (from_least (from_be_bytes w64 (map (turned d) (take 8 bytes))), drop 8 bytes)
+number_at d bytes = if nat_lt (length bytes) 8 then None
+    else Some (from_least (from_be_bytes w64 (map (turned_byte d) (take 8 bytes))), drop 8 bytes)
 
 abbrev pub truth_at : Dir → List ℕ → Option (Bool × List ℕ)
 truth_at d [] = None
-truth_at d (b ∷ rest) = if turned d b == 0 then Some (false, rest) else if turned d b == 1 then Some (true, rest) else None
+truth_at d (b ∷ rest) = if turned_byte d b == 0 then Some (false, rest) else if turned_byte d b == 1
+    then Some (true, rest) else None
 
 -- a byte in front of a text that is read
 abbrev pub behind : ℕ → Option (List ℕ × List ℕ) → Option (List ℕ × List ℕ)
@@ -33,17 +35,18 @@ unfoldable pub text_at : Dir → List ℕ → Option (List ℕ × List ℕ)
 text_at d [] = None
 text_at d (b ∷ []) = None
 text_at d (b ∷ c ∷ rest) =
-    if turned d b == 0 then (if turned d c == 1 then Some ([], rest) else if turned d c == 255 then behind 0 (text_at d rest) else None)
-    else behind (turned d b) (text_at d (c ∷ rest))
+    if turned_byte d b == 0 then (if turned_byte d c == 1 then Some ([], rest) else if turned_byte d c == 255
+    then behind 0 (text_at d rest) else None)
+    else behind (turned_byte d b) (text_at d (c ∷ rest))
 
 -- a text of at most n bytes
-abbrev pub checked : ℕ → List ℕ → Option (List ℕ)
-checked n t = if nat_lt n (length t) then None else if is_utf8 t then Some t else None
+abbrev pub text_within : ℕ → List ℕ → Option (List ℕ)
+text_within n t = if nat_lt n (length t) then None else if is_utf8 t then Some t else None
 
 unfoldable pub payload_at : ColType → Dir → List ℕ → Option (Value × List ℕ)
 payload_at types.Int d bytes = number_at d bytes >>= λ x. Some (values.Int x.0, x.1)
 payload_at types.Bool d bytes = truth_at d bytes >>= λ x. Some (values.Bool x.0, x.1)
-payload_at (types.Text n) d bytes = text_at d bytes >>= λ x. checked n x.0 >>= λ t. Some (values.Text t, x.1)
+payload_at (types.Text n) d bytes = text_at d bytes >>= λ x. text_within n x.0 >>= λ t. Some (values.Text t, x.1)
 
 unfoldable pub component_at : ColType → Dir → List ℕ → Option (Value × List ℕ)
 component_at t d [] = None

@@ -4,7 +4,7 @@ ghost use Rattle.std.specs.Option.{option_map};
 ghost use Rattle.pq_base.specs.declared.value.Value.{Value};
 ghost use Rattle.pq_base.specs.Values.{AllFit};
 ghost use Rattle.pq_key_code.specs.KeyCode.{code_of};
-ghost use Rattle.pq_key_code.specs.KeyReading.{from_least, number_at, truth_at, text_at, checked, payload_at, component_at, row_at, key_at};
+ghost use Rattle.pq_key_code.specs.KeyReading.{from_least, number_at, truth_at, text_at, text_within, payload_at, component_at, row_at, key_at};
 
 use crate::encode::turn;
 use pq_base::{Bytes, ColType, Dir, NoMem, PText, Row, Value};
@@ -76,7 +76,7 @@ fn text_of(alloc: Global, dir: Dir, bytes: &[u8]) -> Result<Option<(Bytes, &[u8]
 
 /// The text of these bytes. None exactly where they are more than `most` or no UTF-8.
 pub fn checked_text(alloc: Global, bytes: &[u8], most: u16) -> Result<Option<PText>, NoMem>
-    ensures { IfOk result (λ text. text ≡ checked most bytes.now) }
+    ensures { IfOk result (λ text. text ≡ text_within most bytes.now) }
 {
     if bytes.len() > most as usize {
         return Ok(None);
@@ -180,9 +180,11 @@ pub fn decode_key(
 ) -> Result<Option<Row>, NoMem>
     requires { length types.now ≡ length dirs.now }
     // What is answered fits, and has this code.
-    ensures found { IfOk result (λ answer. IfSome answer (λ row. AllFit types.now row × (code_of dirs.now row ≡ bytes.now))) }
+    ensures found { IfOk result (λ answer. IfSome answer
+        (λ row. AllFit types.now row × (code_of dirs.now row ≡ bytes.now))) }
     // None, and no row that fits has this code.
-    ensures none { IfOk result (λ answer. IfNone answer ((row : List Value) → AllFit types.now row → code_of dirs.now row ≡ bytes.now → ⊥)) }
+    ensures none { IfOk result (λ answer. IfNone answer ((row : List Value) → AllFit types.now row
+        → code_of dirs.now row ≡ bytes.now → ⊥)) }
 {
     key_of(alloc, bytes, types, dirs)
 }

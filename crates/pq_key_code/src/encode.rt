@@ -1,14 +1,14 @@
 //! From values to key codes.
 ghost use Rattle.std.specs.Prelude.{◌≡◌, ◌++◌, ◌∷◌, [], length, map, OnOk, IfOk};
 ghost use Rattle.pq_base.specs.declared.value.Value.TheVariants as values;
-ghost use Rattle.pq_key_code.specs.KeyCode.{above_least, payload, turned, escaped, component, code_of};
+ghost use Rattle.pq_key_code.specs.KeyCode.{above_least, payload, turned_byte, escaped_text, component, code_of};
 
 use pq_base::{Bytes, Dir, NoMem, Row, Value};
 use std::alloc::Global;
 
 /// A payload byte in its direction: complemented where it descends. Turned twice it is as before.
 pub(crate) fn turn(dir: Dir, byte: u8) -> u8
-    ensures { result ≡ turned dir byte }
+    ensures { result ≡ turned_byte dir byte }
 {
     match dir {
         Dir::Asc => byte,
@@ -23,7 +23,7 @@ fn above_least_of(number: i64) -> u64
 }
 
 fn put_turned(alloc: Global, out: &mut Bytes, dir: Dir, bytes: &[u8]) -> Result<(), NoMem>
-    ensures { OnOk result (out.new ≡ out.old ++ map (turned dir) bytes.now) }
+    ensures { OnOk result (out.new ≡ out.old ++ map (turned_byte dir) bytes.now) }
 {
     for byte in bytes {
         out.push(alloc, turn(dir, *byte))?;
@@ -33,7 +33,7 @@ fn put_turned(alloc: Global, out: &mut Bytes, dir: Dir, bytes: &[u8]) -> Result<
 
 #[tactic(auto, using(crate::proofs::Escapes::escaped_one))]
 fn put_text_byte(alloc: Global, out: &mut Bytes, dir: Dir, byte: u8) -> Result<(), NoMem>
-    ensures { OnOk result (out.new ≡ out.old ++ map (turned dir) (escaped (byte ∷ []))) }
+    ensures { OnOk result (out.new ≡ out.old ++ map (turned_byte dir) (escaped_text (byte ∷ []))) }
 {
     out.push(alloc, turn(dir, byte))?;
     if byte == 0 {
@@ -43,7 +43,7 @@ fn put_text_byte(alloc: Global, out: &mut Bytes, dir: Dir, byte: u8) -> Result<(
 }
 
 fn put_text(alloc: Global, out: &mut Bytes, dir: Dir, bytes: &[u8]) -> Result<(), NoMem>
-    ensures { OnOk result (out.new ≡ out.old ++ map (turned dir) (payload (values.Text bytes.now))) }
+    ensures { OnOk result (out.new ≡ out.old ++ map (turned_byte dir) (payload (values.Text bytes.now))) }
 {
     for byte in bytes {
         put_text_byte(alloc, out, dir, *byte)?;

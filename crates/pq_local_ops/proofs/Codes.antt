@@ -29,8 +29,8 @@ use Rattle.pq_serving.specs.Keys.{Fits}
 use Rattle.pq_serving.proofs.Keys.{fits_values, fits_kinds}
 use Rattle.pq_serving.proofs.Scans.{sort_alike, sort_by-map}
 use Rattle.pq_serving.proofs.Typed.{kind_from_fit}
-use Rattle.pq_local_ops.specs.Codes.{code_at, is_above, coded}
-use Rattle.pq_local_ops.specs.Lists.{asked, AreOrdered, ArePast, ArePart, IsPositionOf}
+use Rattle.pq_local_ops.specs.Codes.{code_at, is_above, coded_combo}
+use Rattle.pq_local_ops.specs.Lists.{question, AreOrdered, ArePast, ArePart, IsPositionOf}
 use Rattle.pq_local_ops.proofs.Parts.{part_sort}
 use Rattle.pq_local_ops.specs.declared.sort.Coded.{Coded}
 
@@ -57,7 +57,7 @@ module _ (tables : List Table) (query : Query) where
 
   module _ (sound : IsQuery tables query) (resolved : IsResolved tables query) (rows : Rows) (params : List Value) where
     -- values that fit the position columns are in order by their codes
-    codes_are : (xs ys : List Value) → AllFit (position_types tables query) xs → AllFit (position_types tables query) ys → key_cmp (code_of (dirs_of tables query) xs) (code_of (dirs_of tables query) ys) ≡ by_position (asked tables query rows params) xs ys
+    codes_are : (xs ys : List Value) → AllFit (position_types tables query) xs → AllFit (position_types tables query) ys → key_cmp (code_of (dirs_of tables query) xs) (code_of (dirs_of tables query) ys) ≡ by_position (question tables query rows params) xs ys
     codes_are xs ys f g =
         let types = position_types tables query in
         let a = of_kinds types xs f in
@@ -69,33 +69,33 @@ module _ (tables : List Table) (query : Query) where
     abbrev Whole : List (List Value) → Type 0
     Whole combo = FitsTables tables query (length query.relations) combo
 
-    fits_of : (combo : List (List Value)) → Whole combo → AllFit (position_types tables query) (position (asked tables query rows params) combo)
+    fits_of : (combo : List (List Value)) → Whole combo → AllFit (position_types tables query) (position (question tables query rows params) combo)
     fits_of combo fits = position_fits tables query sound resolved rows params combo fits
 
     -- the sort by codes
-    pub sorted_is : (combos : List (List (List Value))) → AllByRecursion Whole combos → sort_by key_cmp (code_at (cols_of tables query) (dirs_of tables query)) combos ≡ in_order (asked tables query rows params) combos
+    pub sorted_is : (combos : List (List (List Value))) → AllByRecursion Whole combos → sort_by key_cmp (code_at (cols_of tables query) (dirs_of tables query)) combos ≡ in_order (question tables query rows params) combos
     sorted_is combos fits =
-        sort_alike key_cmp (code_at (cols_of tables query) (dirs_of tables query)) (by_position (asked tables query rows params)) (position (asked tables query rows params)) Whole
-        (λ c d f g. codes_are (position (asked tables query rows params) c) (position (asked tables query rows params) d) (fits_of c f) (fits_of d g))
+        sort_alike key_cmp (code_at (cols_of tables query) (dirs_of tables query)) (by_position (question tables query rows params)) (position (question tables query rows params)) Whole
+        (λ c d f g. codes_are (position (question tables query rows params) c) (position (question tables query rows params) d) (fits_of c f) (fits_of d g))
         combos fits
 
     -- those above the code of a position are those after it
-    pub past_is : (after : List Value) → AllFit (position_types tables query) after → (combos : List (List (List Value))) → AllByRecursion Whole combos → filter (is_above (cols_of tables query) (dirs_of tables query) (code_of (dirs_of tables query) after)) combos ≡ past (asked tables query rows params) (Some after) combos
+    pub past_is : (after : List Value) → AllFit (position_types tables query) after → (combos : List (List (List Value))) → AllByRecursion Whole combos → filter (is_above (cols_of tables query) (dirs_of tables query) (code_of (dirs_of tables query) after)) combos ≡ past (question tables query rows params) (Some after) combos
     past_is after fits combos all = filter_same _ _ combos (each combos all)
       where
-        each : (combos : List (List (List Value))) → AllByRecursion Whole combos → AllByRecursion (λ combo. is_above (cols_of tables query) (dirs_of tables query) (code_of (dirs_of tables query) after) combo ≡ is_lt (by_position (asked tables query rows params) after (position (asked tables query rows params) combo))) combos
+        each : (combos : List (List (List Value))) → AllByRecursion Whole combos → AllByRecursion (λ combo. is_above (cols_of tables query) (dirs_of tables query) (code_of (dirs_of tables query) after) combo ≡ is_lt (by_position (question tables query rows params) after (position (question tables query rows params) combo))) combos
         each [] all = tt
-        each (combo ∷ combos) all = (ap is_lt (codes_are after (position (asked tables query rows params) combo) fits (fits_of combo all.0)), each combos all.1)
+        each (combo ∷ combos) all = (ap is_lt (codes_are after (position (question tables query rows params) combo) fits (fits_of combo all.0)), each combos all.1)
 
 -- without the codes they are as they were
-without_codes : (cols : List ColRef) (dirs : List Dir) (combos : List (List (List Value))) → map (λ (item : Coded). item.combo) (map (coded cols dirs) combos) ≡ combos
+without_codes : (cols : List ColRef) (dirs : List Dir) (combos : List (List (List Value))) → map (λ (item : Coded). item.combo) (map (coded_combo cols dirs) combos) ≡ combos
 without_codes cols dirs [] = refl
 without_codes cols dirs (combo ∷ combos) = ap (λ (l : List (List (List Value))). combo ∷ l) (without_codes cols dirs combos)
 
 -- the sort of combinations with their codes
-pub coded_is : (cols : List ColRef) (dirs : List Dir) (combos : List (List (List Value))) → map (λ (item : Coded). item.combo) (sort_by key_cmp (λ (item : Coded). item.code) (map (coded cols dirs) combos)) ≡ sort_by key_cmp (code_at cols dirs) combos
+pub coded_is : (cols : List ColRef) (dirs : List Dir) (combos : List (List (List Value))) → map (λ (item : Coded). item.combo) (sort_by key_cmp (λ (item : Coded). item.code) (map (coded_combo cols dirs) combos)) ≡ sort_by key_cmp (code_at cols dirs) combos
 coded_is cols dirs combos =
-    ap (map (λ (item : Coded). item.combo)) (sort_by-map key_cmp (λ (item : Coded). item.code) (coded cols dirs) combos)
+    ap (map (λ (item : Coded). item.combo)) (sort_by-map key_cmp (λ (item : Coded). item.code) (coded_combo cols dirs) combos)
     ∙ without_codes cols dirs (sort_by key_cmp (code_at cols dirs) combos)
 
 -- what holds of an answer gives what follows from it
@@ -121,15 +121,15 @@ module _ (tables : List Table) (query : Query) (sound : IsQuery tables query) (r
       ∙ ap (λ (cs : List ColRef). filter (is_above cs (dirs_of tables query) (code_of (dirs_of tables query) after)) combos) cols_are
       ∙ past_is tables query sound resolved rows params after fits combos all
 
-  sorted_codes : (combos ordered : List (List (List Value))) → ordered ≡ map (λ (item : Coded). item.combo) (sort_by key_cmp (λ (item : Coded). item.code) (map (coded cols dirs) combos)) → ordered ≡ sort_by key_cmp (code_at cols dirs) combos
+  sorted_codes : (combos ordered : List (List (List Value))) → ordered ≡ map (λ (item : Coded). item.combo) (sort_by key_cmp (λ (item : Coded). item.code) (map (coded_combo cols dirs) combos)) → ordered ≡ sort_by key_cmp (code_at cols dirs) combos
   sorted_codes combos ordered is = is ∙ coded_is cols dirs combos
 
-  pub sorted_order : (combos ordered : List (List (List Value))) → AllWhole combos → ordered ≡ map (λ (item : Coded). item.combo) (sort_by key_cmp (λ (item : Coded). item.code) (map (coded cols dirs) combos)) → AreOrdered tables query combos ordered
+  pub sorted_order : (combos ordered : List (List (List Value))) → AllWhole combos → ordered ≡ map (λ (item : Coded). item.combo) (sort_by key_cmp (λ (item : Coded). item.code) (map (coded_combo cols dirs) combos)) → AreOrdered tables query combos ordered
   sorted_order combos ordered all is rows params =
       sorted_codes combos ordered is
       ∙ ap (λ (ds : List Dir). sort_by key_cmp (code_at cols ds) combos) dirs_are
       ∙ ap (λ (cs : List ColRef). sort_by key_cmp (code_at cs (dirs_of tables query)) combos) cols_are
       ∙ sorted_is tables query sound resolved rows params combos all
 
-  pub sorted_part : (combos ordered : List (List (List Value))) → ordered ≡ map (λ (item : Coded). item.combo) (sort_by key_cmp (λ (item : Coded). item.code) (map (coded cols dirs) combos)) → ArePart combos ordered
+  pub sorted_part : (combos ordered : List (List (List Value))) → ordered ≡ map (λ (item : Coded). item.combo) (sort_by key_cmp (λ (item : Coded). item.code) (map (coded_combo cols dirs) combos)) → ArePart combos ordered
   sorted_part combos ordered is = part_sort key_cmp (code_at cols dirs) combos ordered (sorted_codes combos ordered is)

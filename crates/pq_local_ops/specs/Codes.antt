@@ -17,5 +17,5 @@ abbrev pub is_above : List ColRef → List Dir → List ℕ → List (List Value
 is_above cols dirs code combo = is_lt (key_cmp code (code_at cols dirs combo))
 
 -- a combination with its code
-abbrev pub coded : List ColRef → List Dir → List (List Value) → Coded
-coded cols dirs combo = record { code = code_at cols dirs combo; combo = combo }
+abbrev pub coded_combo : List ColRef → List Dir → List (List Value) → Coded
+coded_combo cols dirs combo = record { code = code_at cols dirs combo; combo = combo }

@@ -7,32 +7,32 @@ use Rattle.pq_schema.specs.declared.query.Query.{Query}
 use Rattle.pq_schema.specs.declared.table.Table.{Table}
 use Rattle.pq_schema.specs.Relations.{belongs_to}
 use Rattle.pq_schema.specs.Rows.{Rows}
-use Rattle.pq_plan.specs.Answer.{Asked, holds, position, in_order, past}
+use Rattle.pq_plan.specs.Answer.{Question, holds, position, in_order, past}
 use Rattle.pq_plan.specs.Meaning.{keeps}
 use Rattle.pq_nodes.specs.Combos.{FitsTables}
 
-abbrev pub asked : List Table → Query → Rows → List Value → Asked
-asked tables query rows params = record { tables = tables; query = query; rows = rows; params = params }
+abbrev pub question : List Table → Query → Rows → List Value → Question
+question tables query rows params = record { tables = tables; query = query; rows = rows; params = params }
 
 -- the combinations at which the predicates of the relation hold
 abbrev pub AreMatching : Query → List Value → ℕ → List (List (List Value)) → List (List (List Value)) → Type 0
 AreMatching query params rel combos kept =
-    (tables : List Table) (rows : Rows) → kept ≡ filter (keeps (asked tables query rows params) rel) combos
+    (tables : List Table) (rows : Rows) → kept ≡ filter (keeps (question tables query rows params) rel) combos
 
 -- the combinations in the order of their positions
 abbrev pub AreOrdered : List Table → Query → List (List (List Value)) → List (List (List Value)) → Type 0
 AreOrdered tables query combos ordered =
-    (rows : Rows) (params : List Value) → ordered ≡ in_order (asked tables query rows params) combos
+    (rows : Rows) (params : List Value) → ordered ≡ in_order (question tables query rows params) combos
 
 -- the combinations strictly after a position
 abbrev pub ArePast : List Table → Query → List Value → List (List (List Value)) → List (List (List Value)) → Type 0
 ArePast tables query after combos kept =
-    (rows : Rows) (params : List Value) → kept ≡ past (asked tables query rows params) (Some after) combos
+    (rows : Rows) (params : List Value) → kept ≡ past (question tables query rows params) (Some after) combos
 
 -- the values of the combination at the position columns
 abbrev pub IsPositionOf : List Table → Query → List (List Value) → List Value → Type 0
 IsPositionOf tables query combo values =
-    (rows : Rows) (params : List Value) → values ≡ position (asked tables query rows params) combo
+    (rows : Rows) (params : List Value) → values ≡ position (question tables query rows params) combo
 
 -- no more than there were, and each fits as it did
 pub record ArePart (combos found : List (List (List Value))) : Type 0 where

@@ -5,7 +5,7 @@ ghost use Rattle.pq_key_code.specs.KeyCode.{code_of};
 ghost use Rattle.pq_schema.specs.Rows.{no_value};
 ghost use Rattle.pq_schema.specs.Resolved.{IsResolved};
 ghost use Rattle.pq_schema.specs.Sound.{IsQuery};
-ghost use Rattle.pq_plan.specs.Answer.{row_of, selected, values_at};
+ghost use Rattle.pq_plan.specs.Answer.{row_of, selected_values, values_at};
 ghost use Rattle.pq_nodes.specs.Combos.{FitsTables, position_types};
 ghost use Rattle.pq_local_ops.specs.Lists.{IsPositionOf};
 ghost use Rattle.pq_local_ops.specs.Places.{ArePlaces};
@@ -95,7 +95,7 @@ pub fn position_of(
 
 /// The selected columns of each combination.
 pub fn project(alloc: Global, query: &Query, combos: &List<Combo>) -> Result<List<Row>, NoMem>
-    ensures { IfOk result (λ rows. rows ≡ map (selected query.now) combos.now) }
+    ensures { IfOk result (λ rows. rows ≡ map (selected_values query.now) combos.now) }
 {
     let mut rows = List::new(alloc);
     for combo in combos.items() {

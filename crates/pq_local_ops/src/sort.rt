@@ -6,7 +6,7 @@ ghost use Rattle.pq_schema.specs.Resolved.{IsResolved};
 ghost use Rattle.pq_store.specs.Content.{key_cmp};
 ghost use Rattle.pq_nodes.specs.Combos.{FitsTables};
 ghost use Rattle.pq_local_ops.specs.Lists.{AreOrdered, ArePart};
-ghost use Rattle.pq_local_ops.specs.Codes.{coded};
+ghost use Rattle.pq_local_ops.specs.Codes.{coded_combo};
 
 use crate::position::{code_at, places_of};
 use pq_base::{Bytes, Dir, List, NoMem};
@@ -29,7 +29,7 @@ fn with_codes(
     combos: List<Combo>,
 ) -> Result<Vec<Coded>, NoMem>
     requires { length cols.now ≡ length dirs.now }
-    ensures { IfOk result (λ items. items.items ≡ map (coded cols.now dirs.now) combos) }
+    ensures { IfOk result (λ items. items.items ≡ map (coded_combo cols.now dirs.now) combos) }
 {
     let mut items = Vec::new(alloc);
     for combo in combos.into_vec() {

@@ -13,12 +13,12 @@ use Rattle.pq_schema.specs.declared.query.ColRef.{ColRef}
 use Rattle.pq_schema.specs.declared.query.OrderItem.{OrderItem}
 use Rattle.pq_schema.specs.declared.query.Query.{Query}
 use Rattle.pq_schema.specs.declared.table.Table.{Table}
-use Rattle.pq_schema.specs.Relations.{relation_at, table_of, fixed, is_ordered, key_item, key_items, position_columns}
+use Rattle.pq_schema.specs.Relations.{relation_at, table_of, tied_set, is_ordered, key_item, key_items, position_columns}
 use Rattle.pq_schema.specs.Resolved.{IsColumnOf, IsResolved, ref_type}
 use Rattle.pq_schema.specs.Rows.{no_value, types_of}
 use Rattle.pq_schema.specs.Sound.{IsQuery}
 use Rattle.pq_schema.specs.Tables.{is_lookup}
-use Rattle.pq_plan.specs.Answer.{row_of, values_at, position, selected}
+use Rattle.pq_plan.specs.Answer.{row_of, values_at, position, selected_values}
 use Rattle.pq_plan.specs.Kept.{KeepsSchema}
 use Rattle.pq_plan.proofs.Bounds.{number_at, linked}
 use Rattle.pq_plan.proofs.Choices.{CanStop}
@@ -69,13 +69,13 @@ module _ (tables : List Table) (query : Query) (sound : IsQuery tables query) (r
       let number = number_at tables query [] [] sound (no_rows_keep tables) rel low high in
       all_member (λ col. col < length table.columns) table.key (linked tables query [] [] sound (no_rows_keep tables) (relation_at query rel).table number).key col here
 
-  key_items_upto : (count rel : ℕ) → 1 ≤ rel → rel ≤ m → (count < rel → is_lookup (table_of tables query rel) (fixed query rel) ≡ true) → AreColumnsUpTo tables query count (key_items tables query rel)
+  key_items_upto : (count rel : ℕ) → 1 ≤ rel → rel ≤ m → (count < rel → is_lookup (table_of tables query rel) (tied_set query rel) ≡ true) → AreColumnsUpTo tables query count (key_items tables query rel)
   key_items_upto count rel low high later =
       let table = table_of tables query rel in
       let items = map (key_item rel) (filter (λ col. not (is_ordered query rel col)) table.key) in
       elim (cases_lt count rel) [
         | inl above ↦ subst (λ b. AreColumnsUpTo tables query count (cond b [] items)) (sym (later above)) tt
-        | inr upto ↦ elim (is_lookup table (fixed query rel)) as (λ b. AreColumnsUpTo tables query count (cond b [] items)) [
+        | inr upto ↦ elim (is_lookup table (tied_set query rel)) as (λ b. AreColumnsUpTo tables query count (cond b [] items)) [
           | true ↦ tt
           | false ↦ of_key upto table.key (λ col here. key_inside rel low high col here)
         ]
@@ -90,7 +90,7 @@ module _ (tables : List Table) (query : Query) (sound : IsQuery tables query) (r
             | false ↦ rest
           ]
 
-  position_upto : (count : ℕ) → AllByRecursion (λ (item : OrderItem). item.col.rel ≤ count) query.order → ((rel : ℕ) → count < rel → rel ≤ m → is_lookup (table_of tables query rel) (fixed query rel) ≡ true) → AreColumnsUpTo tables query count (position_columns tables query)
+  position_upto : (count : ℕ) → AllByRecursion (λ (item : OrderItem). item.col.rel ≤ count) query.order → ((rel : ℕ) → count < rel → rel ≤ m → is_lookup (table_of tables query rel) (tied_set query rel) ≡ true) → AreColumnsUpTo tables query count (position_columns tables query)
   position_upto count ordered later =
       each_append (λ (item : OrderItem). IsColumnUpTo tables query count item.col) query.order (flat_map (key_items tables query) (range_with_len 1 m))
       (both query.order (recursion_from_All (λ (item : OrderItem). IsColumnOf tables query item.col) query.order resolved.order) ordered)
@@ -125,7 +125,7 @@ module _ (tables : List Table) (query : Query) (sound : IsQuery tables query) (r
   stop_position_fits rows params p can combo fits = items_fit tables query p combo (position_columns tables query) fits (stop_upto p can)
 
   -- what is selected fits its columns
-  pub selected_fits : (combo : List (List Value)) → FitsTables tables query m combo → AllFit (selected_types tables query) (selected query combo)
+  pub selected_fits : (combo : List (List Value)) → FitsTables tables query m combo → AllFit (selected_types tables query) (selected_values query combo)
   selected_fits combo fits = columns_fit tables query m combo query.select fits (each query.select (recursion_from_All (IsColumnOf tables query) query.select resolved.select))
     where
       each : (cols : List ColRef) → AllByRecursion (IsColumnOf tables query) cols → AllByRecursion (IsColumnUpTo tables query m) cols

@@ -14,7 +14,7 @@ use Rattle.pq_schema.specs.declared.table.Limit.{Limit}
 use Rattle.pq_schema.specs.declared.table.Table.{Table}
 use Rattle.pq_schema.specs.declared.query.Query.{Query}
 use Rattle.pq_schema.specs.Candidates.{no_limit, bound_at, are_bounded, stop_size}
-use Rattle.pq_schema.specs.Relations.{relation_at, table_of, fixed, is_total}
+use Rattle.pq_schema.specs.Relations.{relation_at, table_of, tied_set, is_total}
 use Rattle.pq_schema.specs.Sequences.{group_access}
 use Rattle.pq_schema.specs.Sound.{IsTable, IsQuery}
 use Rattle.pq_schema.specs.Tables.{is_lookup, least_limit, limit_place, data_bound, no_table}
@@ -55,12 +55,12 @@ module _ (tables : List Table) (query : Query) (sound : IsQuery tables query) wh
   pub front_bounded : (count : ℕ) → are_bounded tables query count ≡ true → (j : ℕ) → 1 ≤ j → j ≤ count → Bounded j
   front_bounded count h j low high = all_at (λ rel. is_some (bound_at tables query rel)) (range_with_len 1 count) h j (range_in j 1 count low (omega arith))
 
-  pub later_looked_up : (p : ℕ) → CanStop tables query p → (i : ℕ) → p < i → i ≤ m → is_lookup (table_of tables query i) (fixed query i) ≡ true
+  pub later_looked_up : (p : ℕ) → CanStop tables query p → (i : ℕ) → p < i → i ≤ m → is_lookup (table_of tables query i) (tied_set query i) ≡ true
   later_looked_up p can i above inside =
       (total tables query [] [] sound (no_rows_keep tables) i inside (all_at (is_total tables query) (range_with_len (p + 1) (m - p)) (and_parts _ _ can.can).1 i (range_in i (p + 1) (m - p) (omega arith) (omega arith)))).lookup
 
   pub later_bounded : (p : ℕ) → CanStop tables query p → (i : ℕ) → p < i → i ≤ m → Bounded i
-  later_bounded p can i above inside = ap (λ b. is_some (cond b (Some 1) (least_limit (table_of tables query i) (fixed query i)))) (later_looked_up p can i above inside)
+  later_bounded p can i above inside = ap (λ b. is_some (cond b (Some 1) (least_limit (table_of tables query i) (tied_set query i)))) (later_looked_up p can i above inside)
 
   pub before_bounded : (p : ℕ) → CanStop tables query p → (j : ℕ) → 1 ≤ j → j ≤ p - 1 → Bounded j
   before_bounded p can = front_bounded (p - 1) (and_parts _ _ (and_parts _ _ (and_parts _ _ (and_parts _ _ can.can).0).0).0).0
@@ -73,7 +73,7 @@ module _ (tables : List Table) (query : Query) (sound : IsQuery tables query) wh
       let limit = get_or table.limits place no_limit in
       limit_range i (place + 1) limit.n (unwrap_or (group_access table (set_of limit.cols)) Primary) ∷ keep i ∷ []
 
-  limited_is : (i place : ℕ) → 1 ≤ i → i ≤ m → is_lookup (table_of tables query i) (fixed query i) ≡ false → limit_place (table_of tables query i) (fixed query i) ≡ Some place → place < length (table_of tables query i).limits → is_within (set_of (get_or (table_of tables query i).limits place no_limit).cols) (fixed query i) ≡ true → data_bound (table_of tables query i) (fixed query i) ≡ Some (get_or (table_of tables query i).limits place no_limit).n → IsLimited tables query i (place + 1) (get_or (table_of tables query i).limits place no_limit).n (unwrap_or (group_access (table_of tables query i) (set_of (get_or (table_of tables query i).limits place no_limit).cols)) Primary)
+  limited_is : (i place : ℕ) → 1 ≤ i → i ≤ m → is_lookup (table_of tables query i) (tied_set query i) ≡ false → limit_place (table_of tables query i) (tied_set query i) ≡ Some place → place < length (table_of tables query i).limits → is_within (set_of (get_or (table_of tables query i).limits place no_limit).cols) (tied_set query i) ≡ true → data_bound (table_of tables query i) (tied_set query i) ≡ Some (get_or (table_of tables query i).limits place no_limit).n → IsLimited tables query i (place + 1) (get_or (table_of tables query i).limits place no_limit).n (unwrap_or (group_access (table_of tables query i) (set_of (get_or (table_of tables query i).limits place no_limit).cols)) Primary)
   limited_is i place low high no_lookup taken within applied size =
       let table = table_of tables query i in
       let limit = get_or table.limits place no_limit in
@@ -90,17 +90,17 @@ module _ (tables : List Table) (query : Query) (sound : IsQuery tables query) wh
         size = ap (λ (l : Limit). l.n) (sym same);
         most = all_member (λ (l : Limit). l.n ≤ 10000) table.limits (table_is i low high).sizes limit here;
         bound = size;
-        tied = ap (λ (l : Limit). is_within (set_of l.cols) (fixed query i)) same ∙ applied;
+        tied = ap (λ (l : Limit). is_within (set_of l.cols) (tied_set query i)) same ∙ applied;
         group =
             ap (λ (l : Limit). group_access table (set_of l.cols)) same
             ∙ some_unwrapped (group_access table (set_of limit.cols)) Primary (all_member (λ (l : Limit). is_some (group_access table (set_of l.cols)) ≡ true) table.limits groups limit here);
       }
 
   -- what holds of the nodes of a lookup and of a range holds of those of a bounded relation
-  pub read_cases : (P : List Node → Type 0) (i : ℕ) → 1 ≤ i → i ≤ m → Bounded i → (is_lookup (table_of tables query i) (fixed query i) ≡ true → P (lookup i ∷ keep i ∷ [])) → ((limit n : ℕ) (access : Access) → IsLimited tables query i limit n access → P (limit_range i limit n access ∷ keep i ∷ [])) → P (read_nodes tables query i)
+  pub read_cases : (P : List Node → Type 0) (i : ℕ) → 1 ≤ i → i ≤ m → Bounded i → (is_lookup (table_of tables query i) (tied_set query i) ≡ true → P (lookup i ∷ keep i ∷ [])) → ((limit n : ℕ) (access : Access) → IsLimited tables query i limit n access → P (limit_range i limit n access ∷ keep i ∷ [])) → P (read_nodes tables query i)
   read_cases P i low high bounded by_lookup by_range =
       let table = table_of tables query i in
-      let set = fixed query i in
+      let set = tied_set query i in
       elim (is_lookup table set) as (λ b. is_lookup table set ≡ b → P (cond b (lookup i ∷ keep i ∷ []) (option_map_or (of_limit i) (limit_place table set) []))) [
         | true ↦ λ is. by_lookup is
         | false ↦ λ is.

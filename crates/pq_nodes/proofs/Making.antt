@@ -8,7 +8,7 @@ use Rattle.std.proofs.lemmas.List.Sorted.{IsPermutation-sym}
 use Rattle.pq_base.specs.Members.{In}
 use Rattle.pq_base.specs.declared.value.Value.{Value}
 use Rattle.pq_base.proofs.Sorts.{each-sort_by}
-use Rattle.pq_plan.specs.Answer.{Asked, row_of, rows_at, by_position, position, in_order, past, first_past}
+use Rattle.pq_plan.specs.Answer.{Question, row_of, rows_at, by_position, position, in_order, past, first_past}
 use Rattle.pq_plan.specs.Executing.{Makes, Gives}
 use Rattle.pq_plan.specs.Meaning.{keeps, partners, read, key_of}
 use Rattle.pq_plan.specs.Nodes.{Node, lookup, limit_range, stop_scan, keep, sort, cut, project}
@@ -19,7 +19,7 @@ use Rattle.pq_plan.proofs.Orders.{in_permuted}
 use Rattle.pq_nodes.specs.Combos.{IsCombo}
 use Rattle.pq_nodes.specs.Ordered.{after_node, StandsAt, StandInOrder, after_nodes}
 
-module _ (q : Asked) where
+module _ (q : Question) where
   abbrev Combinations : Type 0
   Combinations = List (List (List Value))
 

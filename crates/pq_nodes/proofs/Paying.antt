@@ -2,7 +2,7 @@
 use Rattle.std.proofs.Common.{◌≡◌, ℕ, ◌+◌, ◌*◌, ◌≤◌, cond, List, [], ◌∷◌, ◌++◌, fold, refl, sym, ap, subst, arith, mul-le-mul_right}
 use Rattle.std.proofs.lemmas.List.Sums.{fold-append}
 use Rattle.pq_base.specs.declared.number.Bound.{Bound}
-use Rattle.pq_schema.specs.Costs.{Reached, start, bound, plus, times, limit_cost}
+use Rattle.pq_schema.specs.Costs.{ReachedCost, start, bound, plus, times, limit_cost}
 use Rattle.pq_plan.specs.Cost.{is_primary_access}
 use Rattle.pq_plan.specs.Nodes.{Node, lookup, limit_range, stop_scan, keep, sort, cut, project, step, run_of}
 use Rattle.pq_nodes.specs.Paid.{node_cost, node_size, IsAtMost, IsUpTo}
@@ -51,7 +51,7 @@ cost_more a b sort le = at_most_itself (bound 0 0)
 cost_more a b (cut k) le = at_most_itself (bound 0 0)
 cost_more a b project le = at_most_itself (bound 0 0)
 
-no_cost : (r : Reached) → r.cost ≡ plus r.cost (bound 0 0)
+no_cost : (r : ReachedCost) → r.cost ≡ plus r.cost (bound 0 0)
 no_cost r =
     let ops : r.cost.ops ≡ r.cost.ops + 0 = omega arith in
     let entries : r.cost.entries ≡ r.cost.entries + 0 = omega arith in
@@ -64,7 +64,7 @@ plus_both a b c =
     λ i. record { ops = ops i; entries = entries i }
 
 -- a step adds the node's cost
-pub step_cost : (r : Reached) (node : Node) → (step r node).cost ≡ plus r.cost (node_cost r.inputs node)
+pub step_cost : (r : ReachedCost) (node : Node) → (step r node).cost ≡ plus r.cost (node_cost r.inputs node)
 step_cost r (lookup rel) = refl
 step_cost r (limit_range rel limit n access) = refl
 step_cost r (stop_scan rel k access) = plus_both r.cost (bound r.inputs (r.inputs * k)) (cond (is_primary_access access) (bound 0 0) (bound k k))
@@ -74,7 +74,7 @@ step_cost r (cut k) = no_cost r
 step_cost r project = no_cost r
 
 -- and gives as many as the node gives
-pub step_size : (r : Reached) (node : Node) → (step r node).inputs ≡ node_size r.inputs node
+pub step_size : (r : ReachedCost) (node : Node) → (step r node).inputs ≡ node_size r.inputs node
 step_size r (lookup rel) = omega arith
 step_size r (limit_range rel limit n access) = refl
 step_size r (stop_scan rel k access) = refl
@@ -83,7 +83,7 @@ step_size r sort = refl
 step_size r (cut k) = refl
 step_size r project = refl
 
-pub step_more : (a b : Reached) (node : Node) → IsUpTo a b → IsUpTo (step a node) (step b node)
+pub step_more : (a b : ReachedCost) (node : Node) → IsUpTo a b → IsUpTo (step a node) (step b node)
 step_more a b node h =
     let left = step_size a node in
     let right = step_size b node in
@@ -97,26 +97,26 @@ step_more a b node h =
 
 -- ---- some nodes
 
-pub up_to_itself : (r : Reached) → IsUpTo r r
+pub up_to_itself : (r : ReachedCost) → IsUpTo r r
 up_to_itself r = record { inputs = omega arith; cost = at_most_itself r.cost }
 
-pub run_more : (list : List Node) (a b : Reached) → IsUpTo a b → IsUpTo (fold step a list) (fold step b list)
+pub run_more : (list : List Node) (a b : ReachedCost) → IsUpTo a b → IsUpTo (fold step a list) (fold step b list)
 run_more [] a b h = h
 run_more (node ∷ list) a b h = run_more list (step a node) (step b node) (step_more a b node h)
 
-grows : (r : Reached) (node : Node) → IsAtMost r.cost (step r node).cost
+grows : (r : ReachedCost) (node : Node) → IsAtMost r.cost (step r node).cost
 grows r node =
     let more : IsAtMost r.cost (plus r.cost (node_cost r.inputs node)) = record { ops = omega arith; entries = omega arith } in
     subst (IsAtMost r.cost) (sym (step_cost r node)) more
 
 -- later nodes cost no less than nothing
-pub run_grows : (list : List Node) (r : Reached) → IsAtMost r.cost (fold step r list).cost
+pub run_grows : (list : List Node) (r : ReachedCost) → IsAtMost r.cost (fold step r list).cost
 run_grows [] r = at_most_itself r.cost
 run_grows (node ∷ list) r = at_most_then r.cost (step r node).cost (fold step (step r node) list).cost (grows r node) (run_grows list (step r node))
 
 -- the first nodes cost at most what all do
 pub front_costs : (front back : List Node) → IsAtMost (run_of front).cost (run_of (front ++ back)).cost
-front_costs front back = subst (λ (r : Reached). IsAtMost (run_of front).cost r.cost) (sym (fold-append step start front back)) (run_grows back (run_of front))
+front_costs front back = subst (λ (r : ReachedCost). IsAtMost (run_of front).cost r.cost) (sym (fold-append step start front back)) (run_grows back (run_of front))
 
 -- where so much was spent and there are so many inputs as the nodes before allow, what is left of the whole suffices
 pub node_affords : (front : List Node) (node : Node) (back : List Node) (inputs : ℕ) (spent : Bound) → inputs ≤ (run_of front).inputs → IsAtMost spent (run_of front).cost → IsAtMost (plus spent (node_cost inputs node)) (run_of (front ++ node ∷ back)).cost
@@ -125,6 +125,6 @@ node_affords front node back inputs spent few paid =
     let here : IsAtMost (plus spent (node_cost inputs node)) (step before node).cost =
     subst (IsAtMost (plus spent (node_cost inputs node))) (sym (step_cost before node))
     (plus_more spent before.cost (node_cost inputs node) (node_cost before.inputs node) paid (cost_more inputs before.inputs node few)) in
-    let all : (run_of (front ++ node ∷ back)).cost ≡ (fold step (step before node) back).cost = ap (λ (r : Reached). r.cost) (fold-append step start front (node ∷ back)) in
+    let all : (run_of (front ++ node ∷ back)).cost ≡ (fold step (step before node) back).cost = ap (λ (r : ReachedCost). r.cost) (fold-append step start front (node ∷ back)) in
     subst (IsAtMost (plus spent (node_cost inputs node))) (sym all)
     (at_most_then (plus spent (node_cost inputs node)) (step before node).cost (fold step (step before node) back).cost here (run_grows back (step before node)))

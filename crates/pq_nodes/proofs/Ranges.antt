@@ -13,11 +13,11 @@ use Rattle.pq_schema.specs.declared.query.Query.{Query}
 use Rattle.pq_schema.specs.declared.table.Access.{Access}
 use Rattle.pq_schema.specs.declared.table.KeyPart.{KeyPart}
 use Rattle.pq_schema.specs.declared.table.Table.{Table}
-use Rattle.pq_schema.specs.Relations.{relation_at, table_of, fixed}
+use Rattle.pq_schema.specs.Relations.{relation_at, table_of, tied_set}
 use Rattle.pq_schema.specs.Resolved.{IsResolved}
 use Rattle.pq_schema.specs.Rows.{Rows, no_value, KeepsSchema}
 use Rattle.pq_schema.specs.Sequences.{columns_of, begins_with, sequence_of}
-use Rattle.pq_plan.specs.Answer.{Asked}
+use Rattle.pq_plan.specs.Answer.{Question}
 use Rattle.pq_plan.specs.Running.{tied_value, matching, ranged}
 use Rattle.pq_content.specs.Tables.{AllOfKinds, type_of, types_at, first_columns}
 use Rattle.pq_content.proofs.Scans.{group_by_first}
@@ -29,8 +29,8 @@ use Rattle.pq_nodes.proofs.Tied.{tied_kinds, matching_group, within_tied}
 taken_again : {X : Type 0} (n : ℕ) (xs : List X) → take (length (take n xs)) xs ≡ take n xs
 taken_again n xs = ap (λ k. take k xs) (length-take n xs) ∙ take_min n xs
 
-module _ (tables : List Table) (query : Query) (rows : Rows) (params : List Value) (resolved : IsResolved tables query) (given : AllFit query.params params) (rel : ℕ) (combo : List (List Value)) (fits : FitsTables tables query (rel - 1) combo) (kept : KeepsSchema tables rows) (cols : List ℕ) (within : is_within (set_of cols) (fixed query rel) ≡ true) (access : Access) (begins : begins_with (sequence_of (table_of tables query rel) access) (set_of cols) ≡ true) where
-  abbrev q : Asked
+module _ (tables : List Table) (query : Query) (rows : Rows) (params : List Value) (resolved : IsResolved tables query) (given : AllFit query.params params) (rel : ℕ) (combo : List (List Value)) (fits : FitsTables tables query (rel - 1) combo) (kept : KeepsSchema tables rows) (cols : List ℕ) (within : is_within (set_of cols) (tied_set query rel) ≡ true) (access : Access) (begins : begins_with (sequence_of (table_of tables query rel) access) (set_of cols) ≡ true) where
+  abbrev q : Question
   q = record { tables = tables; query = query; rows = rows; params = params }
 
   abbrev sequence : List KeyPart
@@ -42,8 +42,8 @@ module _ (tables : List Table) (query : Query) (rows : Rows) (params : List Valu
   abbrev prefix : List Value
   prefix = range_prefix q rel cols access combo
 
-  first_within : is_within (set_of first) (fixed query rel) ≡ true
-  first_within = subst (λ (s : ℕ). is_within s (fixed query rel) ≡ true) (sym (eqb-true (set_of first) (set_of cols) begins)) within
+  first_within : is_within (set_of first) (tied_set query rel) ≡ true
+  first_within = subst (λ (s : ℕ). is_within s (tied_set query rel) ≡ true) (sym (eqb-true (set_of first) (set_of cols) begins)) within
 
   as_long : length prefix ≡ length first
   as_long = length-map first (λ col. unwrap_or (tied_value q rel combo col) no_value)
@@ -69,7 +69,7 @@ module _ (tables : List Table) (query : Query) (rows : Rows) (params : List Valu
       }
 
 -- what each input is given in some order makes what all are given in some order
-pub ranged_permuted : (q : Asked) (rel : ℕ) (cols : List ℕ) (found : List (List Value) → List (List Value)) (inputs : List (List (List Value))) → AllByRecursion (λ combo. IsPermutation (matching q rel cols combo) (found combo)) inputs → IsPermutation (ranged q rel cols inputs) (flat_map (λ combo. map (λ row. combo ++ row ∷ []) (found combo)) inputs)
+pub ranged_permuted : (q : Question) (rel : ℕ) (cols : List ℕ) (found : List (List Value) → List (List Value)) (inputs : List (List (List Value))) → AllByRecursion (λ combo. IsPermutation (matching q rel cols combo) (found combo)) inputs → IsPermutation (ranged q rel cols inputs) (flat_map (λ combo. map (λ row. combo ++ row ∷ []) (found combo)) inputs)
 ranged_permuted q rel cols found [] each = IsPermutation-refl []
 ranged_permuted q rel cols found (combo ∷ inputs) each =
     IsPermutation-append (map (λ row. combo ++ row ∷ []) (matching q rel cols combo)) (map (λ row. combo ++ row ∷ []) (found combo)) (ranged q rel cols inputs) (flat_map (λ combo. map (λ row. combo ++ row ∷ []) (found combo)) inputs)

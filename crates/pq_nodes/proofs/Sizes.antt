@@ -16,7 +16,7 @@ use Rattle.pq_schema.specs.Candidates.{no_limit}
 use Rattle.pq_schema.specs.Relations.{relation_at, table_of}
 use Rattle.pq_schema.specs.Rows.{no_value, cells}
 use Rattle.pq_schema.specs.Sound.{IsQuery}
-use Rattle.pq_plan.specs.Answer.{Asked, rows_at, compares, by_position, position, in_order, past}
+use Rattle.pq_plan.specs.Answer.{Question, rows_at, compares, by_position, position, in_order, past}
 use Rattle.pq_plan.specs.Executing.{Makes}
 use Rattle.pq_plan.specs.Kept.{row_cmp, KeepsSchema}
 use Rattle.pq_plan.specs.Meaning.{keeps, read, key_of}
@@ -63,7 +63,7 @@ each_few g n few (x ∷ xs) =
     let both = one_and_more (length (g x)) (length (flat_map g xs)) n (length xs) one rest in
     omega (arith, long, both)
 
-module _ (q : Asked) where
+module _ (q : Question) where
   abbrev Combinations : Type 0
   Combinations = List (List (List Value))
 
@@ -105,7 +105,7 @@ module _ (q : Asked) where
   past_few (Some at) combos = filtered_few (λ combo. is_lt (by_position q at (position q combo))) combos
 
 module _ (tables : List Table) (query : Query) (rows : List (ℕ × List Value)) (params : List Value) (sound : IsQuery tables query) (kept : KeepsSchema tables rows) where
-  abbrev q : Asked
+  abbrev q : Question
   q = asked tables query rows params sound kept
 
   -- at most n rows of the relation agree on the limit's columns

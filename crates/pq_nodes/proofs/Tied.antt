@@ -16,11 +16,11 @@ use Rattle.pq_schema.specs.declared.query.Operand.TheVariants as operand
 use Rattle.pq_schema.specs.declared.query.Pred.{Pred}
 use Rattle.pq_schema.specs.declared.query.Query.{Query}
 use Rattle.pq_schema.specs.declared.table.Table.{Table}
-use Rattle.pq_schema.specs.Relations.{relation_at, table_of, is_equality, is_before, ties, fixed}
+use Rattle.pq_schema.specs.Relations.{relation_at, table_of, is_equality, is_before, ties, tied_set}
 use Rattle.pq_schema.specs.Resolved.{IsOperand, IsPredicate, IsResolved, ref_type, param_type}
 use Rattle.pq_schema.specs.Rows.{Rows, rows_of, no_value, value_of, types_of, same_value, agrees, row_at, group_of, KeepsSchema}
 use Rattle.pq_schema.specs.Tables.{type_at}
-use Rattle.pq_plan.specs.Answer.{Asked, row_of, side, compares}
+use Rattle.pq_plan.specs.Answer.{Question, row_of, side, compares}
 use Rattle.pq_plan.specs.Meaning.{key_of}
 use Rattle.pq_plan.specs.Running.{tied_value, is_match, matching}
 use Rattle.pq_plan.proofs.Kept.{row_fits}
@@ -97,7 +97,7 @@ module _ (tables : List Table) (query : Query) (resolved : IsResolved tables que
       (subst (λ r. m.0.left.col < length (table_of tables query r).columns) own (predicate_is m.0 at.0).left.inside)
 
 module _ (tables : List Table) (query : Query) (rows : Rows) (params : List Value) (resolved : IsResolved tables query) (given : AllFit query.params params) (rel : ℕ) (combo : List (List Value)) (fits : FitsTables tables query (rel - 1) combo) where
-  abbrev q : Asked
+  abbrev q : Question
   q = record { tables = tables; query = query; rows = rows; params = params }
 
   -- what an equality compares with is there, and of the column's kind
@@ -183,5 +183,5 @@ module _ (tables : List Table) (query : Query) (rows : Rows) (params : List Valu
         ∙ one_taken (row_at tables rows t key)
 
 -- columns whose set lies in the fixed ones are tied
-pub within_tied : (query : Query) (rel : ℕ) (cols : List ℕ) → is_within (set_of cols) (fixed query rel) ≡ true → (col : ℕ) → In col cols → In col (tied_columns query rel)
+pub within_tied : (query : Query) (rel : ℕ) (cols : List ℕ) → is_within (set_of cols) (tied_set query rel) ≡ true → (col : ℕ) → In col cols → In col (tied_columns query rel)
 within_tied query rel cols h = within_members cols (tied_columns query rel) h

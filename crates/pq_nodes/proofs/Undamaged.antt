@@ -21,8 +21,8 @@ use Rattle.pq_schema.specs.declared.table.Access.TheVariants.{Primary, Secondary
 use Rattle.pq_schema.specs.declared.table.Index.{Index}
 use Rattle.pq_schema.specs.declared.table.KeyPart.{KeyPart}
 use Rattle.pq_schema.specs.declared.table.Table.{Table}
-use Rattle.pq_schema.specs.Keys.{given}
-use Rattle.pq_schema.specs.Sequences.{ascending, columns_of, without, then_key, index_sequence, index_numbered, no_index}
+use Rattle.pq_schema.specs.Keys.{given_value}
+use Rattle.pq_schema.specs.Sequences.{ascending_part, columns_of, without, then_key, index_sequence, index_numbered, no_index}
 use Rattle.pq_schema.specs.Tables.{table_at}
 use Rattle.pq_store.specs.Content.{Content, key_cmp}
 use Rattle.pq_store.specs.declared.damage.Broke.{Broke}
@@ -45,10 +45,10 @@ use Rattle.pq_nodes.specs.Operators.{ShowsRead, no_row, missing_row, no_key, Sto
 
 -- ---- the key that the values of an entry name
 
-given_cells : (cols : List ℕ) (row : List Value) (col : ℕ) → In col cols → given cols (cells cols row) col ≡ value_of row col
+given_cells : (cols : List ℕ) (row : List Value) (col : ℕ) → In col cols → given_value cols (cells cols row) col ≡ value_of row col
 given_cells [] row col here = absurd here
 given_cells (c ∷ cols) row col here =
-    elim (c == col) as (λ b. (c == col) ≡ b → cond b (value_of row c) (given cols (cells cols row) col) ≡ value_of row col) [
+    elim (c == col) as (λ b. (c == col) ≡ b → cond b (value_of row c) (given_value cols (cells cols row) col) ≡ value_of row col) [
       | true ↦ λ is. ap (value_of row) (eqb-true c col is)
       | false ↦ λ is. elim here [
         | inl same ↦ absurd (false≢true (sym is ∙ eq-eqb c col same))
@@ -59,7 +59,7 @@ given_cells (c ∷ cols) row col here =
 -- each column of a key is in a sequence that ends with the key's columns left
 pub key_column_there : (parts : List KeyPart) (set : ℕ) (key : List ℕ) (col : ℕ) → ((c : ℕ) → has_col set c ≡ true → In c (columns_of parts)) → In col key → In col (columns_of (then_key parts set key))
 key_column_there parts set key col among here =
-    subst (In col) (sym (columns_then parts (map ascending (without set key)) ∙ ap (λ (l : List ℕ). columns_of parts ++ l) (columns_of-primary (without set key))))
+    subst (In col) (sym (columns_then parts (map ascending_part (without set key)) ∙ ap (λ (l : List ℕ). columns_of parts ++ l) (columns_of-primary (without set key))))
     (elim (has_col set col) as (λ b. has_col set col ≡ b → In col (columns_of parts ++ without set key)) [
       | true ↦ λ is. in_left col (columns_of parts) (without set key) (among col is)
       | false ↦ λ is. in_right col (columns_of parts) (without set key) (filter_in (λ c. not (has_col set c)) col key here (ap not is))
@@ -70,14 +70,14 @@ key_column_there parts set key col among here =
     columns_then (p ∷ ps) qs = ap (λ (l : List ℕ). p.col ∷ l) (columns_then ps qs)
 
 -- the values of an entry name the key of its row
-pub entry_names : (table : Table) (index : Index) (row : List Value) → map (given (columns_of (index_sequence table index)) (values_of (index_sequence table index) row)) table.key ≡ key_of table row
+pub entry_names : (table : Table) (index : Index) (row : List Value) → map (given_value (columns_of (index_sequence table index)) (values_of (index_sequence table index) row)) table.key ≡ key_of table row
 entry_names table index row =
     let sequence = index_sequence table index in
     let set = set_of (columns_of index.cols) in
-    ap (λ (vs : List Value). map (given (columns_of sequence) vs) table.key) (values_of-columns_of sequence row)
+    ap (λ (vs : List Value). map (given_value (columns_of sequence) vs) table.key) (values_of-columns_of sequence row)
     ∙ each_given table.key (λ col here. given_cells (columns_of sequence) row col (key_column_there index.cols set table.key col (set_members (columns_of index.cols)) here))
   where
-    each_given : (key : List ℕ) → ((col : ℕ) → In col key → given (columns_of (index_sequence table index)) (cells (columns_of (index_sequence table index)) row) col ≡ value_of row col) → map (given (columns_of (index_sequence table index)) (cells (columns_of (index_sequence table index)) row)) key ≡ cells key row
+    each_given : (key : List ℕ) → ((col : ℕ) → In col key → given_value (columns_of (index_sequence table index)) (cells (columns_of (index_sequence table index)) row) col ≡ value_of row col) → map (given_value (columns_of (index_sequence table index)) (cells (columns_of (index_sequence table index)) row)) key ≡ cells key row
     each_given [] h = refl
     each_given (col ∷ key) h =
         let first = h col (inl refl) in
@@ -234,7 +234,7 @@ module _ (tables : List Table) (rows : Rows) (others : List Pair) (beside : AreB
         let dirs = length-map sequence (λ (part : KeyPart). part.dir) in
         let values : h.values ≡ values_of sequence is.row =
         sequences_apart types (dirs_of sequence) h.values (values_of sequence is.row) kinds (kinds_from_fit types (values_of sequence is.row) (sequence_fits table sequence is.row fits)) (omega (arith, long, width, columns, dirs)) is.code in
-        let named : named_key table (Secondary h.index) h.values ≡ key_of table is.row = ap (λ (vs : List Value). map (given (columns_of sequence) vs) table.key) values ∙ entry_names table index is.row in
+        let named : named_key table (Secondary h.index) h.values ≡ key_of table is.row = ap (λ (vs : List Value). map (given_value (columns_of sequence) vs) table.key) values ∙ entry_names table index is.row in
         let absent : get content (row_key h.table (key_of table is.row)) ≡ None = ap (λ (k : List Value). get content (row_key h.table k)) (sym named) ∙ sym (ap (get content) h.at) ∙ h.absent in
         row_there h.table is.row is.there
         (unmapped (row_at tables rows h.table (key_of table is.row)) (sym (get_row tables rows others h.table (key_of table is.row) keeps.fit (key_of_kinds table is.row fits) beside) ∙ absent))

@@ -6,7 +6,7 @@ use Rattle.pq_schema.specs.declared.table.Limit.{Limit}
 use Rattle.pq_schema.specs.declared.table.Table.{Table}
 use Rattle.pq_schema.specs.declared.query.Query.{Query}
 use Rattle.pq_schema.specs.Candidates.{no_limit, bound_at, can_stop_at, stop_size}
-use Rattle.pq_schema.specs.Relations.{table_of, fixed, order_rest}
+use Rattle.pq_schema.specs.Relations.{table_of, tied_set, order_rest}
 use Rattle.pq_schema.specs.Sequences.{IsAccess, sequence_of, begins_with, serves, group_access}
 use Rattle.pq_schema.specs.Tables.{is_lookup, limit_of}
 use Rattle.pq_plan.specs.Nodes.{Node, lookup, limit_range, stop_scan, keep, sort, cut, project, stop_access}
@@ -23,20 +23,22 @@ limit_at table number = slice_index_or table.limits (number - 1) no_limit
 -- equalities tie the key of the relation
 pub record IsLookup (tables : List Table) (query : Query) (rel : ℕ) : Type 0 where
   pub relation : IsRelationOf query rel
-  pub tied : is_lookup (table_of tables query rel) (fixed query rel) ≡ true
+  pub tied : is_lookup (table_of tables query rel) (tied_set query rel) ≡ true
 
--- the limit is the one taken, n is its number and the data bound, and the sequence begins with its columns, which equalities tie
+-- the limit is the one taken, n is its number and the data bound, and the sequence begins with its columns,
+-- which equalities tie
 pub record IsLimited (tables : List Table) (query : Query) (rel limit n : ℕ) (access : Access) : Type 0 where
   pub relation : IsRelationOf query rel
-  pub no_lookup : is_lookup (table_of tables query rel) (fixed query rel) ≡ false
-  pub taken : limit_of (table_of tables query rel) (fixed query rel) ≡ Some limit
+  pub no_lookup : is_lookup (table_of tables query rel) (tied_set query rel) ≡ false
+  pub taken : limit_of (table_of tables query rel) (tied_set query rel) ≡ Some limit
   pub from_one : 1 ≤ limit
   pub there : limit ≤ length (table_of tables query rel).limits
   pub size : n ≡ (limit_at (table_of tables query rel) limit).n
   pub most : n ≤ 10000
   pub bound : bound_at tables query rel ≡ Some n
-  pub tied : is_within (set_of (limit_at (table_of tables query rel) limit).cols) (fixed query rel) ≡ true
-  pub group : group_access (table_of tables query rel) (set_of (limit_at (table_of tables query rel) limit).cols) ≡ Some access
+  pub tied : is_within (set_of (limit_at (table_of tables query rel) limit).cols) (tied_set query rel) ≡ true
+  pub group : group_access (table_of tables query rel)
+      (set_of (limit_at (table_of tables query rel) limit).cols) ≡ Some access
 
 -- the query has a stop candidate at the relation, and k is its stop
 pub record IsStopped (tables : List Table) (query : Query) (rel k : ℕ) (access : Access) : Type 0 where
@@ -66,10 +68,12 @@ abbrev pub HasIndex : List Table → Query → Node → Type 0
 HasIndex tables query (lookup rel) = Unit {0}
 HasIndex tables query (limit_range rel limit n access) =
     IsAccess (table_of tables query rel) access
-    × (begins_with (sequence_of (table_of tables query rel) access) (set_of (limit_at (table_of tables query rel) limit).cols) ≡ true)
+    × (begins_with (sequence_of (table_of tables query rel) access)
+    (set_of (limit_at (table_of tables query rel) limit).cols) ≡ true)
 HasIndex tables query (stop_scan rel k access) =
     IsAccess (table_of tables query rel) access
-    × (serves (table_of tables query rel) (fixed query rel) (order_rest query rel) (sequence_of (table_of tables query rel) access) ≡ true)
+    × (serves (table_of tables query rel) (tied_set query rel) (order_rest query rel)
+    (sequence_of (table_of tables query rel) access) ≡ true)
 HasIndex tables query (keep rel) = Unit {0}
 HasIndex tables query sort = Unit {0}
 HasIndex tables query (cut k) = Unit {0}

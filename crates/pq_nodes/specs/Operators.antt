@@ -10,7 +10,7 @@ use Rattle.pq_schema.specs.Rows.{Rows}
 use Rattle.pq_schema.specs.Sound.{AreMade}
 use Rattle.pq_store.specs.Breaks.{IsUndamaged}
 use Rattle.pq_store.specs.Content.{Content}
-use Rattle.pq_store.specs.Counts.{Allowed}
+use Rattle.pq_store.specs.Counts.{AllowedCounts}
 use Rattle.pq_store.specs.declared.damage.Broke.{Broke}
 use Rattle.pq_store.specs.declared.damage.Damage.{Damage}
 use Rattle.pq_content.specs.Pairs.{Pair, HoldsRows}
@@ -42,7 +42,7 @@ abbrev pub IsCursor : List Table → Query → Option (List Value) → Type 0
 IsCursor tables query after = IfSome after (AllFit (position_types tables query))
 
 -- what the node costs for so many inputs is left
-abbrev pub AffordsNode : Allowed → ℕ → Node → Type 0
+abbrev pub AffordsNode : AllowedCounts → ℕ → Node → Type 0
 AffordsNode allowed inputs node = Affords allowed (node_cost inputs node).ops (node_cost inputs node).entries
 
 -- the content is as it was, and what was used was spent, at most what the node costs for so many inputs
@@ -50,12 +50,14 @@ abbrev pub ReadsNode : World → World → ℕ → Node → Type 0
 ReadsNode before after inputs node = Reads before after (node_cost inputs node).ops (node_cost inputs node).entries
 
 -- no more combinations than the node gives for so many inputs, each with a fitting row for each relation up to this one
-pub record AreFound (tables : List Table) (query : Query) (rel inputs : ℕ) (node : Node) (found : List (List (List Value))) : Type 0 where
+pub record AreFound (tables : List Table) (query : Query) (rel inputs : ℕ) (node : Node)
+    (found : List (List (List Value))) : Type 0 where
   pub few : length found ≤ node_size inputs node
   pub fit : AllByRecursion (FitsTables tables query rel) found
 
 -- over a content that holds rows, the combinations are what the node makes of the inputs
-abbrev pub Answers : Option Content → List Table → Query → List Value → Option (List Value) → List (List (List Value)) → Node → List (List (List Value)) → Type 0
+abbrev pub Answers : Option Content → List Table → Query → List Value → Option (List Value)
+    → List (List (List Value)) → Node → List (List (List Value)) → Type 0
 Answers told tables query params after inputs node found =
     (rows : Rows) (others : List Pair) → HoldsRows told tables rows others →
     Makes (record { tables = tables; query = query; rows = rows; params = params }) after inputs node found
@@ -72,4 +74,5 @@ StopsReading tables before after error = Explains (where_told (ShowsRead tables)
 
 -- over a content that holds rows no damage is told
 abbrev pub IsSoundOverRows : Option Content → List Table → Broke → Type 0
-IsSoundOverRows told tables error = (rows : Rows) (others : List Pair) → HoldsRows told tables rows others → IsUndamaged error
+IsSoundOverRows told tables error = (rows : Rows) (others : List Pair) → HoldsRows told tables rows others
+    → IsUndamaged error

@@ -7,8 +7,8 @@ ghost use Rattle.pq_base.specs.declared.number.Bound.{Bound};
 ghost use Rattle.pq_base.specs.declared.number.Choice.{Choice};
 ghost use Rattle.pq_base.specs.declared.number.Choice.TheVariants.{Stop};
 ghost use Rattle.pq_base.specs.declared.value.Value.{Value};
-ghost use Rattle.pq_schema.specs.Costs.{Reached, plus};
-ghost use Rattle.pq_schema.specs.Relations.{relation_at, table_of, fixed};
+ghost use Rattle.pq_schema.specs.Costs.{ReachedCost, plus};
+ghost use Rattle.pq_schema.specs.Relations.{relation_at, table_of, tied_set};
 ghost use Rattle.pq_schema.specs.Resolved.{IsResolved};
 ghost use Rattle.pq_schema.specs.Rows.{Rows, row_at, group_of, KeepsSchema};
 ghost use Rattle.pq_schema.specs.Sequences.{begins_with, sequence_of};
@@ -20,7 +20,7 @@ ghost use Rattle.pq_schema.specs.declared.table.Table.{Table};
 ghost use Rattle.pq_content.specs.Tables.{AllOfKinds, types_at};
 ghost use Rattle.pq_store.specs.declared.damage.Broke.{Broke};
 ghost use Rattle.pq_calls.specs.World.{World};
-ghost use Rattle.pq_plan.specs.Answer.{Asked, position, selected};
+ghost use Rattle.pq_plan.specs.Answer.{Question, position, selected_values};
 ghost use Rattle.pq_plan.specs.Executing.{Makes, Gives};
 ghost use Rattle.pq_plan.specs.Nodes.{Node, plan_nodes, step, run_of};
 ghost use Rattle.pq_plan.specs.Plans.{HasChoice, IsPlanNode};
@@ -34,80 +34,149 @@ ghost use Rattle.pq_nodes.specs.Tied.{tied_cells, HasRange};
 
 /// What a node of a plan for a query says of the query.
 pub fn node_laws()
-    ensures { (tables : List Table) (query : Query) (node : Node) → IsQuery tables query → IsPlanNode tables query node → IsNodeOf tables query node }
+    ensures { (tables : List Table) (query : Query) (node : Node) → IsQuery tables query
+        → IsPlanNode tables query node → IsNodeOf tables query node }
 {}
 
 /// The order in which nodes read.
 pub fn order_laws()
     // Each read is of the next relation, and all relations are read.
-    ensures order { (tables : List Table) (query : Query) (choice : Choice) → IsQuery tables query → HasChoice tables query choice → StandInOrder 0 (plan_nodes tables query choice) × (after_nodes 0 (plan_nodes tables query choice) ≡ length query.relations) }
+    ensures order { (tables : List Table) (query : Query) (choice : Choice) → IsQuery tables query
+        → HasChoice tables query choice → StandInOrder 0 (plan_nodes tables query choice)
+        × (after_nodes 0 (plan_nodes tables query choice) ≡ length query.relations) }
 
     // The nodes before one that reads a relation read those before it, in their order.
-    ensures before { (tables : List Table) (query : Query) (choice : Choice) (front : List Node) (node : Node) (back : List Node) (rel : ℕ) → IsQuery tables query → HasChoice tables query choice → plan_nodes tables query choice ≡ front ++ node ∷ back → relation_read node ≡ rel ∷ [] → (relations_of front ≡ range_with_len 1 (rel - 1)) × (after_nodes 0 front ≡ rel - 1) × StandInOrder 0 front }
+    ensures before { (tables : List Table) (query : Query) (choice : Choice) (front : List Node) (node : Node)
+        (back : List Node) (rel : ℕ) → IsQuery tables query → HasChoice tables query choice
+        → plan_nodes tables query choice ≡ front ++ node ∷ back → relation_read node ≡ rel ∷ []
+        → (relations_of front ≡ range_with_len 1 (rel - 1)) × (after_nodes 0 front ≡ rel - 1)
+        × StandInOrder 0 front }
 {}
 
 /// What nodes cost.
 pub fn cost_laws()
-    ensures costs { (r : Reached) (node : Node) → (step r node).cost ≡ plus r.cost (node_cost r.inputs node) }
+    ensures costs { (r : ReachedCost) (node : Node) → (step r node).cost ≡ plus r.cost (node_cost r.inputs node) }
 
-    ensures size { (r : Reached) (node : Node) → (step r node).inputs ≡ node_size r.inputs node }
+    ensures size { (r : ReachedCost) (node : Node) → (step r node).inputs ≡ node_size r.inputs node }
 
     // More inputs cost and give no less.
-    ensures more { (a b : Reached) (node : Node) → IsUpTo a b → IsUpTo (step a node) (step b node) }
+    ensures more { (a b : ReachedCost) (node : Node) → IsUpTo a b → IsUpTo (step a node) (step b node) }
 
     // The nodes up to one cost at most what all do.
     ensures front { (front back : List Node) → IsAtMost (run_of front).cost (run_of (front ++ back)).cost }
 
     // What the whole's cost leaves suffices at each node.
-    ensures affords { (front : List Node) (node : Node) (back : List Node) (inputs : ℕ) (spent : Bound) → inputs ≤ (run_of front).inputs → IsAtMost spent (run_of front).cost → IsAtMost (plus spent (node_cost inputs node)) (run_of (front ++ node ∷ back)).cost }
+    ensures affords { (front : List Node) (node : Node) (back : List Node) (inputs : ℕ) (spent : Bound)
+        → inputs ≤ (run_of front).inputs → IsAtMost spent (run_of front).cost
+        → IsAtMost (plus spent (node_cost inputs node)) (run_of (front ++ node ∷ back)).cost }
 {}
 
 /// What combinations are while nodes are run.
 pub fn combo_laws()
     // Each node keeps one row for each relation that was read.
-    ensures applied { (q : Asked) (after : Option (List Value)) (count : ℕ) (node : Node) (inputs : List (List (List Value))) → StandsAt count node → AllByRecursion (IsCombo q count) inputs → AllByRecursion (IsCombo q (after_node count node)) (apply q after inputs node) }
+    ensures applied { (q : Question) (after : Option (List Value)) (count : ℕ) (node : Node)
+        (inputs : List (List (List Value))) → StandsAt count node → AllByRecursion (IsCombo q count) inputs
+        → AllByRecursion (IsCombo q (after_node count node)) (apply q after inputs node) }
 
     // Also where a range gives them in any order.
-    ensures made { (q : Asked) (after : Option (List Value)) (count : ℕ) (node : Node) (inputs found : List (List (List Value))) → StandsAt count node → AllByRecursion (IsCombo q count) inputs → Makes q after inputs node found → AllByRecursion (IsCombo q (after_node count node)) found }
+    ensures made { (q : Question) (after : Option (List Value)) (count : ℕ) (node : Node)
+        (inputs found : List (List (List Value))) → StandsAt count node
+        → AllByRecursion (IsCombo q count) inputs → Makes q after inputs node found
+        → AllByRecursion (IsCombo q (after_node count node)) found }
 
-    ensures given { (q : Asked) (after : Option (List Value)) (count : ℕ) (list : List Node) (inputs found : List (List (List Value))) → StandInOrder count list → AllByRecursion (IsCombo q count) inputs → Gives q after inputs list found → AllByRecursion (IsCombo q (after_nodes count list)) found }
+    ensures given { (q : Question) (after : Option (List Value)) (count : ℕ) (list : List Node)
+        (inputs found : List (List (List Value))) → StandInOrder count list
+        → AllByRecursion (IsCombo q count) inputs → Gives q after inputs list found
+        → AllByRecursion (IsCombo q (after_nodes count list)) found }
 
     // Over tables that keep the schema a node gives no more than its size.
-    ensures few { (tables : List Table) (query : Query) (rows : Rows) (params : List Value) (after : Option (List Value)) (node : Node) (inputs : List (List (List Value))) → IsQuery tables query → KeepsSchema tables rows → IsNodeOf tables query node → length (apply (record { tables = tables; query = query; rows = rows; params = params }) after inputs node) ≤ node_size (length inputs) node }
+    ensures few { (tables : List Table) (query : Query) (rows : Rows) (params : List Value)
+        (after : Option (List Value)) (node : Node) (inputs : List (List (List Value))) → IsQuery tables query
+        → KeepsSchema tables rows → IsNodeOf tables query node
+        → length (apply (record { tables = tables; query = query; rows = rows; params = params }) after inputs
+        node) ≤ node_size (length inputs) node }
 
-    ensures few_made { (tables : List Table) (query : Query) (rows : Rows) (params : List Value) (after : Option (List Value)) (node : Node) (inputs found : List (List (List Value))) → IsQuery tables query → KeepsSchema tables rows → IsNodeOf tables query node → Makes (record { tables = tables; query = query; rows = rows; params = params }) after inputs node found → length found ≤ node_size (length inputs) node }
+    ensures few_made { (tables : List Table) (query : Query) (rows : Rows) (params : List Value)
+        (after : Option (List Value)) (node : Node) (inputs found : List (List (List Value)))
+        → IsQuery tables query → KeepsSchema tables rows → IsNodeOf tables query node
+        → Makes (record { tables = tables; query = query; rows = rows; params = params }) after inputs node
+        found → length found ≤ node_size (length inputs) node }
 
     // A combination's rows fit their tables.
-    ensures fits { (tables : List Table) (query : Query) (rows : Rows) (params : List Value) (count : ℕ) (combo : List (List Value)) → IsQuery tables query → KeepsSchema tables rows → count ≤ length query.relations → IsCombo (record { tables = tables; query = query; rows = rows; params = params }) count combo → FitsTables tables query count combo }
+    ensures fits { (tables : List Table) (query : Query) (rows : Rows) (params : List Value) (count : ℕ)
+        (combo : List (List Value)) → IsQuery tables query → KeepsSchema tables rows
+        → count ≤ length query.relations
+        → IsCombo (record { tables = tables; query = query; rows = rows; params = params }) count combo
+        → FitsTables tables query count combo }
 
     // The position fits the position columns, of all relations and of those up to a stop.
-    ensures positions { (tables : List Table) (query : Query) (rows : Rows) (params : List Value) (combo : List (List Value)) → IsQuery tables query → IsResolved tables query → FitsTables tables query (length query.relations) combo → AllFit (position_types tables query) (position (record { tables = tables; query = query; rows = rows; params = params }) combo) }
+    ensures positions { (tables : List Table) (query : Query) (rows : Rows) (params : List Value)
+        (combo : List (List Value)) → IsQuery tables query → IsResolved tables query
+        → FitsTables tables query (length query.relations) combo
+        → AllFit (position_types tables query)
+        (position (record { tables = tables; query = query; rows = rows; params = params }) combo) }
 
-    ensures stop_positions { (tables : List Table) (query : Query) (rows : Rows) (params : List Value) (p : ℕ) (combo : List (List Value)) → IsQuery tables query → IsResolved tables query → HasChoice tables query (Stop p) → FitsTables tables query p combo → AllFit (position_types tables query) (position (record { tables = tables; query = query; rows = rows; params = params }) combo) }
+    ensures stop_positions { (tables : List Table) (query : Query) (rows : Rows) (params : List Value) (p : ℕ)
+        (combo : List (List Value)) → IsQuery tables query → IsResolved tables query
+        → HasChoice tables query (Stop p) → FitsTables tables query p combo
+        → AllFit (position_types tables query)
+        (position (record { tables = tables; query = query; rows = rows; params = params }) combo) }
 
-    ensures selection { (tables : List Table) (query : Query) (combo : List (List Value)) → IsQuery tables query → IsResolved tables query → FitsTables tables query (length query.relations) combo → AllFit (selected_types tables query) (selected query combo) }
+    ensures selection { (tables : List Table) (query : Query) (combo : List (List Value)) → IsQuery tables query
+        → IsResolved tables query → FitsTables tables query (length query.relations) combo
+        → AllFit (selected_types tables query) (selected_values query combo) }
 {}
 
 /// Behind a combination that fits, with parameters that fit.
 pub fn tied_laws()
     // Columns that lie in the fixed ones have tied values, which are of their kinds.
-    ensures kinds { (tables : List Table) (query : Query) (rows : Rows) (params : List Value) (rel : ℕ) (combo : List (List Value)) (cols : List ℕ) → IsResolved tables query → AllFit query.params params → FitsTables tables query (rel - 1) combo → is_within (set_of cols) (fixed query rel) ≡ true → AllOfKinds (types_at (table_of tables query rel) cols) (tied_cells (record { tables = tables; query = query; rows = rows; params = params }) rel cols combo) }
+    ensures kinds { (tables : List Table) (query : Query) (rows : Rows) (params : List Value) (rel : ℕ)
+        (combo : List (List Value)) (cols : List ℕ) → IsResolved tables query → AllFit query.params params
+        → FitsTables tables query (rel - 1) combo → is_within (set_of cols) (tied_set query rel) ≡ true
+        → AllOfKinds (types_at (table_of tables query rel) cols)
+        (tied_cells (record { tables = tables; query = query; rows = rows; params = params }) rel cols combo) }
 
     // The rows that match are those of the group with these values.
-    ensures group { (tables : List Table) (query : Query) (rows : Rows) (params : List Value) (rel : ℕ) (combo : List (List Value)) (cols : List ℕ) → IsResolved tables query → AllFit query.params params → FitsTables tables query (rel - 1) combo → KeepsSchema tables rows → is_within (set_of cols) (fixed query rel) ≡ true → matching (record { tables = tables; query = query; rows = rows; params = params }) rel cols combo ≡ group_of (relation_at query rel).table cols (tied_cells (record { tables = tables; query = query; rows = rows; params = params }) rel cols combo) rows }
+    ensures group { (tables : List Table) (query : Query) (rows : Rows) (params : List Value) (rel : ℕ)
+        (combo : List (List Value)) (cols : List ℕ) → IsResolved tables query → AllFit query.params params
+        → FitsTables tables query (rel - 1) combo → KeepsSchema tables rows
+        → is_within (set_of cols) (tied_set query rel) ≡ true
+        → matching (record { tables = tables; query = query; rows = rows; params = params }) rel cols combo
+        ≡ group_of (relation_at query rel).table cols
+        (tied_cells (record { tables = tables; query = query; rows = rows; params = params }) rel cols combo)
+        rows }
 
     // Where the key is tied, it is the row with this key.
-    ensures row { (tables : List Table) (query : Query) (rows : Rows) (params : List Value) (rel : ℕ) (combo : List (List Value)) → IsResolved tables query → AllFit query.params params → FitsTables tables query (rel - 1) combo → KeepsSchema tables rows → is_lookup (table_of tables query rel) (fixed query rel) ≡ true → take 1 (matching (record { tables = tables; query = query; rows = rows; params = params }) rel (table_of tables query rel).key combo) ≡ option_to_list (row_at tables rows (relation_at query rel).table (tied_cells (record { tables = tables; query = query; rows = rows; params = params }) rel (table_of tables query rel).key combo)) }
+    ensures row { (tables : List Table) (query : Query) (rows : Rows) (params : List Value) (rel : ℕ)
+        (combo : List (List Value)) → IsResolved tables query → AllFit query.params params
+        → FitsTables tables query (rel - 1) combo → KeepsSchema tables rows
+        → is_lookup (table_of tables query rel) (tied_set query rel) ≡ true
+        → take 1 (matching (record { tables = tables; query = query; rows = rows; params = params }) rel
+        (table_of tables query rel).key combo)
+        ≡ option_to_list (row_at tables rows (relation_at query rel).table
+        (tied_cells (record { tables = tables; query = query; rows = rows; params = params }) rel
+        (table_of tables query rel).key combo)) }
 
     // The range of a sequence that begins with the columns, under the tied values of its first columns, has the rows
     // that match.
-    ensures range { (tables : List Table) (query : Query) (rows : Rows) (params : List Value) (rel : ℕ) (combo : List (List Value)) (cols : List ℕ) (access : Access) → IsResolved tables query → AllFit query.params params → FitsTables tables query (rel - 1) combo → KeepsSchema tables rows → is_within (set_of cols) (fixed query rel) ≡ true → begins_with (sequence_of (table_of tables query rel) access) (set_of cols) ≡ true → HasRange (record { tables = tables; query = query; rows = rows; params = params }) rel cols access combo }
+    ensures range { (tables : List Table) (query : Query) (rows : Rows) (params : List Value) (rel : ℕ)
+        (combo : List (List Value)) (cols : List ℕ) (access : Access) → IsResolved tables query
+        → AllFit query.params params → FitsTables tables query (rel - 1) combo → KeepsSchema tables rows
+        → is_within (set_of cols) (tied_set query rel) ≡ true
+        → begins_with (sequence_of (table_of tables query rel) access) (set_of cols) ≡ true
+        → HasRange (record { tables = tables; query = query; rows = rows; params = params }) rel cols access
+        combo }
 
     // What each input is given in some order makes what all are given in some order.
-    ensures ranges { (q : Asked) (rel : ℕ) (cols : List ℕ) (found : List (List Value) → List (List Value)) (inputs : List (List (List Value))) → AllByRecursion (λ combo. IsPermutation (matching q rel cols combo) (found combo)) inputs → IsPermutation (ranged q rel cols inputs) (flat_map (λ combo. map (λ row. combo ++ row ∷ []) (found combo)) inputs) }
+    ensures ranges { (q : Question) (rel : ℕ) (cols : List ℕ) (found : List (List Value)
+        → List (List Value)) (inputs : List (List (List Value)))
+        → AllByRecursion (λ combo. IsPermutation (matching q rel cols combo) (found combo)) inputs
+        → IsPermutation (ranged q rel cols inputs) (flat_map
+        (λ combo. map (λ row. combo ++ row ∷ []) (found combo)) inputs) }
 {}
 
 /// Reads over a content that holds rows tell no damage.
 pub fn damage_laws()
-    ensures { (tables : List Table) (before after : World) (error : Broke) → StopsReading tables before after error → IsSoundOverRows before.told tables error }
+    ensures { (tables : List Table) (before after : World) (error : Broke)
+        → StopsReading tables before after error → IsSoundOverRows before.told tables error }
 {}

@@ -6,7 +6,7 @@ use Rattle.pq_base.proofs.Members.{all_member, at_in, in_either, in_flat_map, in
 use Rattle.pq_schema.specs.declared.query.OrderItem.{OrderItem}
 use Rattle.pq_schema.specs.declared.query.Query.{Query}
 use Rattle.pq_schema.specs.declared.table.Table.{Table}
-use Rattle.pq_schema.specs.Relations.{table_of, fixed, is_ordered, key_item, key_items, position_columns}
+use Rattle.pq_schema.specs.Relations.{table_of, tied_set, is_ordered, key_item, key_items, position_columns}
 use Rattle.pq_schema.specs.Resolved.{IsColumnOf, IsResolved}
 use Rattle.pq_schema.specs.Tables.{is_lookup}
 
@@ -16,7 +16,7 @@ IsOfRelation query item = (1 ≤ item.col.rel) × (item.col.rel ≤ length query
 
 key_of : (tables : List Table) (query : Query) (rel : ℕ) (item : OrderItem) → In item (key_items tables query rel) → item.col.rel ≡ rel
 key_of tables query rel item here =
-    elim (is_lookup (table_of tables query rel) (fixed query rel)) as (λ b. In item (cond b [] (map (key_item rel) (filter (λ col. not (is_ordered query rel col)) (table_of tables query rel).key))) → item.col.rel ≡ rel) [
+    elim (is_lookup (table_of tables query rel) (tied_set query rel)) as (λ b. In item (cond b [] (map (key_item rel) (filter (λ col. not (is_ordered query rel col)) (table_of tables query rel).key))) → item.col.rel ≡ rel) [
       | true ↦ λ none. absurd none
       | false ↦ λ some.
           let made = in_map (key_item rel) item (filter (λ col. not (is_ordered query rel col)) (table_of tables query rel).key) some in

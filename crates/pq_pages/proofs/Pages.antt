@@ -13,7 +13,7 @@ use Rattle.pq_schema.specs.declared.query.Query.{Query}
 use Rattle.pq_schema.specs.declared.table.Table.{Table}
 use Rattle.pq_schema.proofs.Valid.{valid_made}
 use Rattle.pq_store.specs.Counts.{Counts}
-use Rattle.pq_plan.specs.Answer.{Asked, position, selected}
+use Rattle.pq_plan.specs.Answer.{Question, position, selected_values}
 use Rattle.pq_plan.specs.Cost.{cost}
 use Rattle.pq_plan.specs.declared.physical.Physical.{Physical}
 use Rattle.pq_nodes.specs.Combos.{position_types}
@@ -22,7 +22,7 @@ use Rattle.pq_runnable.specs.Runnable.{IsRunnablePlan}
 use Rattle.pq_runnable.proofs.Staying.{query_resolved}
 use Rattle.pq_exec.specs.Execution.{IsAnswer, RisesWithin, last_of}
 use Rattle.pq_exec.specs.declared.executing.Answer.{Answer}
-use Rattle.pq_pages.specs.Running.{Running, running, query_bound, position_dirs, page_size, page_combos, over_rows, next_at, next_cursor, next_of, IsPageOver}
+use Rattle.pq_pages.specs.Running.{Running, running_with, query_bound, position_dirs, page_size, page_combos, over_rows, next_at, next_cursor, next_of, IsPageOver}
 use Rattle.pq_pages.specs.declared.page.Page.{Page}
 use Rattle.pq_cursor.specs.Cursors.{cursor_text}
 
@@ -59,9 +59,9 @@ last_fits tables query rows (Some at) fits = fits.0
 
 module _ (tables : List Table) (number : ℕ) (query : Query) (params : List Value) (after : Option (List Value)) (rows : Rows) where
   abbrev run : Running
-  run = running number query params after
+  run = running_with number query params after
 
-  abbrev q : Asked
+  abbrev q : Question
   q = over_rows tables rows run
 
   abbrev combos : List (List (List Value))
@@ -78,5 +78,5 @@ module _ (tables : List Table) (number : ℕ) (query : Query) (params : List Val
   pub answer_page : (answer : Answer) → IsAnswer tables query rows params after answer → (page : Page) → page.rows ≡ answer.rows → page.next ≡ next_cursor tables number query (length answer.rows) answer.last → IsPageOver tables rows run page
   answer_page answer is page same next = record {
     rows = same ∙ is.rows;
-    next = next ∙ next_alike (page_size query.stop) (length answer.rows) answer.last (ap length is.rows ∙ length-map combos (selected query)) is.last;
+    next = next ∙ next_alike (page_size query.stop) (length answer.rows) answer.last (ap length is.rows ∙ length-map combos (selected_values query)) is.last;
   }

@@ -23,7 +23,7 @@ use Rattle.pq_store.specs.Content.{Content}
 use Rattle.pq_content.specs.Pairs.{Pair, HoldsRows}
 use Rattle.pq_cursor.specs.Cursors.{cursor_text, position_in}
 use Rattle.pq_nodes.specs.Combos.{position_types}
-use Rattle.pq_plan.specs.Answer.{Asked, answered, selected, position}
+use Rattle.pq_plan.specs.Answer.{Question, answered, selected_values, position}
 use Rattle.pq_exec.specs.Execution.{last_of}
 use Rattle.pq_pages.specs.declared.page.Page.{Page}
 
@@ -40,14 +40,15 @@ pub record Running : Type 0 where
   pub params : List Value
   pub after : Option (List Value)
 
-abbrev pub running : ℕ → Query → List Value → Option (List Value) → Running
-running number query params after = record { number = number; query = query; params = params; after = after }
+abbrev pub running_with : ℕ → Query → List Value → Option (List Value) → Running
+running_with number query params after = record { number = number; query = query; params = params; after = after }
 
 -- ---- what refuses it
 
 -- the number of the first value that does not fit its parameter, from this number on
 abbrev pub misfit : ℕ → List ColType → List Value → Option ℕ
-misfit number (ty ∷ types) (value ∷ values) = if fits_type ty value then misfit (number + 1) types values else Some number
+misfit number (ty ∷ types) (value ∷ values) =
+    if fits_type ty value then misfit (number + 1) types values else Some number
 misfit number _ _ = None
 
 -- 0 for another number of values
@@ -84,16 +85,18 @@ or_begins (Some why) start = Err why
 
 -- the parameters' refusal comes before those of the cursor
 unfoldable pub begins : List Table → ℕ → Query → List Value → Option (List ℕ) → Result (Option (List Value)) Refusal
-begins tables number query params after = or_begins (params_refusal query.params params) (begins_after tables number query after)
+begins tables number query params after =
+    or_begins (params_refusal query.params params) (begins_after tables number query after)
 
 abbrev pub running_as : ℕ → Query → List Value → Result (Option (List Value)) Refusal → Result Running Refusal
-running_as number query params (Ok after) = Ok (running number query params after)
+running_as number query params (Ok after) = Ok (running_with number query params after)
 running_as number query params (Err why) = Err why
 
 abbrev pub running_at : Schema → List ℕ → List Value → Option (List ℕ) → Option ℕ → Result Running Refusal
 running_at schema name params after None = Err (refusal.NoQuery name)
 running_at schema name params after (Some number) =
-    running_as number (query_at schema number) params (begins schema.tables number (query_at schema number) params after)
+    running_as number (query_at schema number) params
+    (begins schema.tables number (query_at schema number) params after)
 
 -- what runs under a name, or the first refusal
 unfoldable pub running_of : Schema → List ℕ → List Value → Option (List ℕ) → Result Running Refusal
@@ -106,7 +109,7 @@ unfoldable pub query_bound : List Table → Query → Bound
 query_bound tables query = option_map_or (λ best. best.bound) (least (candidates tables query)) (bound 0 0)
 
 -- the query over rows
-abbrev pub over_rows : List Table → Rows → Running → Asked
+abbrev pub over_rows : List Table → Rows → Running → Question
 over_rows tables rows running = record { tables = tables; query = running.query; rows = rows; params = running.params }
 
 -- the combinations of its page
@@ -136,7 +139,7 @@ next_of tables rows running (Some k) combos =
 
 -- its rows in order, and the cursor of the next page
 pub record IsPageOver (tables : List Table) (held : Rows) (running : Running) (page : Page) : Type 0 where
-  pub rows : page.rows ≡ map (selected running.query) (page_combos tables held running)
+  pub rows : page.rows ≡ map (selected_values running.query) (page_combos tables held running)
   pub next : page.next ≡ next_of tables held running (page_size running.query.stop) (page_combos tables held running)
 
 -- over a content that holds rows it is the page over these

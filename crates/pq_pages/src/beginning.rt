@@ -133,7 +133,8 @@ pub fn begin(
     after: Option<&PText>,
 ) -> Result<Option<Row>, Stopped>
     requires { IsQueryNumber catalog.now number }
-    ensures answer { Answers result (begins catalog.now.tables number (query_at catalog.now number) params.now (option_copied after.entry)) }
+    ensures answer { Answers result (begins catalog.now.tables number (query_at catalog.now number) params.now
+        (option_copied after.entry)) }
     ensures fits { IfOk result (λ _. AllFit (query_at catalog.now number).params params.now) }
     ensures cursor { IfOk result (IsCursor catalog.now.tables (query_at catalog.now number)) }
 {

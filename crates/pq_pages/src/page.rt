@@ -12,7 +12,7 @@ ghost use Rattle.pq_runnable.specs.Runnable.{IsRunnablePlan};
 ghost use Rattle.pq_cursor.specs.Cursors.{cursor_text};
 ghost use Rattle.pq_nodes.specs.Combos.{position_types};
 ghost use Rattle.pq_schema.specs.Resolved.{IsResolved};
-ghost use Rattle.pq_pages.specs.Running.{IsQueryNumber, IsPageOf, next_cursor, position_dirs, query_bound, running};
+ghost use Rattle.pq_pages.specs.Running.{IsQueryNumber, IsPageOf, next_cursor, position_dirs, query_bound, running_with};
 
 use crate::beginning::{page_size, position_shape};
 use pq_base::{Bound, List, NoMem, PText, Row, Stopped, Used};
@@ -44,7 +44,8 @@ fn cursor_at(
 ) -> Result<PText, NoMem>
     requires resolved { IsResolved catalog.now.tables query.now }
     requires fits { AllFit (position_types catalog.now.tables query.now) position.now }
-    ensures { IfOk result (λ text. text ≡ cursor_text number (position_dirs catalog.now.tables query.now) position.now) }
+    ensures { IfOk result (λ text. text
+        ≡ cursor_text number (position_dirs catalog.now.tables query.now) position.now) }
 {
     let shape = position_shape(alloc, catalog, query)?;
     cursor_text(alloc, number, position, shape.dirs.items())
@@ -60,7 +61,8 @@ fn next_cursor(
 ) -> Result<Option<PText>, NoMem>
     requires resolved { IsResolved catalog.now.tables query.now }
     requires fits { IfSome answer.now.last (AllFit (position_types catalog.now.tables query.now)) }
-    ensures { IfOk result (λ next. next ≡ next_cursor catalog.now.tables number query.now (length answer.now.rows) answer.now.last) }
+    ensures { IfOk result (λ next. next
+        ≡ next_cursor catalog.now.tables number query.now (length answer.now.rows) answer.now.last) }
 {
     match (page_size(query.stop), &answer.last) {
         (Some(k), Some(last)) if answer.rows.items().len() == k as usize => {
@@ -92,7 +94,7 @@ pub fn run_page<S: Store<L>, L: Ledger>(
     requires cursor { IsCursor catalog.now.tables (query_at catalog.now number) (option_copied after) }
     // Over a content that holds rows.
     ensures page { IfOk result (IsPageOf (S.content store.old) catalog.now.tables
-        (running number (query_at catalog.now number) params.now (option_copied after.entry))) }
+        (running_with number (query_at catalog.now number) params.now (option_copied after.entry))) }
     ensures undamaged { IfErr result (IsSoundOverRows (S.content store.old) catalog.now.tables) }
     // Over every store.
     ensures few { IfOk result (λ page. length page.rows < 4294967296) }

@@ -4,18 +4,18 @@ use Rattle.std.proofs.lemmas.List.{length-map}
 use Rattle.pq_store.specs.declared.store.Pair.{Pair}
 use Rattle.pq_store.specs.declared.store.StoreErr.{StoreErr}
 use Rattle.pq_store.specs.Content.{entry, IsPartOf, ranged_entries, counted_entries}
-use Rattle.pq_parts.specs.Tally.{Tallied, raised, counted, HasCalled, HasAsked}
+use Rattle.pq_parts.specs.Tally.{TalliedCalls, raised_number, counted_call, HasCalled, HasAsked}
 
-none_counted : (before : Tallied) → before ≡ counted before 0 0
+none_counted : (before : TalliedCalls) → before ≡ counted_call before 0 0
 none_counted before =
     let ops : before.nodes.ops ≡ before.nodes.ops + 0 = omega arith in
     let entries : before.nodes.entries ≡ before.nodes.entries + 0 = omega arith in
-    let shown_ops : before.ops ≡ raised before.ops 0 = omega arith in
-    let shown_entries : before.entries ≡ raised before.entries 0 = omega arith in
+    let shown_ops : before.ops ≡ raised_number before.ops 0 = omega arith in
+    let shown_entries : before.entries ≡ raised_number before.entries 0 = omega arith in
     λ i. record { nodes = record { ops = ops i; entries = entries i }; ops = shown_ops i; entries = shown_entries i }
 
 -- no node was asked
-pub not_asked : {A : Type 0} (before : Tallied) (met limit : ℕ) (result : Result A StoreErr) → HasAsked before before met limit 0 result
+pub not_asked : {A : Type 0} (before : TalliedCalls) (met limit : ℕ) (result : Result A StoreErr) → HasAsked before before met limit 0 result
 not_asked before met limit result = record {
   found = 0;
   called = record { calls = 0; few = omega arith; counts = none_counted before };
@@ -24,8 +24,8 @@ not_asked before met limit result = record {
 }
 
 -- one node was asked
-pub asked_once : {A : Type 0} (before now : Tallied) (met limit answered : ℕ) (result : Result A StoreErr) → 1 ≤ met → answered ≤ limit
-    → now ≡ counted before 1 answered → HasAsked before now met limit answered result
+pub asked_once : {A : Type 0} (before now : TalliedCalls) (met limit answered : ℕ) (result : Result A StoreErr) → 1 ≤ met → answered ≤ limit
+    → now ≡ counted_call before 1 answered → HasAsked before now met limit answered result
 asked_once before now met limit answered result few within counts = record {
   found = answered;
   called = record { calls = 1; few = few; counts = counts };
@@ -45,24 +45,24 @@ few_ranged low high limit (Ok pairs) part = let few = part.few in omega (arith, 
 few_ranged low high limit (Err e) part = omega arith
 
 -- before the first call
-pub none_called : (before : Tallied) (most : ℕ) → HasCalled before before most 0
+pub none_called : (before : TalliedCalls) (most : ℕ) → HasCalled before before most 0
 none_called before most = record { calls = 0; few = omega arith; counts = none_counted before }
 
 -- some calls, and then some more
-pub called_more : (before mid now : Tallied) (most more first found : ℕ) → HasCalled before mid most first → HasCalled mid now more found → HasCalled before now (most + more) (first + found)
+pub called_more : (before mid now : TalliedCalls) (most more first found : ℕ) → HasCalled before mid most first → HasCalled mid now more found → HasCalled before now (most + more) (first + found)
 called_more before mid now most more first found done then = record {
   calls = done.calls + then.calls;
   few = let x = done.few in let y = then.few in omega arith;
   counts = rw (then.counts, done.counts) (both before done.calls then.calls first found);
 }
   where
-    both : (t : Tallied) (a b x y : ℕ) → counted (counted t a x) b y ≡ counted t (a + b) (x + y)
+    both : (t : TalliedCalls) (a b x y : ℕ) → counted_call (counted_call t a x) b y ≡ counted_call t (a + b) (x + y)
     both t a b x y =
         let ops : t.nodes.ops + a + b ≡ t.nodes.ops + (a + b) = omega arith in
         let entries : t.nodes.entries + x + y ≡ t.nodes.entries + (x + y) = omega arith in
-        let shown_ops : raised (raised t.ops a) b ≡ raised t.ops (a + b) = omega arith in
-        let shown_entries : raised (raised t.entries x) y ≡ raised t.entries (x + y) = omega arith in
+        let shown_ops : raised_number (raised_number t.ops a) b ≡ raised_number t.ops (a + b) = omega arith in
+        let shown_entries : raised_number (raised_number t.entries x) y ≡ raised_number t.entries (x + y) = omega arith in
         λ i. record { nodes = record { ops = ops i; entries = entries i }; ops = shown_ops i; entries = shown_entries i }
 
-pub called_fewer : (before now : Tallied) (most more found : ℕ) → most ≤ more → HasCalled before now most found → HasCalled before now more found
+pub called_fewer : (before now : TalliedCalls) (most more found : ℕ) → most ≤ more → HasCalled before now most found → HasCalled before now more found
 called_fewer before now most more found le called = record { calls = called.calls; few = let x = called.few in omega arith; counts = called.counts }

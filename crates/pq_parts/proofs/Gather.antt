@@ -14,27 +14,27 @@ use Rattle.pq_store.proofs.Places.{Pairs, is_below_all}
 use Rattle.pq_store.proofs.Views.{seen, seen_within}
 use Rattle.pq_parts.specs.declared.part.Part.{Part}
 use Rattle.pq_parts.specs.Clips.{is_before}
-use Rattle.pq_parts.specs.Spans.{Span, is_of, span_of, spans, first_from, meets, own, concatenation, joined, number_met, IsPieceOf, IsPlacement}
-use Rattle.pq_parts.specs.Tally.{Tallied, HasAsked}
-use Rattle.pq_parts.specs.Gathered.{begin_of, Linked, HasCome, LeavesRange, IsGathered, IsPieceAt, LeavesCount, IsCounted, IsCountAt}
+use Rattle.pq_parts.specs.Spans.{Span, is_of, span_of, spans, first_from, meets, own, concatenation, joined_content, number_met, IsPieceOf, IsPlacement}
+use Rattle.pq_parts.specs.Tally.{TalliedCalls, HasAsked}
+use Rattle.pq_parts.specs.Gathered.{begin_of, LinkedSpans, HasCome, LeavesRange, IsGathered, IsPieceAt, LeavesCount, IsCounted, IsCountAt}
 use Rattle.pq_parts.proofs.Clips.{lt_le, lt_is_le, second_of_two, first_of_two}
 use Rattle.pq_parts.proofs.Asked.{not_asked, none_called, called_more, called_fewer}
 use Rattle.pq_parts.proofs.Pairs.{rising_both}
-use Rattle.pq_parts.specs.Gathered.Linked.{none, link}
+use Rattle.pq_parts.specs.Gathered.LinkedSpans.{none, link}
 use Rattle.pq_parts.proofs.Joined.{linked, both, all_rise}
 
-pub linked_drop : (list : List Span) → Linked list → (at : ℕ) → Linked (drop at list)
+pub linked_drop : (list : List Span) → LinkedSpans list → (at : ℕ) → LinkedSpans (drop at list)
 linked_drop [] none zero = none
 linked_drop [] none (suc at) = none
 linked_drop (span ∷ list) links zero = links
 linked_drop (span ∷ list) (link _ _ until ahead links) (suc at) = linked_drop list links at
 
 -- how the part at the place is linked
-ahead_of : (span : Span) (list : List Span) → Linked (span ∷ list) → (span.until ≡ begin_of list) × (is_before span.from span.until ≡ true)
+ahead_of : (span : Span) (list : List Span) → LinkedSpans (span ∷ list) → (span.until ≡ begin_of list) × (is_before span.from span.until ≡ true)
 ahead_of span list (link _ _ until ahead links) = (until, ahead)
 
 -- ---- the nodes that were called
-come_none : (list : List Span) (before : Tallied) (low high : List ℕ) → HasCome list before before 0 low high 0
+come_none : (list : List Span) (before : TalliedCalls) (low high : List ℕ) → HasCome list before before 0 low high 0
 come_none list before low high = record { met = 0; left = omega arith; called = none_called before 0 }
 
 zero_more : (a b : ℕ) → a + b ≡ 0 + a + b
@@ -43,7 +43,7 @@ zero_more a b = omega arith
 met_cons : (low high : List ℕ) (span : Span) (rest : List Span) → number_met low high (span ∷ rest) ≡ number_met low high (span ∷ []) + number_met low high rest
 met_cons low high span rest = sum_by-cons (λ s. cond (meets low high s) 1 0) span rest ∙ zero_more (cond (meets low high span) 1 0) (number_met low high rest)
 
-come_more : (list : List Span) (before mid now : Tallied) (at : ℕ) (low high : List ℕ) (n more limit : ℕ) (span : Span) {A : Type 0} (x : A) → drop at list ≡ span ∷ drop (at + 1) list
+come_more : (list : List Span) (before mid now : TalliedCalls) (at : ℕ) (low high : List ℕ) (n more limit : ℕ) (span : Span) {A : Type 0} (x : A) → drop at list ≡ span ∷ drop (at + 1) list
     → HasCome list before mid at low high n → HasAsked {A = A} mid now (number_met low high (span ∷ [])) limit more (Ok x) → HasCome list before now (at + 1) low high (n + more)
 come_more list before mid now at low high n more limit span x cut come asked = record {
   met = come.met + number_met low high (span ∷ []);
@@ -56,7 +56,7 @@ come_more list before mid now at low high n more limit span x cut come asked = r
 }
 
 -- and where there is no answer
-pub come_error : (list : List Span) (before mid now : Tallied) (at : ℕ) (low high : List ℕ) (n limit left : ℕ) (span : Span) {A : Type 0} (r : Result A StoreErr) → drop at list ≡ span ∷ drop (at + 1) list
+pub come_error : (list : List Span) (before mid now : TalliedCalls) (at : ℕ) (low high : List ℕ) (n limit left : ℕ) (span : Span) {A : Type 0} (r : Result A StoreErr) → drop at list ≡ span ∷ drop (at + 1) list
     → HasCome list before mid at low high n → n + left ≡ limit → (answered : ℕ) → HasAsked mid now (number_met low high (span ∷ [])) left answered r
     → {B : Type 0} (e : StoreErr) → HasAsked {A = B} before now (number_met low high list) limit 0 (Err e)
 come_error list before mid now at low high n limit left span r cut come split answered asked e = record {
@@ -79,7 +79,7 @@ take_more (suc n) (x ∷ xs) ys =
     let same : suc n - suc (length (take n xs)) ≡ n - length (take n xs) = omega arith in
     rw same (ap (λ rest. x ∷ rest) (take_more n xs ys))
 
-pub gather_none : (list : List Span) (before : Tallied) (low high : List ℕ) (limit : ℕ) → IsGathered list before before 0 low high limit []
+pub gather_none : (list : List Span) (before : TalliedCalls) (low high : List ℕ) (limit : ℕ) → IsGathered list before before 0 low high limit []
 gather_none list before low high limit = record {
   come = come_none list before low high;
   part = record { few = omega arith; within = λ k d lt. absurd (omega arith); rising = refl };
@@ -125,7 +125,7 @@ passed_on span next until ahead (x ∷ found) piece passed own =
     past key None less ahead = refl
     past key (Some end) less ahead = lt_le key span.from end less (lt_is_le span.from end ahead)
 
-pub gather_more : (list : List Span) → Linked list → (before mid now : Tallied) (at : ℕ) (low high : List ℕ) (limit : ℕ) (found piece : Pairs) (span : Span) {A : Type 0} (x : A)
+pub gather_more : (list : List Span) → LinkedSpans list → (before mid now : TalliedCalls) (at : ℕ) (low high : List ℕ) (limit : ℕ) (found piece : Pairs) (span : Span) {A : Type 0} (x : A)
     → drop at list ≡ span ∷ drop (at + 1) list → IsGathered list before mid at low high limit found
     → HasAsked {A = A} mid now (number_met low high (span ∷ [])) (limit - length found) (length piece) (Ok x)
     → IsPieceOf span low high (limit - length found) piece
@@ -164,8 +164,8 @@ gather_more list links before mid now at low high limit found piece span x cut g
             rw (left, append_assoc) (ap (λ rest. found ++ rest) (ap (λ p. p ++ take (limit - length found - length p) ys) mine ∙ sym (take_more (limit - length found) xs ys)))
 
 -- behind the last part all is found
-pub gather_all : (list : List Span) → Linked list → (before now : Tallied) (low high : List ℕ) (limit : ℕ) (found : Pairs) → IsGathered list before now (length list) low high limit found
-    → IfSome (joined list) (λ content. found ≡ take limit (pairs_within content low high))
+pub gather_all : (list : List Span) → LinkedSpans list → (before now : TalliedCalls) (low high : List ℕ) (limit : ℕ) (found : Pairs) → IsGathered list before now (length list) low high limit found
+    → IfSome (joined_content list) (λ content. found ≡ take limit (pairs_within content low high))
 gather_all list links before now low high limit found gathered = go (concatenation list) refl
   where
     go : (pairs : Option Pairs) → concatenation list ≡ pairs → IfSome (option_map seen pairs) (λ content. found ≡ take limit (pairs_within content low high))
@@ -188,14 +188,14 @@ gather_all list links before now low high limit found gathered = go (concatenati
         append-nil (x ∷ xs) = ap (λ rest. x ∷ rest) (append-nil xs)
 
 -- ---- the number of a range
-pub count_none : (list : List Span) (before : Tallied) (low high : List ℕ) (cap : ℕ) → IsCounted list before before 0 low high cap 0
+pub count_none : (list : List Span) (before : TalliedCalls) (low high : List ℕ) (cap : ℕ) → IsCounted list before before 0 low high cap 0
 count_none list before low high cap = record {
   come = come_none list before low high;
   few = omega arith;
   answer = λ pairs is. record { rest = pairs; behind = is; whole = omega arith };
 }
 
-pub count_more : (list : List Span) → (before mid now : Tallied) (at : ℕ) (low high : List ℕ) (cap n more : ℕ) (span : Span) {A : Type 0} (x : A)
+pub count_more : (list : List Span) → (before mid now : TalliedCalls) (at : ℕ) (low high : List ℕ) (cap n more : ℕ) (span : Span) {A : Type 0} (x : A)
     → drop at list ≡ span ∷ drop (at + 1) list → IsCounted list before mid at low high cap n
     → HasAsked {A = A} mid now (number_met low high (span ∷ [])) (cap - n) more (Ok x) → more ≤ cap - n
     → IfSome (own span) (λ mine. more ≡ min (cap - n) (length (filter (is_within low high) mine)))
@@ -215,8 +215,8 @@ count_more list before mid now at low high cap n more span x cut counted asked f
         let whole = leaves.whole in
         record { rest = parts.behind; behind = parts.rest_is; whole = omega (arith, mine, lengths, whole) }
 
-pub count_all : (list : List Span) → Linked list → (before now : Tallied) (low high : List ℕ) (cap n : ℕ) → IsCounted list before now (length list) low high cap n
-    → IfSome (joined list) (λ content. n ≡ min cap (length (pairs_within content low high)))
+pub count_all : (list : List Span) → LinkedSpans list → (before now : TalliedCalls) (low high : List ℕ) (cap n : ℕ) → IsCounted list before now (length list) low high cap n
+    → IfSome (joined_content list) (λ content. n ≡ min cap (length (pairs_within content low high)))
 count_all list links before now low high cap n counted = go (concatenation list) refl
   where
     go : (pairs : Option Pairs) → concatenation list ≡ pairs → IfSome (option_map seen pairs) (λ content. n ≡ min cap (length (pairs_within content low high)))
@@ -232,7 +232,7 @@ count_all list links before now low high cap n counted = go (concatenation list)
         none_behind rest is = let e = rw drop-length at is in cc
 
 -- what was asked, at the end
-pub come_all : (list : List Span) (before now : Tallied) (low high : List ℕ) (n limit : ℕ) → HasCome list before now (length list) low high n → n ≤ limit
+pub come_all : (list : List Span) (before now : TalliedCalls) (low high : List ℕ) (n limit : ℕ) → HasCome list before now (length list) low high n → n ≤ limit
     → {A : Type 0} (x : A) → HasAsked {A = A} before now (number_met low high list) limit n (Ok x)
 come_all list before now low high n limit come few x = record {
   found = n;
@@ -285,14 +285,14 @@ module _ {S : Type 0} (content : S → Option Content) (parts : List (Part S)) (
   cut_here : drop at (spans content parts) ≡ span_of content part until ∷ drop (at + 1) (spans content parts)
   cut_here = span_cut content parts at part within here ∙ ap (λ u. span_of content part u ∷ drop (at + 1) (spans content parts)) (sym end)
 
-  pub piece_here : (low high : List ℕ) (limit : ℕ) (before now : Tallied) (result : Result (List Pair) StoreErr)
+  pub piece_here : (low high : List ℕ) (limit : ℕ) (before now : TalliedCalls) (result : Result (List Pair) StoreErr)
       → HasAsked before now (number_met low high (span_of content part until ∷ [])) limit (ranged_entries result) result
       → IfOk result (λ found. IsPieceOf (span_of content part until) low high limit (map entry found))
       → IfOk result (λ found. IfSome (own (span_of content part until)) (λ mine. map entry found ≡ take limit (filter (is_within low high) mine)))
       → IsPieceAt (spans content parts) at low high limit before now result
   piece_here low high limit before now result asked piece answer = record { links = linked content parts placed.rising; span = span_of content part until; cut = cut_here; asked = asked; piece = piece; answer = answer }
 
-  pub count_here : (low high : List ℕ) (cap : ℕ) (before now : Tallied) (result : Result ℕ StoreErr)
+  pub count_here : (low high : List ℕ) (cap : ℕ) (before now : TalliedCalls) (result : Result ℕ StoreErr)
       → HasAsked before now (number_met low high (span_of content part until ∷ [])) cap (counted_entries result) result
       → IfOk result (λ n. n ≤ cap)
       → IfOk result (λ n. IfSome (own (span_of content part until)) (λ mine. n ≡ min cap (length (filter (is_within low high) mine))))
@@ -300,7 +300,7 @@ module _ {S : Type 0} (content : S → Option Content) (parts : List (Part S)) (
   count_here low high cap before now result asked few answer = record { span = span_of content part until; cut = cut_here; asked = asked; few = few; answer = answer }
 
 -- where there was no memory for the end
-pub no_piece : {S : Type 0} (content : S → Option Content) (parts : List (Part S)) → IsPlacement parts → (at : ℕ) → at < length parts → (low high : List ℕ) (limit : ℕ) (before : Tallied) (e : StoreErr)
+pub no_piece : {S : Type 0} (content : S → Option Content) (parts : List (Part S)) → IsPlacement parts → (at : ℕ) → at < length parts → (low high : List ℕ) (limit : ℕ) (before : TalliedCalls) (e : StoreErr)
     → IsPieceAt (spans content parts) at low high limit before before (Err e)
 no_piece content [] placed at within low high limit before e = absurd (omega arith)
 no_piece content (first ∷ parts) placed at within low high limit before e = record {
@@ -312,7 +312,7 @@ no_piece content (first ∷ parts) placed at within low high limit before e = re
   answer = tt;
 }
 
-pub no_count : {S : Type 0} (content : S → Option Content) (parts : List (Part S)) (at : ℕ) → at < length parts → (low high : List ℕ) (cap : ℕ) (before : Tallied) (e : StoreErr)
+pub no_count : {S : Type 0} (content : S → Option Content) (parts : List (Part S)) (at : ℕ) → at < length parts → (low high : List ℕ) (cap : ℕ) (before : TalliedCalls) (e : StoreErr)
     → IsCountAt (spans content parts) at low high cap before before (Err e)
 no_count content [] at within low high cap before e = absurd (omega arith)
 no_count content (first ∷ parts) at within low high cap before e = record {
@@ -324,25 +324,25 @@ no_count content (first ∷ parts) at within low high cap before e = record {
 }
 
 -- one part more
-pub gathers : (list : List Span) (before mid now : Tallied) (at : ℕ) (low high : List ℕ) (limit left : ℕ) (found piece after : List Pair) → left ≡ limit - length found → after ≡ found ++ piece
+pub gathers : (list : List Span) (before mid now : TalliedCalls) (at : ℕ) (low high : List ℕ) (limit left : ℕ) (found piece after : List Pair) → left ≡ limit - length found → after ≡ found ++ piece
     → IsPieceAt list at low high left mid now (Ok piece) → IsGathered list before mid at low high limit (map entry found) → IsGathered list before now (at + 1) low high limit (map entry after)
 gathers list before mid now at low high limit left found piece after is all at_piece gathered =
     let split : left ≡ limit - length (map entry found) = omega (arith, length-map found entry) in
     rw (all, map-append) (gather_more list at_piece.links before mid now at low high limit (map entry found) (map entry piece) at_piece.span piece at_piece.cut gathered
     (rw (← split, length-map piece entry) at_piece.asked) (rw (← split) at_piece.piece) (rw (← split) at_piece.answer))
 
-pub gather_error : (list : List Span) (before mid now : Tallied) (at : ℕ) (low high : List ℕ) (limit left : ℕ) (found : List Pair) (r : Result (List Pair) StoreErr) → length found ≤ limit → left ≡ limit - length found
+pub gather_error : (list : List Span) (before mid now : TalliedCalls) (at : ℕ) (low high : List ℕ) (limit left : ℕ) (found : List Pair) (r : Result (List Pair) StoreErr) → length found ≤ limit → left ≡ limit - length found
     → IsPieceAt list at low high left mid now r → {B : Type 0} (e : StoreErr)
     → IsGathered list before mid at low high limit (map entry found) → HasAsked {A = B} before now (number_met low high list) limit 0 (Err e)
 gather_error list before mid now at low high limit left found r few is at_piece e gathered =
     come_error list before mid now at low high (length (map entry found)) limit left at_piece.span r at_piece.cut gathered.come (omega (arith, length-map found entry)) (ranged_entries r) at_piece.asked e
 
-pub counts : (list : List Span) (before mid now : Tallied) (at : ℕ) (low high : List ℕ) (cap n more : ℕ)
+pub counts : (list : List Span) (before mid now : TalliedCalls) (at : ℕ) (low high : List ℕ) (cap n more : ℕ)
     → IsCountAt list at low high (cap - n) mid now (Ok more) → IsCounted list before mid at low high cap n → IsCounted list before now (at + 1) low high cap (n + more)
 counts list before mid now at low high cap n more at_count counted =
     count_more list before mid now at low high cap n more at_count.span more at_count.cut counted at_count.asked at_count.few at_count.answer
 
-pub count_error : (list : List Span) (before mid now : Tallied) (at : ℕ) (low high : List ℕ) (cap n : ℕ) (r : Result ℕ StoreErr)
+pub count_error : (list : List Span) (before mid now : TalliedCalls) (at : ℕ) (low high : List ℕ) (cap n : ℕ) (r : Result ℕ StoreErr)
     → IsCountAt list at low high (cap - n) mid now r → {B : Type 0} (e : StoreErr)
     → IsCounted list before mid at low high cap n → HasAsked {A = B} before now (number_met low high list) cap 0 (Err e)
 count_error list before mid now at low high cap n r at_count e counted =
@@ -350,7 +350,7 @@ count_error list before mid now at low high cap n r at_count e counted =
     come_error list before mid now at low high n cap (cap - n) at_count.span r at_count.cut counted.come (omega arith) (counted_entries r) at_count.asked e
 
 -- an error that is handed on
-pub asked_on : {A B : Type 0} (before now : Tallied) (met limit : ℕ) (e : StoreErr) → HasAsked {A = A} before now met limit 0 (Err e)
+pub asked_on : {A B : Type 0} (before now : TalliedCalls) (met limit : ℕ) (e : StoreErr) → HasAsked {A = A} before now met limit 0 (Err e)
     → (result : Result B StoreErr) (y : StoreErr) → result ≡ Err y → (answered : ℕ) → HasAsked before now met limit answered result
 asked_on before now met limit e asked (Ok x) y is answered = absurd (cc)
 asked_on before now met limit e asked (Err z) y is answered = record { found = asked.found; called = asked.called; within = asked.within; whole = λ ok. absurd (cc) }

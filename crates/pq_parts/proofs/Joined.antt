@@ -12,9 +12,9 @@ use Rattle.pq_store.proofs.Views.{seen, seen_get}
 use Rattle.pq_store.proofs.Uses.{rises}
 use Rattle.pq_parts.specs.declared.part.Part.{Part}
 use Rattle.pq_parts.specs.Clips.{is_before}
-use Rattle.pq_parts.specs.Spans.{Span, is_of, spans, own, own_of, followed_by, concatenation, joined, first_from, firsts, are_rising, has_key}
-use Rattle.pq_parts.specs.Gathered.{begin_of, Linked}
-use Rattle.pq_parts.specs.Gathered.Linked.{none, link}
+use Rattle.pq_parts.specs.Spans.{Span, is_of, spans, own, own_of, followed_by, concatenation, joined_content, first_from, firsts, are_rising, has_key}
+use Rattle.pq_parts.specs.Gathered.{begin_of, LinkedSpans}
+use Rattle.pq_parts.specs.Gathered.LinkedSpans.{none, link}
 use Rattle.pq_parts.proofs.Clips.{lt_le, lt_is_le, first_of_two, second_of_two}
 use Rattle.pq_parts.proofs.Pairs.{are_before, find_over, find_past, changed, changed_over, changed_past, entries_after, seen_changed, all_changed, rising_both}
 
@@ -22,7 +22,7 @@ begins_first : {S : Type 0} (content : S → Option Content) (parts : List (Part
 begins_first content [] = refl
 begins_first content (part ∷ parts) = refl
 
-pub linked : {S : Type 0} (content : S → Option Content) (parts : List (Part S)) → IsTrue (are_rising parts) → Linked (spans content parts)
+pub linked : {S : Type 0} (content : S → Option Content) (parts : List (Part S)) → IsTrue (are_rising parts) → LinkedSpans (spans content parts)
 linked {S = S} content [] up = none
 linked {S = S} content (part ∷ parts) up =
     link _ (spans content parts) (sym (begins_first content parts)) (ahead parts (first_below (part.from, []) (firsts parts) up))
@@ -63,7 +63,7 @@ owns span mine is = go span.held refl is
         ] refl is
 
 -- a key below where the parts begin is below all that they hold
-pub behind_all : (key : List ℕ) (list : List Span) → Linked list → is_before key (begin_of list) ≡ true → (pairs : Pairs) → concatenation list ≡ Some pairs → IsTrue (is_below_all key pairs)
+pub behind_all : (key : List ℕ) (list : List Span) → LinkedSpans list → is_before key (begin_of list) ≡ true → (pairs : Pairs) → concatenation list ≡ Some pairs → IsTrue (is_below_all key pairs)
 behind_all key [] none before pairs is = let e : pairs ≡ [] = cc in rw e refl
 behind_all key (span ∷ list) (link _ _ until ahead linked) before pairs is =
     let parts = both (own span) (concatenation list) pairs is in
@@ -79,7 +79,7 @@ behind_all key (span ∷ list) (link _ _ until ahead linked) before pairs is =
     over (x ∷ xs) ys all under = grind (arith, all, lt_le key span.from x.0 before, over xs ys, under)
 
 -- the pairs of all parts rise
-pub all_rise : (list : List Span) → Linked list → (pairs : Pairs) → concatenation list ≡ Some pairs → IsTrue (is_rising pairs)
+pub all_rise : (list : List Span) → LinkedSpans list → (pairs : Pairs) → concatenation list ≡ Some pairs → IsTrue (is_rising pairs)
 all_rise [] none pairs is = let e : pairs ≡ [] = cc in rw e refl
 all_rise (span ∷ list) (link _ _ until ahead linked) pairs is =
     let parts = both (own span) (concatenation list) pairs is in
@@ -116,7 +116,7 @@ has_span content (part ∷ parts) zero key has = has
 has_span content (part ∷ parts) (suc at) key has = has_span content parts at key has
 
 -- parts behind one begin at its end, which is at most a key of theirs
-begins_until : (list : List Span) → Linked list → (at : ℕ) (key : List ℕ) → IsTrue (has_at list at key) → (until : Option (List ℕ)) → until ≡ begin_of list → (end : List ℕ) × (until ≡ Some end) × (is_le (key_cmp end key) ≡ true)
+begins_until : (list : List Span) → LinkedSpans list → (at : ℕ) (key : List ℕ) → IsTrue (has_at list at key) → (until : Option (List ℕ)) → until ≡ begin_of list → (end : List ℕ) × (until ≡ Some end) × (is_le (key_cmp end key) ≡ true)
 begins_until [] none at key has until is = absurd (cc)
 begins_until (span ∷ list) (link _ _ ends ahead linked) zero key has until is = (span.from, is, first_of_two _ _ has)
 begins_until (span ∷ list) (link _ _ ends ahead linked) (suc at) key has until is =
@@ -125,7 +125,7 @@ begins_until (span ∷ list) (link _ _ ends ahead linked) (suc at) key has until
     (span.from, is, lt_is_le span.from key (lt_le span.from next.0 key less next.2))
 
 -- what the part has at the key is what all have
-pub found_at : (list : List Span) → Linked list → (at : ℕ) (key : List ℕ) → IsTrue (has_at list at key) → (span : Span) → span ≡ get_or list at span
+pub found_at : (list : List Span) → LinkedSpans list → (at : ℕ) (key : List ℕ) → IsTrue (has_at list at key) → (span : Span) → span ≡ get_or list at span
     → (pairs : Pairs) → concatenation list ≡ Some pairs → (content : Content) × (span.held ≡ Some content) × (find key_cmp key pairs ≡ map.get content key)
 found_at [] none at key has span here pairs is = absurd (cc)
 found_at (first ∷ list) (link _ _ until ahead linked) zero key has span here pairs is =
@@ -148,8 +148,8 @@ found_at (first ∷ list) (link _ _ until ahead linked) (suc at) key has span he
     )
 
 -- so an answer at the part is an answer at all
-pub answer_at : (P : Option (List ℕ) → Type 0) (list : List Span) → Linked list → (at : ℕ) (key : List ℕ) → IsTrue (has_at list at key) → (span : Span) → span ≡ get_or list at span
-    → IfSome span.held (λ content. P (map.get content key)) → IfSome (joined list) (λ content. P (map.get content key))
+pub answer_at : (P : Option (List ℕ) → Type 0) (list : List Span) → LinkedSpans list → (at : ℕ) (key : List ℕ) → IsTrue (has_at list at key) → (span : Span) → span ≡ get_or list at span
+    → IfSome span.held (λ content. P (map.get content key)) → IfSome (joined_content list) (λ content. P (map.get content key))
 answer_at P list linked at key has span here answer = go (concatenation list) refl
   where
     go : (pairs : Option Pairs) → concatenation list ≡ pairs → IfSome (option_map seen pairs) (λ content. P (map.get content key))
@@ -175,7 +175,7 @@ module _ (guard : Guard) (key : List ℕ) (new : Option (List ℕ)) where
       ∙ ap (λ b. cond b (Some (changed guard key new (map.entries content))) None) (all_changed (is_of span) guard key new (map.entries content) of)
       ∙ elim (list_all (λ pair. is_of span pair.0) (map.entries content)) as (λ b. cond b (Some (changed guard key new (map.entries content))) None ≡ option_map (changed guard key new) (cond b (Some (map.entries content)) None)) [ true ↦ refl | false ↦ refl ]
 
-  written_first : (span : Span) (list : List Span) → Linked (span ∷ list) → is_of span key ≡ true
+  written_first : (span : Span) (list : List Span) → LinkedSpans (span ∷ list) → is_of span key ≡ true
       → (mine rest : Option Pairs) → concatenation list ≡ rest
       → followed_by (option_map (changed guard key new) mine) rest ≡ option_map (changed guard key new) (followed_by mine rest)
   written_first span list links of None rest is = refl
@@ -183,7 +183,7 @@ module _ (guard : Guard) (key : List ℕ) (new : Option (List ℕ)) where
   written_first span list (link _ _ until ahead linked) of (Some front) (Some behind) is =
       ap Some (sym (changed_over guard key new front behind (behind_all key list linked (rw (← until) (second_of_two _ _ of)) behind is)))
 
-  written_behind : (span : Span) (list : List Span) → Linked (span ∷ list) → (at : ℕ) → IsTrue (has_at list at key)
+  written_behind : (span : Span) (list : List Span) → LinkedSpans (span ∷ list) → (at : ℕ) → IsTrue (has_at list at key)
       → (mine : Option Pairs) → own span ≡ mine → (rest : Option Pairs)
       → followed_by mine (option_map (changed guard key new) rest) ≡ option_map (changed guard key new) (followed_by mine rest)
   written_behind span list links at has None is rest = refl
@@ -194,7 +194,7 @@ module _ (guard : Guard) (key : List ℕ) (new : Option (List ℕ)) where
       let before : IsTrue (are_before key front) = rw mine.mine_is (front_before span key ends.0 ends.1 ends.2 (map.entries mine.content) mine.all) in
       ap Some (sym (changed_past guard key new front behind before))
 
-  pub written_at : (list : List Span) → Linked list → (at : ℕ) → IsTrue (has_at list at key) → (span : Span) → span ≡ get_or list at span
+  pub written_at : (list : List Span) → LinkedSpans list → (at : ℕ) → IsTrue (has_at list at key) → (span : Span) → span ≡ get_or list at span
       → (held : Option Content) → held ≡ option_map (after_write guard key new) span.held
       → concatenation (with_held list at held) ≡ option_map (changed guard key new) (concatenation list)
   written_at [] none at has span here held is = absurd (cc)
@@ -204,9 +204,9 @@ module _ (guard : Guard) (key : List ℕ) (new : Option (List ℕ)) where
   written_at (first ∷ list) (link _ _ until ahead linked) (suc at) has span here held is =
       ap (followed_by (own first)) (written_at list linked at has span here held is) ∙ written_behind first list (link first list until ahead linked) at has (own first) refl (concatenation list)
 
-  pub joined_written : (list : List Span) → Linked list → (at : ℕ) → IsTrue (has_at list at key) → (span : Span) → span ≡ get_or list at span
+  pub joined_written : (list : List Span) → LinkedSpans list → (at : ℕ) → IsTrue (has_at list at key) → (span : Span) → span ≡ get_or list at span
       → (held : Option Content) → held ≡ option_map (after_write guard key new) span.held
-      → joined (with_held list at held) ≡ option_map (after_write guard key new) (joined list)
+      → joined_content (with_held list at held) ≡ option_map (after_write guard key new) (joined_content list)
   joined_written list linked at has span here held is =
       ap (option_map seen) (written_at list linked at has span here held is) ∙ go (concatenation list) refl
     where

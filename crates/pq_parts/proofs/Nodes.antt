@@ -9,8 +9,8 @@ use Rattle.pq_store.specs.declared.store.Guard.{Guard}
 use Rattle.pq_store.specs.declared.store.StoreErr.{StoreErr}
 use Rattle.pq_store.specs.Content.{Content, after_write, HasRisen, HasCause}
 use Rattle.pq_parts.specs.declared.part.Part.{Part}
-use Rattle.pq_parts.specs.Tally.{raised}
-use Rattle.pq_parts.specs.Spans.{span_of, spans, joined, first_from, firsts, has_key, IsPlacement, faults_of}
+use Rattle.pq_parts.specs.Tally.{raised_number}
+use Rattle.pq_parts.specs.Spans.{span_of, spans, joined_content, first_from, firsts, has_key, IsPlacement, faults_of}
 use Rattle.pq_parts.proofs.Joined.{linked, has_span, answer_at, with_held, joined_written}
 
 -- the part with another node
@@ -64,10 +64,10 @@ module _ {S : Type 0} (part : Part S) (store : S) where
         failed = λ is. risen _ _ _ _ sums one (cause.failed is);
       }
     where
-      rises : (old new before now : ℕ) → now + old ≡ before + new → old ≤ new → raised 0 before ≤ raised 0 now
+      rises : (old new before now : ℕ) → now + old ≡ before + new → old ≤ new → raised_number 0 before ≤ raised_number 0 now
       rises old new before now sums le = omega arith
 
-      risen : (old new before now : ℕ) → now + old ≡ before + new → old ≤ before → HasRisen old new → HasRisen (raised 0 before) (raised 0 now)
+      risen : (old new before now : ℕ) → now + old ≡ before + new → old ≤ before → HasRisen old new → HasRisen (raised_number 0 before) (raised_number 0 now)
       risen old new before now sums one (inl less) = grind arith
       risen old new before now sums one (inr last) = grind arith
 
@@ -101,7 +101,7 @@ module _ {S : Type 0} (content : S → Option Content) (parts : List (Part S)) (
     (within : at < length parts) (part : Part S) (here : part ≡ get_or parts at part) where
   -- an answer of the node that has the key is one of the whole
   pub answer_set : {A : Type 0} (P : A → Option (List ℕ) → Type 0) (result : Result A StoreErr) → IfOk result (λ x. IfSome (content part.store) (λ c. P x (get c key)))
-      → IfOk result (λ x. IfSome (joined (spans content parts)) (λ c. P x (get c key)))
+      → IfOk result (λ x. IfSome (joined_content (spans content parts)) (λ c. P x (get c key)))
   answer_set P (Ok x) answer =
       let span = span_here content parts at part within here in
       answer_at (P x) (spans content parts) (linked content parts placed.rising) at key (has_span content parts at key has) _ span.1 answer
@@ -109,10 +109,10 @@ module _ {S : Type 0} (content : S → Option Content) (parts : List (Part S)) (
 
   -- a write at that node is one of the whole
   pub content_set : (guard : Guard) (new : Option (List ℕ)) (store : S) → content store ≡ option_map (after_write guard key new) (content part.store)
-      → joined (spans content (set parts at (with_node part store))) ≡ option_map (after_write guard key new) (joined (spans content parts))
+      → joined_content (spans content (set parts at (with_node part store))) ≡ option_map (after_write guard key new) (joined_content (spans content parts))
   content_set guard new store is =
       let span = span_here content parts at part within here in
-      ap joined (spans_set part store content parts at here)
+      ap joined_content (spans_set part store content parts at here)
       ∙ joined_written guard key new (spans content parts) (linked content parts placed.rising) at (has_span content parts at key has) _ span.1 (content store) is
 
 -- a fact where the call is done, by another

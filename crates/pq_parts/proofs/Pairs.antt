@@ -5,7 +5,7 @@ use Rattle.std.specs.List.{list_all}
 use Rattle.std.specs.FinMap as map
 use Rattle.std.specs.FinMap.{find, put}
 use Rattle.pq_store.specs.declared.store.Guard.{Guard}
-use Rattle.pq_store.specs.Content.{Content, key_cmp, is_rising, admits, written, after_write}
+use Rattle.pq_store.specs.Content.{Content, key_cmp, is_rising, admits, written_content, after_write}
 use Rattle.pq_store.proofs.Places.{Pairs, is_below_all, is_other, turned, same_key, others_below_all}
 use Rattle.pq_store.proofs.Views.{seen, seen_get, seen_put, seen_others}
 use Rattle.pq_store.proofs.Uses.{entries-insert, entries-remove}
@@ -73,20 +73,20 @@ changed_past guard key new xs ys before =
 -- the entries after a write
 pub entries_after : (guard : Guard) (key : List ℕ) (new : Option (List ℕ)) (content : Content) → map.entries (after_write guard key new content) ≡ changed guard key new (map.entries content)
 entries_after guard key new content =
-    elim (admits guard (map.get content key)) as (λ b. map.entries (cond b (written key new content) content) ≡ cond b (put_or_not key new (map.entries content)) (map.entries content)) [ true ↦ made new | false ↦ refl ]
+    elim (admits guard (map.get content key)) as (λ b. map.entries (cond b (written_content key new content) content) ≡ cond b (put_or_not key new (map.entries content)) (map.entries content)) [ true ↦ made new | false ↦ refl ]
     ∙ ap (λ found. cond (admits guard found) (put_or_not key new (map.entries content)) (map.entries content)) (map.get-entries content key)
   where
-    made : (new : Option (List ℕ)) → map.entries (written key new content) ≡ put_or_not key new (map.entries content)
+    made : (new : Option (List ℕ)) → map.entries (written_content key new content) ≡ put_or_not key new (map.entries content)
     made None = entries-remove content key
     made (Some value) = entries-insert content key value
 
 -- and the content of pairs that are so changed
 pub seen_changed : (guard : Guard) (key : List ℕ) (new : Option (List ℕ)) (pairs : Pairs) → IsTrue (is_rising pairs) → seen (changed guard key new pairs) ≡ after_write guard key new (seen pairs)
 seen_changed guard key new pairs up =
-    elim (admits guard (find key_cmp key pairs)) as (λ b. seen (cond b (put_or_not key new pairs) pairs) ≡ cond b (written key new (seen pairs)) (seen pairs)) [ true ↦ made new | false ↦ refl ]
-    ∙ ap (λ found. cond (admits guard found) (written key new (seen pairs)) (seen pairs)) (sym (seen_get pairs key up))
+    elim (admits guard (find key_cmp key pairs)) as (λ b. seen (cond b (put_or_not key new pairs) pairs) ≡ cond b (written_content key new (seen pairs)) (seen pairs)) [ true ↦ made new | false ↦ refl ]
+    ∙ ap (λ found. cond (admits guard found) (written_content key new (seen pairs)) (seen pairs)) (sym (seen_get pairs key up))
   where
-    made : (new : Option (List ℕ)) → seen (put_or_not key new pairs) ≡ written key new (seen pairs)
+    made : (new : Option (List ℕ)) → seen (put_or_not key new pairs) ≡ written_content key new (seen pairs)
     made None = seen_others key pairs _ up refl
     made (Some value) = seen_put key value pairs _ up refl
 

@@ -8,7 +8,7 @@ use Rattle.std.specs.FinMap.{entries, from_sorted}
 use Rattle.pq_store.specs.Content.{Content, key_cmp, is_rising, IsPartOf}
 use Rattle.pq_parts.specs.declared.part.Part.{Part}
 use Rattle.pq_parts.specs.Clips.{is_before}
-use Rattle.pq_parts.specs.Tally.{Tallied, raised}
+use Rattle.pq_parts.specs.Tally.{TalliedCalls, raised_number}
 
 -- the keys of one part, and what its node tells
 pub record Span : Type 0 where
@@ -54,7 +54,8 @@ own_of span content = if list_all (λ pair. is_of span pair.0) (entries content)
 abbrev pub own : Span → Option (List (List ℕ × List ℕ))
 own span = option_and_then (own_of span) span.held
 
-abbrev pub followed_by : Option (List (List ℕ × List ℕ)) → Option (List (List ℕ × List ℕ)) → Option (List (List ℕ × List ℕ))
+abbrev pub followed_by : Option (List (List ℕ × List ℕ)) → Option (List (List ℕ × List ℕ))
+    → Option (List (List ℕ × List ℕ))
 followed_by None rest = None
 followed_by (Some pairs) None = None
 followed_by (Some pairs) (Some rest) = Some (pairs ++ rest)
@@ -70,8 +71,8 @@ pub record IsPieceOf (span : Span) (low high : List ℕ) (limit : ℕ) (pairs : 
   pub own : All (λ pair. is_of span pair.0 ≡ true) pairs
 
 -- what the parts hold together
-abbrev pub joined : List Span → Option Content
-joined spans = option_map from_sorted (concatenation spans)
+abbrev pub joined_content : List Span → Option Content
+joined_content spans = option_map from_sorted (concatenation spans)
 
 -- the first keys in order, as keys of pairs
 abbrev pub firsts : {S : Type 0} → List (Part S) → List (List ℕ × List ℕ)
@@ -87,10 +88,10 @@ pub record IsPlacement {S : Type 0} (parts : List (Part S)) : Type 0 where
   pub rising : IsTrue (are_rising parts)
 
 -- the parts, and the calls of their nodes so far
-pub record Placed (S : Type 0) : Type 0 where
+pub record PlacedNode (S : Type 0) : Type 0 where
   pub parts : List (Part S)
-  pub tally : Tallied
+  pub tally : TalliedCalls
 
 -- the faults of the nodes together, up to the last number of 64 bits
 abbrev pub faults_of : {S : Type 0} → (S → ℕ) → List (Part S) → ℕ
-faults_of faults parts = raised 0 (sum_by (λ part. faults part.store) parts)
+faults_of faults parts = raised_number 0 (sum_by (λ part. faults part.store) parts)

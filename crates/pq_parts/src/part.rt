@@ -49,11 +49,15 @@ impl<S> Part<S> {
         S: Store<N>,
         ensures answer { IfOk result (λ found. IfSome (own (span_of S.content self.old until.now)) (λ mine.
             map entry found ≡ take limit (filter (is_within low.now high.now) mine))) }
-        ensures part { IfOk result (λ found. IsPieceOf (span_of S.content self.old until.now) low.now high.now limit (map entry found)) }
+        ensures part { IfOk result
+            (λ found. IsPieceOf (span_of S.content self.old until.now) low.now high.now limit
+            (map entry found)) }
         ensures from { self.new.from ≡ self.old.from }
         ensures same { S.content self.new.store ≡ S.content self.old.store }
         ensures cause { HasCause (S.faults self.old.store) (S.faults self.new.store) result }
-        ensures tally { HasAsked tally.old tally.new (number_met low.now high.now (span_of S.content self.old until.now ∷ [])) limit (ranged_entries result) result }
+        ensures tally { HasAsked tally.old tally.new
+            (number_met low.now high.now (span_of S.content self.old until.now ∷ [])) limit
+            (ranged_entries result) result }
     {
         if limit == 0 || !self.meets(low, high, until) {
             return Ok(List::new(alloc));
@@ -81,7 +85,9 @@ impl<S> Part<S> {
         ensures from { self.new.from ≡ self.old.from }
         ensures same { S.content self.new.store ≡ S.content self.old.store }
         ensures cause { HasCause (S.faults self.old.store) (S.faults self.new.store) result }
-        ensures tally { HasAsked tally.old tally.new (number_met low.now high.now (span_of S.content self.old until.now ∷ [])) cap (counted_entries result) result }
+        ensures tally { HasAsked tally.old tally.new
+            (number_met low.now high.now (span_of S.content self.old until.now ∷ [])) cap
+            (counted_entries result) result }
     {
         if cap == 0 || !self.meets(low, high, until) {
             return Ok(0);

@@ -2,10 +2,10 @@
 ghost use Rattle.std.specs.Prelude.{◌≡◌, ◌≤◌, ◌<◌, ◌+◌, ◌++◌, ◌⊎◌, ◌↔◌, IfSome, IfOk, IfErr, IsOk, OnOk, IsErrOf, OnErr, IsTrue, map, take, drop, length, min};
 ghost use Rattle.std.specs.Option.{option_map, option_copied};
 ghost use Rattle.std.specs.FinMap.{get as value_at};
-ghost use Rattle.pq_store.specs.Counts.{charged};
+ghost use Rattle.pq_store.specs.Counts.{charged_counts};
 ghost use Rattle.pq_store.specs.Content.{entry, pairs_within, after_write, admits, got_entries, ranged_entries, counted_entries, IsPartOf, HasCause};
-ghost use Rattle.pq_parts.specs.Tally.{counted, HasAsked};
-ghost use Rattle.pq_parts.specs.Spans.{IsPlacement, are_rising, has_key, first_from, firsts, spans, joined, number_met, faults_of};
+ghost use Rattle.pq_parts.specs.Tally.{counted_call, HasAsked};
+ghost use Rattle.pq_parts.specs.Spans.{IsPlacement, are_rising, has_key, first_from, firsts, spans, joined_content, number_met, faults_of};
 ghost use Rattle.pq_parts.specs.Gathered.{IsGathered, IsPieceAt, IsCountAt};
 
 use crate::part::Part;
@@ -25,9 +25,9 @@ pub struct PartStore<S, N: Ledger> {
 }
 
 impl<S, N: Ledger> Model for PartStore<S, N> {
-    ghost use Rattle.pq_parts.specs.Spans.{Placed, IsPlacement};
+    ghost use Rattle.pq_parts.specs.Spans.{PlacedNode, IsPlacement};
 
-    ghost Value = { Placed S };
+    ghost Value = { PlacedNode S };
 
     ghost view = { λ p. record { parts = p.parts.items; tally = p.tally } };
 
@@ -68,7 +68,8 @@ impl<S, N: Ledger> PartStore<S, N> {
     where
         N: Drop,
         ensures placed { IsOk result ↔ IsPlacement parts }
-        ensures store { IfOk result (λ store. store ≡ record { parts = parts; tally = record { nodes = nodes; ops = 0; entries = 0 } }) }
+        ensures store { IfOk result (λ store. store
+            ≡ record { parts = parts; tally = record { nodes = nodes; ops = 0; entries = 0 } }) }
         ensures back { IfErr result (λ back. back ≡ parts) }
     {
         if !are_placed(parts.items()) {
@@ -115,13 +116,15 @@ impl<S: Store<N>, N: Ledger> PartStore<S, N> {
         high: &[u8],
         limit: u32,
     ) -> Result<List<Pair>, StoreErr>
-        ensures answer { IfOk result (λ found. IfSome (joined (spans S.content self.old.parts)) (λ pairs.
+        ensures answer { IfOk result (λ found. IfSome (joined_content (spans S.content self.old.parts)) (λ pairs.
             map entry found ≡ take limit (pairs_within pairs low.now high.now))) }
         ensures part { IfOk result (λ found. IsPartOf low.now high.now limit (map entry found)) }
         ensures same { spans S.content self.new.parts ≡ spans S.content self.old.parts }
         ensures cause { HasCause (faults_of S.faults self.old.parts) (faults_of S.faults self.new.parts) result }
         ensures places { firsts self.new.parts ≡ firsts self.old.parts }
-        ensures nodes { HasAsked self.old.tally self.new.tally (number_met low.now high.now (spans S.content self.old.parts)) limit (ranged_entries result) result }
+        ensures nodes { HasAsked self.old.tally self.new.tally
+            (number_met low.now high.now (spans S.content self.old.parts)) limit (ranged_entries result)
+            result }
     {
         let mut found = List::new(alloc);
         for at in 0..self.parts.len() {
@@ -142,10 +145,16 @@ impl<S: Store<N>, N: Ledger> PartStore<S, N> {
     ) -> Result<(), StoreErr>
         requires within { at < length self.old.parts }
         requires few { length found.old ≤ limit }
-        ensures gathers { (before : _) → OnOk result (IsGathered (spans S.content self.old.parts) before self.old.tally at low.now high.now limit (map entry found.old)
-            → IsGathered (spans S.content self.old.parts) before self.new.tally (at + 1) low.now high.now limit (map entry found.new)) }
-        ensures nodes { (before : _) → OnErr result (IsGathered (spans S.content self.old.parts) before self.old.tally at low.now high.now limit (map entry found.old)
-            → HasAsked before self.new.tally (number_met low.now high.now (spans S.content self.old.parts)) limit 0 result) }
+        ensures gathers { (before : _)
+            → OnOk result (IsGathered (spans S.content self.old.parts) before self.old.tally at low.now high.now
+            limit (map entry found.old)
+            → IsGathered (spans S.content self.old.parts) before self.new.tally (at + 1) low.now high.now limit
+            (map entry found.new)) }
+        ensures nodes { (before : _)
+            → OnErr result (IsGathered (spans S.content self.old.parts) before self.old.tally at low.now
+            high.now limit (map entry found.old)
+            → HasAsked before self.new.tally (number_met low.now high.now (spans S.content self.old.parts))
+            limit 0 result) }
         ensures same { spans S.content self.new.parts ≡ spans S.content self.old.parts }
         ensures cause { HasCause (faults_of S.faults self.old.parts) (faults_of S.faults self.new.parts) result }
         ensures places { firsts self.new.parts ≡ firsts self.old.parts }
@@ -170,7 +179,8 @@ impl<S: Store<N>, N: Ledger> PartStore<S, N> {
         limit: u32,
     ) -> Result<List<Pair>, StoreErr>
         requires { at < length self.old.parts }
-        ensures piece { IsPieceAt (spans S.content self.old.parts) at low.now high.now limit self.old.tally self.new.tally result }
+        ensures piece { IsPieceAt (spans S.content self.old.parts) at low.now high.now limit self.old.tally
+            self.new.tally result }
         ensures same { spans S.content self.new.parts ≡ spans S.content self.old.parts }
         ensures cause { HasCause (faults_of S.faults self.old.parts) (faults_of S.faults self.new.parts) result }
         ensures places { firsts self.new.parts ≡ firsts self.old.parts }
@@ -193,7 +203,8 @@ impl<S: Store<N>, N: Ledger> PartStore<S, N> {
     ) -> Result<List<Pair>, StoreErr>
         requires within { at < length self.old.parts }
         requires end { until.now ≡ first_from (drop (at + 1) self.old.parts) }
-        ensures piece { IsPieceAt (spans S.content self.old.parts) at low.now high.now limit self.old.tally self.new.tally result }
+        ensures piece { IsPieceAt (spans S.content self.old.parts) at low.now high.now limit self.old.tally
+            self.new.tally result }
         ensures same { spans S.content self.new.parts ≡ spans S.content self.old.parts }
         ensures cause { HasCause (faults_of S.faults self.old.parts) (faults_of S.faults self.new.parts) result }
         ensures places { firsts self.new.parts ≡ firsts self.old.parts }
@@ -215,13 +226,14 @@ impl<S: Store<N>, N: Ledger> PartStore<S, N> {
 
     // The number of pairs of the range: the parts in order.
     fn total(&mut self, alloc: Global, low: &[u8], high: &[u8], cap: u32) -> Result<u32, StoreErr>
-        ensures answer { IfOk result (λ n. IfSome (joined (spans S.content self.old.parts)) (λ pairs.
+        ensures answer { IfOk result (λ n. IfSome (joined_content (spans S.content self.old.parts)) (λ pairs.
             n ≡ min cap (length (pairs_within pairs low.now high.now)))) }
         ensures few { IfOk result (λ n. n ≤ cap) }
         ensures same { spans S.content self.new.parts ≡ spans S.content self.old.parts }
         ensures cause { HasCause (faults_of S.faults self.old.parts) (faults_of S.faults self.new.parts) result }
         ensures places { firsts self.new.parts ≡ firsts self.old.parts }
-        ensures nodes { HasAsked self.old.tally self.new.tally (number_met low.now high.now (spans S.content self.old.parts)) cap (counted_entries result) result }
+        ensures nodes { HasAsked self.old.tally self.new.tally
+            (number_met low.now high.now (spans S.content self.old.parts)) cap (counted_entries result) result }
     {
         let mut n = 0;
         for at in 0..self.parts.len() {
@@ -240,7 +252,8 @@ impl<S: Store<N>, N: Ledger> PartStore<S, N> {
         cap: u32,
     ) -> Result<u32, StoreErr>
         requires { at < length self.old.parts }
-        ensures number { IsCountAt (spans S.content self.old.parts) at low.now high.now cap self.old.tally self.new.tally result }
+        ensures number { IsCountAt (spans S.content self.old.parts) at low.now high.now cap self.old.tally
+            self.new.tally result }
         ensures same { spans S.content self.new.parts ≡ spans S.content self.old.parts }
         ensures cause { HasCause (faults_of S.faults self.old.parts) (faults_of S.faults self.new.parts) result }
         ensures places { firsts self.new.parts ≡ firsts self.old.parts }
@@ -263,7 +276,8 @@ impl<S: Store<N>, N: Ledger> PartStore<S, N> {
     ) -> Result<u32, StoreErr>
         requires within { at < length self.old.parts }
         requires end { until.now ≡ first_from (drop (at + 1) self.old.parts) }
-        ensures number { IsCountAt (spans S.content self.old.parts) at low.now high.now cap self.old.tally self.new.tally result }
+        ensures number { IsCountAt (spans S.content self.old.parts) at low.now high.now cap self.old.tally
+            self.new.tally result }
         ensures same { spans S.content self.new.parts ≡ spans S.content self.old.parts }
         ensures cause { HasCause (faults_of S.faults self.old.parts) (faults_of S.faults self.new.parts) result }
         ensures places { firsts self.new.parts ≡ firsts self.old.parts }
@@ -283,9 +297,9 @@ fn append(alloc: Global, found: &mut List<Pair>, piece: List<Pair>) -> Result<()
 }
 
 impl<S: Store<N>, N: Ledger, L: Ledger> Store<L> for PartStore<S, N> {
-    ghost use Rattle.pq_parts.specs.Spans.{spans, joined, faults_of};
+    ghost use Rattle.pq_parts.specs.Spans.{spans, joined_content, faults_of};
 
-    ghost content = { λ s. joined (spans S.content s.parts) };
+    ghost content = { λ s. joined_content (spans S.content s.parts) };
 
     ghost faults = { λ s. faults_of S.faults s.parts };
 
@@ -296,12 +310,13 @@ impl<S: Store<N>, N: Ledger, L: Ledger> Store<L> for PartStore<S, N> {
         key: &[u8],
         meter: &mut Meter<L>,
     ) -> Result<Option<Bytes>, StoreErr>
-        ensures answer { IfOk result (λ found. IfSome (joined (spans S.content self.old.parts)) (λ pairs. found ≡ value_at pairs key.now)) }
-        ensures same { joined (spans S.content self.new.parts) ≡ joined (spans S.content self.old.parts) }
+        ensures answer { IfOk result (λ found. IfSome (joined_content (spans S.content self.old.parts))
+            (λ pairs. found ≡ value_at pairs key.now)) }
+        ensures same { joined_content (spans S.content self.new.parts) ≡ joined_content (spans S.content self.old.parts) }
         ensures cause { HasCause (faults_of S.faults self.old.parts) (faults_of S.faults self.new.parts) result }
-        ensures meter { meter.new ≡ charged meter.old (got_entries result) }
+        ensures meter { meter.new ≡ charged_counts meter.old (got_entries result) }
         ensures places { firsts self.new.parts ≡ firsts self.old.parts }
-        ensures nodes { self.new.tally ≡ counted self.old.tally 1 (got_entries result) }
+        ensures nodes { self.new.tally ≡ counted_call self.old.tally 1 (got_entries result) }
     {
         let at = self.place(key);
         let found = self.tally.get(alloc, &mut self.parts[at].store, key);
@@ -322,14 +337,16 @@ impl<S: Store<N>, N: Ledger, L: Ledger> Store<L> for PartStore<S, N> {
         meter: &mut Meter<L>,
     ) -> Result<List<Pair>, StoreErr>
         requires { 1 ≤ limit }
-        ensures answer { IfOk result (λ found. IfSome (joined (spans S.content self.old.parts)) (λ pairs.
+        ensures answer { IfOk result (λ found. IfSome (joined_content (spans S.content self.old.parts)) (λ pairs.
             map entry found ≡ take limit (pairs_within pairs low.now high.now))) }
         ensures part { IfOk result (λ found. IsPartOf low.now high.now limit (map entry found)) }
-        ensures same { joined (spans S.content self.new.parts) ≡ joined (spans S.content self.old.parts) }
+        ensures same { joined_content (spans S.content self.new.parts) ≡ joined_content (spans S.content self.old.parts) }
         ensures cause { HasCause (faults_of S.faults self.old.parts) (faults_of S.faults self.new.parts) result }
-        ensures meter { meter.new ≡ charged meter.old (ranged_entries result) }
+        ensures meter { meter.new ≡ charged_counts meter.old (ranged_entries result) }
         ensures places { firsts self.new.parts ≡ firsts self.old.parts }
-        ensures nodes { HasAsked self.old.tally self.new.tally (number_met low.now high.now (spans S.content self.old.parts)) limit (ranged_entries result) result }
+        ensures nodes { HasAsked self.old.tally self.new.tally
+            (number_met low.now high.now (spans S.content self.old.parts)) limit (ranged_entries result)
+            result }
     {
         match self.collect(alloc, low, high, limit) {
             Ok(found) => {
@@ -352,14 +369,15 @@ impl<S: Store<N>, N: Ledger, L: Ledger> Store<L> for PartStore<S, N> {
         cap: u32,
         meter: &mut Meter<L>,
     ) -> Result<u32, StoreErr>
-        ensures answer { IfOk result (λ n. IfSome (joined (spans S.content self.old.parts)) (λ pairs.
+        ensures answer { IfOk result (λ n. IfSome (joined_content (spans S.content self.old.parts)) (λ pairs.
             n ≡ min cap (length (pairs_within pairs low.now high.now)))) }
         ensures few { IfOk result (λ n. n ≤ cap) }
-        ensures same { joined (spans S.content self.new.parts) ≡ joined (spans S.content self.old.parts) }
+        ensures same { joined_content (spans S.content self.new.parts) ≡ joined_content (spans S.content self.old.parts) }
         ensures cause { HasCause (faults_of S.faults self.old.parts) (faults_of S.faults self.new.parts) result }
-        ensures meter { meter.new ≡ charged meter.old (counted_entries result) }
+        ensures meter { meter.new ≡ charged_counts meter.old (counted_entries result) }
         ensures places { firsts self.new.parts ≡ firsts self.old.parts }
-        ensures nodes { HasAsked self.old.tally self.new.tally (number_met low.now high.now (spans S.content self.old.parts)) cap (counted_entries result) result }
+        ensures nodes { HasAsked self.old.tally self.new.tally
+            (number_met low.now high.now (spans S.content self.old.parts)) cap (counted_entries result) result }
     {
         match self.total(alloc, low, high, cap) {
             Ok(n) => {
@@ -382,18 +400,22 @@ impl<S: Store<N>, N: Ledger, L: Ledger> Store<L> for PartStore<S, N> {
         new: Option<&[u8]>,
         meter: &mut Meter<L>,
     ) -> Result<bool, StoreErr>
-        ensures answer { IfOk result (λ done. IfSome (joined (spans S.content self.old.parts)) (λ pairs.
+        ensures answer { IfOk result (λ done. IfSome (joined_content (spans S.content self.old.parts)) (λ pairs.
             done ≡ admits guard.entry (value_at pairs key.now))) }
-        ensures content { OnOk result (joined (spans S.content self.new.parts)
-            ≡ option_map (after_write guard.entry key.now (option_copied new.entry)) (joined (spans S.content self.old.parts))) }
-        ensures no_memory { IsErrOf result StoreErr.NoMem → joined (spans S.content self.new.parts) ≡ joined (spans S.content self.old.parts) }
-        ensures failed { IsErrOf result StoreErr.Failed → (joined (spans S.content self.new.parts) ≡ joined (spans S.content self.old.parts))
-            ⊎ (joined (spans S.content self.new.parts)
-            ≡ option_map (after_write guard.entry key.now (option_copied new.entry)) (joined (spans S.content self.old.parts))) }
+        ensures content { OnOk result (joined_content (spans S.content self.new.parts)
+            ≡ option_map (after_write guard.entry key.now (option_copied new.entry))
+            (joined_content (spans S.content self.old.parts))) }
+        ensures no_memory { IsErrOf result StoreErr.NoMem
+            → joined_content (spans S.content self.new.parts) ≡ joined_content (spans S.content self.old.parts) }
+        ensures failed { IsErrOf result StoreErr.Failed
+            → (joined_content (spans S.content self.new.parts) ≡ joined_content (spans S.content self.old.parts))
+            ⊎ (joined_content (spans S.content self.new.parts)
+            ≡ option_map (after_write guard.entry key.now (option_copied new.entry))
+            (joined_content (spans S.content self.old.parts))) }
         ensures cause { HasCause (faults_of S.faults self.old.parts) (faults_of S.faults self.new.parts) result }
-        ensures meter { meter.new ≡ charged meter.old 0 }
+        ensures meter { meter.new ≡ charged_counts meter.old 0 }
         ensures places { firsts self.new.parts ≡ firsts self.old.parts }
-        ensures nodes { self.new.tally ≡ counted self.old.tally 1 0 }
+        ensures nodes { self.new.tally ≡ counted_call self.old.tally 1 0 }
     {
         meter.charge(0);
         let at = self.place(key);

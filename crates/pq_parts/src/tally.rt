@@ -3,7 +3,7 @@ ghost use Rattle.std.specs.Prelude.{◌≡◌, ◌⊎◌, IfSome, IfOk, OnOk, Is
 ghost use Rattle.std.specs.Option.{option_map, option_copied};
 ghost use Rattle.std.specs.FinMap.{get as value_at};
 ghost use Rattle.pq_store.specs.Content.{entry, pairs_within, after_write, admits, got_entries, ranged_entries, counted_entries, IsPartOf, HasCause};
-ghost use Rattle.pq_parts.specs.Tally.{raised, counted};
+ghost use Rattle.pq_parts.specs.Tally.{raised_number, counted_call};
 
 use pq_base::{Bytes, List};
 use pq_store::{Guard, Meter, Pair, Store, StoreErr};
@@ -21,16 +21,16 @@ pub struct Tally<N: Ledger> {
 }
 
 impl<N: Ledger> Model for Tally<N> {
-    ghost use Rattle.pq_parts.specs.Tally.{Tallied};
+    ghost use Rattle.pq_parts.specs.Tally.{TalliedCalls};
 
-    ghost Value = { Tallied };
+    ghost Value = { TalliedCalls };
 
     ghost view = { λ t. record { nodes = t.meter; ops = t.ops; entries = t.entries } };
 }
 
 // The number raised by so much, up to its end.
 fn raised(number: u64, more: u64) -> u64
-    ensures { result ≡ raised number more }
+    ensures { result ≡ raised_number number more }
 {
     number.saturating_add(more)
 }
@@ -64,8 +64,8 @@ impl<N: Ledger> Tally<N> {
     // Raises the numbers beside the meter by one call that answered so many entries.
     fn note(&mut self, entries: u32)
         ensures meter { self.new.nodes ≡ self.old.nodes }
-        ensures ops { self.new.ops ≡ raised self.old.ops 1 }
-        ensures entries { self.new.entries ≡ raised self.old.entries entries }
+        ensures ops { self.new.ops ≡ raised_number self.old.ops 1 }
+        ensures entries { self.new.entries ≡ raised_number self.old.entries entries }
     {
         self.ops = raised(self.ops, 1);
         self.entries = raised(self.entries, entries as u64);
@@ -81,7 +81,7 @@ impl<N: Ledger> Tally<N> {
         ensures answer { IfOk result (λ found. IfSome (S.content node.old) (λ pairs. found ≡ value_at pairs key.now)) }
         ensures same { S.content node.new ≡ S.content node.old }
         ensures cause { HasCause (S.faults node.old) (S.faults node.new) result }
-        ensures counts { self.new ≡ counted self.old 1 (got_entries result) }
+        ensures counts { self.new ≡ counted_call self.old 1 (got_entries result) }
     {
         let found = node.get(alloc, key, &mut self.meter);
         match &found {
@@ -106,7 +106,7 @@ impl<N: Ledger> Tally<N> {
         ensures part { IfOk result (λ found. IsPartOf low.now high.now limit (map entry found)) }
         ensures same { S.content node.new ≡ S.content node.old }
         ensures cause { HasCause (S.faults node.old) (S.faults node.new) result }
-        ensures counts { self.new ≡ counted self.old 1 (ranged_entries result) }
+        ensures counts { self.new ≡ counted_call self.old 1 (ranged_entries result) }
     {
         let found = node.range(alloc, low, high, limit, &mut self.meter);
         match &found {
@@ -130,7 +130,7 @@ impl<N: Ledger> Tally<N> {
         ensures few { IfOk result (λ n. n ≤ cap) }
         ensures same { S.content node.new ≡ S.content node.old }
         ensures cause { HasCause (S.faults node.old) (S.faults node.new) result }
-        ensures counts { self.new ≡ counted self.old 1 (counted_entries result) }
+        ensures counts { self.new ≡ counted_call self.old 1 (counted_entries result) }
     {
         let found = node.count(alloc, low, high, cap, &mut self.meter);
         match &found {
@@ -151,12 +151,14 @@ impl<N: Ledger> Tally<N> {
     ) -> Result<bool, StoreErr>
         ensures answer { IfOk result (λ done. IfSome (S.content node.old) (λ pairs.
             done ≡ admits guard.entry (value_at pairs key.now))) }
-        ensures content { OnOk result (S.content node.new ≡ option_map (after_write guard.entry key.now (option_copied new.entry)) (S.content node.old)) }
+        ensures content { OnOk result (S.content node.new
+            ≡ option_map (after_write guard.entry key.now (option_copied new.entry)) (S.content node.old)) }
         ensures no_memory { IsErrOf result StoreErr.NoMem → S.content node.new ≡ S.content node.old }
         ensures failed { IsErrOf result StoreErr.Failed → (S.content node.new ≡ S.content node.old)
-            ⊎ (S.content node.new ≡ option_map (after_write guard.entry key.now (option_copied new.entry)) (S.content node.old)) }
+            ⊎ (S.content node.new
+            ≡ option_map (after_write guard.entry key.now (option_copied new.entry)) (S.content node.old)) }
         ensures cause { HasCause (S.faults node.old) (S.faults node.new) result }
-        ensures counts { self.new ≡ counted self.old 1 0 }
+        ensures counts { self.new ≡ counted_call self.old 1 0 }
     {
         let done = node.write(alloc, key, guard, new, &mut self.meter);
         self.note(0);

@@ -13,10 +13,10 @@ use Rattle.pq_schema.specs.declared.query.Relation.{Relation}
 use Rattle.pq_schema.specs.declared.query.Query.{Query}
 use Rattle.pq_schema.specs.Sound.{IsQuery, IsLinked, IsNamedPred, IsNamedSide}
 use Rattle.pq_schema.specs.Tables.{table_at, is_lookup, applies, least_of, least_limit, no_table}
-use Rattle.pq_schema.specs.Relations.{relation_at, no_relation, table_of, later, ties, fixed}
+use Rattle.pq_schema.specs.Relations.{relation_at, no_relation, table_of, later, ties, tied_set}
 use Rattle.pq_schema.specs.Candidates.{bound_at}
 use Rattle.pq_base.specs.Members.{In, Apart}
-use Rattle.pq_plan.specs.Answer.{Asked, rows_of, rows_at, compares}
+use Rattle.pq_plan.specs.Answer.{Question, rows_of, rows_at, compares}
 use Rattle.pq_plan.specs.Kept.{row_cmp, cells, IsNumber, KeepsSchema}
 use Rattle.pq_plan.specs.Meaning.{key_of}
 use Rattle.pq_base.proofs.Members.{each_in, each_by_in, in_filter, filter_none, all_member, at_in}
@@ -61,7 +61,7 @@ few_of_key columns v (w ∷ rows) h =
     ] refl
 
 module _ (tables : List Table) (query : Query) (rows : List (ℕ × List Value)) (params : List Value) (sound : IsQuery tables query) (kept : KeepsSchema tables rows) where
-  abbrev pub asked : Asked
+  abbrev pub asked : Question
   asked = record { tables = tables; query = query; rows = rows; params = params }
 
   pub named : (p : Pred) → In p query.preds → IsNamedPred (length query.relations) p
@@ -125,7 +125,7 @@ module _ (tables : List Table) (query : Query) (rows : List (ℕ × List Value))
   bounds : (i n : ℕ) → bound_at tables query i ≡ Some n → Limited asked i n
   bounds i n h =
       let table = table_of tables query i in
-      elim (is_lookup table (fixed query i)) as (λ b. is_lookup table (fixed query i) ≡ b → cond b (Some 1) (least_limit table (fixed query i)) ≡ Some n → Limited asked i n) [
+      elim (is_lookup table (tied_set query i)) as (λ b. is_lookup table (tied_set query i) ≡ b → cond b (Some 1) (least_limit table (tied_set query i)) ≡ Some n → Limited asked i n) [
         | true ↦ λ is e.
             let one : 1 ≡ n = cc in
             record {
@@ -134,8 +134,8 @@ module _ (tables : List Table) (query : Query) (rows : List (ℕ × List Value))
               few = λ v. subst (λ (m : ℕ). length (filter (λ r. eq_by_cmp row_cmp (cells table.key r) v) (rows_at asked i)) ≤ m) one (few_of_key table.key v (rows_at asked i) (keys i));
             }
         | false ↦ λ _ e.
-            let l = least_is n (filter (applies (fixed query i)) table.limits) e in
-            let f = in_filter (applies (fixed query i)) l.0 table.limits l.1 in
+            let l = least_is n (filter (applies (tied_set query i)) table.limits) e in
+            let f = in_filter (applies (tied_set query i)) l.0 table.limits l.1 in
             record {
               columns = l.0.cols;
               tied = tied asked named i l.0.cols (within_members l.0.cols (fixed_columns i) f.1);

@@ -7,7 +7,7 @@ use Rattle.pq_base.specs.declared.number.Choice.{Choice}
 use Rattle.pq_base.specs.declared.number.Choice.TheVariants.{Whole, Stop}
 use Rattle.pq_schema.specs.declared.table.Table.{Table}
 use Rattle.pq_schema.specs.declared.query.Query.{Query}
-use Rattle.pq_schema.specs.Candidates.{Candidate, are_bounded, reached_after, can_stop_at, stop_at, stop_cost, stop_size, whole, candidates}
+use Rattle.pq_schema.specs.Candidates.{Candidate, are_bounded, reached_after, can_stop_at, stop_at, stop_cost, stop_size, whole_candidates, candidates}
 use Rattle.pq_base.specs.Members.{In}
 use Rattle.pq_plan.specs.Plans.{HasChoice}
 use Rattle.pq_base.proofs.Members.{in_map, in_either, in_flat_map, in_range}
@@ -31,7 +31,7 @@ cost_of tables query Whole = (reached_after tables query (length query.relations
 cost_of tables query (Stop p) = stop_cost tables query (option_map_or (λ k. k) (stop_size query.stop) 0) p
 
 module _ (tables : List Table) (query : Query) where
-  in_whole : (c : Candidate) → In c (whole tables query) → Has tables query c.choice × (c.bound ≡ cost_of tables query c.choice)
+  in_whole : (c : Candidate) → In c (whole_candidates tables query) → Has tables query c.choice × (c.bound ≡ cost_of tables query c.choice)
   in_whole c h =
       elim (are_bounded tables query (length query.relations)) as (λ b. are_bounded tables query (length query.relations) ≡ b → In c (cond b (record { choice = Whole; bound = (reached_after tables query (length query.relations)).cost } ∷ []) []) → Has tables query c.choice × (c.bound ≡ cost_of tables query c.choice)) [
         | true ↦ λ is i. elim i [
@@ -61,7 +61,7 @@ module _ (tables : List Table) (query : Query) where
 
   -- a candidate has its conditions and its cost
   pub candidate_has : (c : Candidate) → In c (candidates tables query) → Has tables query c.choice × (c.bound ≡ cost_of tables query c.choice)
-  candidate_has c h = elim (in_either c (whole tables query) _ h) [
+  candidate_has c h = elim (in_either c (whole_candidates tables query) _ h) [
     | inl first ↦ in_whole c first
     | inr later ↦ in_stops (stop_size query.stop) refl c later
   ]

@@ -6,14 +6,14 @@ use Rattle.std.proofs.lemmas.List.{length_push}
 use Rattle.pq_base.specs.declared.value.Value.{Value}
 use Rattle.pq_schema.specs.declared.query.Pred.{Pred}
 use Rattle.pq_schema.specs.Relations.{belongs_to}
-use Rattle.pq_plan.specs.Answer.{Asked, holds, rows_at, product, combos}
+use Rattle.pq_plan.specs.Answer.{Question, holds, rows_at, product, combos}
 use Rattle.pq_plan.specs.Meaning.{keeps, partners, followed, read, mean}
 use Rattle.pq_plan.specs.Rewrites.{reads_tree}
 use Rattle.pq_base.specs.Members.{In}
 use Rattle.pq_plan.proofs.Laws.{IsOf}
 use Rattle.pq_base.proofs.Members.{each_by_in, filter_all, filter_none, filter_same, filter-map, filter-flat_map, flat_map-filter, in_flat_map, in_map, in_filter}
 
-module _ (q : Asked) where
+module _ (q : Question) where
   -- the combinations of the first i relations that pass
   abbrev pub reads : ℕ → List (List (List Value))
   reads zero = [] ∷ []

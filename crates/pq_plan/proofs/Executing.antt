@@ -17,10 +17,10 @@ use Rattle.pq_schema.specs.declared.query.Query.{Query}
 use Rattle.pq_schema.specs.Sound.{IsQuery}
 use Rattle.pq_schema.specs.Sequences.{group_access}
 use Rattle.pq_schema.specs.Tables.{is_lookup, limit_place}
-use Rattle.pq_schema.specs.Relations.{table_of, fixed}
+use Rattle.pq_schema.specs.Relations.{table_of, tied_set}
 use Rattle.pq_schema.specs.Candidates.{no_limit, bound_at, are_bounded, stop_size}
 use Rattle.pq_base.specs.Members.{In, Apart}
-use Rattle.pq_plan.specs.Answer.{Asked, rows_at, in_order, first_past, stopped, whole, answered}
+use Rattle.pq_plan.specs.Answer.{Question, rows_at, in_order, first_past, stopped, whole, answered}
 use Rattle.pq_plan.specs.Kept.{row_cmp, cells, KeepsSchema}
 use Rattle.pq_plan.specs.Meaning.{keeps, key_of, read, combo_cmp}
 use Rattle.pq_plan.specs.Nodes.{Node, lookup, limit_range, stop_scan, keep, sort, cut, project, read_nodes, range_nodes, stop_access, choice_nodes, plan_nodes}
@@ -45,12 +45,12 @@ use Rattle.pq_plan.proofs.Totals.{pushable}
 use Rattle.pq_plan.proofs.PlanMeaning.{range_more}
 
 -- what several nodes give goes through what the first of them give
-gives_split : (q : Asked) (after : Option (List Value)) (xs ys : List Node) (inputs found : List (List (List Value))) → Gives q after inputs (xs ++ ys) found → (made : List (List (List Value))) × Gives q after inputs xs made × Gives q after made ys found
+gives_split : (q : Question) (after : Option (List Value)) (xs ys : List Node) (inputs found : List (List (List Value))) → Gives q after inputs (xs ++ ys) found → (made : List (List (List Value))) × Gives q after inputs xs made × Gives q after made ys found
 gives_split q after [] ys inputs found h = (inputs, refl, h)
 gives_split q after (x ∷ xs) ys inputs found h = let rest = gives_split q after xs ys h.0 found h.2 in (rest.0, (h.0, h.1, rest.1), rest.2)
 
 module _ (tables : List Table) (query : Query) (rows : List (ℕ × List Value)) (params : List Value) (sound : IsQuery tables query) (kept : KeepsSchema tables rows) (after : Option (List Value)) where
-  abbrev q : Asked
+  abbrev q : Question
   q = asked tables query rows params sound kept
 
   abbrev Combinations : Type 0
@@ -88,7 +88,7 @@ module _ (tables : List Table) (query : Query) (rows : List (ℕ × List Value))
       each [] h = tt
       each (r ∷ rs) h = (one r rs h.0, each rs h.1)
 
-  abbrev tied : (i : ℕ) (cols : List ℕ) → is_within (set_of cols) (fixed query i) ≡ true → (k : ℕ) → In k cols → In k (fixed_columns tables query rows params sound kept i)
+  abbrev tied : (i : ℕ) (cols : List ℕ) → is_within (set_of cols) (tied_set query i) ≡ true → (k : ℕ) → In k cols → In k (fixed_columns tables query rows params sound kept i)
   tied i cols h = within_members cols (fixed_columns tables query rows params sound kept i) h
 
   abbrev of_limit : ℕ → ℕ → List Node
@@ -115,7 +115,7 @@ module _ (tables : List Table) (query : Query) (rows : List (ℕ × List Value))
   run_read : (i : ℕ) → is_some (bound_at tables query (suc i)) ≡ true → (inputs found : Combinations) → SameAs i inputs → Gives q after inputs (read_nodes tables query (suc i)) found → SameAs (suc i) found
   run_read i bounded inputs found same run =
       let table = table_of tables query (suc i) in
-      let set = fixed query (suc i) in
+      let set = tied_set query (suc i) in
       let l = lengths i inputs same in
       elim (is_lookup table set) as (λ b. is_lookup table set ≡ b → Gives q after inputs (cond b (lookup (suc i) ∷ keep (suc i) ∷ []) (option_map_or (of_limit (suc i)) (limit_place table set) [])) found → SameAs (suc i) found) [
         | true ↦ λ is run.
@@ -178,7 +178,7 @@ module _ (tables : List Table) (query : Query) (rows : List (ℕ × List Value))
     run_lookup i a b found run =
         let is = (push.totals (suc i) (omega arith) b).lookup in
         let table = table_of tables query (suc i) in
-        let run' : Gives q after (at i) (lookup (suc i) ∷ keep (suc i) ∷ []) found = subst (λ (b : Bool). Gives q after (at i) (cond b (lookup (suc i) ∷ keep (suc i) ∷ []) (option_map_or (of_limit (suc i)) (limit_place table (fixed query (suc i))) [])) found) is run in
+        let run' : Gives q after (at i) (lookup (suc i) ∷ keep (suc i) ∷ []) found = subst (λ (b : Bool). Gives q after (at i) (cond b (lookup (suc i) ∷ keep (suc i) ∷ []) (option_map_or (of_limit (suc i)) (limit_place table (tied_set query (suc i))) [])) found) is run in
         let l = each_by_in _ (at i) (λ c h. ap suc (long q i c (in_stopped q d premises p can.size push after i c h))) in
         run'.2.2 ∙ run'.2.1 ∙ ap (filter (keeps q (suc i))) run'.1
         ∙ lookup_filtered q (named tables query rows params sound kept) (suc i) (keys tables query rows params sound kept (suc i)) (tied (suc i) table.key is) (at i) l

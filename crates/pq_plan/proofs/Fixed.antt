@@ -15,7 +15,7 @@ use Rattle.pq_schema.specs.declared.query.Pred.{Pred}
 use Rattle.pq_schema.specs.Sound.{IsNamedSide, IsNamedPred}
 use Rattle.pq_schema.specs.Relations.{later, belongs_to, is_equality, is_before, ties}
 use Rattle.pq_base.specs.Members.{In}
-use Rattle.pq_plan.specs.Answer.{Asked, row_of, cell, side, compares, holds, no_value}
+use Rattle.pq_plan.specs.Answer.{Question, row_of, cell, side, compares, holds, no_value}
 use Rattle.pq_plan.specs.Kept.{cells}
 use Rattle.pq_plan.specs.Meaning.{keeps}
 use Rattle.pq_plan.specs.Running.{tied_value, is_match}
@@ -66,7 +66,7 @@ ties_belong i p h =
     same (operand.Param n) h = refl
     same (operand.Col col) h = let lt : col.rel < i = ltb-true col.rel i h in omega arith
 
-module _ (q : Asked) (named : (p : Pred) → In p q.query.preds → IsNamedPred (length q.query.relations) p) where
+module _ (q : Question) (named : (p : Pred) → In p q.query.preds → IsNamedPred (length q.query.relations) p) where
   -- a predicate that belongs to a relation holds where the relation's predicates do
   pub one_holds : (i : ℕ) (c : List (List Value)) → keeps q i c ≡ true → (p : Pred) → In p q.query.preds → belongs_to p ≡ i → holds q.params c p ≡ true
   one_holds i c h p here is = all_at (holds q.params c) (filter (λ p. belongs_to p == i) q.query.preds) h p (filter_in (λ p. belongs_to p == i) p q.query.preds here (eq-eqb _ _ is))

@@ -10,7 +10,7 @@ use Rattle.pq_schema.specs.declared.query.Pred.{Pred}
 use Rattle.pq_schema.specs.Sound.{IsNamedPred}
 use Rattle.pq_schema.specs.Relations.{ties}
 use Rattle.pq_base.specs.Members.{In, Apart}
-use Rattle.pq_plan.specs.Answer.{Asked, rows_at, compares, no_value}
+use Rattle.pq_plan.specs.Answer.{Question, rows_at, compares, no_value}
 use Rattle.pq_plan.specs.Kept.{row_cmp, cells}
 use Rattle.pq_plan.specs.Meaning.{keeps, partners, read, key_of}
 use Rattle.pq_plan.specs.Running.{tied_value, is_match, matching, looked_up, ranged}
@@ -20,10 +20,10 @@ use Rattle.pq_plan.proofs.Apart.{differs}
 use Rattle.pq_plan.proofs.Fixed.{both_are, passes_match}
 
 -- the columns are tied by equalities that belong to the relation
-abbrev pub AreTied : Asked → ℕ → List ℕ → Type 0
+abbrev pub AreTied : Question → ℕ → List ℕ → Type 0
 AreTied q i columns = (k : ℕ) → In k columns → In k (map (λ (p : Pred). p.left.col) (filter (ties i) q.query.preds))
 
-module _ (q : Asked) (named : (p : Pred) → In p q.query.preds → IsNamedPred (length q.query.relations) p) where
+module _ (q : Question) (named : (p : Pred) → In p q.query.preds → IsNamedPred (length q.query.relations) p) where
   -- of the rows that match, the predicates keep the partners
   kept_matching : (i : ℕ) (columns : List ℕ) → AreTied q i columns → (c : List (List Value)) → suc (length c) ≡ i → filter (λ r. keeps q i (c ++ r ∷ [])) (matching q i columns c) ≡ partners q i c
   kept_matching i columns tied c l =

@@ -14,11 +14,11 @@ use Rattle.pq_schema.specs.declared.table.Index.{Index}
 use Rattle.pq_schema.specs.declared.table.Access.TheVariants.{Primary, Secondary}
 use Rattle.pq_schema.specs.declared.query.Query.{Query}
 use Rattle.pq_schema.specs.Sound.{IsQuery}
-use Rattle.pq_schema.specs.Costs.{Reached, start, bound, plus, limit_cost, read_each, read_stop}
+use Rattle.pq_schema.specs.Costs.{ReachedCost, start, bound, plus, limit_cost, read_each, read_stop}
 use Rattle.pq_schema.specs.Sequences.{primary_sequence, index_sequence, begins_with, group_access, secondary, serves}
 use Rattle.pq_schema.specs.Tables.{table_at, is_lookup, limit_place, least_limit, data_bound}
 use Rattle.pq_schema.specs.Tables as tables_of
-use Rattle.pq_schema.specs.Relations.{table_of, relation_at, fixed, order_rest, is_total}
+use Rattle.pq_schema.specs.Relations.{table_of, relation_at, tied_set, order_rest, is_total}
 use Rattle.pq_schema.specs.Candidates.{no_limit, bound_at, read_next, reached_after, are_bounded, is_served, stop_cost, stop_size}
 use Rattle.pq_schema.specs.Rows.{IsWithin, KeepsSchema}
 use Rattle.pq_plan.specs.Cost.{is_primary_access}
@@ -54,7 +54,7 @@ access_primary table set h =
 served_access : (tables : List Table) (query : Query) (p : ℕ) → is_primary_access (stop_access tables query p) ≡ is_served tables query p
 served_access tables query p =
     let table = table_of tables query p in
-    let set = fixed query p in
+    let set = tied_set query p in
     let order = order_rest query p in
     let others = position (λ (index : Index). serves table set order (index_sequence table index)) table.indexes in
     elim (is_served tables query p) as (λ b. is_primary_access (unwrap_or (cond b (Some Primary) (option_map secondary others)) (Secondary (length table.indexes + 1))) ≡ b) [
@@ -64,10 +64,10 @@ served_access tables query p =
 
 module _ (tables : List Table) (query : Query) (sound : IsQuery tables query) where
   -- the nodes of a bounded relation cost what reading it does
-  read_step : (i : ℕ) → 1 ≤ i → i ≤ length query.relations → is_some (bound_at tables query i) ≡ true → (before : Reached) → fold step before (read_nodes tables query i) ≡ read_next tables query before i
+  read_step : (i : ℕ) → 1 ≤ i → i ≤ length query.relations → is_some (bound_at tables query i) ≡ true → (before : ReachedCost) → fold step before (read_nodes tables query i) ≡ read_next tables query before i
   read_step i low high bounded before =
       let table = table_of tables query i in
-      let set = fixed query i in
+      let set = tied_set query i in
       let limit_at = λ (place : ℕ). get_or table.limits place no_limit in
       let of_limit = λ (place : ℕ). limit_range i (place + 1) (limit_at place).n (unwrap_or (group_access table (set_of (limit_at place).cols)) Primary) ∷ keep i ∷ [] in
       let cost_at = λ (place : ℕ). limit_cost (tables_of.is_primary table (limit_at place)) (limit_at place).n in
@@ -107,21 +107,21 @@ module _ (tables : List Table) (query : Query) (sound : IsQuery tables query) wh
 
   module _ (p : ℕ) (can : CanStop tables query p) where
     -- each relation after the stop is a lookup
-    looked_up : (i : ℕ) → p < i → i ≤ length query.relations → is_lookup (table_of tables query i) (fixed query i) ≡ true
+    looked_up : (i : ℕ) → p < i → i ≤ length query.relations → is_lookup (table_of tables query i) (tied_set query i) ≡ true
     looked_up i above inside =
         (total tables query [] [] sound (no_rows_keep tables) i inside (all_at (is_total tables query) (range_with_len (p + 1) (length query.relations - p)) (and_parts _ _ can.can).1 i (range_in i (p + 1) (length query.relations - p) (omega arith) (omega arith)))).lookup
 
     -- so many lookups for each of so many inputs
-    abbrev more : Reached → ℕ → Reached
+    abbrev more : ReachedCost → ℕ → ReachedCost
     more r n = record { inputs = r.inputs; cost = plus r.cost (bound (r.inputs * n) (r.inputs * n)) }
 
-    none_more : (r : Reached) → r ≡ more r 0
+    none_more : (r : ReachedCost) → r ≡ more r 0
     none_more r =
         let ops : r.cost.ops ≡ r.cost.ops + r.inputs * 0 = omega arith in
         let entries : r.cost.entries ≡ r.cost.entries + r.inputs * 0 = omega arith in
         λ i. record { inputs = r.inputs; cost = record { ops = ops i; entries = entries i } }
 
-    one_more : (r : Reached) (n : ℕ) → read_each 1 (bound 1 1) (more r n) ≡ more r (suc n)
+    one_more : (r : ReachedCost) (n : ℕ) → read_each 1 (bound 1 1) (more r n) ≡ more r (suc n)
     one_more r n =
         let inputs : r.inputs * 1 ≡ r.inputs = omega arith in
         let again : r.inputs * suc n ≡ r.inputs * n + r.inputs = grind arith in
@@ -129,11 +129,11 @@ module _ (tables : List Table) (query : Query) (sound : IsQuery tables query) wh
         let entries : r.cost.entries + r.inputs * n + r.inputs * 1 ≡ r.cost.entries + r.inputs * suc n = omega (arith, again) in
         λ i. record { inputs = inputs i; cost = record { ops = ops i; entries = entries i } }
 
-    lookups_cost : (r : Reached) (n : ℕ) → p + n ≤ length query.relations → fold step r (range_nodes tables query (p + 1) n) ≡ more r n
+    lookups_cost : (r : ReachedCost) (n : ℕ) → p + n ≤ length query.relations → fold step r (range_nodes tables query (p + 1) n) ≡ more r n
     lookups_cost r zero h = none_more r
     lookups_cost r (suc n) h =
         let i = p + 1 + n in
-        let limited = option_map_or (λ place. let limit = get_or (table_of tables query i).limits place no_limit in limit_range i (place + 1) limit.n (unwrap_or (group_access (table_of tables query i) (set_of limit.cols)) Primary) ∷ keep i ∷ []) (limit_place (table_of tables query i) (fixed query i)) [] in
+        let limited = option_map_or (λ place. let limit = get_or (table_of tables query i).limits place no_limit in limit_range i (place + 1) limit.n (unwrap_or (group_access (table_of tables query i) (set_of limit.cols)) Primary) ∷ keep i ∷ []) (limit_place (table_of tables query i) (tied_set query i)) [] in
         ap (fold step r) (range_more tables query (p + 1) n)
         ∙ fold-append step r (range_nodes tables query (p + 1) n) (read_nodes tables query i)
         ∙ ap (λ s. fold step s (read_nodes tables query i)) (lookups_cost r n (omega arith))
@@ -153,7 +153,7 @@ module _ (tables : List Table) (query : Query) (sound : IsQuery tables query) wh
         fold-append step start (range_nodes tables query 1 (p - 1)) (scan ∷ [])
         ∙ ap (λ r. read_stop (unwrap_or (stop_size query.stop) 0) (is_primary_access (stop_access tables query p)) r) (reads_cost (p - 1) (omega arith) (each_bounded (p - 1) front))
         ∙ (λ j. read_stop (k j) (served_access tables query p j) before) in
-        ap (λ (r : Reached). r.cost)
+        ap (λ (r : ReachedCost). r.cost)
         (top_cost (choice_nodes tables query (Stop p))
         ∙ fold-append step start (range_nodes tables query 1 (p - 1) ++ scan ∷ []) (range_nodes tables query (p + 1) (m - p))
         ∙ ap (λ r. fold step r (range_nodes tables query (p + 1) (m - p))) scanned
@@ -162,7 +162,7 @@ module _ (tables : List Table) (query : Query) (sound : IsQuery tables query) wh
   whole_plan : are_bounded tables query (length query.relations) ≡ true → (run_of (plan_nodes tables query Whole)).cost ≡ (reached_after tables query (length query.relations)).cost
   whole_plan bounded =
       let m = length query.relations in
-      ap (λ (r : Reached). r.cost) (top_cost (range_nodes tables query 1 m) ∙ reads_cost m (omega arith) (each_bounded m bounded))
+      ap (λ (r : ReachedCost). r.cost) (top_cost (range_nodes tables query 1 m) ∙ reads_cost m (omega arith) (each_bounded m bounded))
 
   -- the nodes of a plan cost what its candidate does
   pub plan_cost : (choice : Choice) → Has tables query choice → (run_of (plan_nodes tables query choice)).cost ≡ cost_of tables query choice

@@ -15,10 +15,10 @@ use Rattle.pq_schema.specs.declared.query.Query.{Query}
 use Rattle.pq_schema.specs.Sound.{IsQuery}
 use Rattle.pq_schema.specs.Sequences.{group_access}
 use Rattle.pq_schema.specs.Tables.{is_lookup, least_limit, limit_place}
-use Rattle.pq_schema.specs.Relations.{table_of, fixed}
+use Rattle.pq_schema.specs.Relations.{table_of, tied_set}
 use Rattle.pq_schema.specs.Candidates.{no_limit, bound_at, are_bounded, stop_size}
 use Rattle.pq_base.specs.Members.{In}
-use Rattle.pq_plan.specs.Answer.{Asked, in_order, first_past, stopped, whole, answered}
+use Rattle.pq_plan.specs.Answer.{Question, in_order, first_past, stopped, whole, answered}
 use Rattle.pq_plan.specs.Kept.{KeepsSchema}
 use Rattle.pq_plan.specs.Meaning.{keeps, read}
 use Rattle.pq_plan.specs.Nodes.{Node, lookup, limit_range, stop_scan, keep, sort, cut, project, read_nodes, range_nodes, stop_access, choice_nodes, plan_nodes}
@@ -51,7 +51,7 @@ range_more tables query a n =
     ap (flat_map f) (range_push a n) ∙ flat_map-append f (range_with_len a n) ((a + n) ∷ []) ∙ ap (λ l. range_nodes tables query a n ++ l) (end_nil (f (a + n)))
 
 module _ (tables : List Table) (query : Query) (rows : List (ℕ × List Value)) (params : List Value) (sound : IsQuery tables query) (kept : KeepsSchema tables rows) (after : Option (List Value)) where
-  abbrev q : Asked
+  abbrev q : Question
   q = asked tables query rows params sound kept
 
   abbrev Combinations : Type 0
@@ -60,14 +60,14 @@ module _ (tables : List Table) (query : Query) (rows : List (ℕ × List Value))
   abbrev step : Combinations → Node → Combinations
   step = apply q after
 
-  abbrev tied : (i : ℕ) (cols : List ℕ) → is_within (set_of cols) (fixed query i) ≡ true → (k : ℕ) → In k cols → In k (fixed_columns tables query rows params sound kept i)
+  abbrev tied : (i : ℕ) (cols : List ℕ) → is_within (set_of cols) (tied_set query i) ≡ true → (k : ℕ) → In k cols → In k (fixed_columns tables query rows params sound kept i)
   tied i cols h = within_members cols (fixed_columns tables query rows params sound kept i) h
 
   -- the nodes of a bounded relation read it
   read_step : (i : ℕ) → is_some (bound_at tables query i) ≡ true → (inputs : Combinations) → AllByRecursion (λ c. suc (length c) ≡ i) inputs → fold step inputs (read_nodes tables query i) ≡ read q i inputs
   read_step i bounded inputs l =
       let table = table_of tables query i in
-      let set = fixed query i in
+      let set = tied_set query i in
       let of_limit = λ (place : ℕ). limit_range i (place + 1) (get_or table.limits place no_limit).n (unwrap_or (group_access table (set_of (get_or table.limits place no_limit).cols)) Primary) ∷ keep i ∷ [] in
       elim (is_lookup table set) as (λ b. is_lookup table set ≡ b → fold step inputs (cond b (lookup i ∷ keep i ∷ []) (option_map_or of_limit (limit_place table set) [])) ≡ read q i inputs) [
         | true ↦ λ is. lookup_filtered q (named tables query rows params sound kept) i (keys tables query rows params sound kept i) (tied i table.key is) inputs l
@@ -121,7 +121,7 @@ module _ (tables : List Table) (query : Query) (rows : List (ℕ × List Value))
 
     -- each relation after the stop is a lookup
     later_bounded : (i : ℕ) → p < i → i ≤ length query.relations → is_some (bound_at tables query i) ≡ true
-    later_bounded i above inside = ap (λ b. is_some (cond b (Some 1) (least_limit (table_of tables query i) (fixed query i)))) (push.totals i above inside).lookup
+    later_bounded i above inside = ap (λ b. is_some (cond b (Some 1) (least_limit (table_of tables query i) (tied_set query i)))) (push.totals i above inside).lookup
 
     after_stop : (n : ℕ) → p + n ≤ length query.relations → fold step (at p) (range_nodes tables query (p + 1) n) ≡ at (p + n)
     after_stop zero h = let e : p ≡ p + 0 = omega arith in ap at e

@@ -16,7 +16,7 @@ use Rattle.pq_schema.specs.declared.query.Query.{Query}
 use Rattle.pq_schema.specs.Sound.{IsTable, IsQuery}
 use Rattle.pq_schema.specs.Sequences.{group_access}
 use Rattle.pq_schema.specs.Tables.{is_lookup, limit_place, no_table}
-use Rattle.pq_schema.specs.Relations.{table_of, relation_at, fixed}
+use Rattle.pq_schema.specs.Relations.{table_of, relation_at, tied_set}
 use Rattle.pq_schema.specs.Candidates.{no_limit, stop_size}
 use Rattle.pq_plan.specs.declared.physical.Physical.{Physical}
 use Rattle.pq_plan.specs.declared.physical.Physical.TheVariants as node
@@ -154,9 +154,9 @@ module _ (tables : List Table) (query : Query) (sound : IsQuery tables query) wh
   read_small : (i : ℕ) → 1 ≤ i → i ≤ length query.relations → AllByRecursion SmallNode (read_nodes tables query i)
   read_small i low high =
       let table = table_of tables query i in
-      elim (is_lookup table (fixed query i)) as (λ b. AllByRecursion SmallNode (cond b (lookup i ∷ keep i ∷ []) (option_map_or (of_limit i) (limit_place table (fixed query i)) []))) [
+      elim (is_lookup table (tied_set query i)) as (λ b. AllByRecursion SmallNode (cond b (lookup i ∷ keep i ∷ []) (option_map_or (of_limit i) (limit_place table (tied_set query i)) []))) [
         | true ↦ (tt, (tt, tt))
-        | false ↦ elim (limit_place table (fixed query i)) as (λ o. AllByRecursion SmallNode (option_map_or (of_limit i) o [])) [
+        | false ↦ elim (limit_place table (tied_set query i)) as (λ o. AllByRecursion SmallNode (option_map_or (of_limit i) o [])) [
           | None ↦ tt
           | Some place ↦ (small_limit table.limits (sound_table i low high).sizes place, (tt, tt))
         ]
@@ -165,9 +165,9 @@ module _ (tables : List Table) (query : Query) (sound : IsQuery tables query) wh
   read_rises : (i : ℕ) → Rises i (relations (read_nodes tables query i)) (suc i)
   read_rises i =
       let table = table_of tables query i in
-      elim (is_lookup table (fixed query i)) as (λ b. Rises i (relations (cond b (lookup i ∷ keep i ∷ []) (option_map_or (of_limit i) (limit_place table (fixed query i)) []))) (suc i)) [
+      elim (is_lookup table (tied_set query i)) as (λ b. Rises i (relations (cond b (lookup i ∷ keep i ∷ []) (option_map_or (of_limit i) (limit_place table (tied_set query i)) []))) (suc i)) [
         | true ↦ (omega arith, omega arith)
-        | false ↦ elim (limit_place table (fixed query i)) as (λ o. Rises i (relations (option_map_or (of_limit i) o [])) (suc i)) [
+        | false ↦ elim (limit_place table (tied_set query i)) as (λ o. Rises i (relations (option_map_or (of_limit i) o [])) (suc i)) [
           | None ↦ omega arith
           | Some place ↦ (omega arith, omega arith)
         ]

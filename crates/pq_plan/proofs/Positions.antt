@@ -8,7 +8,7 @@ use Rattle.std.specs.FinMap.{IsAntisymmetric}
 use Rattle.pq_base.specs.declared.value.Value.{Value}
 use Rattle.pq_base.specs.declared.value.Dir.{Dir}
 use Rattle.pq_base.specs.declared.value.Dir.TheVariants.{Asc, Desc}
-use Rattle.pq_base.specs.Order.{value_cmp, directed, position_cmp}
+use Rattle.pq_base.specs.Order.{value_cmp, directed_order, position_cmp}
 use Rattle.pq_plan.proofs.ValueOrder.{value_cmp_total, value_cmp_only}
 
 reversed_then : (a b : Ordering) → ordering_reverse (ordering_then a b) ≡ ordering_then (ordering_reverse a) (ordering_reverse b)
@@ -16,7 +16,7 @@ reversed_then Less b = refl
 reversed_then Equal b = refl
 reversed_then Greater b = refl
 
-turned_reverse : (d : Dir) (a : Ordering) → directed d (ordering_reverse a) ≡ ordering_reverse (directed d a)
+turned_reverse : (d : Dir) (a : Ordering) → directed_order d (ordering_reverse a) ≡ ordering_reverse (directed_order d a)
 turned_reverse Asc a = refl
 turned_reverse Desc a = refl
 
@@ -34,7 +34,7 @@ tied_second Equal b h = h
 tied_second Greater b h = cc
 
 module _ {V : Type 0} (C : V → V → Ordering) (o : IsTotalOrder C) where
-  turned_total : (d : Dir) → IsTotalOrder (λ x y. directed d (C x y))
+  turned_total : (d : Dir) → IsTotalOrder (λ x y. directed_order d (C x y))
   turned_total Asc = o
   turned_total Desc = record {
     antisymm = λ x y. ap ordering_reverse (o.antisymm x y);
@@ -47,19 +47,19 @@ module _ {V : Type 0} (C : V → V → Ordering) (o : IsTotalOrder C) where
       unturned Equal h = refl
       unturned Greater h = cc
 
-  step_antisymm : (d : Dir) (x y : V) (a b : Ordering) → a ≡ ordering_reverse b → ordering_then (directed d (C x y)) a ≡ ordering_reverse (ordering_then (directed d (C y x)) b)
-  step_antisymm d x y a b h = (λ i. ordering_then ((turned_total d).antisymm x y i) (h i)) ∙ sym (reversed_then (directed d (C y x)) b)
+  step_antisymm : (d : Dir) (x y : V) (a b : Ordering) → a ≡ ordering_reverse b → ordering_then (directed_order d (C x y)) a ≡ ordering_reverse (ordering_then (directed_order d (C y x)) b)
+  step_antisymm d x y a b h = (λ i. ordering_then ((turned_total d).antisymm x y i) (h i)) ∙ sym (reversed_then (directed_order d (C y x)) b)
 
-  step_trans : (d : Dir) (x y z : V) (a b c : Ordering) → (a ≡ Less → b ≡ Less → c ≡ Less) → ordering_then (directed d (C x y)) a ≡ Less → ordering_then (directed d (C y z)) b ≡ Less → ordering_then (directed d (C x z)) c ≡ Less
+  step_trans : (d : Dir) (x y z : V) (a b c : Ordering) → (a ≡ Less → b ≡ Less → c ≡ Less) → ordering_then (directed_order d (C x y)) a ≡ Less → ordering_then (directed_order d (C y z)) b ≡ Less → ordering_then (directed_order d (C x z)) c ≡ Less
   step_trans d x y z a b c f p r =
       let t = turned_total d in
-      elim (directed d (C x y)) as (λ u. directed d (C x y) ≡ u → ordering_then u a ≡ Less → ordering_then (directed d (C x z)) c ≡ Less) [
-        | Less ↦ λ e _. elim (directed d (C y z)) as (λ u. directed d (C y z) ≡ u → ordering_then u b ≡ Less → ordering_then (directed d (C x z)) c ≡ Less) [
+      elim (directed_order d (C x y)) as (λ u. directed_order d (C x y) ≡ u → ordering_then u a ≡ Less → ordering_then (directed_order d (C x z)) c ≡ Less) [
+        | Less ↦ λ e _. elim (directed_order d (C y z)) as (λ u. directed_order d (C y z) ≡ u → ordering_then u b ≡ Less → ordering_then (directed_order d (C x z)) c ≡ Less) [
           | Less ↦ λ g _. ap (λ u. ordering_then u c) (t.trans x y z e g)
           | Equal ↦ λ g _. ap (λ u. ordering_then u c) (sym (alike_right t y z x g) ∙ e)
           | Greater ↦ λ g h. absurd (then_less Greater b h refl)
         ] refl r
-        | Equal ↦ λ e h. elim (directed d (C y z)) as (λ u. directed d (C y z) ≡ u → ordering_then u b ≡ Less → ordering_then (directed d (C x z)) c ≡ Less) [
+        | Equal ↦ λ e h. elim (directed_order d (C y z)) as (λ u. directed_order d (C y z) ≡ u → ordering_then u b ≡ Less → ordering_then (directed_order d (C x z)) c ≡ Less) [
           | Less ↦ λ g _. ap (λ u. ordering_then u c) (t.congr x y z e ∙ g)
           | Equal ↦ λ g k. ap (λ u. ordering_then u c) (t.congr x y z e ∙ g) ∙ f h k
           | Greater ↦ λ g k. absurd (then_less Greater b k refl)
@@ -67,7 +67,7 @@ module _ {V : Type 0} (C : V → V → Ordering) (o : IsTotalOrder C) where
         | Greater ↦ λ e h. absurd (then_less Greater a h refl)
       ] refl p
 
-  step_congr : (d : Dir) (x y z : V) (a b c : Ordering) → (a ≡ Equal → b ≡ c) → ordering_then (directed d (C x y)) a ≡ Equal → ordering_then (directed d (C x z)) b ≡ ordering_then (directed d (C y z)) c
+  step_congr : (d : Dir) (x y z : V) (a b c : Ordering) → (a ≡ Equal → b ≡ c) → ordering_then (directed_order d (C x y)) a ≡ Equal → ordering_then (directed_order d (C x z)) b ≡ ordering_then (directed_order d (C y z)) c
   step_congr d x y z a b c f p = λ i. ordering_then ((turned_total d).congr x y z (tied_first _ _ p) i) (f (tied_second _ _ p) i)
 
 antisymm : (ds : List Dir) (xs ys : List Value) → position_cmp ds xs ys ≡ ordering_reverse (position_cmp ds ys xs)
@@ -119,7 +119,7 @@ position_cmp_only (d ∷ ds) [] (y ∷ ys) p = cc
 position_cmp_only (d ∷ ds) (x ∷ xs) [] p = cc
 position_cmp_only (d ∷ ds) (x ∷ xs) (y ∷ ys) p = λ i. value_cmp_only x y (unturned d (value_cmp x y) (tied_first _ _ p)) i ∷ position_cmp_only ds xs ys (tied_second _ _ p) i
   where
-    unturned : (d : Dir) (r : Ordering) → directed d r ≡ Equal → r ≡ Equal
+    unturned : (d : Dir) (r : Ordering) → directed_order d r ≡ Equal → r ≡ Equal
     unturned Asc r h = h
     unturned Desc Less h = cc
     unturned Desc Equal h = refl

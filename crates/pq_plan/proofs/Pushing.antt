@@ -11,10 +11,10 @@ use Rattle.pq_schema.specs.declared.query.OrderItem.{OrderItem}
 use Rattle.pq_schema.specs.Relations.{position_columns, key_items, key_item, is_ordered}
 use Rattle.pq_schema.specs.Candidates.{stop_size}
 use Rattle.pq_base.specs.Members.{In, Apart}
-use Rattle.pq_plan.specs.Answer.{Asked, row_of, rows_at, no_value, position, by_position, in_order, past, first_past, whole, stopped, answered}
+use Rattle.pq_plan.specs.Answer.{Question, row_of, rows_at, no_value, position, by_position, in_order, past, first_past, whole, stopped, answered}
 use Rattle.pq_plan.specs.Kept.{row_cmp, cells}
 use Rattle.pq_plan.specs.Meaning.{Tree, Read, DataStop, StopRead, keeps, partners, followed, read, key_of, looks_up, combo_cmp, data_stop, mean}
-use Rattle.pq_plan.specs.Rewrites.{reads_tree, built, with_stop, placed_stops, pushed}
+use Rattle.pq_plan.specs.Rewrites.{reads_tree, tree_of_reads, with_stop, placed_stops, pushed_tree}
 use Rattle.pq_base.proofs.Members.{each_in, each_by_in, filter_all, filter_none, in_filter, in_take, take_twice, each_append, each_flat_map, in_range}
 use Rattle.pq_base.proofs.Sorts.{IsPermutation-sort_by}
 use Rattle.pq_plan.proofs.Orders.{apart_permuted, in_permuted, Rises, Rises-sort_by, Rises-take, sort_by_sorted, each_filter}
@@ -26,7 +26,7 @@ use Rattle.pq_plan.proofs.Laws.{Keeps, Total, Pushable}
 use Rattle.pq_plan.proofs.Combos.{reads, in_followed, in_read, long, combos_are, mean_reads}
 use Rattle.pq_plan.proofs.Stops.{Distinct, distinct_read, drops_nothing, limited}
 
-module _ (q : Asked) (d : ℕ → Option ℕ) (keep : Keeps q d) where
+module _ (q : Question) (d : ℕ → Option ℕ) (keep : Keeps q d) where
   pub by_total : IsTotalOrder (by_position q)
   by_total = position_cmp_total (map (λ (item : OrderItem). item.dir) (position_columns q.tables q.query))
 
@@ -159,41 +159,41 @@ module _ (q : Asked) (d : ℕ → Option ℕ) (keep : Keeps q d) where
         passed (Some at) each = sym (follow-filter (by_position q) (position q) (position q) (followed q (suc i)) (λ (w : List Value). is_lt (by_position q at w)) (in_order q (reads q i)) each)
 
     -- below p the tree is as it was
-    pub below : (i : ℕ) → i < p → pushed p k (placed_stops d (reads_tree i)) ≡ placed_stops d (reads_tree i)
+    pub below : (i : ℕ) → i < p → pushed_tree p k (placed_stops d (reads_tree i)) ≡ placed_stops d (reads_tree i)
     below zero h = refl
     below (suc i) h =
         let other : (suc i == p) ≡ false = ne_eqb (suc i) p (λ e. absurd (omega arith)) in
-        elim (d (suc i)) as (λ n. pushed p k (with_stop n (Read (placed_stops d (reads_tree i)) (suc i)) (suc i)) ≡ with_stop n (Read (placed_stops d (reads_tree i)) (suc i)) (suc i)) [
+        elim (d (suc i)) as (λ n. pushed_tree p k (with_stop n (Read (placed_stops d (reads_tree i)) (suc i)) (suc i)) ≡ with_stop n (Read (placed_stops d (reads_tree i)) (suc i)) (suc i)) [
           | None ↦ here i other (below i (omega arith))
-          | Some n ↦ ap (λ b. cond b (pushed p k (Read (placed_stops d (reads_tree i)) (suc i))) (DataStop (pushed p k (Read (placed_stops d (reads_tree i)) (suc i))) (suc i) n)) other ∙ ap (λ t. DataStop t (suc i) n) (here i other (below i (omega arith)))
+          | Some n ↦ ap (λ b. cond b (pushed_tree p k (Read (placed_stops d (reads_tree i)) (suc i))) (DataStop (pushed_tree p k (Read (placed_stops d (reads_tree i)) (suc i))) (suc i) n)) other ∙ ap (λ t. DataStop t (suc i) n) (here i other (below i (omega arith)))
         ]
       where
-        here : (i : ℕ) → (suc i == p) ≡ false → pushed p k (placed_stops d (reads_tree i)) ≡ placed_stops d (reads_tree i) → pushed p k (Read (placed_stops d (reads_tree i)) (suc i)) ≡ Read (placed_stops d (reads_tree i)) (suc i)
-        here i other e = ap (λ b. cond b (StopRead (placed_stops d (reads_tree i)) (suc i) k) (Read (pushed p k (placed_stops d (reads_tree i))) (suc i))) other ∙ ap (λ t. Read t (suc i)) e
+        here : (i : ℕ) → (suc i == p) ≡ false → pushed_tree p k (placed_stops d (reads_tree i)) ≡ placed_stops d (reads_tree i) → pushed_tree p k (Read (placed_stops d (reads_tree i)) (suc i)) ≡ Read (placed_stops d (reads_tree i)) (suc i)
+        here i other e = ap (λ b. cond b (StopRead (placed_stops d (reads_tree i)) (suc i) k) (Read (pushed_tree p k (placed_stops d (reads_tree i))) (suc i))) other ∙ ap (λ t. Read t (suc i)) e
 
     -- from p on it means what was stopped
-    pub above : (after : Option (List Value)) (i : ℕ) → p ≤ i → i ≤ (length q.query.relations) → mean q after (pushed p k (placed_stops d (reads_tree i))) ≡ stopped_at after i
+    pub above : (after : Option (List Value)) (i : ℕ) → p ≤ i → i ≤ (length q.query.relations) → mean q after (pushed_tree p k (placed_stops d (reads_tree i))) ≡ stopped_at after i
     above after zero a b = let one = can.from_one in absurd (omega arith)
     above after (suc i) a b =
         let T = placed_stops d (reads_tree i) in
         elim (cases_eq (suc i) p) [
           | inl same ↦
               let is : (suc i == p) ≡ true = eq-eqb (suc i) p same in
-              let top : pushed p k (Read T (suc i)) ≡ StopRead T (suc i) k = ap (λ b. cond b (StopRead T (suc i) k) (Read (pushed p k T) (suc i))) is in
-              ap (mean q after) (elim (d (suc i)) as (λ n. pushed p k (with_stop n (Read T (suc i)) (suc i)) ≡ StopRead T (suc i) k) [
+              let top : pushed_tree p k (Read T (suc i)) ≡ StopRead T (suc i) k = ap (λ b. cond b (StopRead T (suc i) k) (Read (pushed_tree p k T) (suc i))) is in
+              ap (mean q after) (elim (d (suc i)) as (λ n. pushed_tree p k (with_stop n (Read T (suc i)) (suc i)) ≡ StopRead T (suc i) k) [
                 | None ↦ top
-                | Some n ↦ ap (λ b. cond b (pushed p k (Read T (suc i))) (DataStop (pushed p k (Read T (suc i))) (suc i) n)) is ∙ top
+                | Some n ↦ ap (λ b. cond b (pushed_tree p k (Read T (suc i))) (DataStop (pushed_tree p k (Read T (suc i))) (suc i) n)) is ∙ top
               ])
               ∙ ap (λ cs. first_past q after k (in_order q (read q (suc i) cs))) (mean_stops after i)
           | inr differ ↦
               let other : (suc i == p) ≡ false = ne_eqb (suc i) p differ in
-              let top : pushed p k (Read T (suc i)) ≡ Read (pushed p k T) (suc i) = ap (λ b. cond b (StopRead T (suc i) k) (Read (pushed p k T) (suc i))) other in
+              let top : pushed_tree p k (Read T (suc i)) ≡ Read (pushed_tree p k T) (suc i) = ap (λ b. cond b (StopRead T (suc i) k) (Read (pushed_tree p k T) (suc i))) other in
               let ne : p ≤ i = not_equal i a differ in
-              ap (mean q after) (elim (d (suc i)) as (λ n. pushed p k (with_stop n (Read T (suc i)) (suc i)) ≡ with_stop n (Read (pushed p k T) (suc i)) (suc i)) [
+              ap (mean q after) (elim (d (suc i)) as (λ n. pushed_tree p k (with_stop n (Read T (suc i)) (suc i)) ≡ with_stop n (Read (pushed_tree p k T) (suc i)) (suc i)) [
                 | None ↦ top
-                | Some n ↦ ap (λ b. cond b (pushed p k (Read T (suc i))) (DataStop (pushed p k (Read T (suc i))) (suc i) n)) other ∙ ap (λ t. DataStop t (suc i) n) top
+                | Some n ↦ ap (λ b. cond b (pushed_tree p k (Read T (suc i))) (DataStop (pushed_tree p k (Read T (suc i))) (suc i) n)) other ∙ ap (λ t. DataStop t (suc i) n) top
               ])
-              ∙ stops_nothing i (stopped_at after i) (distinct_stopped after i) (λ c h. long q i c (in_stopped after i c h)) after (pushed p k T) (above after i ne (omega arith))
+              ∙ stops_nothing i (stopped_at after i) (distinct_stopped after i) (λ c h. long q i c (in_stopped after i c h)) after (pushed_tree p k T) (above after i ne (omega arith))
               ∙ carried after i ne b
         ]
       where
@@ -221,27 +221,27 @@ module _ (q : Asked) (d : ℕ → Option ℕ) (keep : Keeps q d) where
         twice (Some at) cs = ap (take k) (filter_all _ (take k (past q (Some at) cs)) (each_by_in _ (take k (past q (Some at) cs)) (λ c h. (in_filter (λ c. is_lt (by_position q at (position q c))) c cs (in_take k c (past q (Some at) cs) h)).1))) ∙ take_twice k (past q (Some at) cs)
 
     -- the push-down theorem
-    pub push_keeps : stop_size q.query.stop ≡ Some k → (after : Option (List Value)) → mean q after (pushed p k (placed_stops d (built (length q.query.relations) (stop_size q.query.stop)))) ≡ answered q after
+    pub push_keeps : stop_size q.query.stop ≡ Some k → (after : Option (List Value)) → mean q after (pushed_tree p k (placed_stops d (tree_of_reads (length q.query.relations) (stop_size q.query.stop)))) ≡ answered q after
     push_keeps stop after =
-        ap (λ (s : Option ℕ). mean q after (pushed p k (placed_stops d (built (length q.query.relations) s)))) stop
+        ap (λ (s : Option ℕ). mean q after (pushed_tree p k (placed_stops d (tree_of_reads (length q.query.relations) s)))) stop
         ∙ ap (λ cs. first_past q after k (in_order q cs)) (above after (length q.query.relations) can.within (omega arith))
         ∙ again after (reads q (length q.query.relations))
         ∙ ap (λ cs. first_past q after k (in_order q cs)) (sym (combos_are q keep.predicates))
         ∙ sym (ap (λ (s : Option ℕ). stopped q s after (whole q)) stop)
 
   -- ---- the trees before
-  pub build_keeps : (after : Option (List Value)) → mean q after (built (length q.query.relations) (stop_size q.query.stop)) ≡ answered q after
+  pub build_keeps : (after : Option (List Value)) → mean q after (tree_of_reads (length q.query.relations) (stop_size q.query.stop)) ≡ answered q after
   build_keeps after =
       let all = mean_reads q after (length q.query.relations) ∙ sym (combos_are q keep.predicates) in
-      elim (stop_size q.query.stop) as (λ s. mean q after (built (length q.query.relations) s) ≡ stopped q s after (whole q)) [
+      elim (stop_size q.query.stop) as (λ s. mean q after (tree_of_reads (length q.query.relations) s) ≡ stopped q s after (whole q)) [
         | None ↦ ap (in_order q) all
         | Some j ↦ ap (λ cs. first_past q after j (in_order q cs)) all
       ]
 
-  pub place_keeps : (after : Option (List Value)) → mean q after (placed_stops d (built (length q.query.relations) (stop_size q.query.stop))) ≡ answered q after
+  pub place_keeps : (after : Option (List Value)) → mean q after (placed_stops d (tree_of_reads (length q.query.relations) (stop_size q.query.stop))) ≡ answered q after
   place_keeps after =
       let all = mean_stops after (length q.query.relations) ∙ sym (combos_are q keep.predicates) in
-      elim (stop_size q.query.stop) as (λ s. mean q after (placed_stops d (built (length q.query.relations) s)) ≡ stopped q s after (whole q)) [
+      elim (stop_size q.query.stop) as (λ s. mean q after (placed_stops d (tree_of_reads (length q.query.relations) s)) ≡ stopped q s after (whole q)) [
         | None ↦ ap (in_order q) all
         | Some j ↦ ap (λ cs. first_past q after j (in_order q cs)) all
       ]

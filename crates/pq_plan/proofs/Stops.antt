@@ -8,7 +8,7 @@ use Rattle.std.proofs.lemmas.List.{take_at, same_from_push}
 use Rattle.std.proofs.lemmas.List.Sums.{length-filter}
 use Rattle.pq_base.specs.declared.value.Value.{Value}
 use Rattle.pq_base.specs.Members.{Apart}
-use Rattle.pq_plan.specs.Answer.{Asked, rows_at}
+use Rattle.pq_plan.specs.Answer.{Question, rows_at}
 use Rattle.pq_plan.specs.Kept.{row_cmp, cells}
 use Rattle.pq_plan.specs.Meaning.{key_of, keeps, partners, followed, read, combo_cmp, is_same_front, key_at, data_stop}
 use Rattle.pq_plan.proofs.ValueOrder.{row_total, combo_total, combo_only}
@@ -17,7 +17,7 @@ use Rattle.pq_plan.proofs.Laws.{Limited}
 use Rattle.pq_base.proofs.Members.{each_in, each_by_in, filter_all, filter_none, filter-append, fewer}
 use Rattle.pq_plan.proofs.Combos.{in_followed, in_read}
 
-module _ (q : Asked) where
+module _ (q : Question) where
   abbrev pub Distinct : List (List (List Value)) → Type 0
   Distinct cs = Apart combo_cmp (λ c. c) cs
 

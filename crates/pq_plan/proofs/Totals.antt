@@ -21,10 +21,10 @@ use Rattle.pq_schema.specs.Tables.{table_at}
 use Rattle.pq_schema.specs.Relations.{relation_at, table_of, belongs_to, is_column, is_before, ties, spells, is_spelt, spells_one, is_whole, is_tied, is_total}
 use Rattle.pq_schema.specs.Candidates.{bound_at, can_stop_at, stop_size}
 use Rattle.pq_base.specs.Members.{In}
-use Rattle.pq_plan.specs.Answer.{Asked, rows_of, row_of, rows_at, cell, side, compares, holds, no_value, answered}
+use Rattle.pq_plan.specs.Answer.{Question, rows_of, row_of, rows_at, cell, side, compares, holds, no_value, answered}
 use Rattle.pq_plan.specs.Kept.{cells, IsNumber, KeepsSchema}
 use Rattle.pq_plan.specs.Meaning.{keeps, mean}
-use Rattle.pq_plan.specs.Rewrites.{built, placed_stops, pushed}
+use Rattle.pq_plan.specs.Rewrites.{tree_of_reads, placed_stops, pushed_tree}
 use Rattle.pq_base.proofs.Members.{each_by_in, in_filter, map_in, all_at, all_from, any_at, filter_in, all_member, get_at, in_range, range_in}
 use Rattle.pq_base.proofs.Sets.{members_within}
 use Rattle.pq_plan.proofs.ValueOrder.{value_cmp_total}
@@ -71,7 +71,7 @@ one_of_two true b e h = h
 one_of_two false b e h = absurd (false≢true e)
 
 module _ (tables : List Table) (query : Query) (rows : List (ℕ × List Value)) (params : List Value) (sound : IsQuery tables query) (kept : KeepsSchema tables rows) where
-  abbrev q : Asked
+  abbrev q : Question
   q = asked tables query rows params sound kept
 
   abbrev number : (i : ℕ) → 1 ≤ i → i ≤ length query.relations → IsNumber tables (relation_at query i).table
@@ -161,10 +161,10 @@ module _ (tables : List Table) (query : Query) (rows : List (ℕ × List Value))
       spelt_total i a.0 between.0 (omega (arith, between.0, between.1)) within b.0 b.1 (eqb-true _ _ both.0) both.1
 
   -- ---- the trees
-  pub built_answers : (after : Option (List Value)) → mean q after (built (length query.relations) (stop_size query.stop)) ≡ answered q after
+  pub built_answers : (after : Option (List Value)) → mean q after (tree_of_reads (length query.relations) (stop_size query.stop)) ≡ answered q after
   built_answers after = build_keeps q (bound_at tables query) (keeps_over tables query rows params sound kept) after
 
-  pub placed_answers : (after : Option (List Value)) → mean q after (placed_stops (bound_at tables query) (built (length query.relations) (stop_size query.stop))) ≡ answered q after
+  pub placed_answers : (after : Option (List Value)) → mean q after (placed_stops (bound_at tables query) (tree_of_reads (length query.relations) (stop_size query.stop))) ≡ answered q after
   placed_answers after = place_keeps q (bound_at tables query) (keeps_over tables query rows params sound kept) after
 
   pub pushable : (p : ℕ) → 1 ≤ p → p ≤ length query.relations → can_stop_at tables query p ≡ true → Pushable q p
@@ -179,5 +179,5 @@ module _ (tables : List Table) (query : Query) (rows : List (ℕ × List Value))
         totals = λ i above inside. total i inside (all_at (is_total tables query) (range_with_len (p + 1) (length query.relations - p)) e.1 i (range_in i (p + 1) (length query.relations - p) (omega arith) (omega arith)));
       }
 
-  pub pushed_answers : (p k : ℕ) → stop_size query.stop ≡ Some k → 1 ≤ p → p ≤ length query.relations → can_stop_at tables query p ≡ true → (after : Option (List Value)) → mean q after (pushed p k (placed_stops (bound_at tables query) (built (length query.relations) (stop_size query.stop)))) ≡ answered q after
+  pub pushed_answers : (p k : ℕ) → stop_size query.stop ≡ Some k → 1 ≤ p → p ≤ length query.relations → can_stop_at tables query p ≡ true → (after : Option (List Value)) → mean q after (pushed_tree p k (placed_stops (bound_at tables query) (tree_of_reads (length query.relations) (stop_size query.stop)))) ≡ answered q after
   pushed_answers p k stop low high can after = push_keeps q (bound_at tables query) (keeps_over tables query rows params sound kept) p k (pushable p low high can) stop after

@@ -11,7 +11,7 @@ use Rattle.pq_schema.specs.declared.query.ColRef.{ColRef}
 use Rattle.pq_schema.specs.declared.query.OrderItem.{OrderItem}
 use Rattle.pq_schema.specs.Relations.{position_columns, key_items, key_item, is_ordered}
 use Rattle.pq_base.specs.Members.{In, Apart}
-use Rattle.pq_plan.specs.Answer.{Asked, row_of, rows_at, no_value, position, by_position, in_order}
+use Rattle.pq_plan.specs.Answer.{Question, row_of, rows_at, no_value, position, by_position, in_order}
 use Rattle.pq_plan.specs.Kept.{row_cmp, cells}
 use Rattle.pq_plan.specs.Meaning.{followed, read, key_of, looks_up, combo_cmp, key_at}
 use Rattle.pq_base.proofs.Members.{each_in, in_left, in_right, filter_in, map_in, flat_map_in, any_at, range_in}
@@ -24,7 +24,7 @@ use Rattle.pq_plan.proofs.Combos.{reads, in_followed, in_read, long}
 use Rattle.pq_plan.proofs.Stops.{Distinct, distinct_read}
 use Rattle.pq_plan.proofs.Pushing.{by_total, distinct_reads}
 
-module _ (q : Asked) (d : ℕ → Option ℕ) (keep : Keeps q d) where
+module _ (q : Question) (d : ℕ → Option ℕ) (keep : Keeps q d) where
   -- rows with one key are one row
   one_row : (i : ℕ) (rows : List (List Value)) → Apart row_cmp (cells (key_of q i)) rows → (r s : List Value) → In r rows → In s rows → cells (key_of q i) r ≡ cells (key_of q i) s → r ≡ s
   one_row i [] h r s a b e = absurd a

@@ -60,13 +60,13 @@ abbrev pub values_at : List (List Value) → List ColRef → List Value
 values_at combo cols = map (λ col. slice_index_or (row_of col.rel combo) col.col no_value) cols
 
 -- ---- a query over a schema's tables, with its parameters
-pub record Asked : Type 0 where
+pub record Question : Type 0 where
   pub tables : List Table
   pub query : Query
   pub rows : List (ℕ × List Value)
   pub params : List Value
 
-module _ (q : Asked) where
+module _ (q : Question) where
   -- the rows of a relation's table
   abbrev pub rows_at : ℕ → List (List Value)
   rows_at rel = rows_of (relation_at q.query rel).table q.rows
@@ -113,10 +113,10 @@ module _ (q : Asked) where
   answered after = stopped (stop_size q.query.stop) after whole
 
 -- the selected columns of a combination
-abbrev pub selected : Query → List (List Value) → List Value
-selected query combo = values_at combo query.select
+abbrev pub selected_values : Query → List (List Value) → List Value
+selected_values query combo = values_at combo query.select
 
 -- the answer over these tables: the schema's tables, the query, the rows, the parameters and the cursor
 abbrev pub answer : List Table → Query → List (ℕ × List Value) → List Value → Option (List Value) → List (List Value)
 answer tables query rows params after =
-    map (selected query) (answered (record { tables = tables; query = query; rows = rows; params = params }) after)
+    map (selected_values query) (answered (record { tables = tables; query = query; rows = rows; params = params }) after)

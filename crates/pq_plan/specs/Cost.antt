@@ -3,7 +3,7 @@ use Rattle.std.specs.Prelude.{ℕ, ◌≤◌, ◌≢◌, Bool, true, false, All,
 use Rattle.pq_base.specs.declared.number.Bound.{Bound}
 use Rattle.pq_schema.specs.declared.table.Access.{Access}
 use Rattle.pq_schema.specs.declared.table.Access.TheVariants.{Primary, Secondary}
-use Rattle.pq_schema.specs.Costs.{Reached, start, bound, limit_cost, read_each, read_stop}
+use Rattle.pq_schema.specs.Costs.{ReachedCost, start, bound, limit_cost, read_each, read_stop}
 use Rattle.pq_plan.specs.declared.physical.Physical.{Physical}
 use Rattle.pq_plan.specs.declared.physical.Physical.TheVariants as node
 
@@ -12,10 +12,11 @@ is_primary_access Primary = true
 is_primary_access (Secondary number) = false
 
 -- how many combinations it gives at most, and what it costs
-abbrev pub reach : Physical → Reached
+abbrev pub reach : Physical → ReachedCost
 reach node.Unit = start
 reach (node.Lookup' p input rel) = read_each 1 (bound 1 1) (reach input)
-reach (node.LimitRange' p input rel limit n access) = read_each n (limit_cost (is_primary_access access) n) (reach input)
+reach (node.LimitRange' p input rel limit n access) =
+    read_each n (limit_cost (is_primary_access access) n) (reach input)
 reach (node.StopScan' p input rel k access) = read_stop k (is_primary_access access) (reach input)
 reach (node.Filter' p input rel) = reach input
 reach (node.Sort' p input) = reach input

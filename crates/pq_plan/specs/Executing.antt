@@ -2,16 +2,17 @@
 use Rattle.std.specs.Prelude.{◌≡◌, List, [], ◌∷◌, filter, Option, IsPermutation}
 use Rattle.pq_base.specs.declared.value.Value.{Value}
 use Rattle.pq_plan.specs.declared.physical.Physical.{Physical}
-use Rattle.pq_plan.specs.Answer.{Asked, in_order, first_past}
+use Rattle.pq_plan.specs.Answer.{Question, in_order, first_past}
 use Rattle.pq_plan.specs.Meaning.{keeps, read}
 use Rattle.pq_plan.specs.Nodes.{Node, lookup, limit_range, stop_scan, keep, sort, cut, project, nodes}
 use Rattle.pq_plan.specs.Running.{looked_up, ranged, limit_columns}
 
-module _ (q : Asked) (after : Option (List Value)) where
+module _ (q : Question) (after : Option (List Value)) where
   -- what one node may make of its inputs
   abbrev pub Makes : List (List (List Value)) → Node → List (List (List Value)) → Type 0
   Makes inputs (lookup rel) found = found ≡ looked_up q rel inputs
-  Makes inputs (limit_range rel limit n access) found = IsPermutation (ranged q rel (limit_columns q rel limit) inputs) found
+  Makes inputs (limit_range rel limit n access) found =
+      IsPermutation (ranged q rel (limit_columns q rel limit) inputs) found
   Makes inputs (stop_scan rel k access) found = found ≡ first_past q after k (in_order q (read q rel inputs))
   Makes inputs (keep rel) found = found ≡ filter (keeps q rel) inputs
   Makes inputs sort found = found ≡ in_order q inputs

@@ -6,12 +6,12 @@ use Rattle.std.specs.Ordering.{is_lt, eq_by_cmp}
 use Rattle.std.specs.Cmp.Lexicographic.{slice_cmp}
 use Rattle.pq_base.specs.declared.value.Value.{Value}
 use Rattle.pq_schema.specs.Tables.{is_lookup}
-use Rattle.pq_schema.specs.Relations.{belongs_to, fixed, table_of}
+use Rattle.pq_schema.specs.Relations.{belongs_to, tied_set, table_of}
 use Rattle.pq_plan.specs.declared.logical.Logical.{Logical}
 use Rattle.pq_plan.specs.declared.logical.Logical.TheVariants as node
 use Rattle.pq_schema.specs.declared.table.Table.{Table}
 use Rattle.pq_schema.specs.declared.query.Query.{Query}
-use Rattle.pq_plan.specs.Answer.{Asked, holds, row_of, rows_at, in_order, first_past, selected, answer}
+use Rattle.pq_plan.specs.Answer.{Question, holds, row_of, rows_at, in_order, first_past, selected_values, answer}
 use Rattle.pq_plan.specs.Kept.{row_cmp, cells, KeepsSchema}
 
 -- combinations by their rows
@@ -37,12 +37,12 @@ tree_of (node.Order' p input) = Order (tree_of input)
 tree_of (node.Cut' p input k) = Cut (tree_of input) k
 tree_of (node.Project' p input) = Project (tree_of input)
 
-module _ (q : Asked) where
+module _ (q : Question) where
   abbrev pub key_of : ℕ → List ℕ
   key_of rel = (table_of q.tables q.query rel).key
 
   abbrev pub looks_up : ℕ → Bool
-  looks_up rel = is_lookup (table_of q.tables q.query rel) (fixed q.query rel)
+  looks_up rel = is_lookup (table_of q.tables q.query rel) (tied_set q.query rel)
 
   -- the predicates that belong to the relation hold
   abbrev pub keeps : ℕ → List (List Value) → Bool
@@ -69,7 +69,8 @@ module _ (q : Asked) where
   -- of the combinations with one front, the n least by the key of the relation
   abbrev pub data_stop : ℕ → ℕ → List (List (List Value)) → List (List (List Value))
   data_stop rel n combos =
-      filter (λ a. nat_lt (count_by (λ b. is_same_front rel a b && is_lt (row_cmp (key_at rel b) (key_at rel a))) combos) n) combos
+      filter (λ a. nat_lt (count_by (λ b. is_same_front rel a b
+      && is_lt (row_cmp (key_at rel b) (key_at rel a))) combos) n) combos
 
   -- after the cursor's position
   abbrev pub mean : Option (List Value) → Tree → List (List (List Value))
@@ -85,4 +86,5 @@ module _ (q : Asked) where
 unfoldable pub MeansAnswer : List Table → Query → Tree → Type 0
 MeansAnswer tables query tree =
     (rows : List (ℕ × List Value)) → KeepsSchema tables rows → (params : List Value) (after : Option (List Value)) →
-    map (selected query) (mean (record { tables = tables; query = query; rows = rows; params = params }) after tree) ≡ answer tables query rows params after
+    map (selected_values query) (mean (record { tables = tables; query = query; rows = rows; params = params }) after
+    tree) ≡ answer tables query rows params after

@@ -9,10 +9,10 @@ use Rattle.pq_schema.specs.declared.table.Access.{Access}
 use Rattle.pq_schema.specs.declared.table.Access.TheVariants.{Primary, Secondary}
 use Rattle.pq_schema.specs.declared.table.Table.{Table}
 use Rattle.pq_schema.specs.declared.query.Query.{Query}
-use Rattle.pq_schema.specs.Costs.{Reached, start, bound, limit_cost, read_each, read_stop}
-use Rattle.pq_schema.specs.Sequences.{group_access, serving}
+use Rattle.pq_schema.specs.Costs.{ReachedCost, start, bound, limit_cost, read_each, read_stop}
+use Rattle.pq_schema.specs.Sequences.{group_access, serving_access}
 use Rattle.pq_schema.specs.Tables.{is_lookup, limit_place}
-use Rattle.pq_schema.specs.Relations.{table_of, fixed, order_rest}
+use Rattle.pq_schema.specs.Relations.{table_of, tied_set, order_rest}
 use Rattle.pq_schema.specs.Candidates.{no_limit, stop_size}
 use Rattle.pq_plan.specs.declared.physical.Physical.{Physical}
 use Rattle.pq_plan.specs.declared.physical.Physical.TheVariants as tree
@@ -39,7 +39,7 @@ nodes (tree.Cut' p input k) = nodes input ++ cut k ∷ []
 nodes (tree.Project' p input) = nodes input ++ project ∷ []
 
 -- what one node costs and gives
-abbrev pub step : Reached → Node → Reached
+abbrev pub step : ReachedCost → Node → ReachedCost
 step before (lookup rel) = read_each 1 (bound 1 1) before
 step before (limit_range rel limit n access) = read_each n (limit_cost (is_primary_access access) n) before
 step before (stop_scan rel k access) = read_stop k (is_primary_access access) before
@@ -48,14 +48,14 @@ step before sort = before
 step before (cut k) = before
 step before project = before
 
-abbrev pub run_of : List Node → Reached
+abbrev pub run_of : List Node → ReachedCost
 run_of list = fold step start list
 
 -- the nodes that read a relation: a lookup, or the range of the limit taken, and then the filter
 abbrev pub read_nodes : List Table → Query → ℕ → List Node
 read_nodes tables query rel =
     let table = table_of tables query rel in
-    let set = fixed query rel in
+    let set = tied_set query rel in
     if is_lookup table set then lookup rel ∷ keep rel ∷ []
     else option_map_or
     (λ place. let limit = slice_index_or table.limits place no_limit in
@@ -70,7 +70,7 @@ range_nodes tables query from count = flat_map (read_nodes tables query) (range_
 abbrev pub stop_access : List Table → Query → ℕ → Access
 stop_access tables query p =
     let table = table_of tables query p in
-    unwrap_or (serving table (fixed query p) (order_rest query p)) (Secondary (length table.indexes + 1))
+    unwrap_or (serving_access table (tied_set query p) (order_rest query p)) (Secondary (length table.indexes + 1))
 
 abbrev pub choice_nodes : List Table → Query → Choice → List Node
 choice_nodes tables query Whole = range_nodes tables query 1 (length query.relations)
@@ -82,4 +82,5 @@ choice_nodes tables query (Stop p) =
 -- the nodes of a plan for the query, built for this candidate
 abbrev pub plan_nodes : List Table → Query → Choice → List Node
 plan_nodes tables query choice =
-    choice_nodes tables query choice ++ sort ∷ [] ++ option_map_or (λ k. cut k ∷ []) (stop_size query.stop) [] ++ project ∷ []
+    choice_nodes tables query choice ++ sort ∷ [] ++ option_map_or
+    (λ k. cut k ∷ []) (stop_size query.stop) [] ++ project ∷ []

@@ -12,8 +12,8 @@ top_of None tree = Order tree
 top_of (Some k) tree = Cut (Order tree) k
 
 -- of so many relations, with this stop
-abbrev pub built : ℕ → Option ℕ → Tree
-built m stop = Project (top_of stop (reads_tree m))
+abbrev pub tree_of_reads : ℕ → Option ℕ → Tree
+tree_of_reads m stop = Project (top_of stop (reads_tree m))
 
 abbrev pub with_stop : Option ℕ → Tree → ℕ → Tree
 with_stop None tree rel = tree
@@ -30,11 +30,11 @@ placed_stops bounds (Cut input k) = Cut (placed_stops bounds input) k
 placed_stops bounds (Project input) = Project (placed_stops bounds input)
 
 -- StopRead in place of Read p, and of a DataStop above it
-abbrev pub pushed : ℕ → ℕ → Tree → Tree
-pushed p k Unit = Unit
-pushed p k (Read input rel) = cond (rel == p) (StopRead input rel k) (Read (pushed p k input) rel)
-pushed p k (DataStop input rel n) = cond (rel == p) (pushed p k input) (DataStop (pushed p k input) rel n)
-pushed p k (StopRead input rel j) = StopRead (pushed p k input) rel j
-pushed p k (Order input) = Order (pushed p k input)
-pushed p k (Cut input j) = Cut (pushed p k input) j
-pushed p k (Project input) = Project (pushed p k input)
+abbrev pub pushed_tree : ℕ → ℕ → Tree → Tree
+pushed_tree p k Unit = Unit
+pushed_tree p k (Read input rel) = cond (rel == p) (StopRead input rel k) (Read (pushed_tree p k input) rel)
+pushed_tree p k (DataStop input rel n) = cond (rel == p) (pushed_tree p k input) (DataStop (pushed_tree p k input) rel n)
+pushed_tree p k (StopRead input rel j) = StopRead (pushed_tree p k input) rel j
+pushed_tree p k (Order input) = Order (pushed_tree p k input)
+pushed_tree p k (Cut input j) = Cut (pushed_tree p k input) j
+pushed_tree p k (Project input) = Project (pushed_tree p k input)

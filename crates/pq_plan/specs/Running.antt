@@ -8,15 +8,17 @@ use Rattle.pq_schema.specs.Candidates.{no_limit}
 use Rattle.pq_plan.specs.declared.physical.Physical.{Physical}
 use Rattle.pq_schema.specs.declared.table.Table.{Table}
 use Rattle.pq_schema.specs.declared.query.Query.{Query}
-use Rattle.pq_plan.specs.Answer.{Asked, side, compares, rows_at, in_order, first_past, selected, answer}
+use Rattle.pq_plan.specs.Answer.{Question, side, compares, rows_at, in_order, first_past, selected_values, answer}
 use Rattle.pq_plan.specs.Kept.{KeepsSchema}
 use Rattle.pq_plan.specs.Meaning.{keeps, read, key_of}
 use Rattle.pq_plan.specs.Nodes.{Node, lookup, limit_range, stop_scan, keep, sort, cut, project, nodes}
 
-module _ (q : Asked) where
+module _ (q : Question) where
   -- what the first equality in the text that ties the column says that it is
   abbrev pub tied_value : ℕ → List (List Value) → ℕ → Option Value
-  tied_value rel combo col = option_and_then (λ pred. side q.params combo pred.right) (find (λ pred. ties rel pred && (pred.left.col == col)) q.query.preds)
+  tied_value rel combo col = option_and_then
+      (λ pred. side q.params combo pred.right) (find
+      (λ pred. ties rel pred && (pred.left.col == col)) q.query.preds)
 
   -- the row has the tied values at these columns
   abbrev pub is_match : ℕ → List ℕ → List (List Value) → List Value → Bool
@@ -27,7 +29,8 @@ module _ (q : Asked) where
 
   -- each input, followed by the row whose key is tied, where there is one
   abbrev pub looked_up : ℕ → List (List (List Value)) → List (List (List Value))
-  looked_up rel inputs = flat_map (λ combo. map (λ row. combo ++ row ∷ []) (take 1 (matching rel (key_of q rel) combo))) inputs
+  looked_up rel inputs = flat_map (λ combo. map
+      (λ row. combo ++ row ∷ []) (take 1 (matching rel (key_of q rel) combo))) inputs
 
   -- each input, followed by each row that has the tied values at these columns
   abbrev pub ranged : ℕ → List ℕ → List (List (List Value)) → List (List (List Value))
@@ -58,4 +61,5 @@ module _ (q : Asked) where
 unfoldable pub PlanMeansAnswer : List Table → Query → Physical → Type 0
 PlanMeansAnswer tables query tree =
     (rows : List (ℕ × List Value)) → KeepsSchema tables rows → (params : List Value) (after : Option (List Value)) →
-    map (selected query) (plan_mean (record { tables = tables; query = query; rows = rows; params = params }) after tree) ≡ answer tables query rows params after
+    map (selected_values query) (plan_mean (record { tables = tables; query = query; rows = rows; params = params })
+    after tree) ≡ answer tables query rows params after

@@ -3,7 +3,7 @@
 ghost use Rattle.std.specs.Prelude.{◌≡◌, ◌+◌, ◌^◌, ◌<◌, ◌≤◌, length};
 ghost use Rattle.pq_schema.specs.Costs.{bound, limit_cost, read_each, read_stop};
 ghost use Rattle.pq_plan.specs.Cost.{is_primary_access, reach, cost, relations_read, IsInLimits, IsPlanTree};
-ghost use Rattle.pq_plan.specs.Totals.{reached, IsLow};
+ghost use Rattle.pq_plan.specs.Totals.{reached_total, IsLow};
 
 use crate::physical::Physical;
 use pq_base::Bound;
@@ -22,7 +22,7 @@ pub fn read_each(size: u32, cost: Bound, before: Total) -> Total
     requires ops { cost.ops ≤ 10001 }
     requires entries { cost.entries ≤ 20000 }
     requires low { IsLow before }
-    ensures { reached result ≡ read_each size cost (reached before) }
+    ensures { reached_total result ≡ read_each size cost (reached_total before) }
 {
     Total {
         inputs: before.inputs * size as u128,
@@ -62,7 +62,7 @@ fn is_primary_access(access: Access) -> bool
 pub fn read_stop(k: u16, served: bool, before: Total) -> Total
     requires k { k ≤ 1000 }
     requires low { IsLow before }
-    ensures total { reached result ≡ read_stop k served (reached before) }
+    ensures total { reached_total result ≡ read_stop k served (reached_total before) }
     ensures ops { result.cost.ops < 2 ^ 120 }
     ensures entries { result.cost.entries < 2 ^ 120 }
 {
@@ -79,7 +79,7 @@ pub fn read_stop(k: u16, served: bool, before: Total) -> Total
 fn total_of(tree: &Physical) -> Total
     requires few { length (relations_read tree.now) ≤ 7 }
     requires small { IsInLimits tree.now }
-    ensures { reached result ≡ reach tree.now }
+    ensures { reached_total result ≡ reach tree.now }
 {
     match tree {
         Physical::Unit => Total {

@@ -27,7 +27,8 @@ fn push_columns(
     query: &Query,
     rel: u8,
 ) -> Result<(), NoMem>
-    ensures { OnOk result (items.new ≡ items.old ++ map (key_item rel) (filter (λ col. not (is_ordered query.now rel col)) key.now)) }
+    ensures { OnOk result (items.new ≡ items.old
+        ++ map (key_item rel) (filter (λ col. not (is_ordered query.now rel col)) key.now)) }
 {
     for col in key {
         if !is_ordered(query, rel, *col) {

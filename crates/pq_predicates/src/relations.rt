@@ -2,7 +2,7 @@
 
 ghost use Rattle.std.specs.Prelude.{◌≡◌, ◌<◌, filter, map};
 ghost use Rattle.pq_schema.specs.Sound.{AreRefs};
-ghost use Rattle.pq_schema.specs.Relations.{belongs_to, ties, fixed, is_rest, order_rest, part_of, first_column, is_column_at, keeps_range, is_range, range_on};
+ghost use Rattle.pq_schema.specs.Relations.{belongs_to, ties, tied_set, is_rest, order_rest, part_of, first_column, is_column_at, keeps_range, is_range, range_on};
 
 use pq_base::ColSet;
 use pq_schema::{KeyPart, KeyParts, Op, Operand, OrderItem, Pred, Query};
@@ -33,7 +33,7 @@ pub fn ties(pred: &Pred, rel: u8) -> bool
 /// The columns that equalities tie.
 pub fn fixed(query: &Query, rel: u8) -> ColSet
     requires { AreRefs query.now }
-    ensures { result ≡ fixed query.now rel }
+    ensures { result ≡ tied_set query.now rel }
 {
     let mut set = ColSet::empty();
     for pred in query.preds.items() {

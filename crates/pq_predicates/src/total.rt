@@ -89,7 +89,8 @@ fn some_ties(
     number: u8,
     key: &[u8],
 ) -> bool
-    ensures { result ≡ list_any (λ one. one.table == number && is_whole query.now rel earlier (zip one.cols key.now)) foreign.now }
+    ensures { result ≡ list_any (λ one. one.table == number
+        && is_whole query.now rel earlier (zip one.cols key.now)) foreign.now }
 {
     foreign
         .iter()

@@ -3,25 +3,25 @@ use Rattle.std.proofs.Common.{◌≡◌, ◌≢◌, ◌∙◌, sym, lit<, ℕ, s
 use Rattle.std.proofs.lemmas.Str.{inside_one, encodes-append, encode_ascii}
 use Rattle.std.proofs.lemmas.Grind.{common_steps, flat_map-append}
 use Rattle.std.proofs.lemmas.Bool.{ne_eqb}
-use Rattle.pq_print.specs.Values.{doubled}
+use Rattle.pq_print.specs.Values.{doubled_quotes}
 
-pub doubled_quote : (c : ℕ) → c ≡ 39 → flat_map doubled (encode_utf8 c) ≡ codes "''"
+pub doubled_quote : (c : ℕ) → c ≡ 39 → flat_map doubled_quotes (encode_utf8 c) ≡ codes "''"
 doubled_quote c e = rw (e, encode_ascii 39 (lit< tt)) refl
 
-doubled_byte : (b : ℕ) → b ≢ 39 → doubled b ≡ b ∷ []
+doubled_byte : (b : ℕ) → b ≢ 39 → doubled_quotes b ≡ b ∷ []
 doubled_byte b n = rw (ne_eqb b 39 n) refl
 
-doubled_none : (bs : List ℕ) → ((k : ℕ) → k < length bs → get_or bs k 0 ≢ 39) → flat_map doubled bs ≡ bs
+doubled_none : (bs : List ℕ) → ((k : ℕ) → k < length bs → get_or bs k 0 ≢ 39) → flat_map doubled_quotes bs ≡ bs
 doubled_none [] n = refl
 doubled_none (b ∷ bs) n =
-    let first : doubled b ≡ b ∷ [] = doubled_byte b (n 0 (omega arith)) in
-    let rest : flat_map doubled bs ≡ bs = doubled_none bs (λ k h. n (suc k) (omega arith)) in
+    let first : doubled_quotes b ≡ b ∷ [] = doubled_byte b (n 0 (omega arith)) in
+    let rest : flat_map doubled_quotes bs ≡ bs = doubled_none bs (λ k h. n (suc k) (omega arith)) in
     rw (first, rest) refl
 
-pub doubled_other : (c : ℕ) → c ≢ 39 → flat_map doubled (encode_utf8 c) ≡ encode_utf8 c
+pub doubled_other : (c : ℕ) → c ≢ 39 → flat_map doubled_quotes (encode_utf8 c) ≡ encode_utf8 c
 doubled_other c n =
     doubled_none (encode_utf8 c)
     (λ k h e. n (inside_one c [] (encode_utf8 c) k (sym (append-nil _)) h (omega (arith, e)) ∙ e))
 
-pub doubled_more : (old a b cs : List ℕ) (c : ℕ) → a ≡ old ++ flat_map doubled (encode_utf8_all cs) → b ≡ a ++ flat_map doubled (encode_utf8 c) → b ≡ old ++ flat_map doubled (encode_utf8_all (cs ++ c ∷ []))
+pub doubled_more : (old a b cs : List ℕ) (c : ℕ) → a ≡ old ++ flat_map doubled_quotes (encode_utf8_all cs) → b ≡ a ++ flat_map doubled_quotes (encode_utf8 c) → b ≡ old ++ flat_map doubled_quotes (encode_utf8_all (cs ++ c ∷ []))
 doubled_more old a b cs c e f = f ∙ rw (e, encodes-append cs (c ∷ [])) (simp (flat_map-append, append_assoc, append-nil))

@@ -24,7 +24,7 @@ use Rattle.pq_schema.specs.declared.made.Definition.TheVariants.{OfTable, OfQuer
 use Rattle.pq_schema.specs.Tables.{table_at}
 use Rattle.pq_schema.specs.Relations.{relation_at, table_of}
 use Rattle.pq_schema.specs.Schema.{Schema, definition_at}
-use Rattle.pq_print.specs.Lists.{each_after, separated, clause}
+use Rattle.pq_print.specs.Lists.{each_after, separate_texts, clause}
 use Rattle.pq_print.specs.Values.{value_text}
 use Rattle.pq_print.specs.Report.{dir_text}
 
@@ -46,19 +46,20 @@ column_text column = column.name ++ codes " " ++ type_text column.ty
 
 -- some of the columns by their places
 unfoldable pub columns_text : List Column → List ℕ → List ℕ
-columns_text columns cols = codes "(" ++ separated (codes ", ") (column_name columns) cols ++ codes ")"
+columns_text columns cols = codes "(" ++ separate_texts (codes ", ") (column_name columns) cols ++ codes ")"
 
 unfoldable pub limit_text : List Column → Limit → List ℕ
 limit_text columns limit = codes "CARDINALITY LIMIT " ++ decimal limit.n ++ codes " " ++ columns_text columns limit.cols
 
 unfoldable pub foreign_text : List Table → List Column → Foreign → List ℕ
 foreign_text tables columns foreign =
-    codes "FOREIGN KEY " ++ columns_text columns foreign.cols ++ codes " REFERENCES " ++ (table_at tables foreign.table).name
+    codes "FOREIGN KEY " ++ columns_text columns foreign.cols ++ codes " REFERENCES "
+    ++ (table_at tables foreign.table).name
 
 -- the columns, the key, all limits, all foreign keys
 unfoldable pub items_text : List Table → Table → List ℕ
 items_text tables table =
-    separated (codes ", ") column_text table.columns ++ codes ", PRIMARY KEY " ++ columns_text table.columns table.key
+    separate_texts (codes ", ") column_text table.columns ++ codes ", PRIMARY KEY " ++ columns_text table.columns table.key
     ++ each_after (codes ", ") (limit_text table.columns) table.limits
     ++ each_after (codes ", ") (foreign_text tables table.columns) table.foreign
 
@@ -100,8 +101,8 @@ stop_text (stop.Paginate k) = codes " PAGINATE " ++ decimal k
 
 unfoldable pub select_text : List Table → Query → List ℕ
 select_text tables query =
-    codes "SELECT " ++ separated (codes ", ") (ref_text tables query) query.select
-    ++ codes " FROM " ++ separated (codes ", ") (relation_text tables) query.relations
+    codes "SELECT " ++ separate_texts (codes ", ") (ref_text tables query) query.select
+    ++ codes " FROM " ++ separate_texts (codes ", ") (relation_text tables) query.relations
     ++ clause (codes " WHERE ") (codes " AND ") (pred_text tables query) query.preds
     ++ clause (codes " ORDER BY ") (codes ", ") (order_text tables query) query.order
     ++ stop_text query.stop

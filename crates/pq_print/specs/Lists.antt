@@ -6,11 +6,11 @@ abbrev pub each_after : {X : Type 0} → List ℕ → (X → List ℕ) → List 
 each_after before text items = flat_map (λ item. before ++ text item) items
 
 -- the texts of the items, with this one between them
-abbrev pub separated : {X : Type 0} → List ℕ → (X → List ℕ) → List X → List ℕ
-separated between text [] = []
-separated between text (item ∷ items) = text item ++ each_after between text items
+abbrev pub separate_texts : {X : Type 0} → List ℕ → (X → List ℕ) → List X → List ℕ
+separate_texts between text [] = []
+separate_texts between text (item ∷ items) = text item ++ each_after between text items
 
 -- a clause of a statement: its keyword and then its items, nothing without items
 abbrev pub clause : {X : Type 0} → List ℕ → List ℕ → (X → List ℕ) → List X → List ℕ
 clause keyword between text [] = []
-clause keyword between text (item ∷ items) = keyword ++ separated between text (item ∷ items)
+clause keyword between text (item ∷ items) = keyword ++ separate_texts between text (item ∷ items)

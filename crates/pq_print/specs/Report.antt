@@ -15,7 +15,7 @@ use Rattle.pq_print.specs.declared.report.End.{End}
 use Rattle.pq_print.specs.declared.report.End.TheVariants as end
 use Rattle.pq_print.specs.declared.report.Report.{Report}
 use Rattle.pq_print.specs.declared.report.Opened.{Opened}
-use Rattle.pq_print.specs.Lists.{separated}
+use Rattle.pq_print.specs.Lists.{separate_texts}
 use Rattle.pq_print.specs.Values.{row_text}
 use Rattle.pq_print.specs.Refusals.{refusal_text}
 
@@ -41,7 +41,8 @@ abbrev pub line_text : Line → List ℕ
 line_text (line.Row row) = row_text row
 line_text (line.Query name chosen bound) = codes "query " ++ name ++ choice_text chosen ++ bound_text bound
 line_text (line.Index table number cols) =
-    codes "index " ++ table ++ codes " " ++ decimal number ++ codes " (" ++ separated (codes ", ") index_col_text cols ++ codes ")"
+    codes "index " ++ table ++ codes " " ++ decimal number ++ codes " ("
+    ++ separate_texts (codes ", ") index_col_text cols ++ codes ")"
 line_text (line.Def number text) = codes "def " ++ decimal number ++ codes " " ++ text
 
 -- the cursor of the next page
@@ -59,15 +60,17 @@ abbrev pub line_of : List ℕ → List ℕ
 line_of text = text ++ codes "\n"
 
 abbrev pub end_line : Report → List ℕ
-end_line report = line_of (decimal report.number ++ end_text report.end ++ bound_text report.bound ++ used_text report.used)
+end_line report = line_of (decimal report.number ++ end_text report.end ++ bound_text report.bound
+    ++ used_text report.used)
 
 -- the text of a report
-unfoldable pub printed : Report → List ℕ
-printed report = flat_map (λ l. line_of (line_text l)) report.lines ++ end_line report
+unfoldable pub printed_report : Report → List ℕ
+printed_report report = flat_map (λ l. line_of (line_text l)) report.lines ++ end_line report
 
 -- the line of an opening
 unfoldable pub opening_line : Opened → List ℕ
-opening_line opened = line_of (codes "open defs " ++ decimal opened.defs ++ bound_text opened.bound ++ used_text opened.used)
+opening_line opened = line_of (codes "open defs " ++ decimal opened.defs ++ bound_text opened.bound
+    ++ used_text opened.used)
 
 -- two digits in small letters
 abbrev pub hex : ℕ → List ℕ

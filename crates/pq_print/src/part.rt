@@ -1,7 +1,7 @@
 //! Parts of a text that stand in lists, and the lists of them.
 ghost use Rattle.std.specs.Prelude.{◌≡◌, ℕ, ◌++◌, OnOk, string_bytes};
 ghost use Rattle.std.specs.Prelude as prelude;
-ghost use Rattle.pq_print.specs.Lists.{each_after, separated, clause};
+ghost use Rattle.pq_print.specs.Lists.{each_after, separate_texts, clause};
 
 use pq_base::PText;
 use std::alloc::AllocError;
@@ -22,7 +22,8 @@ pub fn put_each<S, P: Part<S>>(
     before: &str,
     out: &mut String,
 ) -> Result<(), AllocError>
-    ensures { OnOk result (string_bytes out.new ≡ string_bytes out.old ++ each_after before.now (P.text scope.now) parts.now) }
+    ensures { OnOk result (string_bytes out.new
+        ≡ string_bytes out.old ++ each_after before.now (P.text scope.now) parts.now) }
 {
     for part in parts {
         out.push_str(before)?;
@@ -38,7 +39,8 @@ pub fn put_separated<S, P: Part<S>>(
     between: &str,
     out: &mut String,
 ) -> Result<(), AllocError>
-    ensures { OnOk result (string_bytes out.new ≡ string_bytes out.old ++ separated between.now (P.text scope.now) parts.now) }
+    ensures { OnOk result (string_bytes out.new
+        ≡ string_bytes out.old ++ separate_texts between.now (P.text scope.now) parts.now) }
 {
     let Some((first, rest)) = parts.split_first() else {
         return Ok(());
@@ -55,7 +57,8 @@ pub fn put_clause<S, P: Part<S>>(
     between: &str,
     out: &mut String,
 ) -> Result<(), AllocError>
-    ensures { OnOk result (string_bytes out.new ≡ string_bytes out.old ++ clause keyword.now between.now (P.text scope.now) parts.now) }
+    ensures { OnOk result (string_bytes out.new
+        ≡ string_bytes out.old ++ clause keyword.now between.now (P.text scope.now) parts.now) }
 {
     if parts.is_empty() {
         return Ok(());

@@ -1,7 +1,7 @@
 //! Reports, openings and damage as text.
 ghost use Rattle.std.specs.Prelude.{◌≡◌, ◌<◌, ◌++◌, OnOk, OnErr, flat_map, string_bytes};
 ghost use Rattle.std.specs.Char.{digit_char};
-ghost use Rattle.pq_print.specs.Report.{bound_text, used_text, choice_text, dir_text, index_col_text, line_text, line_of, next_text, end_text, end_line, printed, opening_line, hex, damage_line, is_refusal};
+ghost use Rattle.pq_print.specs.Report.{bound_text, used_text, choice_text, dir_text, index_col_text, line_text, line_of, next_text, end_text, end_line, printed_report, opening_line, hex, damage_line, is_refusal};
 
 use crate::number::put_number;
 use crate::part::{Part, as_str, put_each, put_separated};
@@ -155,10 +155,10 @@ impl Report {
     }
 }
 
-#[tactic(auto, unfolding(crate::specs::Report::printed))]
+#[tactic(auto, unfolding(crate::specs::Report::printed_report))]
 /// Appends the report's lines and its end line. After `NoMem` the bytes are as before.
 pub fn print_report(alloc: Global, report: &Report, out: &mut Bytes) -> Result<(), NoMem>
-    ensures ok { OnOk result (out.new ≡ out.old ++ printed report.now) }
+    ensures ok { OnOk result (out.new ≡ out.old ++ printed_report report.now) }
     ensures err { OnErr result (out.new ≡ out.old) }
 {
     let mut text = String::new(alloc);

@@ -19,7 +19,8 @@ struct Over<'a> {
 
 #[tactic(auto, unfolding(crate::specs::Canonical::ref_text))]
 fn put_ref(over: &Over<'_>, column: ColRef, out: &mut String) -> Result<(), AllocError>
-    ensures { OnOk result (string_bytes out.new ≡ string_bytes out.old ++ ref_text over.now.tables.now over.now.query.now column) }
+    ensures { OnOk result (string_bytes out.new
+        ≡ string_bytes out.old ++ ref_text over.now.tables.now over.now.query.now column) }
 {
     out.push_str(relation_alias(over.query, column.rel))?;
     out.push_str(".")?;
@@ -66,7 +67,8 @@ fn op_word(op: Op) -> &'static str
 }
 
 fn put_operand(over: &Over<'_>, operand: &Operand, out: &mut String) -> Result<(), AllocError>
-    ensures { OnOk result (string_bytes out.new ≡ string_bytes out.old ++ operand_text over.now.tables.now over.now.query.now operand.now) }
+    ensures { OnOk result (string_bytes out.new
+        ≡ string_bytes out.old ++ operand_text over.now.tables.now over.now.query.now operand.now) }
 {
     match operand {
         Operand::Const(value) => value.put(&(), out),
@@ -81,7 +83,8 @@ fn put_operand(over: &Over<'_>, operand: &Operand, out: &mut String) -> Result<(
 
 #[tactic(auto, unfolding(crate::specs::Canonical::pred_text))]
 fn put_pred(over: &Over<'_>, pred: &Pred, out: &mut String) -> Result<(), AllocError>
-    ensures { OnOk result (string_bytes out.new ≡ string_bytes out.old ++ pred_text over.now.tables.now over.now.query.now pred.now) }
+    ensures { OnOk result (string_bytes out.new
+        ≡ string_bytes out.old ++ pred_text over.now.tables.now over.now.query.now pred.now) }
 {
     put_ref(over, pred.left, out)?;
     out.push_str(" ")?;

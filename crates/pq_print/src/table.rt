@@ -85,7 +85,8 @@ impl<'a> Part<Home<'a>> for Limit {
 
 #[tactic(auto, unfolding(crate::specs::Canonical::foreign_text))]
 fn put_foreign(home: &Home<'_>, foreign: &Foreign, out: &mut String) -> Result<(), AllocError>
-    ensures { OnOk result (string_bytes out.new ≡ string_bytes out.old ++ foreign_text home.now.tables.now home.now.columns.now foreign.now) }
+    ensures { OnOk result (string_bytes out.new
+        ≡ string_bytes out.old ++ foreign_text home.now.tables.now home.now.columns.now foreign.now) }
 {
     out.push_str("FOREIGN KEY ")?;
     put_columns(home, foreign.cols.items(), out)?;
@@ -108,7 +109,8 @@ fn put_items(
     columns: &[Column],
     out: &mut String,
 ) -> Result<(), AllocError>
-    ensures { OnOk result (string_bytes out.new ≡ string_bytes out.old ++ items_text tables.now (record table.now { columns = columns.now })) }
+    ensures { OnOk result (string_bytes out.new
+        ≡ string_bytes out.old ++ items_text tables.now (record table.now { columns = columns.now })) }
 {
     let home = Home { tables, columns };
     put_separated(columns, &(), ", ", out)?;
@@ -126,7 +128,8 @@ pub fn put_table(
     columns: &[Column],
     out: &mut String,
 ) -> Result<(), AllocError>
-    ensures { OnOk result (string_bytes out.new ≡ string_bytes out.old ++ table_text tables.now (record table.now { columns = columns.now })) }
+    ensures { OnOk result (string_bytes out.new
+        ≡ string_bytes out.old ++ table_text tables.now (record table.now { columns = columns.now })) }
 {
     out.push_str("CREATE TABLE ")?;
     out.push_str(as_str(&table.name))?;

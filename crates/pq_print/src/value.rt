@@ -1,6 +1,6 @@
 //! Values and rows as text.
 ghost use Rattle.std.specs.Prelude.{◌≡◌, ◌++◌, OnOk, OnErr, flat_map, string_bytes, encode_utf8};
-ghost use Rattle.pq_print.specs.Values.{doubled, quoted, value_text, row_text};
+ghost use Rattle.pq_print.specs.Values.{doubled_quotes, quoted_text, value_text, row_text};
 ghost use Rattle.pq_print.specs.Report.{line_of};
 
 use crate::number::put_number;
@@ -11,7 +11,7 @@ use std::alloc::{AllocError, Global};
 /// Puts a character, a quote twice.
 #[tactic(auto, using(crate::proofs::Quotes::doubled_quote, crate::proofs::Quotes::doubled_other))]
 fn put_char(c: char, out: &mut String) -> Result<(), AllocError>
-    ensures { OnOk result (string_bytes out.new ≡ string_bytes out.old ++ flat_map doubled (encode_utf8 c)) }
+    ensures { OnOk result (string_bytes out.new ≡ string_bytes out.old ++ flat_map doubled_quotes (encode_utf8 c)) }
 {
     if c == '\'' {
         return out.push_str("''");
@@ -21,7 +21,7 @@ fn put_char(c: char, out: &mut String) -> Result<(), AllocError>
 
 /// Puts the text between quotes, with each quote in it written twice.
 fn put_quoted(text: &str, out: &mut String) -> Result<(), AllocError>
-    ensures { OnOk result (string_bytes out.new ≡ string_bytes out.old ++ quoted text.now) }
+    ensures { OnOk result (string_bytes out.new ≡ string_bytes out.old ++ quoted_text text.now) }
 {
     out.push_str("'")?;
     for c in text.chars() {

@@ -13,7 +13,7 @@ use Rattle.pq_base.specs.declared.value.ColType.TheVariants as type
 use Rattle.pq_base.specs.declared.value.Value.{Value}
 use Rattle.pq_base.specs.declared.value.Value.TheVariants as value
 use Rattle.pq_schema.specs.Candidates.{stop_size as size_of}
-use Rattle.pq_schema.specs.Definitions.{refused_if, repeated}
+use Rattle.pq_schema.specs.Definitions.{refused_if, repeated_name}
 use Rattle.pq_schema.specs.Resolved.{same_ref, param_type}
 use Rattle.pq_base.specs.Values.{same_kind}
 use Rattle.pq_schema.specs.declared.query.ColRef.{ColRef}
@@ -34,7 +34,7 @@ use Rattle.pq_query_read.specs.declared.select.PredDef.{PredDef}
 use Rattle.pq_query_read.specs.declared.select.StopDef.{StopDef}
 use Rattle.pq_query_read.specs.declared.select.StopDef.TheVariants as stop_def
 use Rattle.pq_query_read.specs.Spelled.{IsOperandDef, IsPredDef}
-use Rattle.pq_query_read.specs.Trying.{◌>>=◌, or_refused, passed, each_after}
+use Rattle.pq_query_read.specs.Trying.{◌>>=◌, or_refused, passed_unless, each_after}
 use Rattle.pq_query_read.proofs.Trying.{SameOk, both, there, not_so, same_answer, each_keeps}
 use Rattle.pq_query_read.specs.Columns.{IsIn, ref_of, type_of}
 use Rattle.pq_query_read.specs.Resolving.{operand_of, is_comparable, pred_with, pred_of, has_ref, ref_name, item_of, stop_size, stop_of}
@@ -117,7 +117,7 @@ module _ (tables : List Table) (relations : List Relation) where
       (compared first.0 def.op def.right second.0 (ref_found tables relations def.left first.0 first.1) known second.1 (not-false (is_comparable tables relations first.0 second.0) (not_so (not (is_comparable tables relations first.0 second.0)) (refusal.OperandKind (length before + 1)) third.0 third.1))))
     where
       tested : ColRef → Operand → Result Pred Refusal
-      tested left right = passed (refused_if (not (is_comparable tables relations left right)) (refusal.OperandKind (length before + 1))) >>= λ comparable. Ok (pred_with left def.op right)
+      tested left right = passed_unless (refused_if (not (is_comparable tables relations left right)) (refusal.OperandKind (length before + 1))) >>= λ comparable. Ok (pred_with left def.op right)
 
       first : (left : ColRef) × (ref_of tables relations def.left ≡ Ok left) × ((operand_of tables relations def.right >>= tested left) ≡ Ok pred)
       first = both (ref_of tables relations def.left) (λ left. operand_of tables relations def.right >>= tested left) pred is
@@ -125,8 +125,8 @@ module _ (tables : List Table) (relations : List Relation) where
       second : (right : Operand) × (operand_of tables relations def.right ≡ Ok right) × (tested first.0 right ≡ Ok pred)
       second = both (operand_of tables relations def.right) (tested first.0) pred first.2
 
-      third : (u : Unit {0}) × (passed (refused_if (not (is_comparable tables relations first.0 second.0)) (refusal.OperandKind (length before + 1))) ≡ Ok u) × SameOk (pred_with first.0 def.op second.0) pred
-      third = both (passed (refused_if (not (is_comparable tables relations first.0 second.0)) (refusal.OperandKind (length before + 1)))) (λ comparable. Ok (pred_with first.0 def.op second.0)) pred second.2
+      third : (u : Unit {0}) × (passed_unless (refused_if (not (is_comparable tables relations first.0 second.0)) (refusal.OperandKind (length before + 1))) ≡ Ok u) × SameOk (pred_with first.0 def.op second.0) pred
+      third = both (passed_unless (refused_if (not (is_comparable tables relations first.0 second.0)) (refusal.OperandKind (length before + 1)))) (λ comparable. Ok (pred_with first.0 def.op second.0)) pred second.2
 
   pub preds_compared : (defs : List PredDef) (preds : List Pred) → AllByRecursion IsPredDef defs → each_after (pred_of tables relations) [] defs ≡ Ok preds → AllByRecursion IsCompared preds
   preds_compared defs preds known is = each_keeps (pred_of tables relations) IsPredDef (AllByRecursion IsCompared) pred_kept defs [] preds known tt is
@@ -145,16 +145,16 @@ module _ (tables : List Table) (relations : List Relation) where
       })
     where
       again : Refusal
-      again = repeated (ref_name def.col.first def.col.second)
+      again = repeated_name (ref_name def.col.first def.col.second)
 
-      first : (ref : ColRef) × (ref_of tables relations def.col ≡ Ok ref) × ((passed (refused_if (list_any (has_ref ref) before) again) >>= λ new. Ok (record { col = ref; dir = def.dir })) ≡ Ok item)
-      first = both (ref_of tables relations def.col) (λ ref. passed (refused_if (list_any (has_ref ref) before) again) >>= λ new. Ok (record { col = ref; dir = def.dir })) item is
+      first : (ref : ColRef) × (ref_of tables relations def.col ≡ Ok ref) × ((passed_unless (refused_if (list_any (has_ref ref) before) again) >>= λ new. Ok (record { col = ref; dir = def.dir })) ≡ Ok item)
+      first = both (ref_of tables relations def.col) (λ ref. passed_unless (refused_if (list_any (has_ref ref) before) again) >>= λ new. Ok (record { col = ref; dir = def.dir })) item is
 
       made : OrderItem
       made = record { col = first.0; dir = def.dir }
 
-      second : (u : Unit {0}) × (passed (refused_if (list_any (has_ref first.0) before) again) ≡ Ok u) × SameOk made item
-      second = both (passed (refused_if (list_any (has_ref first.0) before) again)) (λ new. Ok made) item first.2
+      second : (u : Unit {0}) × (passed_unless (refused_if (list_any (has_ref first.0) before) again) ≡ Ok u) × SameOk made item
+      second = both (passed_unless (refused_if (list_any (has_ref first.0) before) again)) (λ new. Ok made) item first.2
 
   any_item : (defs : List ItemDef) → AllByRecursion (λ def. Unit {0}) defs
   any_item [] = tt

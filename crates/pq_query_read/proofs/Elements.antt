@@ -2,8 +2,8 @@
 use Rattle.std.proofs.Common.{◌≡◌, ℕ, ℤ, Bool, true, false, cond, List, [], ◌∷◌, ◌++◌, Option, Some, None, inl, inr, refl, ap, subst, ◌∙◌}
 use Rattle.pq_base.specs.declared.value.Dir.{Dir}
 use Rattle.pq_base.specs.declared.value.Dir.TheVariants as dir
-use Rattle.pq_grammar.specs.Language.{◌⋅◌, nothing, optional, made, one_or_other}
-use Rattle.pq_grammar.specs.Reader.{Reader, begins, picked, pair_at, skip_at, choice_at}
+use Rattle.pq_grammar.specs.Language.{◌⋅◌, nothing, optional, made_from, one_or_other}
+use Rattle.pq_grammar.specs.Reader.{Reader, begins, picked_token, pair_at, skip_at, choice_at}
 use Rattle.pq_grammar.proofs.Steps.{Reads, never, begins-never, wider_reads}
 use Rattle.pq_grammar.proofs.Readers.{pair_reads, map_reads}
 use Rattle.pq_grammar.proofs.Options.{option_reads}
@@ -21,7 +21,7 @@ use Rattle.pq_shape.specs.Front.{is_between, between_at}
 use Rattle.pq_shape.specs.declared.between.Between.TheVariants as between
 use Rattle.pq_shape.specs.declared.keyword.TheConstants.{AS, ASC, DESC, JOIN, LIMIT, PAGINATE}
 use Rattle.pq_shape.specs.declared.mark.TheConstants.{COMMA, POINT}
-use Rattle.pq_query_read.specs.Grammar.{ref, alias, relation, comma_or_join, direction, item, stopped}
+use Rattle.pq_query_read.specs.Grammar.{ref, alias, relation, comma_or_join, direction, item, stop_tokens}
 use Rattle.pq_query_read.specs.Reading.{part_at, ref_at, is_alias, alias_at, relation_at, dir_at, item_at, stop_at}
 use Rattle.pq_query_read.specs.declared.select.RefDef.{RefDef}
 use Rattle.pq_query_read.specs.declared.select.StopDef.{StopDef}
@@ -74,7 +74,7 @@ relation_reads =
     (pair_free name (optional alias) is_alias name_at alias_at name_reads alias_reads) (λ x w h. h) (λ r w h. ((r.table, r.alias), refl, h))
 
 -- a comma or JOIN
-between_by : (a b : Bool) (ts : List Shape) → picked {X = Unit {0}} (cond (cond a true b) (Some tt) None) ts ≡ cond a (picked (cond a (Some tt) None) ts) (picked (cond b (Some tt) None) ts)
+between_by : (a b : Bool) (ts : List Shape) → picked_token {X = Unit {0}} (cond (cond a true b) (Some tt) None) ts ≡ cond a (picked_token (cond a (Some tt) None) ts) (picked_token (cond b (Some tt) None) ts)
 between_by true b ts = refl
 between_by false b ts = refl
 
@@ -100,13 +100,13 @@ abbrev pub is_dir : Shape → Bool
 is_dir = any_of (is_word DESC) (is_word ASC)
 
 abbrev desc_made : Dir → List Shape → Type 0
-desc_made = made (λ (u : Unit {0}). dir.Desc) (λ u. word DESC)
+desc_made = made_from (λ (u : Unit {0}). dir.Desc) (λ u. word DESC)
 
 abbrev asc_made : Dir → List Shape → Type 0
-asc_made = made (λ (u : Unit {0}). dir.Asc) (λ u. word ASC)
+asc_made = made_from (λ (u : Unit {0}). dir.Asc) (λ u. word ASC)
 
 abbrev none_made : Dir → List Shape → Type 0
-none_made = made (λ (u : Unit {0}). dir.Asc) (λ u. nothing)
+none_made = made_from (λ (u : Unit {0}). dir.Asc) (λ u. nothing)
 
 dir_to : (d : Dir) (w : List Shape) → one_or_other desc_made (one_or_other asc_made none_made) d w → direction d w
 dir_to d w (inl h) = subst (λ (x : Dir). direction x w) h.1 h.2
@@ -158,20 +158,20 @@ abbrev pub is_stop : Shape → Bool
 is_stop = any_of (is_word LIMIT) (is_word PAGINATE)
 
 abbrev limit_made : StopDef → List Shape → Type 0
-limit_made = made (λ (z : ℤ). stop.Limit z) (λ z. word LIMIT ⋅ number z)
+limit_made = made_from (λ (z : ℤ). stop.Limit z) (λ z. word LIMIT ⋅ number z)
 
 abbrev page_made : StopDef → List Shape → Type 0
-page_made = made (λ (z : ℤ). stop.Paginate z) (λ z. word PAGINATE ⋅ number z)
+page_made = made_from (λ (z : ℤ). stop.Paginate z) (λ z. word PAGINATE ⋅ number z)
 
 abbrev all_made : StopDef → List Shape → Type 0
-all_made = made (λ (u : Unit {0}). stop.All) (λ u. nothing)
+all_made = made_from (λ (u : Unit {0}). stop.All) (λ u. nothing)
 
-stop_to : (s : StopDef) (w : List Shape) → one_or_other limit_made (one_or_other page_made all_made) s w → stopped s w
-stop_to s w (inl h) = subst (λ (x : StopDef). stopped x w) h.1 h.2
-stop_to s w (inr (inl h)) = subst (λ (x : StopDef). stopped x w) h.1 h.2
-stop_to s w (inr (inr h)) = subst (λ (x : StopDef). stopped x w) h.1 h.2
+stop_to : (s : StopDef) (w : List Shape) → one_or_other limit_made (one_or_other page_made all_made) s w → stop_tokens s w
+stop_to s w (inl h) = subst (λ (x : StopDef). stop_tokens x w) h.1 h.2
+stop_to s w (inr (inl h)) = subst (λ (x : StopDef). stop_tokens x w) h.1 h.2
+stop_to s w (inr (inr h)) = subst (λ (x : StopDef). stop_tokens x w) h.1 h.2
 
-stop_from : (s : StopDef) (w : List Shape) → stopped s w → one_or_other limit_made (one_or_other page_made all_made) s w
+stop_from : (s : StopDef) (w : List Shape) → stop_tokens s w → one_or_other limit_made (one_or_other page_made all_made) s w
 stop_from stop.All w h = inr (inr (tt, refl, h))
 stop_from (stop.Limit z) w h = inl (z, refl, h)
 stop_from (stop.Paginate z) w h = inr (inl (z, refl, h))
@@ -181,10 +181,10 @@ unfolding is_word
 no_limit s w rest (inl h) e = then_shuts (is_word LIMIT) (shape.Keyword PAGINATE) (number h.0) refl w rest h.2
 no_limit s w rest (inr h) e = nothing_shuts (is_word LIMIT) w rest h.2 (not_first (is_word LIMIT) (is_word PAGINATE) rest e)
 
-pub stop_reads : Reads stopped is_stop stop_at
+pub stop_reads : Reads stop_tokens is_stop stop_at
 unfolding stop_at is_word
 stop_reads =
-    same_set (one_or_other limit_made (one_or_other page_made all_made)) stopped is_stop stop_at stop_to stop_from
+    same_set (one_or_other limit_made (one_or_other page_made all_made)) stop_tokens is_stop stop_at stop_to stop_from
     (choice_reads limit_made (one_or_other page_made all_made) (is_word LIMIT) _ _ is_stop
     (wide limit_made is_stop _ (made_reads (λ z. stop.Limit z) (λ z. word LIMIT ⋅ number z) never _ (skip_free (word LIMIT) number never (word_at LIMIT) number_at (word_reads LIMIT) number_reads)))
     (choice_reads page_made all_made (is_word PAGINATE) _ _ is_stop

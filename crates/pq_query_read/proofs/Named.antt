@@ -9,7 +9,7 @@ use Rattle.pq_text.specs.declared.token.Token.{Token}
 use Rattle.pq_schema.specs.Names.{IsName}
 use Rattle.pq_shape.specs.Numbers.{number_of}
 use Rattle.pq_shape.specs.Parts.{name as a_name}
-use Rattle.pq_shape.specs.Shapes.{shape_of, shapes_of, kind_shape, checked, between_quotes, quoted, number_or_other}
+use Rattle.pq_shape.specs.Shapes.{shape_of, shapes_of, kind_shape, utf8_text, between_quotes, text_shape, number_or_other}
 use Rattle.pq_shape.specs.declared.shape.Shape.{Shape}
 use Rattle.pq_shape.specs.declared.shape.Shape.TheVariants as shape
 use Rattle.pq_query_read.proofs.Names.{name_of_word}
@@ -26,14 +26,14 @@ number_no_name : (o : Option ℤ) (n : List ℕ) → number_or_other o ≡ shape
 number_no_name None n e = absurd cc
 number_no_name (Some z) n e = absurd cc
 
-text_no_name : (o : Option (List ℕ)) (n : List ℕ) → quoted o ≡ shape.Name n → IsName n
+text_no_name : (o : Option (List ℕ)) (n : List ℕ) → text_shape o ≡ shape.Name n → IsName n
 text_no_name None n e = absurd cc
 text_no_name (Some t) n e = absurd cc
 
 named_kind : (k : Kind) (w : List ℕ) → IsTrue (has_form k w) → IsNamed (kind_shape k w)
 named_kind kind.Word w form n e = name_of_word w n form e
 named_kind kind.Number w form n e = number_no_name (number_of w) n e
-named_kind kind.Text w form n e = text_no_name (checked (between_quotes w)) n e
+named_kind kind.Text w form n e = text_no_name (utf8_text (between_quotes w)) n e
 named_kind kind.Mark w form n e = absurd cc
 named_kind kind.Other w form n e = absurd cc
 

@@ -10,13 +10,13 @@ use Rattle.std.proofs.lemmas.List.{length-map}
 use Rattle.std.proofs.lemmas.Str.{is_utf8-from_IsUtf8, IsUtf8-from_ascii}
 use Rattle.std.proofs.lemmas.Bool.{leb-true, and_parts}
 use Rattle.std.proofs.lemmas.Bool.Decides.{nat_tests}
-use Rattle.pq_base.specs.Words.{raised, keywords}
+use Rattle.pq_base.specs.Words.{uppercase_byte, keywords}
 use Rattle.pq_schema.specs.Names.{is_letter, is_name_byte, is_keyword, is_name, IsName}
 use Rattle.pq_schema.specs.Names.{is_word as is_name_word}
 use Rattle.pq_text.specs.Bytes.{is_word_byte}
 use Rattle.pq_text.specs.Bytes.{is_letter as is_text_letter}
 use Rattle.pq_text.specs.Forms.{is_word}
-use Rattle.pq_shape.specs.Shapes.{place_of, lowered, checked, named, name_shape, keyword_or, word_shape}
+use Rattle.pq_shape.specs.Shapes.{place_of, lowercase_bytes, utf8_text, named_shape, name_shape, keyword_or, word_shape}
 use Rattle.pq_shape.specs.declared.shape.Shape.TheVariants as shape
 
 -- what a name is
@@ -103,7 +103,7 @@ unplaced (v ∷ vs) w e =
 name_lower : (b : ℕ) → is_name_byte b ≡ true → to_ascii_lowercase b ≡ b
 name_lower b h = grind (arith, nat_tests)
 
-lowered_same : (bs : List ℕ) → list_all is_name_byte bs ≡ true → lowered bs ≡ bs
+lowered_same : (bs : List ℕ) → list_all is_name_byte bs ≡ true → lowercase_bytes bs ≡ bs
 lowered_same [] all = refl
 lowered_same (b ∷ bs) all =
     let parts = and_parts (is_name_byte b) (list_all is_name_byte bs) all in
@@ -117,8 +117,8 @@ all_ascii [] all i = omega arith
 all_ascii (b ∷ bs) all zero = name_ascii b (and_parts (is_name_byte b) (list_all is_name_byte bs) all).0
 all_ascii (b ∷ bs) all (suc i) = all_ascii bs (and_parts (is_name_byte b) (list_all is_name_byte bs) all).1 i
 
-checked_name : (bs : List ℕ) → list_all is_name_byte bs ≡ true → checked bs ≡ Some bs
-unfolding checked
+checked_name : (bs : List ℕ) → list_all is_name_byte bs ≡ true → utf8_text bs ≡ Some bs
+unfolding utf8_text
 checked_name bs all = rw (is_utf8-from_IsUtf8 bs (IsUtf8-from_ascii bs (all_ascii bs all))) refl
 
 pub name_is_word : (name : List ℕ) → IsName name → is_word name ≡ true
@@ -127,17 +127,17 @@ name_is_word name is = (parts_of name is).word
 pub word_is_name : (name : List ℕ) → IsName name → word_shape name ≡ shape.Name name
 word_is_name name is =
     let parts = parts_of name is in
-    ap (keyword_or (name_shape name)) (place_none keywords (map raised name) parts.free)
-    ∙ rw (parts.short) (ap (λ (v : List ℕ). named (checked v)) (lowered_same name parts.letters) ∙ ap named (checked_name name parts.letters))
+    ap (keyword_or (name_shape name)) (place_none keywords (map uppercase_byte name) parts.free)
+    ∙ rw (parts.short) (ap (λ (v : List ℕ). named_shape (utf8_text v)) (lowered_same name parts.letters) ∙ ap named_shape (checked_name name parts.letters))
 
 -- ---- a word whose shape is a name
 
-raised_lower : (b : ℕ) → raised (to_ascii_lowercase b) ≡ raised b
+raised_lower : (b : ℕ) → uppercase_byte (to_ascii_lowercase b) ≡ uppercase_byte b
 raised_lower b = grind (arith, nat_tests)
 
-raised_lowered : (bs : List ℕ) → map raised (lowered bs) ≡ map raised bs
+raised_lowered : (bs : List ℕ) → map uppercase_byte (lowercase_bytes bs) ≡ map uppercase_byte bs
 raised_lowered [] = refl
-raised_lowered (b ∷ bs) = rw (raised_lower b) (ap (λ (v : List ℕ). raised b ∷ v) (raised_lowered bs))
+raised_lowered (b ∷ bs) = rw (raised_lower b) (ap (λ (v : List ℕ). uppercase_byte b ∷ v) (raised_lowered bs))
 
 lower_letter : (b : ℕ) → is_text_letter b ≡ true → is_letter (to_ascii_lowercase b) ≡ true
 lower_letter b h = grind (arith, nat_tests)
@@ -145,35 +145,35 @@ lower_letter b h = grind (arith, nat_tests)
 lower_word_byte : (b : ℕ) → is_word_byte b ≡ true → is_name_byte (to_ascii_lowercase b) ≡ true
 lower_word_byte b h = grind (arith, nat_tests)
 
-lower_bytes : (bs : List ℕ) → list_all is_word_byte bs ≡ true → list_all is_name_byte (lowered bs) ≡ true
+lower_bytes : (bs : List ℕ) → list_all is_word_byte bs ≡ true → list_all is_name_byte (lowercase_bytes bs) ≡ true
 lower_bytes [] all = refl
 lower_bytes (b ∷ bs) all =
     let parts = and_parts (is_word_byte b) (list_all is_word_byte bs) all in
     rw (lower_word_byte b parts.0, lower_bytes bs parts.1) refl
 
-lowered_name : (w : List ℕ) → is_word w ≡ true → nat_le (length w) 32 ≡ true → place_of keywords (map raised w) ≡ None → IsName (lowered w)
+lowered_name : (w : List ℕ) → is_word w ≡ true → nat_le (length w) 32 ≡ true → place_of keywords (map uppercase_byte w) ≡ None → IsName (lowercase_bytes w)
 lowered_name [] is short none = absurd cc
 lowered_name (b ∷ bs) is short none =
     let parts = and_parts (is_text_letter b) (list_all is_word_byte bs) is in
-    name_from (lowered (b ∷ bs)) (rw (lower_letter b parts.0, lower_bytes bs parts.1) refl)
+    name_from (lowercase_bytes (b ∷ bs)) (rw (lower_letter b parts.0, lower_bytes bs parts.1) refl)
     (ap (λ (n : ℕ). nat_le n 32) (length-map (b ∷ bs) to_ascii_lowercase) ∙ short)
-    (ap (λ (v : List ℕ). list_any (bytes_eq v) keywords) (raised_lowered (b ∷ bs)) ∙ unplaced keywords (map raised (b ∷ bs)) none)
+    (ap (λ (v : List ℕ). list_any (bytes_eq v) keywords) (raised_lowered (b ∷ bs)) ∙ unplaced keywords (map uppercase_byte (b ∷ bs)) none)
 
-by_checked : (v name : List ℕ) (b : Bool) → IsName v → named (cond b (Some v) None) ≡ shape.Name name → IsName name
+by_checked : (v name : List ℕ) (b : Bool) → IsName v → named_shape (cond b (Some v) None) ≡ shape.Name name → IsName name
 by_checked v name true is e = let f : v ≡ name = cc in subst (λ (u : List ℕ). IsName u) f is
 by_checked v name false is e = absurd cc
 
-by_length : (w name : List ℕ) (b : Bool) → nat_le (length w) 32 ≡ b → is_word w ≡ true → place_of keywords (map raised w) ≡ None → cond b (named (checked (lowered w))) shape.Other ≡ shape.Name name → IsName name
-unfolding checked
-by_length w name true short is none e = by_checked (lowered w) name (is_utf8 (lowered w)) (lowered_name w is short none) e
+by_length : (w name : List ℕ) (b : Bool) → nat_le (length w) 32 ≡ b → is_word w ≡ true → place_of keywords (map uppercase_byte w) ≡ None → cond b (named_shape (utf8_text (lowercase_bytes w))) shape.Other ≡ shape.Name name → IsName name
+unfolding utf8_text
+by_length w name true short is none e = by_checked (lowercase_bytes w) name (is_utf8 (lowercase_bytes w)) (lowered_name w is short none) e
 by_length w name false long is none e = absurd cc
 
-by_place : (w name : List ℕ) (o : Option ℕ) → place_of keywords (map raised w) ≡ o → is_word w ≡ true → keyword_or (name_shape w) o ≡ shape.Name name → IsName name
+by_place : (w name : List ℕ) (o : Option ℕ) → place_of keywords (map uppercase_byte w) ≡ o → is_word w ≡ true → keyword_or (name_shape w) o ≡ shape.Name name → IsName name
 by_place w name None none is e = by_length w name (nat_le (length w) 32) refl is none e
 by_place w name (Some k) found is e = absurd cc
 
 pub name_of_word : (w name : List ℕ) → is_word w ≡ true → word_shape w ≡ shape.Name name → IsName name
-name_of_word w name is e = by_place w name (place_of keywords (map raised w)) refl is e
+name_of_word w name is e = by_place w name (place_of keywords (map uppercase_byte w)) refl is e
 
 pub name_short : (name : List ℕ) → IsName name → length name ≤ 32
 name_short name is = leb-true _ _ (parts_of name is).short

@@ -22,7 +22,7 @@ use Rattle.pq_base.proofs.Members.{all_at, any_at, any_from, found, in_map, map_
 use Rattle.pq_query_read.specs.Columns.{type_of}
 use Rattle.pq_query_read.specs.Parameters.{use_in, uses, has_number, is_numbered, agrees, are_params, param_count, param_type_of, params_of}
 use Rattle.pq_query_read.specs.declared.params.ParamUse.{ParamUse}
-use Rattle.pq_query_read.specs.Trying.{passed}
+use Rattle.pq_query_read.specs.Trying.{passed_unless}
 use Rattle.pq_query_read.proofs.Trying.{both, not_so, same_answer}
 
 -- ---- lists
@@ -164,7 +164,7 @@ module _ (tables : List Table) (relations : List Relation) where
       → (are_params (uses tables relations preds) ≡ true) × (map (param_type_of (uses tables relations preds)) (range_with_len 1 (param_count (uses tables relations preds))) ≡ params)
   params_made preds params is =
       let used = uses tables relations preds in
-      let parts = both (passed (refused_if (not (are_params used)) refusal.Params)) (λ numbered. Ok (map (param_type_of used) (range_with_len 1 (param_count used)))) params is in
+      let parts = both (passed_unless (refused_if (not (are_params used)) refusal.Params)) (λ numbered. Ok (map (param_type_of used) (range_with_len 1 (param_count used)))) params is in
       (not-false (are_params used) (not_so (not (are_params used)) refusal.Params parts.0 parts.1), same_answer (map (param_type_of used) (range_with_len 1 (param_count used))) params parts.2)
 
   -- a predicate's parameter has its column's type

@@ -1,7 +1,7 @@
 -- The readers of predicates read what the grammar says.
 use Rattle.std.proofs.Common.{◌≡◌, ℕ, ℤ, true, false, List, [], ◌∷◌, ◌++◌, Option, inl, inr, refl, ap, subst, ◌∙◌, append_assoc}
 use Rattle.pq_base.specs.declared.value.Value.{Value}
-use Rattle.pq_grammar.specs.Language.{◌⋅◌, optional, made, one_or_other}
+use Rattle.pq_grammar.specs.Language.{◌⋅◌, optional, made_from, one_or_other}
 use Rattle.pq_grammar.specs.Reader.{begins, pair_at, skip_at, map_at}
 use Rattle.pq_grammar.proofs.Steps.{Reads, never}
 use Rattle.pq_grammar.proofs.Readers.{pair_reads, close_reads, map_reads}
@@ -39,7 +39,7 @@ abbrev bracketed : ℤ × Option (List ℕ) → List Shape → Type 0
 bracketed x = mark OPEN_SQUARE ⋅ labelled x ⋅ mark CLOSE_SQUARE
 
 abbrev param_made : OperandDef → List Shape → Type 0
-param_made = made (λ (x : ℤ × Option (List ℕ)). operand.Param x.0) bracketed
+param_made = made_from (λ (x : ℤ × Option (List ℕ)). operand.Param x.0) bracketed
 
 param_reads : Reads param_made never param_at
 unfolding param_at is_mark
@@ -51,7 +51,7 @@ param_reads =
     (λ v rest h e. one_shuts (is_mark COLON) (shape.Mark CLOSE_SQUARE) refl v rest h)))
 
 abbrev const_made : OperandDef → List Shape → Type 0
-const_made = made (λ v. operand.Const v) a_value
+const_made = made_from (λ v. operand.Const v) a_value
 
 abbrev plain : OperandDef → List Shape → Type 0
 plain = one_or_other param_made const_made
@@ -94,7 +94,7 @@ plain_no_name x w rest (inl h) = then_shuts is_name (shape.Mark OPEN_SQUARE) _ r
 plain_no_name x w rest (inr h) = no_name_by_value w rest (value_opens h.0 w h.2)
 
 abbrev ref_made : OperandDef → List Shape → Type 0
-ref_made = made (λ r. operand.Ref r) ref
+ref_made = made_from (λ r. operand.Ref r) ref
 
 abbrev any_operand : OperandDef → List Shape → Type 0
 any_operand = one_or_other ref_made plain
@@ -108,7 +108,7 @@ operand_reads =
 -- ---- operators
 
 abbrev op_made : Op → Op → List Shape → Type 0
-op_made o = made (λ (u : Unit {0}). o) (λ u. mark (operator o))
+op_made o = made_from (λ (u : Unit {0}). o) (λ u. mark (operator o))
 
 op_made_reads : (o : Op) → Reads (op_made o) never (map_at (λ u. o) (mark_at (operator o)))
 op_made_reads o = made_reads (λ u. o) (λ u. mark (operator o)) never (mark_at (operator o)) (mark_reads (operator o))
@@ -229,7 +229,7 @@ abbrev equality : OperandDef → List Shape → Type 0
 equality o = mark EQUAL ⋅ any_operand o
 
 abbrev eq_made : Op × OperandDef → List Shape → Type 0
-eq_made = made (λ (o : OperandDef). (op.Eq, o)) equality
+eq_made = made_from (λ (o : OperandDef). (op.Eq, o)) equality
 
 abbrev other_pair : Op × OperandDef → List Shape → Type 0
 other_pair y = others y.0 ⋅ plain y.1

@@ -23,7 +23,7 @@ use Rattle.pq_base.proofs.Members.{in_range}
 use Rattle.pq_query_read.specs.declared.select.RefDef.{RefDef}
 use Rattle.pq_query_read.specs.declared.select.RelationDef.{RelationDef}
 use Rattle.pq_query_read.specs.Spelled.{IsRelationDef}
-use Rattle.pq_query_read.specs.Trying.{◌>>=◌, or_refused, passed, each_after}
+use Rattle.pq_query_read.specs.Trying.{◌>>=◌, or_refused, passed_unless, each_after}
 use Rattle.pq_query_read.proofs.Parameters.{in_found}
 use Rattle.pq_query_read.proofs.Trying.{SameOk, both, there, not_so, same_answer, each_keeps}
 use Rattle.pq_query_read.specs.Columns.{columns_at, has_alias, IsIn, numbers, named_in, only, ref_by, ref_of}
@@ -65,14 +65,14 @@ module _ (schema : Schema) where
         apart = distinct_push bytes_eq (λ relation. relation.alias) before made free known.apart;
       })
     where
-      starts : (table : ℕ) × (or_refused (refusal.NoTable def.table) (find_table schema def.table) ≡ Ok table) × ((passed (refused_if (list_any (has_alias (alias_of def)) before) (refusal.Alias (alias_of def))) >>= λ free. Ok (record { table = table; alias = alias_of def })) ≡ Ok relation)
-      starts = both (or_refused (refusal.NoTable def.table) (find_table schema def.table)) (λ table. passed (refused_if (list_any (has_alias (alias_of def)) before) (refusal.Alias (alias_of def))) >>= λ free. Ok (record { table = table; alias = alias_of def })) relation is
+      starts : (table : ℕ) × (or_refused (refusal.NoTable def.table) (find_table schema def.table) ≡ Ok table) × ((passed_unless (refused_if (list_any (has_alias (alias_of def)) before) (refusal.Alias (alias_of def))) >>= λ free. Ok (record { table = table; alias = alias_of def })) ≡ Ok relation)
+      starts = both (or_refused (refusal.NoTable def.table) (find_table schema def.table)) (λ table. passed_unless (refused_if (list_any (has_alias (alias_of def)) before) (refusal.Alias (alias_of def))) >>= λ free. Ok (record { table = table; alias = alias_of def })) relation is
 
       made : Relation
       made = record { table = starts.0; alias = alias_of def }
 
-      ends : (u : Unit {0}) × (passed (refused_if (list_any (has_alias (alias_of def)) before) (refusal.Alias (alias_of def))) ≡ Ok u) × SameOk made relation
-      ends = both (passed (refused_if (list_any (has_alias (alias_of def)) before) (refusal.Alias (alias_of def)))) (λ free. Ok made) relation starts.2
+      ends : (u : Unit {0}) × (passed_unless (refused_if (list_any (has_alias (alias_of def)) before) (refusal.Alias (alias_of def))) ≡ Ok u) × SameOk made relation
+      ends = both (passed_unless (refused_if (list_any (has_alias (alias_of def)) before) (refusal.Alias (alias_of def)))) (λ free. Ok made) relation starts.2
 
       number : (1 ≤ starts.0) × (starts.0 ≤ length schema.tables)
       number = subst (λ (o : Option ℕ). IfSome o (λ n. (1 ≤ n) × (n ≤ length schema.tables))) (there (refusal.NoTable def.table) (find_table schema def.table) starts.0 starts.1) (table_there schema def.table)

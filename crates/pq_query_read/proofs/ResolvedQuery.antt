@@ -35,9 +35,9 @@ use Rattle.pq_query_read.specs.declared.select.Selected.{Selected}
 use Rattle.pq_query_read.specs.declared.select.Selected.TheVariants as selected
 use Rattle.pq_query_read.specs.Columns.{columns_at, numbers, ref_of, type_of, all_of, selected_of, IsIn}
 use Rattle.pq_query_read.specs.Parameters.{use_in, uses, params_of}
-use Rattle.pq_query_read.specs.Resolving.{counts_refusal, is_outside_selected, relation_of, pred_of, item_of, stop_of, resolved}
+use Rattle.pq_query_read.specs.Resolving.{counts_refusal, is_outside_selected, relation_of, pred_of, item_of, stop_of, resolved_select}
 use Rattle.pq_query_read.specs.Spelled.{IsSelectDef}
-use Rattle.pq_query_read.specs.Trying.{◌>>=◌, passed, each_after}
+use Rattle.pq_query_read.specs.Trying.{◌>>=◌, passed_unless, each_after}
 use Rattle.pq_query_read.proofs.Trying.{both, no_refusal, same_answer, each_long}
 use Rattle.pq_query_read.proofs.Refs.{relations_made, refs_found}
 use Rattle.pq_query_read.proofs.Compares.{IsSide, IsCompared, preds_compared, items_made, stop_sized}
@@ -153,10 +153,10 @@ module _ (schema : Schema) (name : List ℕ) (def : SelectDef) where
     params_is : params_of (uses schema.tables relations preds) ≡ Ok params
     is : query_of relations select preds order stop params ≡ query
 
-  parts_of : (query : Query) → resolved schema name def ≡ Ok query → Parts query
-  unfolding resolved
+  parts_of : (query : Query) → resolved_select schema name def ≡ Ok query → Parts query
+  unfolding resolved_select
   parts_of query is =
-      let counted = both (passed (counts_refusal def)) (λ counted. each_after (relation_of schema) [] def.relations >>= from_relations) query is in
+      let counted = both (passed_unless (counts_refusal def)) (λ counted. each_after (relation_of schema) [] def.relations >>= from_relations) query is in
       let relations = both (each_after (relation_of schema) [] def.relations) from_relations query counted.2 in
       let select = both (selected_of schema.tables relations.0 def.selected) (from_select relations.0) query relations.2 in
       let preds = both (each_after (pred_of schema.tables relations.0) [] def.preds) (from_preds relations.0 select.0) query select.2 in
@@ -202,7 +202,7 @@ predicate_of tables query is all pred i =
 all_of_members : {X : Type 0} (P : X → Type 0) (xs : List X) → ((x : X) → In x xs → P x) → All P xs
 all_of_members P xs each = All-from_recursion P xs (each_by_in P xs each)
 
-pub resolved_query : (schema : Schema) (name : List ℕ) (def : SelectDef) (query : Query) → IsValid schema → IsSelectDef def → resolved schema name def ≡ Ok query → IsResolved schema.tables query × (query.name ≡ name)
+pub resolved_query : (schema : Schema) (name : List ℕ) (def : SelectDef) (query : Query) → IsValid schema → IsSelectDef def → resolved_select schema name def ≡ Ok query → IsResolved schema.tables query × (query.name ≡ name)
 resolved_query schema name def query valid spelled is =
     subst (λ q. IsResolved tables q × (q.name ≡ name)) parts.is (
       record {

@@ -19,10 +19,10 @@ use Rattle.pq_grammar.specs.Language.{◌⋅◌, optional}
 use Rattle.pq_grammar.proofs.Steps.{never}
 use Rattle.pq_grammar.proofs.Whole.{whole_found}
 use Rattle.pq_shape.specs.Front.{truth_of, value_in}
-use Rattle.pq_shape.specs.Numbers.{has_64_bits, fitting, signed}
+use Rattle.pq_shape.specs.Numbers.{has_64_bits, fitting_number, signed_number}
 use Rattle.pq_shape.specs.Parts.{word, name as a_name, a_value}
-use Rattle.pq_base.specs.Words.{keywords, raised}
-use Rattle.pq_shape.specs.Shapes.{shape_of, shapes_of, kind_shape, checked, between_quotes, quoted, number_or_other, keyword_or, named, name_shape, place_of, lowered, mark_code}
+use Rattle.pq_base.specs.Words.{keywords, uppercase_byte}
+use Rattle.pq_shape.specs.Shapes.{shape_of, shapes_of, kind_shape, utf8_text, between_quotes, text_shape, number_or_other, keyword_or, named_shape, name_shape, place_of, lowercase_bytes, mark_code}
 use Rattle.pq_shape.specs.declared.keyword.TheConstants.{AND, FALSE, TRUE}
 use Rattle.pq_shape.specs.declared.shape.Shape.{Shape}
 use Rattle.pq_shape.specs.declared.shape.Shape.TheVariants as shape
@@ -60,18 +60,18 @@ number_fits (negsuc n) is = record { sfits = ltb-true n (2 ^ 63) is }
 is_int : (z : ℤ) (v : Value) → ◌≡◌ {A = Option Value} (Some (value.Int z)) (Some v) → FitsSigned w64 z → IsValue v
 is_int z v e fits = subst IsValue (same_Some (value.Int z) v e) fits
 
-number_valued : (z : ℤ) → IsValued (number_or_other (fitting z))
-unfolding IsValued value_in fitting
+number_valued : (z : ℤ) → IsValued (number_or_other (fitting_number z))
+unfolding IsValued value_in fitting_number
 number_valued z =
     elim (has_64_bits z) as (λ b. has_64_bits z ≡ b → (v : Value) → value_in (number_or_other (cond b (Some z) None)) ≡ Some v → IsValue v) [
       | true ↦ λ is v e. is_int z v e (number_fits z is)
       | false ↦ λ _ v e. absurd (none-some v e)
     ] refl
 
-text_valued : (bs : List ℕ) → IsValued (quoted (checked bs))
-unfolding IsValued value_in checked
+text_valued : (bs : List ℕ) → IsValued (text_shape (utf8_text bs))
+unfolding IsValued value_in utf8_text
 text_valued bs =
-    elim (is_utf8 bs) as (λ b. is_utf8 bs ≡ b → (v : Value) → value_in (quoted (cond b (Some bs) None)) ≡ Some v → IsValue v) [
+    elim (is_utf8 bs) as (λ b. is_utf8 bs ≡ b → (v : Value) → value_in (text_shape (cond b (Some bs) None)) ≡ Some v → IsValue v) [
       | true ↦ λ is v e. subst IsValue (same_Some (value.Text bs) v e) (IsUtf8-from_is_utf8 bs is)
       | false ↦ λ _ v e. absurd (none-some v e)
     ] refl
@@ -88,7 +88,7 @@ module _ where
   keyword_or_valued s None h v e = h v e
   keyword_or_valued s (Some k) h v e = truth_valued (k == TRUE) (k == FALSE) v e
 
-  named_valued : (o : Option (List ℕ)) → IsValued (named o)
+  named_valued : (o : Option (List ℕ)) → IsValued (named_shape o)
   unfolding IsValued value_in
   named_valued None v e = absurd (none-some v e)
   named_valued (Some n) v e = absurd (none-some v e)
@@ -101,15 +101,15 @@ module _ where
   unfolding IsValued value_in
   mark_valued c v e = absurd (none-some v e)
 
-  name_valued : (b : Bool) (o : Option (List ℕ)) → IsValued (cond b (named o) shape.Other)
+  name_valued : (b : Bool) (o : Option (List ℕ)) → IsValued (cond b (named_shape o) shape.Other)
   name_valued true o = named_valued o
   name_valued false o = other_valued
 
 kind_valued : (k : Kind) (w : List ℕ) → IsValued (kind_shape k w)
 kind_valued kind.Word w =
-    keyword_or_valued (name_shape w) (place_of keywords (map raised w))
-    (name_valued (nat_le (length w) 32) (checked (lowered w)))
-kind_valued kind.Number w = number_valued (signed w)
+    keyword_or_valued (name_shape w) (place_of keywords (map uppercase_byte w))
+    (name_valued (nat_le (length w) 32) (utf8_text (lowercase_bytes w)))
+kind_valued kind.Number w = number_valued (signed_number w)
 kind_valued kind.Text w = text_valued (between_quotes w)
 kind_valued kind.Mark w = mark_valued (mark_code w)
 kind_valued kind.Other w = other_valued

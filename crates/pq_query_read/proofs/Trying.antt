@@ -5,7 +5,7 @@ use Rattle.std.proofs.lemmas.List.{length_push}
 use Rattle.pq_base.specs.declared.refusal.Refusal.{Refusal}
 use Rattle.pq_schema.specs.Definitions.{refused_if}
 use Rattle.pq_schema.proofs.Accepted.{not_refused}
-use Rattle.pq_query_read.specs.Trying.{◌>>=◌, or_refused, passed, each_after}
+use Rattle.pq_query_read.specs.Trying.{◌>>=◌, or_refused, passed_unless, each_after}
 
 abbrev pub ok_or_else : {A : Type 0} → A → Result A Refusal → A
 ok_or_else other (Ok answer) = answer
@@ -34,11 +34,11 @@ pub there : {A : Type 0} (why : Refusal) (o : Option A) (x : A) → or_refused w
 there why None x is = no_answer why x is
 there why (Some y) x is = ap Some (same_answer y x is)
 
-pub no_refusal : (o : Option Refusal) (u : Unit {0}) → passed o ≡ Ok u → o ≡ None
+pub no_refusal : (o : Option Refusal) (u : Unit {0}) → passed_unless o ≡ Ok u → o ≡ None
 no_refusal None u is = refl
 no_refusal (Some why) u is = no_answer why u is
 
-pub not_so : (test : Bool) (why : Refusal) (u : Unit {0}) → passed (refused_if test why) ≡ Ok u → test ≡ false
+pub not_so : (test : Bool) (why : Refusal) (u : Unit {0}) → passed_unless (refused_if test why) ≡ Ok u → test ≡ false
 not_so test why u is = not_refused test why (no_refusal (refused_if test why) u is)
 
 module _ {A B : Type 0} (f : List B → A → Result B Refusal) where

@@ -1,7 +1,7 @@
 -- What is spelled by shapes that each have something has something too.
 use Rattle.std.proofs.Common.{List, [], ◌∷◌, ◌++◌, subst}
 use Rattle.std.specs.List.{AllByRecursion}
-use Rattle.pq_grammar.specs.Language.{◌⋅◌, each, separated}
+use Rattle.pq_grammar.specs.Language.{◌⋅◌, each, separated_by}
 use Rattle.pq_shape.specs.declared.shape.Shape.{Shape}
 
 module _ (Q : Shape → Type 0) where
@@ -23,7 +23,7 @@ module _ (Q : Shape → Type 0) where
       let parts = both_within (B ⋅ S x) (each (λ y. B ⋅ S y) xs) w h all in
       (g x h.fits_front.back h.fits_front.fits_back (both_within B (S x) h.front h.fits_front parts.0).1, each_gives B S P g xs h.back h.fits_back parts.1)
 
-  pub separated_gives : {X : Type 0} (B : List Shape → Type 0) (S : X → List Shape → Type 0) (P : X → Type 0) → GivesWithin S P → GivesWithin (separated B S) (AllByRecursion P)
+  pub separated_gives : {X : Type 0} (B : List Shape → Type 0) (S : X → List Shape → Type 0) (P : X → Type 0) → GivesWithin S P → GivesWithin (separated_by B S) (AllByRecursion P)
   separated_gives B S P g [] w h all = absurd h
   separated_gives B S P g (x ∷ xs) w h all =
       let parts = both_within (S x) (each (λ y. B ⋅ S y) xs) w h all in

@@ -2,7 +2,7 @@
 use Rattle.std.specs.Prelude.{◌≡◌, ℕ, ℤ, List, [], Option, ◌⊎◌}
 use Rattle.pq_base.specs.declared.value.Dir.{Dir}
 use Rattle.pq_base.specs.declared.value.Dir.TheVariants as dir
-use Rattle.pq_grammar.specs.Language.{◌⋅◌, nothing, optional, separated}
+use Rattle.pq_grammar.specs.Language.{◌⋅◌, nothing, optional, separated_by}
 use Rattle.pq_schema.specs.declared.query.Op.{Op}
 use Rattle.pq_schema.specs.declared.query.Op.TheVariants as op
 use Rattle.pq_shape.specs.Parts.{word, mark, comma, name, number, a_value}
@@ -47,7 +47,8 @@ operator op.Ge = GREATER_EQUAL
 
 -- "[" number [ ":" name ] "]": the name is for the reader alone
 abbrev pub param : ℤ → List Shape → Type 0
-param z w = (label : Option (List ℕ)) × (mark OPEN_SQUARE ⋅ (number z ⋅ optional (λ n. mark COLON ⋅ name n) label) ⋅ mark CLOSE_SQUARE) w
+param z w = (label : Option (List ℕ))
+    × (mark OPEN_SQUARE ⋅ (number z ⋅ optional (λ n. mark COLON ⋅ name n) label) ⋅ mark CLOSE_SQUARE) w
 
 -- op ( value | param ) | "=" ref
 abbrev pub compare : Op → OperandDef → List Shape → Type 0
@@ -70,24 +71,26 @@ abbrev pub item : ItemDef → List Shape → Type 0
 item i = ref i.col ⋅ direction i.dir
 
 -- [ ( LIMIT | PAGINATE ) number ]
-abbrev pub stopped : StopDef → List Shape → Type 0
-stopped stop.All = nothing
-stopped (stop.Limit z) = word LIMIT ⋅ number z
-stopped (stop.Paginate z) = word PAGINATE ⋅ number z
+abbrev pub stop_tokens : StopDef → List Shape → Type 0
+stop_tokens stop.All = nothing
+stop_tokens (stop.Limit z) = word LIMIT ⋅ number z
+stop_tokens (stop.Paginate z) = word PAGINATE ⋅ number z
 
 -- "*" | ref { "," ref }
-abbrev pub chosen : Selected → List Shape → Type 0
-chosen selected.Star = mark STAR
-chosen (selected.Refs rs) = separated comma ref rs
+abbrev pub selected_tokens : Selected → List Shape → Type 0
+selected_tokens selected.Star = mark STAR
+selected_tokens (selected.Refs rs) = separated_by comma ref rs
 
 -- [ WHERE pred { AND pred } ]
 abbrev pub conditions : List PredDef → List Shape → Type 0
-conditions ps w = ((ps ≡ []) × nothing w) ⊎ (word WHERE ⋅ separated (word AND) pred ps) w
+conditions ps w = ((ps ≡ []) × nothing w) ⊎ (word WHERE ⋅ separated_by (word AND) pred ps) w
 
 -- [ ORDER BY item { "," item } ]
-abbrev pub ordered : List ItemDef → List Shape → Type 0
-ordered is w = ((is ≡ []) × nothing w) ⊎ (word ORDER ⋅ word BY ⋅ separated comma item is) w
+abbrev pub order_tokens : List ItemDef → List Shape → Type 0
+order_tokens is w = ((is ≡ []) × nothing w) ⊎ (word ORDER ⋅ word BY ⋅ separated_by comma item is) w
 
--- SELECT ( "*" | ref { "," ref } ) FROM relation { ( "," | JOIN ) relation } [ WHERE .. ] [ ORDER BY .. ] [ ( LIMIT | PAGINATE ) number ] ";"
+-- SELECT ( "*" | ref { "," ref } ) FROM relation { ( "," | JOIN ) relation } [ WHERE .. ] [ ORDER BY .. ] [ (
+-- LIMIT | PAGINATE ) number ] ";"
 abbrev pub SpellsSelect : SelectDef → List Shape → Type 0
-SpellsSelect s = word SELECT ⋅ chosen s.selected ⋅ word FROM ⋅ separated comma_or_join relation s.relations ⋅ conditions s.preds ⋅ ordered s.order ⋅ stopped s.stop ⋅ mark SEMICOLON
+SpellsSelect s = word SELECT ⋅ selected_tokens s.selected ⋅ word FROM ⋅ separated_by comma_or_join relation s.relations
+    ⋅ conditions s.preds ⋅ order_tokens s.order ⋅ stop_tokens s.stop ⋅ mark SEMICOLON

@@ -15,7 +15,7 @@ use Rattle.pq_schema.specs.declared.query.Pred.{Pred}
 use Rattle.pq_schema.specs.declared.query.Relation.{Relation}
 use Rattle.pq_schema.specs.declared.table.Table.{Table}
 use Rattle.pq_query_read.specs.Columns.{type_of}
-use Rattle.pq_query_read.specs.Trying.{◌>>=◌, passed}
+use Rattle.pq_query_read.specs.Trying.{◌>>=◌, passed_unless}
 use Rattle.pq_query_read.specs.declared.params.ParamUse.{ParamUse}
 
 -- the number of a parameter: 0, which no parameter has, for one that isn't from 1 to 16, since a query has at most
@@ -30,7 +30,8 @@ module _ (tables : List Table) (relations : List Relation) where
   -- a parameter's number and the type of what is compared with the column
   abbrev pub use_in : ColRef → Operand → Option ParamUse
   use_in left (operand.Const value) = None
-  use_in left (operand.Param number) = Some (record { number = number; ty = param_type (type_of tables relations left) })
+  use_in left (operand.Param number) =
+      Some (record { number = number; ty = param_type (type_of tables relations left) })
   use_in left (operand.Col right) = None
 
   -- the parameters that the predicates use
@@ -69,4 +70,4 @@ abbrev pub param_types : List ParamUse → List ColType
 param_types uses = map (param_type_of uses) (range_with_len 1 (param_count uses))
 
 abbrev pub params_of : List ParamUse → Result (List ColType) Refusal
-params_of uses = passed (refused_if (not (are_params uses)) refusal.Params) >>= λ numbered. Ok (param_types uses)
+params_of uses = passed_unless (refused_if (not (are_params uses)) refusal.Params) >>= λ numbered. Ok (param_types uses)

@@ -12,7 +12,7 @@ use Rattle.pq_schema.specs.Schema.{Schema}
 use Rattle.pq_schema.specs.declared.query.Query.{Query}
 use Rattle.pq_query_read.specs.Grammar.{SpellsSelect}
 use Rattle.pq_query_read.specs.Reading.{select_of}
-use Rattle.pq_query_read.specs.Resolving.{resolved}
+use Rattle.pq_query_read.specs.Resolving.{resolved_select}
 use Rattle.pq_query_read.specs.Trying.{◌>>=◌}
 use Rattle.pq_query_read.specs.declared.select.SelectDef.{SelectDef}
 
@@ -23,22 +23,23 @@ or_syntax text tokens (Err left) = Err (refusal.Syntax (offset_at text tokens (l
 
 -- the query of this name that the tokens of a text spell from a place on, or the first refusal
 unfoldable pub query_of : Schema → List ℕ → List ℕ → List Token → ℕ → Result Query Refusal
-query_of schema name text tokens from = or_syntax text tokens (select_of text tokens from) >>= resolved schema name
+query_of schema name text tokens from = or_syntax text tokens (select_of text tokens from) >>= resolved_select schema name
 
 -- the tokens spell what stands for the query
 pub record IsQueryOf (schema : Schema) (name : List ℕ) (shapes : List Shape) (query : Query) : Type 0 where
   pub def : SelectDef
   pub spelled : SpellsSelect def shapes
-  pub stands : resolved schema name def ≡ Ok query
+  pub stands : resolved_select schema name def ≡ Ok query
 
 -- the tokens spell what this refuses first
 pub record IsRefusedQuery (schema : Schema) (name : List ℕ) (shapes : List Shape) (why : Refusal) : Type 0 where
   pub def : SelectDef
   pub spelled : SpellsSelect def shapes
-  pub refused : resolved schema name def ≡ Err why
+  pub refused : resolved_select schema name def ≡ Err why
 
 -- memory ran out, or the tokens spell a query that this refuses first, or none, and this is the place of the fault
 abbrev pub IsQueryRefusal : Schema → List ℕ → List ℕ → List Token → ℕ → Stopped → Type 0
 IsQueryRefusal schema name text tokens from NoMem = Unit {0}
 IsQueryRefusal schema name text tokens from (Refused why) =
-    IsRefusedQuery schema name (drop from (shapes_of text tokens)) why ⊎ IsFaultFrom SpellsSelect text tokens from (Refused why)
+    IsRefusedQuery schema name (drop from (shapes_of text tokens)) why
+    ⊎ IsFaultFrom SpellsSelect text tokens from (Refused why)

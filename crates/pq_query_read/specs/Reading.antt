@@ -51,14 +51,16 @@ op_at =
     choice_at (is_mark UNEQUAL) (map_at (λ u. op.Ne) (mark_at UNEQUAL))
     (choice_at (is_mark LESS) (map_at (λ u. op.Lt) (mark_at LESS))
     (choice_at (is_mark LESS_EQUAL) (map_at (λ u. op.Le) (mark_at LESS_EQUAL))
-    (choice_at (is_mark GREATER) (map_at (λ u. op.Gt) (mark_at GREATER)) (map_at (λ u. op.Ge) (mark_at GREATER_EQUAL)))))
+    (choice_at (is_mark GREATER) (map_at (λ u. op.Gt) (mark_at GREATER)) (map_at
+    (λ u. op.Ge) (mark_at GREATER_EQUAL)))))
 
 -- a colon and a name, which is for the reader alone
 unfoldable pub label_at : Reader Shape (Option (List ℕ))
 label_at = option_at (is_mark COLON) (skip_at (mark_at COLON) name_at)
 
 unfoldable pub param_at : Reader Shape OperandDef
-param_at = map_at (λ x. operand.Param x.0) (skip_at (mark_at OPEN_SQUARE) (close_at (pair_at number_at label_at) (mark_at CLOSE_SQUARE)))
+param_at = map_at (λ x. operand.Param x.0) (skip_at (mark_at OPEN_SQUARE)
+    (close_at (pair_at number_at label_at) (mark_at CLOSE_SQUARE)))
 
 -- a value or a parameter
 unfoldable pub plain_at : Reader Shape OperandDef
@@ -90,7 +92,8 @@ item_at = map_at (λ x. record { col = x.0; dir = x.1 }) (pair_at ref_at dir_at)
 unfoldable pub stop_at : Reader Shape StopDef
 stop_at =
     choice_at (is_word LIMIT) (map_at (λ n. stop.Limit n) (skip_at (word_at LIMIT) number_at))
-    (choice_at (is_word PAGINATE) (map_at (λ n. stop.Paginate n) (skip_at (word_at PAGINATE) number_at)) (map_at (λ u. stop.All) nothing_at))
+    (choice_at (is_word PAGINATE) (map_at (λ n. stop.Paginate n) (skip_at (word_at PAGINATE) number_at)) (map_at
+    (λ u. stop.All) nothing_at))
 
 -- ---- lists
 
@@ -115,12 +118,15 @@ order_at = map_at items_of (option_at (is_word ORDER) (skip_at (word_at ORDER) (
 -- ---- the query
 
 unfoldable pub selected_at : Reader Shape Selected
-selected_at = choice_at (is_mark STAR) (map_at (λ u. selected.Star) (mark_at STAR)) (map_at (λ rs. selected.Refs rs) refs_at)
+selected_at = choice_at (is_mark STAR) (map_at (λ u. selected.Star) (mark_at STAR)) (map_at
+    (λ rs. selected.Refs rs) refs_at)
 
 unfoldable pub select_at : Reader Shape SelectDef
 select_at =
     map_at (λ x. record { selected = x.0; relations = x.1.0; preds = x.1.1.0; order = x.1.1.1.0; stop = x.1.1.1.1 })
-    (skip_at (word_at SELECT) (pair_at selected_at (skip_at (word_at FROM) (pair_at relations_at (pair_at where_at (pair_at order_at (close_at stop_at (mark_at SEMICOLON))))))))
+    (skip_at (word_at SELECT) (pair_at selected_at
+    (skip_at (word_at FROM) (pair_at relations_at
+    (pair_at where_at (pair_at order_at (close_at stop_at (mark_at SEMICOLON))))))))
 
 unfoldable pub read_at : List Shape → Result SelectDef ℕ
 read_at = all_at select_at

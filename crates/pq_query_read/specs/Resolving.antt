@@ -18,13 +18,13 @@ use Rattle.pq_schema.specs.declared.query.Relation.{Relation}
 use Rattle.pq_schema.specs.declared.query.Stop.{Stop}
 use Rattle.pq_schema.specs.declared.query.Stop.TheVariants as stop
 use Rattle.pq_schema.specs.declared.table.Table.{Table}
-use Rattle.pq_schema.specs.Definitions.{is_outside, refused_if, repeated}
+use Rattle.pq_schema.specs.Definitions.{is_outside, refused_if, repeated_name}
 use Rattle.pq_schema.specs.Resolved.{same_ref, param_type}
 use Rattle.pq_schema.specs.Schema.{Schema, find_table}
 use Rattle.pq_base.specs.Values.{same_kind}
 use Rattle.pq_query_read.specs.Columns.{has_alias, ref_of, type_of, selected_of}
 use Rattle.pq_query_read.specs.Parameters.{param_number, uses, params_of}
-use Rattle.pq_query_read.specs.Trying.{◌>>=◌, or_refused, passed, each_after}
+use Rattle.pq_query_read.specs.Trying.{◌>>=◌, or_refused, passed_unless, each_after}
 use Rattle.pq_query_read.specs.declared.select.ItemDef.{ItemDef}
 use Rattle.pq_query_read.specs.declared.select.OperandDef.{OperandDef}
 use Rattle.pq_query_read.specs.declared.select.OperandDef.TheVariants as operand_def
@@ -61,7 +61,7 @@ alias_of def = unwrap_or def.alias def.table
 abbrev pub relation_of : Schema → List Relation → RelationDef → Result Relation Refusal
 relation_of schema before def =
     or_refused (refusal.NoTable def.table) (find_table schema def.table) >>= λ table.
-    passed (refused_if (list_any (has_alias (alias_of def)) before) (refusal.Alias (alias_of def))) >>= λ free.
+    passed_unless (refused_if (list_any (has_alias (alias_of def)) before) (refusal.Alias (alias_of def))) >>= λ free.
     Ok (record { table = table; alias = alias_of def })
 
 abbrev pub relations_of : Schema → List RelationDef → Result (List Relation) Refusal
@@ -94,7 +94,7 @@ module _ (tables : List Table) (relations : List Relation) where
   -- the predicate of this number, where its sides may be compared
   abbrev pub pred_between : ℕ → ColRef → Op → Operand → Result Pred Refusal
   pred_between number left op right =
-      passed (refused_if (not (is_comparable left right)) (refusal.OperandKind number)) >>= λ comparable.
+      passed_unless (refused_if (not (is_comparable left right)) (refusal.OperandKind number)) >>= λ comparable.
       Ok (pred_with left op right)
 
   -- the predicate behind these; predicates are numbered from 1
@@ -122,7 +122,7 @@ module _ (tables : List Table) (relations : List Relation) where
   abbrev pub item_of : List OrderItem → ItemDef → Result OrderItem Refusal
   item_of before def =
       ref_of tables relations def.col >>= λ ref.
-      passed (refused_if (list_any (has_ref ref) before) (repeated (ref_name def.col.first def.col.second))) >>= λ new.
+      passed_unless (refused_if (list_any (has_ref ref) before) (repeated_name (ref_name def.col.first def.col.second))) >>= λ new.
       Ok (record { col = ref; dir = def.dir })
 
   abbrev pub items_of : List ItemDef → Result (List OrderItem) Refusal
@@ -137,15 +137,17 @@ stop_size (negsuc k) = None
 
 abbrev pub stop_of : StopDef → Result Stop Refusal
 stop_of stop_def.All = Ok stop.All
-stop_of (stop_def.Limit number) = or_refused (refusal.Count count_word.STOP) (stop_size number) >>= λ k. Ok (stop.Limit k)
-stop_of (stop_def.Paginate number) = or_refused (refusal.Count count_word.STOP) (stop_size number) >>= λ k. Ok (stop.Paginate k)
+stop_of (stop_def.Limit number) = or_refused (refusal.Count count_word.STOP) (stop_size number) >>=
+    λ k. Ok (stop.Limit k)
+stop_of (stop_def.Paginate number) = or_refused (refusal.Count count_word.STOP) (stop_size number) >>=
+    λ k. Ok (stop.Paginate k)
 
 -- ---- the query
 
 -- the query of this name, or the first refusal
-unfoldable pub resolved : Schema → List ℕ → SelectDef → Result Query Refusal
-resolved schema name def =
-    passed (counts_refusal def) >>= λ counted.
+unfoldable pub resolved_select : Schema → List ℕ → SelectDef → Result Query Refusal
+resolved_select schema name def =
+    passed_unless (counts_refusal def) >>= λ counted.
     relations_of schema def.relations >>= λ relations.
     selected_of schema.tables relations def.selected >>= λ select.
     preds_of schema.tables relations def.preds >>= λ preds.

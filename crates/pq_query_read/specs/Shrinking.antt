@@ -24,31 +24,39 @@ pub ref_shrinks : Shrinks ref_at
 unfolding ref_at part_at
 ref_shrinks =
     map_shrinks _ (pair_at name_at part_at)
-    (pair_shrinks name_at part_at (token_shrinks name_of) (option_keeps (is_mark POINT) (skip_at (mark_at POINT) name_at) (shrinks_keeps _ (skip_shrinks (mark_at POINT) name_at (mark_shrinks POINT) name_keeps))))
+    (pair_shrinks name_at part_at (token_shrinks name_of)
+    (option_keeps (is_mark POINT) (skip_at (mark_at POINT) name_at)
+    (shrinks_keeps _ (skip_shrinks (mark_at POINT) name_at (mark_shrinks POINT) name_keeps))))
 
 pub relation_shrinks : Shrinks relation_at
 unfolding relation_at alias_at
 relation_shrinks =
     map_shrinks _ (pair_at name_at alias_at)
     (pair_shrinks name_at alias_at (token_shrinks name_of)
-    (option_keeps is_alias _ (choice_keeps (is_word AS) (skip_at (word_at AS) name_at) name_at (shrinks_keeps _ (skip_shrinks (word_at AS) name_at (word_shrinks AS) name_keeps)) name_keeps)))
+    (option_keeps is_alias _ (choice_keeps (is_word AS) (skip_at (word_at AS) name_at) name_at
+    (shrinks_keeps _ (skip_shrinks (word_at AS) name_at (word_shrinks AS) name_keeps)) name_keeps)))
 
 param_keeps : Keeps param_at
 unfolding param_at label_at
 param_keeps =
     map_keeps _ (skip_at (mark_at OPEN_SQUARE) (close_at (pair_at number_at label_at) (mark_at CLOSE_SQUARE)))
-    (shrinks_keeps _ (skip_shrinks (mark_at OPEN_SQUARE) (close_at (pair_at number_at label_at) (mark_at CLOSE_SQUARE)) (mark_shrinks OPEN_SQUARE)
+    (shrinks_keeps _ (skip_shrinks (mark_at OPEN_SQUARE)
+    (close_at (pair_at number_at label_at) (mark_at CLOSE_SQUARE)) (mark_shrinks OPEN_SQUARE)
     (shrinks_keeps _ (close_shrinks (pair_at number_at label_at) (mark_at CLOSE_SQUARE)
-    (pair_shrinks number_at label_at (token_shrinks number_in) (option_keeps (is_mark COLON) (skip_at (mark_at COLON) name_at) (shrinks_keeps _ (skip_shrinks (mark_at COLON) name_at (mark_shrinks COLON) name_keeps))))
+    (pair_shrinks number_at label_at (token_shrinks number_in)
+    (option_keeps (is_mark COLON) (skip_at (mark_at COLON) name_at)
+    (shrinks_keeps _ (skip_shrinks (mark_at COLON) name_at (mark_shrinks COLON) name_keeps))))
     (shrinks_keeps _ (mark_shrinks CLOSE_SQUARE))))))
 
 plain_keeps : Keeps plain_at
 unfolding plain_at
-plain_keeps = choice_keeps (is_mark OPEN_SQUARE) param_at _ param_keeps (map_keeps (λ v. operand.Const v) value_at (shrinks_keeps value_at (token_shrinks value_in)))
+plain_keeps = choice_keeps (is_mark OPEN_SQUARE) param_at _ param_keeps (map_keeps
+    (λ v. operand.Const v) value_at (shrinks_keeps value_at (token_shrinks value_in)))
 
 operand_keeps : Keeps operand_at
 unfolding operand_at
-operand_keeps = choice_keeps is_name _ plain_at (map_keeps (λ r. operand.Ref r) ref_at (shrinks_keeps ref_at ref_shrinks)) plain_keeps
+operand_keeps = choice_keeps is_name _ plain_at (map_keeps
+    (λ r. operand.Ref r) ref_at (shrinks_keeps ref_at ref_shrinks)) plain_keeps
 
 mark_keeps : (o : Op) (k : ℕ) → Keeps (map_at (λ u. o) (mark_at k))
 mark_keeps o k = map_keeps (λ u. o) (mark_at k) (shrinks_keeps _ (mark_shrinks k))
@@ -58,13 +66,15 @@ unfolding op_at
 op_keeps =
     choice_keeps (is_mark UNEQUAL) _ _ (mark_keeps op.Ne UNEQUAL)
     (choice_keeps (is_mark LESS) _ _ (mark_keeps op.Lt LESS)
-    (choice_keeps (is_mark LESS_EQUAL) _ _ (mark_keeps op.Le LESS_EQUAL) (choice_keeps (is_mark GREATER) _ _ (mark_keeps op.Gt GREATER) (mark_keeps op.Ge GREATER_EQUAL))))
+    (choice_keeps (is_mark LESS_EQUAL) _ _ (mark_keeps op.Le LESS_EQUAL)
+    (choice_keeps (is_mark GREATER) _ _ (mark_keeps op.Gt GREATER) (mark_keeps op.Ge GREATER_EQUAL))))
 
 compare_keeps : Keeps compare_at
 unfolding compare_at equality_at
 compare_keeps =
     choice_keeps (is_mark EQUAL) equality_at (pair_at op_at plain_at)
-    (map_keeps (λ o. (op.Eq, o)) (skip_at (mark_at EQUAL) operand_at) (shrinks_keeps _ (skip_shrinks (mark_at EQUAL) operand_at (mark_shrinks EQUAL) operand_keeps)))
+    (map_keeps (λ o. (op.Eq, o)) (skip_at (mark_at EQUAL) operand_at)
+    (shrinks_keeps _ (skip_shrinks (mark_at EQUAL) operand_at (mark_shrinks EQUAL) operand_keeps)))
     (pair_keeps op_at plain_at op_keeps plain_keeps)
 
 pub pred_shrinks : Shrinks pred_at
@@ -75,7 +85,9 @@ dir_keeps : Keeps dir_at
 unfolding dir_at
 dir_keeps =
     choice_keeps (is_word DESC) _ _ (map_keeps (λ u. dir.Desc) (word_at DESC) (shrinks_keeps _ (word_shrinks DESC)))
-    (choice_keeps (is_word ASC) _ _ (map_keeps (λ u. dir.Asc) (word_at ASC) (shrinks_keeps _ (word_shrinks ASC))) (map_keeps (λ u. dir.Asc) nothing_at nothing_keeps))
+    (choice_keeps (is_word ASC) _ _ (map_keeps
+    (λ u. dir.Asc) (word_at ASC) (shrinks_keeps _ (word_shrinks ASC))) (map_keeps
+    (λ u. dir.Asc) nothing_at nothing_keeps))
 
 pub item_shrinks : Shrinks item_at
 unfolding item_at

@@ -37,7 +37,8 @@ fn column_named(catalog: &Catalog, relation: &Relation, rel: u8, name: &PText) -
 /// The column of this name, None where no relation or several have one.
 fn only_named(catalog: &Catalog, relations: &[Relation], name: &PText) -> Option<ColRef>
     requires { AreRelations catalog.now.tables relations.now }
-    ensures { result ≡ only (filter_map (named_in catalog.now.tables relations.now name.now) (numbers catalog.now.tables relations.now)) }
+    ensures { result ≡ only (filter_map (named_in catalog.now.tables relations.now name.now)
+        (numbers catalog.now.tables relations.now)) }
 {
     let mut found = None;
     for (place, relation) in relations.iter().enumerate() {
@@ -154,7 +155,8 @@ fn all_columns(
     relations: &[Relation],
 ) -> Result<List<ColRef>, NoMem>
     requires { AreRelations catalog.now.tables relations.now }
-    ensures { IfOk result (λ refs. refs ≡ flat_map (all_of catalog.now.tables relations.now) (numbers catalog.now.tables relations.now)) }
+    ensures { IfOk result (λ refs. refs
+        ≡ flat_map (all_of catalog.now.tables relations.now) (numbers catalog.now.tables relations.now)) }
 {
     let mut refs = List::new(alloc);
     for rel in 1..relations.len() as u8 + 1 {

@@ -7,7 +7,7 @@ ghost use Rattle.pq_shape.specs.Shapes.{shapes_of};
 ghost use Rattle.pq_text.specs.Tokens.{tokens_of};
 ghost use Rattle.pq_query_read.specs.Grammar.{SpellsSelect};
 ghost use Rattle.pq_query_read.specs.Queries.{query_of, IsQueryOf, IsQueryRefusal};
-ghost use Rattle.pq_query_read.specs.Resolving.{is_outside_selected, counts_refusal, resolved};
+ghost use Rattle.pq_query_read.specs.Resolving.{is_outside_selected, counts_refusal, resolved_select};
 ghost use Rattle.pq_query_read.specs.declared.select.SelectDef as declared;
 
 use crate::columns::selected;
@@ -65,9 +65,9 @@ fn check_counts(def: &SelectDef) -> Result<(), Stopped>
 }
 
 /// The query that the text stands for over the catalog, or its first refusal.
-#[tactic(auto, unfolding(crate::specs::Resolving::resolved))]
+#[tactic(auto, unfolding(crate::specs::Resolving::resolved_select))]
 fn resolve(alloc: Global, catalog: &Catalog, name: PText, def: &SelectDef) -> Result<Query, Stopped>
-    ensures { Answers result (resolved catalog.now name def.now) }
+    ensures { Answers result (resolved_select catalog.now name def.now) }
 {
     check_counts(def)?;
     let relations = relations(alloc, catalog, def.relations.items())?;
@@ -111,7 +111,8 @@ pub fn read_query(
     // What is read is what the tokens spell, with numbers in place of names.
     ensures found { IfOk result (IsQueryOf catalog.now name (drop from (shapes_of text.now tokens.now))) }
     // What the tokens spell is read, or refused with its first refusal, unless memory runs out.
-    ensures only { (def : declared.SelectDef) → SpellsSelect def (drop from (shapes_of text.now tokens.now)) → Answers result (resolved catalog.now name def) }
+    ensures only { (def : declared.SelectDef) → SpellsSelect def (drop from (shapes_of text.now tokens.now))
+        → Answers result (resolved_select catalog.now name def) }
     // A refusal is the first one of what the tokens spell, or the place of the fault where they spell nothing.
     ensures refused { IfErr result (IsQueryRefusal catalog.now name text.now tokens.now from) }
     // The query that reading from left to right and resolving gives.

@@ -155,7 +155,8 @@ pub fn read_select(
     // What is read is spelled so.
     ensures found { IfOk result (λ s. SpellsSelect s (drop from (shapes_of text.now tokens.now))) }
     // What is spelled so is read, unless memory runs out.
-    ensures only { (s : declared.SelectDef) → SpellsSelect s (drop from (shapes_of text.now tokens.now)) → MatchResult result (λ x. x ≡ s) IsNoMem }
+    ensures only { (s : declared.SelectDef) → SpellsSelect s (drop from (shapes_of text.now tokens.now))
+        → MatchResult result (λ x. x ≡ s) IsNoMem }
     // The place of the fault.
     ensures fault { IfErr result (IsFaultFrom SpellsSelect text.now tokens.now from) }
     // The query that reading from left to right gives.

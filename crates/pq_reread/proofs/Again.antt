@@ -18,7 +18,7 @@ use Rattle.pq_print.specs.Canonical.{query_text}
 use Rattle.pq_query_read.specs.Grammar.{SpellsSelect}
 use Rattle.pq_query_read.specs.Queries.{or_syntax, query_of}
 use Rattle.pq_query_read.specs.Reading.{select_at, read_at}
-use Rattle.pq_query_read.specs.Resolving.{resolved}
+use Rattle.pq_query_read.specs.Resolving.{resolved_select}
 use Rattle.pq_query_read.specs.Trying.{◌>>=◌}
 use Rattle.pq_query_read.specs.declared.select.SelectDef.{SelectDef}
 use Rattle.pq_query_read.proofs.Selects.{select_reads}
@@ -53,7 +53,7 @@ module _ (schema : Schema) (query : Query) (are : AreOrderly schema.tables) (nam
   pub reads_again : query_of schema query.name (query_text schema.tables query) (tokens_of (query_text schema.tables query)) 3 ≡ Ok query
   unfolding query_of
   reads_again =
-      ap (λ (r : Result SelectDef ℕ). or_syntax text (tokens_of text) r >>= resolved schema query.name) select_again ∙ query_again schema query are is
+      ap (λ (r : Result SelectDef ℕ). or_syntax text (tokens_of text) r >>= resolved_select schema query.name) select_again ∙ query_again schema query are is
 
   pub utf8_again : is_utf8 (query_text schema.tables query) ≡ true
   utf8_again = whole_utf8 (word PREPARE ⋅ a_name query.name ⋅ word AS ⋅ SpellsSelect (said_query schema.tables query)) text joins_none (query_prints schema.tables query are is name)

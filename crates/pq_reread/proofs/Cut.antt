@@ -18,12 +18,12 @@ use Rattle.pq_text.proofs.Apart.{letter_not_white, letter_not_dash, digit_not_wh
 use Rattle.pq_text.proofs.Fronts.{left_front, token_front}
 use Rattle.pq_text.proofs.Runs.{while_true, while_false}
 use Rattle.pq_text.proofs.TextEnds.{text_other_at, text_double_at, text_ends_at, text_last_at}
-use Rattle.pq_shape.specs.Shapes.{shape_of, shapes_of, kind_shape, word_shape, number_or_other, checked, undoubled, between_quotes}
-use Rattle.pq_shape.specs.Shapes.{quoted as quoted_shape}
+use Rattle.pq_shape.specs.Shapes.{shape_of, shapes_of, kind_shape, word_shape, number_or_other, utf8_text, undoubled_quotes, between_quotes}
+use Rattle.pq_shape.specs.Shapes.{text_shape as quoted_shape}
 use Rattle.pq_shape.specs.Numbers.{number_of}
 use Rattle.pq_shape.specs.declared.shape.Shape.{Shape}
 use Rattle.pq_shape.specs.declared.shape.Shape.TheVariants as shape
-use Rattle.pq_print.specs.Values.{doubled, quoted}
+use Rattle.pq_print.specs.Values.{doubled_quotes, quoted_text}
 use Rattle.pq_reread.specs.Printed.{is_quote}
 
 -- what stands first, before the shapes behind it
@@ -151,33 +151,33 @@ ends_step : (b : ℕ) (more rest : List ℕ) (q : Bool) → eqb b 39 ≡ q → t
 ends_step b more rest true is later = text_double_at 39 39 (more ++ rest) refl refl ∙ ap (option_map (λ n. n + 2)) later ∙ ap (λ (n : ℕ). Some n) (omega arith)
 ends_step b more rest false is later = text_other_at b (more ++ rest) is ∙ ap (option_map (λ n. n + 1)) later ∙ ap (λ (n : ℕ). Some n) (omega arith)
 
-ends_behind : (t rest : List ℕ) → next_is is_quote rest ≡ false → text_end ((flat_map doubled t ++ 39 ∷ []) ++ rest) ≡ Some (length (flat_map doubled t ++ 39 ∷ []))
+ends_behind : (t rest : List ℕ) → next_is is_quote rest ≡ false → text_end ((flat_map doubled_quotes t ++ 39 ∷ []) ++ rest) ≡ Some (length (flat_map doubled_quotes t ++ 39 ∷ []))
 ends_behind [] [] e = text_last_at 39 refl
 ends_behind [] (c ∷ rest) e = text_ends_at 39 c rest refl e
 ends_behind (b ∷ t) rest e =
-    subst (λ (w : List ℕ). text_end (w ++ rest) ≡ Some (length w)) (sym (append_assoc (doubled b) (flat_map doubled t) (39 ∷ [])))
-    (ends_step b (flat_map doubled t ++ 39 ∷ []) rest (eqb b 39) refl (ends_behind t rest e))
+    subst (λ (w : List ℕ). text_end (w ++ rest) ≡ Some (length w)) (sym (append_assoc (doubled_quotes b) (flat_map doubled_quotes t) (39 ∷ [])))
+    (ends_step b (flat_map doubled_quotes t ++ 39 ∷ []) rest (eqb b 39) refl (ends_behind t rest e))
 
-undoubled_step : (b : ℕ) (t : List ℕ) (q : Bool) → eqb b 39 ≡ q → undoubled false (flat_map doubled t) ≡ t → undoubled false (cond q (39 ∷ 39 ∷ []) (b ∷ []) ++ flat_map doubled t) ≡ b ∷ t
-unfolding undoubled
+undoubled_step : (b : ℕ) (t : List ℕ) (q : Bool) → eqb b 39 ≡ q → undoubled_quotes false (flat_map doubled_quotes t) ≡ t → undoubled_quotes false (cond q (39 ∷ 39 ∷ []) (b ∷ []) ++ flat_map doubled_quotes t) ≡ b ∷ t
+unfolding undoubled_quotes
 undoubled_step b t true is later = ap (λ (v : List ℕ). 39 ∷ v) later ∙ ap (λ (c : ℕ). c ∷ t) (sym (eqb-true b 39 is))
 undoubled_step b t false is later = rw is (ap (λ (v : List ℕ). b ∷ v) later)
 
-undoubled_back : (t : List ℕ) → undoubled false (flat_map doubled t) ≡ t
-unfolding undoubled
+undoubled_back : (t : List ℕ) → undoubled_quotes false (flat_map doubled_quotes t) ≡ t
+unfolding undoubled_quotes
 undoubled_back [] = refl
 undoubled_back (b ∷ t) = undoubled_step b t (eqb b 39) refl (undoubled_back t)
 
-between : (t : List ℕ) → between_quotes (quoted t) ≡ t
+between : (t : List ℕ) → between_quotes (quoted_text t) ≡ t
 between t =
-    let ds : List ℕ = flat_map doubled t in
-    let count : (length (quoted t) - 1) - 1 ≡ length ds = omega (arith, length-append ds (39 ∷ [])) in
-    ap (λ (n : ℕ). undoubled false (take n (ds ++ 39 ∷ []))) count ∙ ap (undoubled false) (take_exact ds (39 ∷ [])) ∙ undoubled_back t
+    let ds : List ℕ = flat_map doubled_quotes t in
+    let count : (length (quoted_text t) - 1) - 1 ≡ length ds = omega (arith, length-append ds (39 ∷ [])) in
+    ap (λ (n : ℕ). undoubled_quotes false (take n (ds ++ 39 ∷ []))) count ∙ ap (undoubled_quotes false) (take_exact ds (39 ∷ [])) ∙ undoubled_back t
 
-pub cut_text : (t rest : List ℕ) → is_utf8 t ≡ true → next_is is_quote rest ≡ false → cut 0 (quoted t ++ rest) ≡ shape.Text t ∷ cut 0 rest
-unfolding first_token left_out checked
+pub cut_text : (t rest : List ℕ) → is_utf8 t ≡ true → next_is is_quote rest ≡ false → cut 0 (quoted_text t ++ rest) ≡ shape.Text t ∷ cut 0 rest
+unfolding first_token left_out utf8_text
 cut_text t rest text e =
-    let ds : List ℕ = flat_map doubled t ++ 39 ∷ [] in
+    let ds : List ℕ = flat_map doubled_quotes t ++ 39 ∷ [] in
     cut_run kind.Text 39 ds rest (token_front 39 (ds ++ rest) (length ds + 1) kind.Text refl (ap (λ (o : Option ℕ). text_or_open o (length (ds ++ rest) + 1)) (ends_behind t rest e)))
-    ∙ ap (λ (v : List ℕ). quoted_shape (checked v) ∷ cut 0 rest) (between t)
+    ∙ ap (λ (v : List ℕ). quoted_shape (utf8_text v) ∷ cut 0 rest) (between t)
     ∙ ap (λ (b : Bool). quoted_shape (cond b (Some t) None) ∷ cut 0 rest) text

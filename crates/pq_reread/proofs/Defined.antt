@@ -17,7 +17,7 @@ use Rattle.pq_schema.specs.declared.definition.TableDef.{TableDef}
 use Rattle.pq_schema.specs.declared.table.Column.{Column}
 use Rattle.pq_schema.specs.declared.table.Table.{Table}
 use Rattle.pq_schema.specs.Definitions.{has_type, column_of, is_column, is_unknown, place_of, places_of, no_column, refused_if, is_outside, cardinality, or_ok, name_refusal, counts_refusal, columns_refusal, names_refusal, key_refusal, limit_refusal, limits_refusal, has_shape, reference_refusal, foreign_refusal, foreigns_refusal, groups_refusal, table_refusal, limit_of_def, foreign_of_def, bare_table, table_of_def, new_table}
-use Rattle.pq_schema.specs.Sequences.{ascending, group_access, with_group}
+use Rattle.pq_schema.specs.Sequences.{ascending_part, group_access, with_group}
 use Rattle.pq_base.specs.Values.{same_kind}
 use Rattle.pq_schema.specs.Tables.{no_table, table_at, type_at, types_at, same_kinds}
 use Rattle.pq_schema.specs.Schema.{Schema, is_table, number_of, find_table}
@@ -195,7 +195,7 @@ foreigns_say schema table cs number (f ∷ fs) keys e =
 -- ---- the table
 
 -- indexes say nothing
-pub group_says : (tables : List Table) (def : TableDef) (t : Table) (cols : List ℕ) (b : Bool) → Says tables def t → Says tables def (cond b t (record t { indexes = t.indexes ++ record { cols = map ascending cols } ∷ [] }))
+pub group_says : (tables : List Table) (def : TableDef) (t : Table) (cols : List ℕ) (b : Bool) → Says tables def t → Says tables def (cond b t (record t { indexes = t.indexes ++ record { cols = map ascending_part cols } ∷ [] }))
 group_says tables def t cols true p = p
 group_says tables def t cols false p = record { name = p.name; some = p.some; columns = p.columns; key = p.key; limits = p.limits; foreign = p.foreign }
 

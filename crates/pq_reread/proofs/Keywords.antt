@@ -3,7 +3,7 @@ use Rattle.std.proofs.Common.{◌≡◌, ℕ, Bool, true, ◌&&◌, List, [], ma
 use Rattle.std.specs.Prelude.{nat_lt, codes, slice_index_or}
 use Rattle.std.specs.List.{list_all, range_with_len}
 use Rattle.std.proofs.lemmas.Bool.{and_parts, eqb-true, ltb-true}
-use Rattle.pq_base.specs.Words.{keywords, raised}
+use Rattle.pq_base.specs.Words.{keywords, uppercase_byte}
 use Rattle.pq_base.proofs.Members.{all_at, range_in}
 use Rattle.pq_text.specs.Bytes.{is_word_byte}
 use Rattle.pq_text.specs.Forms.{is_word, is_at}
@@ -20,7 +20,7 @@ keyword_text k = slice_index_or keywords k []
 
 -- it is a word, and found at its place
 abbrev is_placed : ℕ → Bool
-is_placed k = is_word (keyword_text k) && is_at (place_of keywords (map raised (keyword_text k))) k
+is_placed k = is_word (keyword_text k) && is_at (place_of keywords (map uppercase_byte (keyword_text k))) k
 
 all_placed : list_all is_placed (range_with_len 0 35) ≡ true
 unfolding place_of
@@ -33,8 +33,8 @@ placed_at (Some m) k is = ap (λ (n : ℕ). Some n) (eqb-true m k is)
 pub keyword_prints : (k : ℕ) → nat_lt k 35 ≡ true → Prints (word k) joins_none (keyword_text k) is_word_byte
 keyword_prints k below =
     let w : List ℕ = keyword_text k in
-    let parts = and_parts (is_word w) (is_at (place_of keywords (map raised w)) k) (all_at is_placed (range_with_len 0 35) all_placed k (range_in k 0 35 (omega arith) (omega (arith, ltb-true k 35 below)))) in
-    word_prints w (shape.Keyword k) parts.0 (ap (keyword_or (name_shape w)) (placed_at (place_of keywords (map raised w)) k parts.1))
+    let parts = and_parts (is_word w) (is_at (place_of keywords (map uppercase_byte w)) k) (all_at is_placed (range_with_len 0 35) all_placed k (range_in k 0 35 (omega arith) (omega (arith, ltb-true k 35 below)))) in
+    word_prints w (shape.Keyword k) parts.0 (ap (keyword_or (name_shape w)) (placed_at (place_of keywords (map uppercase_byte w)) k parts.1))
 
 true_word : word_shape (codes "true") ≡ shape.Keyword TRUE
 unfolding place_of

@@ -22,7 +22,7 @@ use Rattle.pq_schema.specs.declared.query.Relation.{Relation}
 use Rattle.pq_schema.specs.declared.table.NewIndex.{NewIndex}
 use Rattle.pq_schema.specs.declared.table.Table.{Table}
 use Rattle.pq_print.specs.Canonical.{column_name, ref_text, relation_text, op_text, operand_text, pred_text, order_text, select_text, query_text, text_of, definition_text}
-use Rattle.pq_print.specs.Lists.{each_after, separated, clause}
+use Rattle.pq_print.specs.Lists.{each_after, separate_texts, clause}
 use Rattle.pq_print.specs.Report.{dir_text}
 use Rattle.pq_reread.specs.ReadBack.{KeepNames}
 use Rattle.pq_reread.proofs.Alls.{one_by_one}
@@ -34,7 +34,7 @@ each_same between text other [] all = refl
 each_same between text other (y ∷ ys) all =
     ap (λ (v : List ℕ). (between ++ v) ++ each_after between text ys) all.0 ∙ ap (λ (v : List ℕ). (between ++ other y) ++ v) (each_same between text other ys all.1)
 
-separated_same : {Y : Type 0} (between : List ℕ) (text other : Y → List ℕ) (ys : List Y) → AllByRecursion (λ y. text y ≡ other y) ys → separated between text ys ≡ separated between other ys
+separated_same : {Y : Type 0} (between : List ℕ) (text other : Y → List ℕ) (ys : List Y) → AllByRecursion (λ y. text y ≡ other y) ys → separate_texts between text ys ≡ separate_texts between other ys
 separated_same between text other [] all = refl
 separated_same between text other (y ∷ ys) all =
     ap (λ (v : List ℕ). v ++ each_after between text ys) all.0 ∙ ap (λ (v : List ℕ). other y ++ v) (each_same between text other ys all.1)

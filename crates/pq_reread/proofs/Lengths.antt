@@ -20,7 +20,7 @@ use Rattle.pq_schema.specs.Definitions.{type_of, has_type, column_of, refused_if
 use Rattle.pq_schema.specs.Names.{IsName, IsKind, IsColumnDef, IsLimitDef, IsForeignDef, IsTableDef}
 use Rattle.pq_schema.specs.Schema.{Schema, find_table}
 use Rattle.pq_schema.specs.Tables.{table_at}
-use Rattle.pq_print.specs.Lists.{each_after, separated}
+use Rattle.pq_print.specs.Lists.{each_after, separate_texts}
 use Rattle.pq_print.specs.Canonical.{column_name, type_text, column_text, columns_text, limit_text, foreign_text, items_text, table_text}
 use Rattle.pq_reread.specs.Said.{Pairwise, SaysColumn, SaysColumns, SaysLimit, SaysForeign, Says}
 use Rattle.pq_reread.specs.Orderly.{IsOrderly, AreOrderly}
@@ -38,7 +38,7 @@ each_short between text m (y ∷ ys) all =
     let both : length ((between ++ text y) ++ rest) ≡ length (between ++ text y) + length rest = length-append (between ++ text y) rest in
     omega (arith, first, both, each_short between text m ys all.1, suc-mul (length ys) m)
 
-pub separated_short : {Y : Type 0} (between : List ℕ) (text : Y → List ℕ) (m : ℕ) (ys : List Y) → AllByRecursion (λ y. length between + length (text y) ≤ m) ys → length (separated between text ys) ≤ length ys * m
+pub separated_short : {Y : Type 0} (between : List ℕ) (text : Y → List ℕ) (m : ℕ) (ys : List Y) → AllByRecursion (λ y. length between + length (text y) ≤ m) ys → length (separate_texts between text ys) ≤ length ys * m
 separated_short between text m [] all = omega arith
 separated_short between text m (y ∷ ys) all =
     omega (arith, all.0, length-append (text y) (each_after between text ys), each_short between text m ys all.1, suc-mul (length ys) m)
@@ -94,7 +94,7 @@ names_short columns (n ∷ ns) (p ∷ ps) are says = (omega (arith, ap length sa
 cols_short : (table : Table) (names : List (List ℕ)) (places : List ℕ) → length names ≤ 4 → All IsName names → SaysColumns table.columns names places → length (columns_text table.columns places) ≤ 138
 unfolding columns_text
 cols_short table names places few are says =
-    let inner = separated (codes ", ") (column_name table.columns) places in
+    let inner = separate_texts (codes ", ") (column_name table.columns) places in
     let sum = separated_short (codes ", ") (column_name table.columns) 34 places (names_short table.columns names places (one_by_one IsName names are) says.names) in
     omega (arith, few, sum, same_length _ names places says.names, length-append (codes "(" ++ inner) (codes ")"), length-append (codes "(") inner)
 
@@ -157,7 +157,7 @@ record IsFew (def : TableDef) : Type 0 where
 text_short : (tables : List Table) (def : TableDef) (table : Table) → IsFew def → IsTableDef def → Says tables def table → length (table_text tables table) ≤ 1048576
 unfolding table_text items_text
 text_short tables def table few is says =
-    let columns = separated (codes ", ") column_text table.columns in
+    let columns = separate_texts (codes ", ") column_text table.columns in
     let key = columns_text table.columns table.key in
     let limits = each_after (codes ", ") (limit_text table.columns) table.limits in
     let foreign = each_after (codes ", ") (foreign_text tables table.columns) table.foreign in

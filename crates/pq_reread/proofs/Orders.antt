@@ -18,7 +18,7 @@ use Rattle.pq_schema.specs.declared.definition.ColumnDef.{ColumnDef}
 use Rattle.pq_schema.specs.declared.definition.TableDef.{TableDef}
 use Rattle.pq_schema.specs.declared.table.Column.{Column}
 use Rattle.pq_schema.specs.declared.table.Table.{Table}
-use Rattle.pq_schema.specs.Definitions.{column_of, is_column, is_unknown, place_of, no_column, repeated, repeated_after, refused_if, is_outside, first_repeated, definition_refusal, name_refusal, counts_refusal, columns_refusal, names_refusal, key_refusal, groups_refusal, table_refusal, bare_table, table_of_def, new_table}
+use Rattle.pq_schema.specs.Definitions.{column_of, is_column, is_unknown, place_of, no_column, repeated_name, repeated_after, refused_if, is_outside, first_repeated, definition_refusal, name_refusal, counts_refusal, columns_refusal, names_refusal, key_refusal, groups_refusal, table_refusal, bare_table, table_of_def, new_table}
 use Rattle.pq_schema.specs.Names.{IsName, IsColumnDef, IsTableDef}
 use Rattle.pq_schema.specs.declared.table.NewIndex.{NewIndex}
 use Rattle.pq_schema.specs.Schema.{Schema, is_table, is_taken, number_of, find_query, with_wanted, with_new_index}
@@ -26,7 +26,7 @@ use Rattle.pq_schema.specs.Tables.{no_table, table_at}
 use Rattle.pq_schema.specs.Valid.{IsValid}
 use Rattle.pq_schema.specs.Valid.IsValid.{empty, then_table, then_query}
 use Rattle.pq_schema.proofs.Valid.{wanted_there}
-use Rattle.pq_schema.specs.Sequences.{ascending, group_access, with_group}
+use Rattle.pq_schema.specs.Sequences.{ascending_part, group_access, with_group}
 use Rattle.pq_reread.specs.Orderly.{AreNamedApart, IsOrderly, AreOrderly}
 use Rattle.pq_reread.proofs.Alls.{one_by_one}
 use Rattle.pq_query_read.proofs.Names.{turned}
@@ -119,7 +119,7 @@ bare_orderly schema def is e =
     let later = (neither_refuses (name_refusal schema def.name) _ e).1 in
     let counts = neither_refuses (counts_refusal def) _ later in
     let columns = neither_refuses (columns_refusal def.columns) (groups_refusal schema def) counts.1 in
-    let apart = (neither_refuses (refused_if _ _) (option_map repeated (first_repeated (map (λ (c : ColumnDef). c.name) def.columns))) columns.0).1 in
+    let apart = (neither_refuses (refused_if _ _) (option_map repeated_name (first_repeated (map (λ (c : ColumnDef). c.name) def.columns))) columns.0).1 in
     let groups = neither_refuses (key_refusal def.columns def.key) _ columns.1 in
     let key = neither_refuses (names_refusal def.columns def.key) _ groups.0 in
     let known = (neither_refuses (option_map no_column (find (is_unknown def.columns) def.key)) _ key.0).0 in
@@ -127,7 +127,7 @@ bare_orderly schema def is e =
     record {
       name = is.name;
       columns = named_columns def.columns (one_by_one IsColumnDef def.columns is.columns);
-      apart = columns_apart [] def.columns (nil_apart column_names) (none_mapped repeated _ apart);
+      apart = columns_apart [] def.columns (nil_apart column_names) (none_mapped repeated_name _ apart);
       some_key = omega (arith, inside_some (length def.key) 4 count, length-map def.key (place_of def.columns));
       short_key = omega (arith, inside_most (length def.key) 4 count, length-map def.key (place_of def.columns));
       key = places_within def.columns def.key (none_mapped no_column _ known);
@@ -136,7 +136,7 @@ bare_orderly schema def is e =
     inside_most : (n most : ℕ) → is_outside n most ≡ false → n ≤ most
     inside_most n most e = grind (arith, nat_tests)
 
-group_orderly : (t : Table) (cols : List ℕ) (b : Bool) → IsOrderly t → IsOrderly (cond b t (record t { indexes = t.indexes ++ record { cols = map ascending cols } ∷ [] }))
+group_orderly : (t : Table) (cols : List ℕ) (b : Bool) → IsOrderly t → IsOrderly (cond b t (record t { indexes = t.indexes ++ record { cols = map ascending_part cols } ∷ [] }))
 group_orderly t cols true p = p
 group_orderly t cols false p = record { name = p.name; columns = p.columns; apart = p.apart; some_key = p.some_key; short_key = p.short_key; key = p.key }
 
@@ -145,7 +145,7 @@ groups_orderly [] t p = p
 groups_orderly (cols ∷ groups) t p = groups_orderly groups (with_group t cols) (group_orderly t cols (is_some (group_access t (set_of cols))) p)
 
 -- indexes leave the name
-group_name : (t : Table) (cols : List ℕ) (b : Bool) → (cond b t (record t { indexes = t.indexes ++ record { cols = map ascending cols } ∷ [] })).name ≡ t.name
+group_name : (t : Table) (cols : List ℕ) (b : Bool) → (cond b t (record t { indexes = t.indexes ++ record { cols = map ascending_part cols } ∷ [] })).name ≡ t.name
 group_name t cols true = refl
 group_name t cols false = refl
 

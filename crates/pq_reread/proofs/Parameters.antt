@@ -24,7 +24,7 @@ use Rattle.pq_schema.specs.declared.query.Query.{Query}
 use Rattle.pq_schema.specs.declared.table.Table.{Table}
 use Rattle.pq_query_read.specs.Columns.{type_of}
 use Rattle.pq_query_read.specs.Parameters.{use_in, uses, has_number, is_numbered, agrees, agrees_with_all, are_params, param_count, param_type_of, param_types, params_of}
-use Rattle.pq_query_read.specs.Trying.{◌>>=◌, passed}
+use Rattle.pq_query_read.specs.Trying.{◌>>=◌, passed_unless}
 use Rattle.pq_query_read.specs.declared.params.ParamUse.{ParamUse}
 use Rattle.pq_query_read.proofs.Parameters.{in_found, made_in, within, all_used, typed, use_typed}
 
@@ -187,4 +187,4 @@ module _ (tables : List Table) (query : Query) (is : IsResolved tables query) wh
 
   pub params_again : params_of (uses tables query.relations query.preds) ≡ Ok query.params
   params_again =
-      ap (λ (b : Bool). passed (refused_if (not b) refusal.Params) >>= λ u. Ok (param_types used)) are_again ∙ ap (λ (ts : List ColType). Ok ts) types_again
+      ap (λ (b : Bool). passed_unless (refused_if (not b) refusal.Params) >>= λ u. Ok (param_types used)) are_again ∙ ap (λ (ts : List ColType). Ok ts) types_again

@@ -7,7 +7,7 @@ use Rattle.pq_text.specs.Tokens.{tokens_of}
 use Rattle.pq_grammar.specs.Language.{◌⋅◌}
 use Rattle.pq_shape.specs.Shapes.{shapes_of, word_shape}
 use Rattle.pq_shape.specs.declared.shape.Shape.{Shape}
-use Rattle.pq_reread.specs.Printed.{Piece, piece_text, piece_shapes, printed, shapes_printed, joins_none, joins, IsPiece, ArePieces}
+use Rattle.pq_reread.specs.Printed.{Piece, piece_text, piece_shapes, printed_pieces, shapes_printed, joins_none, joins, IsPiece, ArePieces}
 use Rattle.pq_reread.specs.Printed.Piece.{Word, Number, Text, Mark, Space}
 use Rattle.pq_reread.proofs.Prints.{Prints, join, respelled, nothing_prints, behind, space, mark_prints, two_marks_print, word_prints, signed_prints, text_prints, whole}
 
@@ -41,12 +41,12 @@ piece_some (Mark []) is = absurd cc
 piece_some (Mark (a ∷ m)) is = omega arith
 piece_some Space is = omega arith
 
-pieces_print : (t : ℕ → Bool) (pieces : List Piece) → ArePieces t pieces → (u : ℕ → Bool) × Prints (just (shapes_printed pieces)) t (printed pieces) u
+pieces_print : (t : ℕ → Bool) (pieces : List Piece) → ArePieces t pieces → (u : ℕ → Bool) × Prints (just (shapes_printed pieces)) t (printed_pieces pieces) u
 pieces_print t [] are = (t, nothing_prints t)
 pieces_print t (piece ∷ pieces) are =
     let first = behind t (piece_text piece) (piece_some piece are.0) are.1 (piece_prints piece are.0) in
     let rest = pieces_print (joins piece) pieces are.2 in
     (rest.0, respelled (joined (piece_shapes piece) (shapes_printed pieces)) (join first rest.1))
 
-pub pieces_cut : (pieces : List Piece) → ArePieces joins_none pieces → shapes_of (printed pieces) (tokens_of (printed pieces)) ≡ shapes_printed pieces
-pieces_cut pieces are = let p = pieces_print joins_none pieces are in whole (just (shapes_printed pieces)) (printed pieces) p.0 p.1
+pub pieces_cut : (pieces : List Piece) → ArePieces joins_none pieces → shapes_of (printed_pieces pieces) (tokens_of (printed_pieces pieces)) ≡ shapes_printed pieces
+pieces_cut pieces are = let p = pieces_print joins_none pieces are in whole (just (shapes_printed pieces)) (printed_pieces pieces) p.0 p.1

@@ -17,15 +17,15 @@ use Rattle.std.proofs.lemmas.Bool.Decides.{nat_tests}
 use Rattle.pq_text.specs.Bytes.{next_is, is_digit, is_letter, is_word_byte, is_mark, is_double_mark}
 use Rattle.pq_text.specs.Forms.{is_word}
 use Rattle.pq_text.specs.Tokens.{tokens_of}
-use Rattle.pq_grammar.specs.Language.{◌⋅◌, nothing, one, each, separated}
+use Rattle.pq_grammar.specs.Language.{◌⋅◌, nothing, one, each, separated_by}
 use Rattle.pq_shape.specs.Shapes.{shapes_of, word_shape, number_or_other}
-use Rattle.pq_shape.specs.Numbers.{digits_after, fitting, number_of}
+use Rattle.pq_shape.specs.Numbers.{digits_after, fitting_number, number_of}
 use Rattle.pq_shape.specs.Parts.{mark, number, text}
 use Rattle.pq_shape.specs.declared.shape.Shape.{Shape}
 use Rattle.pq_shape.specs.declared.shape.Shape.TheVariants as shape
 use Rattle.pq_shape.proofs.Digits.{fitting_pos, fitting_neg}
-use Rattle.pq_print.specs.Lists.{each_after, separated as separated_texts}
-use Rattle.pq_print.specs.Values.{doubled, quoted}
+use Rattle.pq_print.specs.Lists.{each_after, separate_texts as separated_texts}
+use Rattle.pq_print.specs.Values.{doubled_quotes, quoted_text}
 use Rattle.pq_reread.specs.Said.{Pairwise}
 use Rattle.pq_reread.specs.Printed.{joins_none, is_quote}
 use Rattle.pq_reread.proofs.Cut.{cut, shapes_are, both, take_exact, cut_word, cut_number, cut_negative, cut_mark, cut_two_marks, cut_text, cut_white}
@@ -73,7 +73,7 @@ digits_ascii [] all = IsAscii-nil
 digits_ascii (b ∷ bs) all = let parts = both (is_digit b) (list_all is_digit bs) all in ascii_more b bs (digit_ascii b parts.0) (digits_ascii bs parts.1)
 
 -- a quote stands between whole characters
-doubled_step : (b : ℕ) (bs front : List ℕ) → ((front : List ℕ) → IsUtf8 (front ++ bs) → IsUtf8 (front ++ flat_map doubled bs)) → (q : Bool) → eqb b 39 ≡ q → IsUtf8 (front ++ b ∷ bs) → IsUtf8 (front ++ (cond q (39 ∷ 39 ∷ []) (b ∷ []) ++ flat_map doubled bs))
+doubled_step : (b : ℕ) (bs front : List ℕ) → ((front : List ℕ) → IsUtf8 (front ++ bs) → IsUtf8 (front ++ flat_map doubled_quotes bs)) → (q : Bool) → eqb b 39 ≡ q → IsUtf8 (front ++ b ∷ bs) → IsUtf8 (front ++ (cond q (39 ∷ 39 ∷ []) (b ∷ []) ++ flat_map doubled_quotes bs))
 doubled_step b bs front later true is u =
     let quote : b ≡ 39 = eqb-true b 39 is in
     let at : get_or (front ++ b ∷ bs) (length front) 0 ≡ b = get_or-append_seam front b bs 0 in
@@ -81,17 +81,17 @@ doubled_step b bs front later true is u =
     let before : IsUtf8 (take (length front) (front ++ b ∷ bs)) = IsUtf8-take (front ++ b ∷ bs) (length front) u (IsCharBoundary-before_ascii (front ++ b ∷ bs) (length front) inside (omega (arith, at, quote))) in
     let behind : IsUtf8 (drop (length front + 1) (front ++ b ∷ bs)) = IsUtf8-drop (front ++ b ∷ bs) (length front + 1) u (IsCharBoundary-after_ascii (front ++ b ∷ bs) (length front) u inside (omega (arith, at, quote))) in
     let rest : drop (length front + 1) (front ++ b ∷ bs) ≡ bs = ap (drop (length front + 1)) (sym (append_assoc front (b ∷ []) bs)) ∙ drop_at (front ++ b ∷ []) bs (length front + 1) (length-append front (b ∷ [])) in
-    IsUtf8-append front (39 ∷ 39 ∷ flat_map doubled bs) (subst IsUtf8 (take_exact front (b ∷ bs)) before)
-    (IsUtf8-append (39 ∷ 39 ∷ []) (flat_map doubled bs) (IsUtf8-append (39 ∷ []) (39 ∷ []) (one_byte 39 (omega arith)) (one_byte 39 (omega arith))) (later [] (subst IsUtf8 rest behind)))
+    IsUtf8-append front (39 ∷ 39 ∷ flat_map doubled_quotes bs) (subst IsUtf8 (take_exact front (b ∷ bs)) before)
+    (IsUtf8-append (39 ∷ 39 ∷ []) (flat_map doubled_quotes bs) (IsUtf8-append (39 ∷ []) (39 ∷ []) (one_byte 39 (omega arith)) (one_byte 39 (omega arith))) (later [] (subst IsUtf8 rest behind)))
 doubled_step b bs front later false is u =
-    subst IsUtf8 (append_assoc front (b ∷ []) (flat_map doubled bs)) (later (front ++ b ∷ []) (subst IsUtf8 (sym (append_assoc front (b ∷ []) bs)) u))
+    subst IsUtf8 (append_assoc front (b ∷ []) (flat_map doubled_quotes bs)) (later (front ++ b ∷ []) (subst IsUtf8 (sym (append_assoc front (b ∷ []) bs)) u))
 
-doubled_utf8 : (bs front : List ℕ) → IsUtf8 (front ++ bs) → IsUtf8 (front ++ flat_map doubled bs)
+doubled_utf8 : (bs front : List ℕ) → IsUtf8 (front ++ bs) → IsUtf8 (front ++ flat_map doubled_quotes bs)
 doubled_utf8 [] front u = u
 doubled_utf8 (b ∷ bs) front u = doubled_step b bs front (doubled_utf8 bs) (eqb b 39) refl u
 
-quoted_utf8 : (t : List ℕ) → IsUtf8 t → IsUtf8 (quoted t)
-quoted_utf8 t is = IsUtf8-append ((39 ∷ []) ++ flat_map doubled t) (39 ∷ []) (IsUtf8-append (39 ∷ []) (flat_map doubled t) (one_byte 39 (omega arith)) (doubled_utf8 t [] is)) (one_byte 39 (omega arith))
+quoted_utf8 : (t : List ℕ) → IsUtf8 t → IsUtf8 (quoted_text t)
+quoted_utf8 t is = IsUtf8-append ((39 ∷ []) ++ flat_map doubled_quotes t) (39 ∷ []) (IsUtf8-append (39 ∷ []) (flat_map doubled_quotes t) (one_byte 39 (omega arith)) (doubled_utf8 t [] is)) (one_byte 39 (omega arith))
 
 -- ---- parts
 
@@ -180,7 +180,7 @@ word_prints (b ∷ bs) s is e =
     }
 
 -- a text between quotes
-pub text_prints : (t : List ℕ) → IsUtf8 t → Prints (text t) joins_none (quoted t) is_quote
+pub text_prints : (t : List ℕ) → IsUtf8 t → Prints (text t) joins_none (quoted_text t) is_quote
 text_prints t is = record {
   shapes = shape.Text t ∷ [];
   spells = refl;
@@ -226,7 +226,7 @@ number_by : (n : ℕ) (ds : List ℕ) → n < 2 ^ 63 → 0 < length ds → Digit
 number_by n [] small some d = absurd (omega arith)
 number_by n (b ∷ bs) small some d =
     let parts = both (is_digit b) (list_all is_digit bs) d.all in
-    let value : number_of (b ∷ bs) ≡ Some (pos n) = rw (digit_not_dash b parts.0) (ap (λ (m : ℕ). fitting (pos m)) d.value ∙ fitting_pos n small) in
+    let value : number_of (b ∷ bs) ≡ Some (pos n) = rw (digit_not_dash b parts.0) (ap (λ (m : ℕ). fitting_number (pos m)) d.value ∙ fitting_pos n small) in
     record {
       shapes = shape.Number (pos n) ∷ [];
       spells = refl;
@@ -239,7 +239,7 @@ negative_by : (n : ℕ) (ds : List ℕ) → n < 2 ^ 63 → 0 < length ds → Dig
 negative_by n [] small some d = absurd (omega arith)
 negative_by n (b ∷ bs) small some d =
     let parts = both (is_digit b) (list_all is_digit bs) d.all in
-    let value : number_of (45 ∷ b ∷ bs) ≡ Some (negsuc n) = ap (λ (m : ℕ). fitting (neg_ℤ (pos m))) d.value ∙ fitting_neg (suc n) (omega arith) in
+    let value : number_of (45 ∷ b ∷ bs) ≡ Some (negsuc n) = ap (λ (m : ℕ). fitting_number (neg_ℤ (pos m))) d.value ∙ fitting_neg (suc n) (omega arith) in
     record {
       shapes = shape.Number (negsuc n) ∷ [];
       spells = refl;
@@ -271,7 +271,7 @@ each_prints B between S text t b (x ∷ xs) (y ∷ ys) all = join (join b all.0)
 
 -- one or more items with a text between them
 pub separated_prints : {X Y : Type 0} (B : List Shape → Type 0) (between : List ℕ) (S : X → List Shape → Type 0) (text : Y → List ℕ) (t : ℕ → Bool) → Prints B t between joins_none
-    → (xs : List X) (ys : List Y) → 0 < length xs → Pairwise (λ x y. Prints (S x) joins_none (text y) t) xs ys → Prints (separated B S xs) joins_none (separated_texts between text ys) t
+    → (xs : List X) (ys : List Y) → 0 < length xs → Pairwise (λ x y. Prints (S x) joins_none (text y) t) xs ys → Prints (separated_by B S xs) joins_none (separated_texts between text ys) t
 separated_prints B between S text t b [] ys some all = absurd (omega arith)
 separated_prints B between S text t b (x ∷ xs) [] some all = absurd all
 separated_prints B between S text t b (x ∷ xs) (y ∷ ys) some all = join all.0 (each_prints B between S text t b xs ys all.1)

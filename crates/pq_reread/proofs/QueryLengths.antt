@@ -29,9 +29,9 @@ use Rattle.pq_schema.specs.declared.query.Stop.{Stop}
 use Rattle.pq_schema.specs.declared.query.Stop.TheVariants as stop
 use Rattle.pq_schema.specs.declared.table.Table.{Table}
 use Rattle.pq_print.specs.Canonical.{column_name, ref_text, relation_text, op_text, operand_text, pred_text, order_text, stop_text, select_text, query_text}
-use Rattle.pq_print.specs.Lists.{separated, clause}
+use Rattle.pq_print.specs.Lists.{separate_texts, clause}
 use Rattle.pq_print.specs.Report.{dir_text}
-use Rattle.pq_print.specs.Values.{doubled, value_text}
+use Rattle.pq_print.specs.Values.{doubled_quotes, value_text}
 use Rattle.pq_query_read.proofs.Names.{name_short}
 use Rattle.pq_reread.specs.Orderly.{AreOrderly}
 use Rattle.pq_reread.proofs.Alls.{one_by_one}
@@ -41,11 +41,11 @@ use Rattle.pq_reread.proofs.SelectPrints.{relation_known, table_known, column_kn
 
 -- ---- values
 
-doubled_step : (b : ℕ) (t : List ℕ) (q : Bool) → length (flat_map doubled t) ≤ 2 * length t → length (cond q (39 ∷ 39 ∷ []) (b ∷ []) ++ flat_map doubled t) ≤ 2 * length (b ∷ t)
+doubled_step : (b : ℕ) (t : List ℕ) (q : Bool) → length (flat_map doubled_quotes t) ≤ 2 * length t → length (cond q (39 ∷ 39 ∷ []) (b ∷ []) ++ flat_map doubled_quotes t) ≤ 2 * length (b ∷ t)
 doubled_step b t true later = omega (arith, later)
 doubled_step b t false later = omega (arith, later)
 
-doubled_short : (t : List ℕ) → length (flat_map doubled t) ≤ 2 * length t
+doubled_short : (t : List ℕ) → length (flat_map doubled_quotes t) ≤ 2 * length t
 doubled_short [] = omega arith
 doubled_short (b ∷ t) = doubled_step b t (eqb b 39) (doubled_short t)
 
@@ -57,7 +57,7 @@ signed_short (negsuc n) fits =
     omega (arith, digits)
 
 text_short : (t : List ℕ) → length t ≤ 1000 → length (value_text (value.Text t)) ≤ 2002
-text_short t short = omega (arith, short, doubled_short t, length-append (codes "'" ++ flat_map doubled t) (codes "'"))
+text_short t short = omega (arith, short, doubled_short t, length-append (codes "'" ++ flat_map doubled_quotes t) (codes "'"))
 
 value_short : (t : ColType) (v : Value) → FitsType (param_type t) v → length (value_text v) ≤ 2002
 value_short type.Int (value.Int z) fits = omega (arith, signed_short z fits)
@@ -92,7 +92,7 @@ stop_short (stop.Paginate k) fits = let most = fits.1 in omega (arith, number_sh
 
 clause_short : {Y : Type 0} (keyword between : List ℕ) (text : Y → List ℕ) (m : ℕ) (ys : List Y) → AllByRecursion (λ y. length between + length (text y) ≤ m) ys → length (clause keyword between text ys) ≤ length keyword + length ys * m
 clause_short keyword between text m [] all = omega arith
-clause_short keyword between text m (y ∷ ys) all = omega (arith, length-append keyword (separated between text (y ∷ ys)), separated_short between text m (y ∷ ys) all)
+clause_short keyword between text m (y ∷ ys) all = omega (arith, length-append keyword (separate_texts between text (y ∷ ys)), separated_short between text m (y ∷ ys) all)
 
 -- ---- the parts of a query
 
@@ -144,13 +144,13 @@ module _ (tables : List Table) (query : Query) (are : AreOrderly tables) (is : I
   item_short : (item : OrderItem) → IsColumnOf tables query item.col → length (order_text tables query item) ≤ 70
   item_short item known = omega (arith, ref_short item.col known, dir_short item.dir, length-append (ref_text tables query item.col) (dir_text item.dir))
 
-  chosen_short : length (separated (codes ", ") (ref_text tables query) query.select) ≤ 12864
+  chosen_short : length (separate_texts (codes ", ") (ref_text tables query) query.select) ≤ 12864
   chosen_short =
       let few = is.few_selected in
       let sum = separated_short (codes ", ") (ref_text tables query) 67 query.select (one_by_one _ query.select (λ k d lt. omega (arith, ref_short (slice_index_or query.select k d) (is.select k d lt)))) in
       omega (arith, few, sum)
 
-  relations_short : length (separated (codes ", ") (relation_text tables) query.relations) ≤ 420
+  relations_short : length (separate_texts (codes ", ") (relation_text tables) query.relations) ≤ 420
   relations_short =
       let few = is.few_relations in
       let sum = separated_short (codes ", ") (relation_text tables) 70 query.relations (one_by_one _ query.relations (λ k d lt. omega (arith, relation_short (slice_index_or query.relations k d) (is.relations k d lt)))) in
@@ -171,8 +171,8 @@ module _ (tables : List Table) (query : Query) (are : AreOrderly tables) (is : I
   select_short : length (select_text tables query) ≤ 50000
   unfolding select_text
   select_short =
-      let select = separated (codes ", ") (ref_text tables query) query.select in
-      let from = separated (codes ", ") (relation_text tables) query.relations in
+      let select = separate_texts (codes ", ") (ref_text tables query) query.select in
+      let from = separate_texts (codes ", ") (relation_text tables) query.relations in
       let tests = clause (codes " WHERE ") (codes " AND ") (pred_text tables query) query.preds in
       let order = clause (codes " ORDER BY ") (codes ", ") (order_text tables query) query.order in
       omega (

@@ -15,7 +15,7 @@ use Rattle.pq_base.specs.declared.value.Dir.{Dir}
 use Rattle.pq_base.specs.declared.value.Value.{Value}
 use Rattle.pq_base.specs.declared.value.Value.TheVariants as value
 use Rattle.pq_schema.specs.Candidates.{stop_size}
-use Rattle.pq_schema.specs.Definitions.{is_outside, refused_if, repeated}
+use Rattle.pq_schema.specs.Definitions.{is_outside, refused_if, repeated_name}
 use Rattle.pq_schema.specs.Definitions.{no_column as unknown}
 use Rattle.pq_schema.specs.Relations.{no_relation, table_of}
 use Rattle.pq_schema.specs.Relations.{relation_at as relation_of_query}
@@ -34,9 +34,9 @@ use Rattle.pq_schema.specs.declared.query.Stop.TheVariants as stop
 use Rattle.pq_print.specs.Canonical.{no_column, column_name}
 use Rattle.pq_query_read.specs.Columns.{has_alias, named_in, ref_of, refs_of}
 use Rattle.pq_query_read.specs.Parameters.{param_number}
-use Rattle.pq_query_read.specs.Resolving.{counts_refusal, relation_of, relations_of, operand_of, is_comparable, pred_with, pred_between, pred_of, preds_of, has_ref, ref_name, item_of, items_of, stop_of, resolved}
+use Rattle.pq_query_read.specs.Resolving.{counts_refusal, relation_of, relations_of, operand_of, is_comparable, pred_with, pred_between, pred_of, preds_of, has_ref, ref_name, item_of, items_of, stop_of, resolved_select}
 use Rattle.pq_query_read.specs.Resolving.{stop_size as size_of}
-use Rattle.pq_query_read.specs.Trying.{◌>>=◌, or_refused, passed, each_after}
+use Rattle.pq_query_read.specs.Trying.{◌>>=◌, or_refused, passed_unless, each_after}
 use Rattle.pq_reread.specs.Orderly.{AreOrderly}
 use Rattle.pq_reread.specs.SaidQuery.{said_relation, said_stop, said_ref, said_operand, said_pred, said_item, said_query}
 use Rattle.pq_reread.proofs.Alls.{one_by_one}
@@ -195,7 +195,7 @@ module _ (schema : Schema) (query : Query) (are : AreOrderly schema.tables) (is 
       let known = at_split (IsPredicate schema.tables query) before y ys (subst (AllByRecursion (IsPredicate schema.tables query)) (sym all) (one_by_one (IsPredicate schema.tables query) query.preds is.preds)) in
       ap (λ (r : Result ColRef Refusal). r >>= λ left. operand_of schema.tables query.relations (said_operand schema.tables query y.right) >>= λ right. pred_between schema.tables query.relations (length before + 1) left y.op right) (ref_again y.left known.left)
       ∙ ap (λ (r : Result Operand Refusal). r >>= λ right. pred_between schema.tables query.relations (length before + 1) y.left y.op right) (operand_again y y.right known.right)
-      ∙ ap (λ (b : Bool). passed (refused_if (not b) (refusal.OperandKind (length before + 1))) >>= λ u. Ok (pred_with y.left y.op y.right)) (comparable y y.right known.right)
+      ∙ ap (λ (b : Bool). passed_unless (refused_if (not b) (refusal.OperandKind (length before + 1))) >>= λ u. Ok (pred_with y.left y.op y.right)) (comparable y y.right known.right)
       ∙ ap (λ (p : Pred). Ok p) (sides y y.right known.right)
 
   preds_again : preds_of schema.tables query.relations (map (said_pred schema.tables query) query.preds) ≡ Ok query.preds
@@ -207,8 +207,8 @@ module _ (schema : Schema) (query : Query) (are : AreOrderly schema.tables) (is 
       let known = at_split (λ (item : OrderItem). IsColumnOf schema.tables query item.col) before y ys (subst (AllByRecursion (λ (item : OrderItem). IsColumnOf schema.tables query item.col)) (sym all) (one_by_one (λ (item : OrderItem). IsColumnOf schema.tables query item.col) query.order is.order)) in
       let new : list_any (has_ref y.col) before ≡ false = new_key same_ref (λ (item : OrderItem). item.col) before y ys (subst (λ items. IsDistinct same_ref (map (λ (item : OrderItem). item.col) items)) (sym all) is.once) in
       let name : List ℕ = ref_name (said_ref schema.tables query y.col).first (said_ref schema.tables query y.col).second in
-      ap (λ (r : Result ColRef Refusal). r >>= λ ref. passed (refused_if (list_any (has_ref ref) before) (repeated name)) >>= λ u. Ok (with_dir ref y.dir)) (ref_again y.col known)
-      ∙ ap (λ (b : Bool). passed (refused_if b (repeated name)) >>= λ u. Ok y) new
+      ap (λ (r : Result ColRef Refusal). r >>= λ ref. passed_unless (refused_if (list_any (has_ref ref) before) (repeated_name name)) >>= λ u. Ok (with_dir ref y.dir)) (ref_again y.col known)
+      ∙ ap (λ (b : Bool). passed_unless (refused_if b (repeated_name name)) >>= λ u. Ok y) new
 
   items_again : items_of schema.tables query.relations (map (said_item schema.tables query) query.order) ≡ Ok query.order
   items_again = each_again (item_of schema.tables query.relations) (said_item schema.tables query) query.order item_again [] query.order refl
@@ -226,6 +226,6 @@ module _ (schema : Schema) (query : Query) (are : AreOrderly schema.tables) (is 
       (let long = length-map query.select (said_ref schema.tables query) in let some = is.some_selected in let few = is.few_selected in outside_not (length (map (said_ref schema.tables query) query.select)) 192 (omega (arith, long, some)) (omega (arith, long, few))) in
       rw (relations, preds, order, selected) refl
 
-  pub query_again : resolved schema query.name (said_query schema.tables query) ≡ Ok query
-  unfolding resolved
+  pub query_again : resolved_select schema query.name (said_query schema.tables query) ≡ Ok query
+  unfolding resolved_select
   query_again = rw (counts_pass, relations_again, refs_again, preds_again, items_again, stop_again query.stop is.stop, params_again schema.tables query is) refl

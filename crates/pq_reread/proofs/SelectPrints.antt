@@ -28,17 +28,17 @@ use Rattle.pq_schema.specs.declared.query.Stop.{Stop}
 use Rattle.pq_schema.specs.declared.query.Stop.TheVariants as stop
 use Rattle.pq_schema.specs.declared.table.Column.{Column}
 use Rattle.pq_schema.specs.declared.table.Table.{Table}
-use Rattle.pq_grammar.specs.Language.{◌⋅◌, nothing, separated}
+use Rattle.pq_grammar.specs.Language.{◌⋅◌, nothing, separated_by}
 use Rattle.pq_grammar.proofs.Lists.{regroup}
 use Rattle.pq_text.specs.Bytes.{is_letter, is_digit, is_word_byte, is_double_mark}
 use Rattle.pq_shape.specs.Parts.{word, mark, comma, name as a_name, number, a_value}
 use Rattle.pq_shape.specs.declared.keyword.TheConstants.{AND, AS, BY, DESC, FROM, LIMIT, ORDER, PAGINATE, PREPARE, SELECT, WHERE}
 use Rattle.pq_shape.specs.declared.shape.Shape.{Shape}
 use Rattle.pq_print.specs.Canonical.{no_column, column_name, ref_text, relation_text, op_text, operand_text, pred_text, order_text, stop_text, select_text, query_text}
-use Rattle.pq_print.specs.Lists.{separated as separated_texts, clause}
+use Rattle.pq_print.specs.Lists.{separate_texts as separated_texts, clause}
 use Rattle.pq_print.specs.Report.{dir_text}
 use Rattle.pq_print.specs.Values.{value_text}
-use Rattle.pq_query_read.specs.Grammar.{ref as a_ref, relation as a_relation, comma_or_join, operator, param, compare, pred as a_pred, direction, item as an_item, stopped, conditions, ordered, SpellsSelect}
+use Rattle.pq_query_read.specs.Grammar.{ref as a_ref, relation as a_relation, comma_or_join, operator, param, compare, pred as a_pred, direction, item as an_item, stop_tokens, conditions, order_tokens, SpellsSelect}
 use Rattle.pq_query_read.specs.declared.select.OperandDef.TheVariants as operand_def
 use Rattle.pq_reread.specs.Orderly.{IsOrderly, AreOrderly}
 use Rattle.pq_reread.specs.Printed.{joins_none, is_quote}
@@ -101,7 +101,7 @@ op_then op.Ge p = join (two_marks_print 62 61 joins_none refl refl refl) (space 
 -- ---- clauses
 
 clause_prints : {X Y : Type 0} (K B : List Shape → Type 0) (keyword between : List ℕ) (S : X → List Shape → Type 0) (text : Y → List ℕ) (f : Y → X) (t : ℕ → Bool) → Prints K t keyword joins_none → Prints B t between joins_none
-    → (ys : List Y) → Pairwise (λ x y. Prints (S x) joins_none (text y) t) (map f ys) ys → Prints (λ w. ((map f ys ≡ []) × nothing w) ⊎ (K ⋅ separated B S (map f ys)) w) t (clause keyword between text ys) t
+    → (ys : List Y) → Pairwise (λ x y. Prints (S x) joins_none (text y) t) (map f ys) ys → Prints (λ w. ((map f ys ≡ []) × nothing w) ⊎ (K ⋅ separated_by B S (map f ys)) w) t (clause keyword between text ys) t
 clause_prints K B keyword between S text f t k b [] pairs = respelled (λ w h. inl (refl, h)) (nothing_prints t)
 clause_prints K B keyword between S text f t k b (y ∷ ys) pairs = respelled (λ w h. inr h) (join k (separated_prints B between S text t b (map f (y ∷ ys)) (y ∷ ys) (omega arith) pairs))
 
@@ -121,7 +121,7 @@ dir_prints : (d : Dir) → Prints (direction d) is_word_byte (dir_text d) is_wor
 dir_prints dir.Asc = respelled (λ w h. inr h) (nothing_prints is_word_byte)
 dir_prints dir.Desc = space is_word_byte refl (keyword_prints DESC refl)
 
-stop_prints : (s : Stop) → IfSome (stop_size s) (λ k. (1 ≤ k) × (k ≤ 1000)) → Prints (stopped (said_stop s)) joins_value (stop_text s) joins_value
+stop_prints : (s : Stop) → IfSome (stop_size s) (λ k. (1 ≤ k) × (k ≤ 1000)) → Prints (stop_tokens (said_stop s)) joins_value (stop_text s) joins_value
 stop_prints stop.All fits = nothing_prints joins_value
 stop_prints (stop.Limit k) fits = space joins_value refl (join (keyword_prints LIMIT refl) (space is_word_byte refl (number_end (number_prints k (let most = fits.1 in omega (arith, most))))))
 stop_prints (stop.Paginate k) fits = space joins_value refl (join (keyword_prints PAGINATE refl) (space is_word_byte refl (number_end (number_prints k (let most = fits.1 in omega (arith, most))))))
@@ -186,7 +186,7 @@ module _ (tables : List Table) (query : Query) (are : AreOrderly tables) (is : I
   item_prints : (item : OrderItem) → IsColumnOf tables query item.col → Prints (an_item (said_item tables query item)) joins_none (order_text tables query item) joins_value
   item_prints item known = word_end (join (ref_prints item.col known) (dir_prints item.dir))
 
-  chosen_print : Prints (separated comma a_ref (map (said_ref tables query) query.select)) joins_none (separated_texts (codes ", ") (ref_text tables query) query.select) is_word_byte
+  chosen_print : Prints (separated_by comma a_ref (map (said_ref tables query) query.select)) joins_none (separated_texts (codes ", ") (ref_text tables query) query.select) is_word_byte
   chosen_print =
       separated_prints comma (codes ", ") a_ref (ref_text tables query) is_word_byte comma_prints (map (said_ref tables query) query.select) query.select (let some = is.some_selected in omega (arith, some, mapped))
       (pairs_of (said_ref tables query) (λ r ref. Prints (a_ref r) joins_none (ref_text tables query ref) is_word_byte) (IsColumnOf tables query) ref_prints query.select (one_by_one (IsColumnOf tables query) query.select is.select))
@@ -194,7 +194,7 @@ module _ (tables : List Table) (query : Query) (are : AreOrderly tables) (is : I
       mapped : length (map (said_ref tables query) query.select) ≡ length query.select
       mapped = Rattle.std.proofs.lemmas.List.length-map query.select (said_ref tables query)
 
-  relations_print : Prints (separated comma_or_join a_relation (map (said_relation tables) query.relations)) joins_none (separated_texts (codes ", ") (relation_text tables) query.relations) is_word_byte
+  relations_print : Prints (separated_by comma_or_join a_relation (map (said_relation tables) query.relations)) joins_none (separated_texts (codes ", ") (relation_text tables) query.relations) is_word_byte
   relations_print =
       separated_prints comma_or_join (codes ", ") a_relation (relation_text tables) is_word_byte (respelled (λ w h. inl h) comma_prints) (map (said_relation tables) query.relations) query.relations (let some = is.some_relations in omega (arith, some, mapped))
       (pairs_of (said_relation tables) (λ r relation. Prints (a_relation r) joins_none (relation_text tables relation) is_word_byte) (IsRelation tables) relation_prints query.relations (one_by_one (IsRelation tables) query.relations is.relations))
@@ -207,9 +207,9 @@ module _ (tables : List Table) (query : Query) (are : AreOrderly tables) (is : I
       clause_prints (word WHERE) (word AND) (codes " WHERE ") (codes " AND ") a_pred (pred_text tables query) (said_pred tables query) joins_value where_prints and_prints query.preds
       (pairs_of (said_pred tables query) (λ p pred. Prints (a_pred p) joins_none (pred_text tables query pred) joins_value) (IsPredicate tables query) pred_prints query.preds (one_by_one (IsPredicate tables query) query.preds is.preds))
 
-  ordered_prints : Prints (ordered (map (said_item tables query) query.order)) joins_value (clause (codes " ORDER BY ") (codes ", ") (order_text tables query) query.order) joins_value
+  ordered_prints : Prints (order_tokens (map (said_item tables query) query.order)) joins_value (clause (codes " ORDER BY ") (codes ", ") (order_text tables query) query.order) joins_value
   ordered_prints =
-      respelled (λ w h. elim h [ inl none ↦ inl none | inr some ↦ inr (regroup (word ORDER) (word BY) (separated comma an_item (map (said_item tables query) query.order)) w some) ])
+      respelled (λ w h. elim h [ inl none ↦ inl none | inr some ↦ inr (regroup (word ORDER) (word BY) (separated_by comma an_item (map (said_item tables query) query.order)) w some) ])
       (clause_prints (word ORDER ⋅ word BY) comma (codes " ORDER BY ") (codes ", ") an_item (order_text tables query) (said_item tables query) joins_value order_by_prints then_prints query.order
       (pairs_of (said_item tables query) (λ i item. Prints (an_item i) joins_none (order_text tables query item) joins_value) (λ item. IsColumnOf tables query item.col) item_prints query.order (one_by_one (λ item. IsColumnOf tables query item.col) query.order is.order)))
 

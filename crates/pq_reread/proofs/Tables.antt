@@ -33,7 +33,7 @@ use Rattle.pq_def_read.specs.declared.definition.Constraint.{Constraint}
 use Rattle.pq_def_read.specs.declared.definition.Constraint.TheVariants as constraint
 use Rattle.pq_def_read.specs.declared.definition.Constraints.{Constraints}
 use Rattle.pq_def_read.specs.declared.statement.Statement.TheVariants.{Create}
-use Rattle.pq_print.specs.Lists.{each_after, separated as separated_texts}
+use Rattle.pq_print.specs.Lists.{each_after, separate_texts as separated_texts}
 use Rattle.pq_print.specs.Canonical.{column_name, type_text, column_text, columns_text, limit_text, foreign_text, items_text, table_text}
 use Rattle.pq_reread.specs.Said.{Pairwise, SaysColumn, SaysColumns, SaysLimit, SaysForeign, Says}
 use Rattle.pq_reread.specs.Printed.{joins_none}

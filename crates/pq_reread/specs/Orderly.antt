@@ -8,7 +8,8 @@ use Rattle.pq_schema.specs.Names.{IsName}
 
 -- the first that has the name of an element is this element
 abbrev pub AreNamedApart : {X : Type 0} → (X → List ℕ) → List X → Type 0
-AreNamedApart {X} name xs = (i : ℕ) (d : X) → i < length xs → position_or_len (λ x. bytes_eq (name x) (name (slice_index_or xs i d))) xs ≡ i
+AreNamedApart {X} name xs = (i : ℕ) (d : X) → i < length xs
+    → position_or_len (λ x. bytes_eq (name x) (name (slice_index_or xs i d))) xs ≡ i
 
 -- its columns have names, all different, and its key has one to four of them
 pub record IsOrderly (table : Table) : Type 0 where

@@ -7,7 +7,7 @@ use Rattle.pq_text.specs.Forms.{is_word, is_whole_mark}
 use Rattle.pq_shape.specs.Shapes.{word_shape, mark_code}
 use Rattle.pq_shape.specs.declared.shape.Shape.{Shape}
 use Rattle.pq_shape.specs.declared.shape.Shape.TheVariants as shape
-use Rattle.pq_print.specs.Values.{quoted}
+use Rattle.pq_print.specs.Values.{quoted_text}
 
 pub data Piece : Type 0 where
   Word : List ℕ → Piece
@@ -19,7 +19,7 @@ pub data Piece : Type 0 where
 abbrev pub piece_text : Piece → List ℕ
 piece_text (Word w) = w
 piece_text (Number z) = signed_decimal z
-piece_text (Text t) = quoted t
+piece_text (Text t) = quoted_text t
 piece_text (Mark m) = m
 piece_text Space = 32 ∷ []
 
@@ -30,8 +30,8 @@ piece_shapes (Text t) = shape.Text t ∷ []
 piece_shapes (Mark m) = shape.Mark (mark_code m) ∷ []
 piece_shapes Space = []
 
-abbrev pub printed : List Piece → List ℕ
-printed pieces = flat_map piece_text pieces
+abbrev pub printed_pieces : List Piece → List ℕ
+printed_pieces pieces = flat_map piece_text pieces
 
 abbrev pub shapes_printed : List Piece → List Shape
 shapes_printed pieces = flat_map piece_shapes pieces
@@ -68,4 +68,5 @@ IsPiece Space = Unit {0}
 -- pieces, of which none joins the one before it; these bytes would join what stands before the first
 abbrev pub ArePieces : (ℕ → Bool) → List Piece → Type 0
 ArePieces before [] = Unit {0}
-ArePieces before (piece ∷ pieces) = IsPiece piece × (next_is before (piece_text piece) ≡ false) × ArePieces (joins piece) pieces
+ArePieces before (piece ∷ pieces) = IsPiece piece × (next_is before (piece_text piece) ≡ false)
+    × ArePieces (joins piece) pieces

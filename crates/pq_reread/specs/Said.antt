@@ -33,7 +33,8 @@ pub record SaysLimit (columns : List Column) (def : LimitDef) (limit : Limit) : 
   pub small : limit.n < 2 ^ 63
   pub cols : SaysColumns columns def.cols limit.cols
 
-pub record SaysForeign (tables : List Table) (columns : List Column) (def : ForeignDef) (foreign : Foreign) : Type 0 where
+pub record SaysForeign (tables : List Table) (columns : List Column) (def : ForeignDef) (foreign : Foreign) :
+    Type 0 where
   pub cols : SaysColumns columns def.cols foreign.cols
   pub table : (table_at tables foreign.table).name ≡ def.table
 

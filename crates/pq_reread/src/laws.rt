@@ -16,7 +16,7 @@ ghost use Rattle.pq_def_read.specs.Reading.{statement_of};
 ghost use Rattle.pq_def_read.specs.declared.statement.Statement.TheVariants.{Create, Prepare};
 ghost use Rattle.pq_print.specs.Canonical.{table_text, query_text};
 ghost use Rattle.pq_reread.specs.Orderly.{AreOrderly};
-ghost use Rattle.pq_reread.specs.Printed.{Piece, ArePieces, joins_none, printed, shapes_printed};
+ghost use Rattle.pq_reread.specs.Printed.{Piece, ArePieces, joins_none, printed_pieces, shapes_printed};
 ghost use Rattle.pq_reread.specs.ReadBack.{IsNamedQuery, IsReadBack, IsReadBackLater, IsReadBackDefined};
 ghost use Rattle.pq_reread.specs.Said.{Says};
 ghost use Rattle.pq_reread.specs.WholeStatements.{WholeStatement, SpellsWhole, whole_of};
@@ -24,46 +24,64 @@ ghost use Rattle.pq_reread.specs.WholeStatements.{WholeStatement, SpellsWhole, w
 /// Names in a statement are words in small letters, of at most 32 bytes, and no keywords.
 pub fn names_law()
     // In the definition of a table that a text spells, and its kinds are kinds.
-    ensures tables { (text : List ℕ) (def : TableDef) → statement_of text (tokens_of text) ≡ Ok (Create def) → IsTableDef def }
+    ensures tables { (text : List ℕ) (def : TableDef) → statement_of text (tokens_of text) ≡ Ok (Create def)
+        → IsTableDef def }
 
     // In the head of a query.
-    ensures queries { (text name : List ℕ) (from : ℕ) → statement_of text (tokens_of text) ≡ Ok (Prepare name from) → IsName name }
+    ensures queries { (text name : List ℕ) (from : ℕ)
+        → statement_of text (tokens_of text) ≡ Ok (Prepare name from) → IsName name }
 {}
 
 /// Reading a statement, and the query behind the head of a PREPARE or an EXPLAIN, is reading the whole statement.
 pub fn whole_statements_law()
     // What is read is what the tokens spell.
-    ensures found { (text : List ℕ) (tokens : List Token) (whole : WholeStatement) → whole_of (shapes_of text tokens) ≡ Ok whole → SpellsWhole whole (shapes_of text tokens) }
+    ensures found { (text : List ℕ) (tokens : List Token) (whole : WholeStatement)
+        → whole_of (shapes_of text tokens) ≡ Ok whole → SpellsWhole whole (shapes_of text tokens) }
 
     // What the tokens spell is read.
-    ensures only { (text : List ℕ) (tokens : List Token) (whole : WholeStatement) → SpellsWhole whole (shapes_of text tokens) → whole_of (shapes_of text tokens) ≡ Ok whole }
+    ensures only { (text : List ℕ) (tokens : List Token) (whole : WholeStatement)
+        → SpellsWhole whole (shapes_of text tokens) → whole_of (shapes_of text tokens) ≡ Ok whole }
 
-    // Where they spell no statement, reading stops at the first token such that no whole statement begins with the tokens up to and with it.
-    ensures place { (text : List ℕ) (tokens : List Token) (left : ℕ) → whole_of (shapes_of text tokens) ≡ Err left → (left ≤ length (shapes_of text tokens)) × IsFaultPlace SpellsWhole (shapes_of text tokens) (length (shapes_of text tokens) - left) }
+    // Where they spell no statement, reading stops at the first token such that no whole statement
+    // begins with the tokens up to and with it.
+    ensures place { (text : List ℕ) (tokens : List Token) (left : ℕ)
+        → whole_of (shapes_of text tokens) ≡ Err left
+        → (left ≤ length (shapes_of text tokens))
+        × IsFaultPlace SpellsWhole (shapes_of text tokens) (length (shapes_of text tokens) - left) }
 {}
 
 /// Words, numbers, texts, marks and spaces that were printed one behind the other are cut into just these.
 pub fn printed_law()
-    ensures { (pieces : List Piece) → ArePieces joins_none pieces → shapes_of (printed pieces) (tokens_of (printed pieces)) ≡ shapes_printed pieces }
+    ensures { (pieces : List Piece) → ArePieces joins_none pieces
+        → shapes_of (printed_pieces pieces) (tokens_of (printed_pieces pieces)) ≡ shapes_printed pieces }
 {}
 
 /// The canonical text of a table is read as the definition that says the same.
 pub fn tables_law()
     // Whatever table says it.
-    ensures said { (tables : List Table) (def : TableDef) (table : Table) → IsTableDef def → Says tables def table → statement_of (table_text tables table) (tokens_of (table_text tables table)) ≡ Ok (Create def) }
+    ensures said { (tables : List Table) (def : TableDef) (table : Table) → IsTableDef def
+        → Says tables def table → statement_of (table_text tables table) (tokens_of (table_text tables table))
+        ≡ Ok (Create def) }
 
     // The table that the definition makes does.
-    ensures made { (schema : Schema) (def : TableDef) (table : Table) → All (λ (other : Table). 0 < length other.key) schema.tables → new_table schema def ≡ Ok table → Says (schema.tables ++ table ∷ []) def table }
+    ensures made { (schema : Schema) (def : TableDef) (table : Table)
+        → All (λ (other : Table). 0 < length other.key) schema.tables → new_table schema def ≡ Ok table
+        → Says (schema.tables ++ table ∷ []) def table }
 
     // So a table that was defined is read back over the tables before it.
-    ensures again { (schema : Schema) (def : TableDef) (table : Table) → All (λ (other : Table). 0 < length other.key) schema.tables → IsTableDef def → new_table schema def ≡ Ok table → statement_of (table_text (schema.tables ++ table ∷ []) table) (tokens_of (table_text (schema.tables ++ table ∷ []) table)) ≡ Ok (Create def) }
+    ensures again { (schema : Schema) (def : TableDef) (table : Table)
+        → All (λ (other : Table). 0 < length other.key) schema.tables → IsTableDef def
+        → new_table schema def ≡ Ok table
+        → statement_of (table_text (schema.tables ++ table ∷ []) table)
+        (tokens_of (table_text (schema.tables ++ table ∷ []) table)) ≡ Ok (Create def) }
 {}
 
 /// The canonical text of every query over a valid schema is read back: it is UTF-8 and short enough to be cut, its head
 /// is that of a PREPARE under the query's name, and the rest stands for the query.
 pub fn queries_law()
     // Over orderly tables, as those of a valid schema are.
-    ensures resolved { (schema : Schema) (query : Query) → IsNamedQuery schema query → IsReadBack schema query (query_text schema.tables query) }
+    ensures resolved { (schema : Schema) (query : Query) → IsNamedQuery schema query
+        → IsReadBack schema query (query_text schema.tables query) }
 
     // Also as it is printed over later tables, with more tables, columns and indexes.
     ensures later { (schema : Schema) (query : Query) → IsNamedQuery schema query → IsReadBackLater schema query }
@@ -75,13 +93,16 @@ pub fn queries_law()
 /// The canonical text of a table that was defined over orderly tables is UTF-8, and short enough to be cut into
 /// tokens.
 pub fn texts_law()
-    ensures { (schema : Schema) (def : TableDef) (table : Table) → AreOrderly schema.tables → IsTableDef def → new_table schema def ≡ Ok table → (is_utf8 (table_text (schema.tables ++ table ∷ []) table) ≡ true) × (length (table_text (schema.tables ++ table ∷ []) table) ≤ text_limit) }
+    ensures { (schema : Schema) (def : TableDef) (table : Table) → AreOrderly schema.tables → IsTableDef def
+        → new_table schema def ≡ Ok table → (is_utf8 (table_text (schema.tables ++ table ∷ []) table) ≡ true)
+        × (length (table_text (schema.tables ++ table ∷ []) table) ≤ text_limit) }
 {}
 
 /// Tables that are defined one after the other are orderly: their names are names and lead back to them.
 pub fn orderly_law()
     ensures none { AreOrderly [] }
-    ensures one_more { (schema : Schema) (def : TableDef) (table : Table) → AreOrderly schema.tables → IsTableDef def → new_table schema def ≡ Ok table → AreOrderly (schema.tables ++ table ∷ []) }
+    ensures one_more { (schema : Schema) (def : TableDef) (table : Table) → AreOrderly schema.tables
+        → IsTableDef def → new_table schema def ≡ Ok table → AreOrderly (schema.tables ++ table ∷ []) }
 
     // So are the tables of a valid schema.
     ensures valid { (schema : Schema) → IsValid schema → AreOrderly schema.tables }

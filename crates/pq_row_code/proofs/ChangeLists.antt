@@ -13,18 +13,18 @@ use Rattle.pq_key_code.proofs.Reading.{IsBytes-drop, bind_some, chosen, none_som
 use Rattle.pq_row_code.proofs.Widths.{wide16, wide32, bits_takes, bits_again, Takes-then}
 use Rattle.pq_row_code.specs.RowReading.{bits_at}
 use Rattle.pq_row_code.specs.declared.changes.Change.{Change}
-use Rattle.pq_row_code.specs.Changes.{sized, new_code, change_code, changes_code, IsChange, AreChanges}
+use Rattle.pq_row_code.specs.Changes.{sized_bytes, new_code, change_code, changes_code, IsChange, AreChanges}
 use Rattle.pq_row_code.specs.ChangeReading.{sized_at, new_at, change_at, changes_at, list_at}
 
-sized_parts : (bs : List ℕ) (k : ℕ) (after t rest : List ℕ) → Takes bs (to_be_bytes w32 k) after → k < 2 ^ 32 → k ≤ length after → ◌≡◌ {A = List ℕ × List ℕ} (take k after, drop k after) (t, rest) → Takes bs (sized t) rest × (length t < 2 ^ 32)
+sized_parts : (bs : List ℕ) (k : ℕ) (after t rest : List ℕ) → Takes bs (to_be_bytes w32 k) after → k < 2 ^ 32 → k ≤ length after → ◌≡◌ {A = List ℕ × List ℕ} (take k after, drop k after) (t, rest) → Takes bs (sized_bytes t) rest × (length t < 2 ^ 32)
 sized_parts bs k after t rest front lt long e =
     let len : k ≡ length (take k after) = omega (arith, length-take k after) in
     let second : Takes after (take k after) (drop k after) = record { parts = sym (take-append-drop k after); rest_fits = IsBytes-drop k after front.rest_fits } in
     let both = Takes-then bs (to_be_bytes w32 k) after (take k after) (drop k after) front second in
-    let at : Takes bs (sized (take k after)) (drop k after) × (length (take k after) < 2 ^ 32) = (subst (λ (m : ℕ). Takes bs (to_be_bytes w32 m ++ take k after) (drop k after)) len both, omega arith) in
-    subst (λ (x : List ℕ × List ℕ). Takes bs (sized x.0) x.1 × (length x.0 < 2 ^ 32)) e at
+    let at : Takes bs (sized_bytes (take k after)) (drop k after) × (length (take k after) < 2 ^ 32) = (subst (λ (m : ℕ). Takes bs (to_be_bytes w32 m ++ take k after) (drop k after)) len both, omega arith) in
+    subst (λ (x : List ℕ × List ℕ). Takes bs (sized_bytes x.0) x.1 × (length x.0 < 2 ^ 32)) e at
 
-sized_take : (bs t rest : List ℕ) → IsBytes bs → sized_at bs ≡ Some (t, rest) → Takes bs (sized t) rest × (length t < 2 ^ 32)
+sized_take : (bs t rest : List ℕ) → IsBytes bs → sized_at bs ≡ Some (t, rest) → Takes bs (sized_bytes t) rest × (length t < 2 ^ 32)
 unfolding sized_at
 sized_take bs t rest f e =
     let k = bind_some (bits_at w32 bs) (λ k. cond (ltb (length k.1) k.0) None (Some (take k.0 k.1, drop k.0 k.1))) (t, rest) e in
@@ -32,7 +32,7 @@ sized_take bs t rest f e =
     let g = guarded (ltb (length k.0.1) k.0.0) (take k.0.0 k.0.1, drop k.0.0 k.0.1) (t, rest) k.2 in
     sized_parts bs k.0.0 k.0.1 t rest b.0 b.1 (ltb-false _ _ g.0) g.1
 
-sized_again : (t rest : List ℕ) → length t < 2 ^ 32 → sized_at (sized t ++ rest) ≡ Some (t, rest)
+sized_again : (t rest : List ℕ) → length t < 2 ^ 32 → sized_at (sized_bytes t ++ rest) ≡ Some (t, rest)
 unfolding sized_at
 sized_again t rest lt =
     let long : ltb (length (t ++ rest)) (length t) ≡ false = le-ltb _ _ (omega (arith, length-append t rest)) in
@@ -66,13 +66,13 @@ change_take bs c rest f e =
     let n = bind_some (new_at k.0.1) (λ n. Some (record { key = k.0.0; new = n.0 }, n.1)) (c, rest) k.2 in
     let t = sized_take bs k.0.0 k.0.1 f k.1 in
     let u = new_take k.0.1 n.0.0 n.0.1 t.0.rest_fits n.1 in
-    let at : Takes bs (sized k.0.0 ++ new_code n.0.0) n.0.1 × IsChange (record { key = k.0.0; new = n.0.0 }) = (Takes-then bs (sized k.0.0) k.0.1 (new_code n.0.0) n.0.1 t.0 u.0, record { key = t.1; new = u.1 }) in
+    let at : Takes bs (sized_bytes k.0.0 ++ new_code n.0.0) n.0.1 × IsChange (record { key = k.0.0; new = n.0.0 }) = (Takes-then bs (sized_bytes k.0.0) k.0.1 (new_code n.0.0) n.0.1 t.0 u.0, record { key = t.1; new = u.1 }) in
     subst (λ (x : Change × List ℕ). Takes bs (change_code x.0) x.1 × IsChange x.0) (same_Some _ _ n.2) at
 
 change_again : (c : Change) (rest : List ℕ) → IsChange c → change_at (change_code c ++ rest) ≡ Some (c, rest)
 unfolding change_at
 change_again c rest h =
-    ap change_at (append_assoc (sized c.key) (new_code c.new) rest)
+    ap change_at (append_assoc (sized_bytes c.key) (new_code c.new) rest)
     ∙ ap (λ (o : Option (List ℕ × List ℕ)). o >>= λ k. new_at k.1 >>= λ n. Some (record { key = k.0; new = n.0 }, n.1)) (sized_again c.key (new_code c.new ++ rest) h.key)
     ∙ ap (λ (o : Option (Option (List ℕ) × List ℕ)). o >>= λ n. Some (record { key = c.key; new = n.0 }, n.1)) (new_again c.new rest h.new)
 

@@ -14,7 +14,7 @@ use Rattle.pq_base.specs.declared.value.ColType.{ColType}
 use Rattle.pq_base.specs.declared.value.ColType.TheVariants as types
 use Rattle.pq_base.specs.Values.{IsType, FitsType, AllFit}
 use Rattle.pq_key_code.specs.KeyCode.{IsBytes, truth_byte}
-use Rattle.pq_key_code.specs.KeyReading.{◌>>=◌, checked}
+use Rattle.pq_key_code.specs.KeyReading.{◌>>=◌, text_within}
 use Rattle.pq_key_code.proofs.Loop.{rows_behind, rows_regroup}
 use Rattle.pq_key_code.proofs.Reading.{IsBytes-drop, bind_some, chosen, none_some, Takes, checked_is, checked_again}
 use Rattle.pq_key_code.proofs.StoreKeys.{length_from_fits}
@@ -45,12 +45,12 @@ flag_again true rest = refl
 -- ---- texts
 
 string_parts : (n : ℕ) (bs : List ℕ) (k : ℕ) (after t rest : List ℕ) → Takes bs (to_be_bytes w16 k) after
-    → ((ltb (length after) k ≡ true) × (◌≡◌ {A = Option (List ℕ × List ℕ)} None (Some (t, rest)))) ⊎ ((ltb (length after) k ≡ false) × (◌≡◌ {A = Option (List ℕ × List ℕ)} (checked n (take k after) >>= λ t. Some (t, drop k after)) (Some (t, rest))))
+    → ((ltb (length after) k ≡ true) × (◌≡◌ {A = Option (List ℕ × List ℕ)} None (Some (t, rest)))) ⊎ ((ltb (length after) k ≡ false) × (◌≡◌ {A = Option (List ℕ × List ℕ)} (text_within n (take k after) >>= λ t. Some (t, drop k after)) (Some (t, rest))))
     → (IsUtf8 t × (length t ≤ n)) × Takes bs (to_be_bytes w16 (length t) ++ t) rest
 string_parts n bs k after t rest front (inl h) = none_some _ h.1
 string_parts n bs k after t rest front (inr h) =
     let long : k ≤ length after = ltb-false _ _ h.0 in
-    let z = bind_some (checked n (take k after)) (λ t. Some (t, drop k after)) (t, rest) h.1 in
+    let z = bind_some (text_within n (take k after)) (λ t. Some (t, drop k after)) (t, rest) h.1 in
     let c = checked_is n (take k after) z.0 z.1 in
     let len : k ≡ length (take k after) = omega (arith, length-take k after) in
     let second : Takes after (take k after) (drop k after) = record { parts = sym (take-append-drop k after); rest_fits = IsBytes-drop k after front.rest_fits } in
@@ -63,9 +63,9 @@ string_parts n bs k after t rest front (inr h) =
 string_takes : (n : ℕ) (bs t rest : List ℕ) → IsBytes bs → string_at n bs ≡ Some (t, rest) → (IsUtf8 t × (length t ≤ n)) × Takes bs (to_be_bytes w16 (length t) ++ t) rest
 unfolding string_at
 string_takes n bs t rest f e =
-    let k = bind_some (bits_at w16 bs) (λ k. cond (ltb (length k.1) k.0) None (checked n (take k.0 k.1) >>= λ t. Some (t, drop k.0 k.1))) (t, rest) e in
+    let k = bind_some (bits_at w16 bs) (λ k. cond (ltb (length k.1) k.0) None (text_within n (take k.0 k.1) >>= λ t. Some (t, drop k.0 k.1))) (t, rest) e in
     let b = bits_takes w16 (2 ^ 16) wide16 bs k.0.0 k.0.1 f k.1 in
-    string_parts n bs k.0.0 k.0.1 t rest b.0 (chosen (ltb (length k.0.1) k.0.0) None (checked n (take k.0.0 k.0.1) >>= λ t. Some (t, drop k.0.0 k.0.1)) (Some (t, rest)) k.2)
+    string_parts n bs k.0.0 k.0.1 t rest b.0 (chosen (ltb (length k.0.1) k.0.0) None (text_within n (take k.0.0 k.0.1) >>= λ t. Some (t, drop k.0.0 k.0.1)) (Some (t, rest)) k.2)
 
 string_again : (n : ℕ) (t rest : List ℕ) → n < 2 ^ 16 → IsUtf8 t → length t ≤ n → string_at n ((to_be_bytes w16 (length t) ++ t) ++ rest) ≡ Some (t, rest)
 unfolding string_at

@@ -10,7 +10,8 @@ sized_at bytes = bits_at w32 bytes >>= λ k. if nat_lt (length k.1) k.0 then Non
 
 unfoldable pub new_at : List ℕ → Option (Option (List ℕ) × List ℕ)
 new_at [] = None
-new_at (b ∷ rest) = if b == 0 then Some (None, rest) else if b == 1 then (sized_at rest >>= λ x. Some (Some x.0, x.1)) else None
+new_at (b ∷ rest) = if b == 0 then Some (None, rest) else if b == 1
+    then (sized_at rest >>= λ x. Some (Some x.0, x.1)) else None
 
 unfoldable pub change_at : List ℕ → Option (Change × List ℕ)
 change_at bytes = sized_at bytes >>= λ k. new_at k.1 >>= λ n. Some (record { key = k.0; new = n.0 }, n.1)

@@ -5,16 +5,16 @@ use Rattle.std.specs.Int.{w16, w32, to_be_bytes}
 use Rattle.pq_row_code.specs.declared.changes.Change.{Change}
 
 -- four bytes of length and the bytes
-abbrev pub sized : List ℕ → List ℕ
-sized bytes = to_be_bytes w32 (length bytes) ++ bytes
+abbrev pub sized_bytes : List ℕ → List ℕ
+sized_bytes bytes = to_be_bytes w32 (length bytes) ++ bytes
 
 -- 00 for a removal, or 01 and the value
 abbrev pub new_code : Option (List ℕ) → List ℕ
 new_code None = 0 ∷ []
-new_code (Some bytes) = 1 ∷ sized bytes
+new_code (Some bytes) = 1 ∷ sized_bytes bytes
 
 abbrev pub change_code : Change → List ℕ
-change_code c = sized c.key ++ new_code c.new
+change_code c = sized_bytes c.key ++ new_code c.new
 
 -- two bytes with the number of changes, and the changes
 abbrev pub changes_code : List Change → List ℕ

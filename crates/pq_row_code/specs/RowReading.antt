@@ -5,11 +5,12 @@ use Rattle.pq_base.specs.declared.value.Value.{Value}
 use Rattle.pq_base.specs.declared.value.Value.TheVariants as values
 use Rattle.pq_base.specs.declared.value.ColType.{ColType}
 use Rattle.pq_base.specs.declared.value.ColType.TheVariants as types
-use Rattle.pq_key_code.specs.KeyReading.{◌>>=◌, checked}
+use Rattle.pq_key_code.specs.KeyReading.{◌>>=◌, text_within}
 
 -- a number in as many bytes as the width has
 abbrev pub bits_at : Width → List ℕ → Option (ℕ × List ℕ)
-bits_at w bytes = if nat_lt (length bytes) (byte_len w) then None else Some (from_be_bytes w (take (byte_len w) bytes), drop (byte_len w) bytes)
+bits_at w bytes = if nat_lt (length bytes) (byte_len w) then None
+    else Some (from_be_bytes w (take (byte_len w) bytes), drop (byte_len w) bytes)
 
 abbrev pub flag_at : List ℕ → Option (Bool × List ℕ)
 flag_at [] = None
@@ -17,7 +18,8 @@ flag_at (b ∷ rest) = if b == 0 then Some (false, rest) else if b == 1 then Som
 
 -- two bytes of length and that many bytes of text, at most n
 unfoldable pub string_at : ℕ → List ℕ → Option (List ℕ × List ℕ)
-string_at n bytes = bits_at w16 bytes >>= λ k. if nat_lt (length k.1) k.0 then None else (checked n (take k.0 k.1) >>= λ t. Some (t, drop k.0 k.1))
+string_at n bytes = bits_at w16 bytes >>= λ k. if nat_lt (length k.1) k.0 then None
+    else (text_within n (take k.0 k.1) >>= λ t. Some (t, drop k.0 k.1))
 
 unfoldable pub field_at : ColType → List ℕ → Option (Value × List ℕ)
 field_at types.Int bytes = bits_at w64 bytes >>= λ x. Some (values.Int (cast_signed w64 x.0), x.1)
@@ -31,4 +33,5 @@ fields_at (t ∷ ts) bytes = field_at t bytes >>= λ x. fields_at ts x.1 >>= λ 
 -- all of the bytes
 unfoldable pub row_of : List ColType → List ℕ → Option (List Value)
 row_of ts [] = None
-row_of ts (k ∷ bytes) = if k == length ts then (fields_at ts bytes >>= λ x. if length x.1 == 0 then Some x.0 else None) else None
+row_of ts (k ∷ bytes) = if k == length ts then (fields_at ts bytes >>= λ x. if length x.1 == 0 then Some x.0
+    else None) else None

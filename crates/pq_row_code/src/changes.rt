@@ -4,7 +4,7 @@ ghost use Rattle.std.specs.Option.{option_map};
 ghost use Rattle.std.specs.Int.{w32};
 ghost use Rattle.pq_row_code.specs.declared.changes.Change.{Change};
 ghost use Rattle.pq_row_code.specs.RowReading.{bits_at};
-ghost use Rattle.pq_row_code.specs.Changes.{sized, change_code, changes_code, IsChange, AreChanges};
+ghost use Rattle.pq_row_code.specs.Changes.{sized_bytes, change_code, changes_code, IsChange, AreChanges};
 ghost use Rattle.pq_row_code.specs.ChangeReading.{sized_at, new_at, change_at, changes_at, list_at};
 
 use crate::decode::u16_of;
@@ -20,7 +20,7 @@ pub struct Change {
 
 fn put_sized(alloc: Global, out: &mut Bytes, bytes: &[u8]) -> Result<(), NoMem>
     requires { length bytes.now < 2 ^ 32 }
-    ensures { OnOk result (out.new ≡ out.old ++ sized bytes.now) }
+    ensures { OnOk result (out.new ≡ out.old ++ sized_bytes bytes.now) }
 {
     out.extend(alloc, &(bytes.len() as u32).to_be_bytes())?;
     out.extend(alloc, bytes)
@@ -152,9 +152,11 @@ fn list_of(alloc: Global, bytes: &[u8]) -> Result<Option<List<Change>>, NoMem>
 /// The change list that has these bytes. None exactly where no change list has them.
 pub fn decode_changes(alloc: Global, bytes: &[u8]) -> Result<Option<List<Change>>, NoMem>
     // What is answered is a change list with these bytes.
-    ensures found { IfOk result (λ answer. IfSome answer (λ changes. AreChanges changes × (changes_code changes ≡ bytes.now))) }
+    ensures found { IfOk result (λ answer. IfSome answer
+        (λ changes. AreChanges changes × (changes_code changes ≡ bytes.now))) }
     // None, and no change list has these bytes.
-    ensures none { IfOk result (λ answer. IfNone answer ((changes : List Change) → AreChanges changes → changes_code changes ≡ bytes.now → ⊥)) }
+    ensures none { IfOk result (λ answer. IfNone answer ((changes : List Change) → AreChanges changes
+        → changes_code changes ≡ bytes.now → ⊥)) }
 {
     list_of(alloc, bytes)
 }

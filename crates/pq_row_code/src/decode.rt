@@ -129,7 +129,8 @@ pub fn decode_row(alloc: Global, bytes: &[u8], types: &[ColType]) -> Result<Opti
     // What is answered fits, and has this code.
     ensures found { IfOk result (λ answer. IfSome answer (λ row. AllFit types.now row × (row_code row ≡ bytes.now))) }
     // None, and no row that fits has this code.
-    ensures none { IfOk result (λ answer. IfNone answer ((row : List Value) → AllFit types.now row → row_code row ≡ bytes.now → ⊥)) }
+    ensures none { IfOk result (λ answer. IfNone answer ((row : List Value) → AllFit types.now row
+        → row_code row ≡ bytes.now → ⊥)) }
 {
     known_types(types);
     row_read(alloc, bytes, types)

@@ -17,8 +17,8 @@ use Rattle.pq_schema.specs.declared.table.NewIndex.{NewIndex}
 use Rattle.pq_schema.specs.declared.table.Table.{Table}
 use Rattle.pq_schema.specs.declared.query.Query.{Query}
 use Rattle.pq_schema.specs.Candidates.{no_limit, stop_size}
-use Rattle.pq_schema.specs.Relations.{relation_at, table_of, fixed, order_rest}
-use Rattle.pq_schema.specs.Sequences.{primary_sequence, index_sequence, begins_with, serves, serving, secondary, group_access}
+use Rattle.pq_schema.specs.Relations.{relation_at, table_of, tied_set, order_rest}
+use Rattle.pq_schema.specs.Sequences.{primary_sequence, index_sequence, begins_with, serves, serving_access, secondary, group_access}
 use Rattle.pq_schema.specs.Resolved.{IsResolved}
 use Rattle.pq_schema.specs.Schema.{with_wanted}
 use Rattle.pq_schema.specs.Sound.{IsQuery}
@@ -86,17 +86,17 @@ range_over rel table place =
 -- the nodes that read a relation, over its table alone
 abbrev pub read_over : Query → ℕ → Table → List Node
 read_over query rel table =
-    let set = fixed query rel in
+    let set = tied_set query rel in
     cond (is_lookup table set) (lookup rel ∷ keep rel ∷ []) (option_map_or (range_over rel table) (limit_place table set) [])
 
 module _ (before now : List Table) (query : Query) (sound : IsQuery before query) (grown : (rel : ℕ) → HasGrown (table_of before query rel) (table_of now query rel)) where
   abbrev m : ℕ
   m = length query.relations
 
-  indexes_more : (rel : ℕ) (more : List Index) → 1 ≤ rel → rel ≤ m → is_some (data_bound (table_of before query rel) (fixed query rel)) ≡ true → read_over query rel (with_indexes (table_of before query rel) more) ≡ read_over query rel (table_of before query rel)
+  indexes_more : (rel : ℕ) (more : List Index) → 1 ≤ rel → rel ≤ m → is_some (data_bound (table_of before query rel) (tied_set query rel)) ≡ true → read_over query rel (with_indexes (table_of before query rel) more) ≡ read_over query rel (table_of before query rel)
   indexes_more rel more low high bounded =
       let table = table_of before query rel in
-      let set = fixed query rel in
+      let set = tied_set query rel in
       let grown_table = with_indexes table more in
       elim (is_lookup table set) as (λ b. is_lookup table set ≡ b → cond b (lookup rel ∷ keep rel ∷ []) (option_map_or (range_over rel grown_table) (limit_place table set) []) ≡ cond b (lookup rel ∷ keep rel ∷ []) (option_map_or (range_over rel table) (limit_place table set) [])) [
         | true ↦ λ _. refl
@@ -144,18 +144,18 @@ unwrapped o a d is = ap (λ (x : Option Access). unwrap_or x d) is
 
 module _ (before : List Table) (query : Query) (wanted : Option NewIndex) (resolved : IsResolved before query) (there : IsWanted before query wanted) (now : List Table) (grown : HaveGrown (with_wanted before wanted) now) where
   abbrev found_in : ℕ → Table → Option Access
-  found_in p table = serving table (fixed query p) (order_rest query p)
+  found_in p table = serving_access table (tied_set query p) (order_rest query p)
 
   -- the one that is found over the tables with the index is found over those of now
   found_now : (p : ℕ) (access : Access) → found_in p (table_of (with_wanted before wanted) query p) ≡ Some access → found_in p (table_of now query p) ≡ Some access
   found_now p access is =
       let more = relation_grown (with_wanted before wanted) now query grown (resolved_with before query wanted resolved there now grown) p in
-      ap (found_in p) more.is ∙ serving_stays (table_of (with_wanted before wanted) query p) more.more (fixed query p) (order_rest query p) access is
+      ap (found_in p) more.is ∙ serving_stays (table_of (with_wanted before wanted) query p) more.more (tied_set query p) (order_rest query p) access is
 
   found_before : (p : ℕ) (access : Access) → found_in p (table_of before query p) ≡ Some access → found_in p (table_of now query p) ≡ Some access
   found_before p access is =
       let more = relation_grown before now query (grown_from before query wanted resolved there now grown) resolved p in
-      ap (found_in p) more.is ∙ serving_stays (table_of before query p) more.more (fixed query p) (order_rest query p) access is
+      ap (found_in p) more.is ∙ serving_stays (table_of before query p) more.more (tied_set query p) (order_rest query p) access is
 
   by_found : (p : ℕ) (o : Option Access) → found_in p (table_of before query p) ≡ o → wants before query p (is_some o) ≡ Ok wanted → stop_access now query p ≡ unwrap_or o (Secondary (length (table_of before query p).indexes + 1))
   by_found p (Some access) is e = unwrapped (found_in p (table_of now query p)) access (Secondary (length (table_of now query p).indexes + 1)) (found_before p access is)
@@ -167,7 +167,7 @@ module _ (before : List Table) (query : Query) (wanted : Option NewIndex) (resol
           let table = table_of before query p in
           let new = wanted_index before query wanted resolved there now grown p in
           let with_it = table_with before query wanted resolved there now grown p new (sym (ok_same (Some new) wanted e)) refl in
-          let last = last_access table new.index (serves table (fixed query p) (order_rest query p)) is (new_serves before query p resolved) in
+          let last = last_access table new.index (serves table (tied_set query p) (order_rest query p)) is (new_serves before query p resolved) in
           unwrapped (found_in p (table_of now query p)) (Secondary (length table.indexes + 1)) (Secondary (length (table_of now query p).indexes + 1))
           (found_now p (Secondary (length table.indexes + 1)) (ap (found_in p) with_it ∙ last))
 

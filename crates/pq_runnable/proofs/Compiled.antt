@@ -11,12 +11,12 @@ use Rattle.pq_base.specs.declared.number.Choice.TheVariants.{Whole, Stop}
 use Rattle.pq_schema.specs.declared.query.Query.{Query}
 use Rattle.pq_schema.specs.declared.table.NewIndex.{NewIndex}
 use Rattle.pq_schema.specs.declared.table.Table.{Table}
-use Rattle.pq_schema.specs.Relations.{relation_at, table_of, fixed, order_rest}
+use Rattle.pq_schema.specs.Relations.{relation_at, table_of, tied_set, order_rest}
 use Rattle.pq_schema.specs.Schema.{Schema, IsQueryDefinition, definition_at, query_at}
-use Rattle.pq_schema.specs.Sequences.{serving, new_index}
+use Rattle.pq_schema.specs.Sequences.{serving_access, new_index}
 use Rattle.pq_schema.specs.Sound.{IsQuery}
 use Rattle.pq_schema.specs.Valid.{IsValid}
-use Rattle.pq_schema.specs.Wanted.{is_large, index_of, too_many_indexes, Chosen, chosen}
+use Rattle.pq_schema.specs.Wanted.{is_large, index_of, too_many_indexes, ChosenCandidate, chosen_candidate}
 use Rattle.pq_plan.specs.Cost.{cost}
 use Rattle.pq_plan.specs.Nodes.{nodes}
 use Rattle.pq_plan.proofs.Choices.{choice_has}
@@ -38,8 +38,8 @@ pub served_choice : (tables : List Table) (query : Query) (choice : Choice) → 
 served_choice tables query Whole is = tt
 served_choice tables query (Stop p) is =
     let table = table_of tables query p in
-    none_wanted (is_some (serving table (fixed query p) (order_rest query p))) (nat_le 16 (length table.indexes))
-    (record { table = (relation_at query p).table; number = length table.indexes + 1; index = new_index table (fixed query p) (order_rest query p) }) is
+    none_wanted (is_some (serving_access table (tied_set query p) (order_rest query p))) (nat_le 16 (length table.indexes))
+    (record { table = (relation_at query p).table; number = length table.indexes + 1; index = new_index table (tied_set query p) (order_rest query p) }) is
 
 module _ (tables : List Table) (query : Query) (sound : IsQuery tables query) (made : Compiled) (is : IsCompiled tables query made) (none : made.wanted ≡ None) where
   pub compiled_indexed : AllByRecursion (HasIndex tables query) (nodes made.plan)
@@ -69,13 +69,13 @@ module _ (s : Schema) (n : ℕ) (valid : IsValid s) (defined : IsQueryDefinition
   same_chosen = ok_same (pair is.best made.wanted) (pair still.was.defined.chosen.best None) (sym is.least ∙ still.chosen)
 
   pub again_none : made.wanted ≡ None
-  again_none = ap (λ (c : Chosen). c.wanted) same_chosen
+  again_none = ap (λ (c : ChosenCandidate). c.wanted) same_chosen
 
   pub again_best : is.best ≡ still.was.defined.chosen.best
-  again_best = ap (λ (c : Chosen). c.best) same_chosen
+  again_best = ap (λ (c : ChosenCandidate). c.best) same_chosen
 
 -- and it is refused only for want of memory
-pub never_refused : (s : Schema) (n : ℕ) → IsValid s → IsQueryDefinition (definition_at s n) → (stopped : Stopped) → Refuses {A = Chosen} stopped (chosen s.tables (query_at s n)) → stopped ≡ NoMem
+pub never_refused : (s : Schema) (n : ℕ) → IsValid s → IsQueryDefinition (definition_at s n) → (stopped : Stopped) → Refuses {A = ChosenCandidate} stopped (chosen_candidate s.tables (query_at s n)) → stopped ≡ NoMem
 never_refused s n valid defined (Refused why) said =
     let still : IsStillChosen s (query_at s n) = query_chosen s n valid defined in
     absurd (err_not_ok why (pair still.was.defined.chosen.best None) (sym said ∙ still.chosen))

@@ -9,8 +9,8 @@ use Rattle.pq_schema.specs.declared.table.Access.TheVariants.{Secondary}
 use Rattle.pq_schema.specs.declared.table.Table.{Table}
 use Rattle.pq_schema.specs.declared.query.Query.{Query}
 use Rattle.pq_schema.specs.Candidates.{stop_size}
-use Rattle.pq_schema.specs.Relations.{table_of, fixed, order_rest}
-use Rattle.pq_schema.specs.Sequences.{serving}
+use Rattle.pq_schema.specs.Relations.{table_of, tied_set, order_rest}
+use Rattle.pq_schema.specs.Sequences.{serving_access}
 use Rattle.pq_schema.specs.Sound.{IsQuery}
 use Rattle.pq_plan.specs.Nodes.{stop_scan, read_nodes, stop_access, plan_nodes}
 use Rattle.pq_plan.proofs.Choices.{Has}
@@ -22,13 +22,13 @@ module _ (tables : List Table) (query : Query) where
   -- a sequence serves the stop of the choice
   abbrev pub IsServed : Choice → Type 0
   IsServed Whole = Unit {0}
-  IsServed (Stop p) = is_some (serving (table_of tables query p) (fixed query p) (order_rest query p)) ≡ true
+  IsServed (Stop p) = is_some (serving_access (table_of tables query p) (tied_set query p) (order_rest query p)) ≡ true
 
   scan_indexed : (p k : ℕ) → IsServed (Stop p) → HasIndex tables query (stop_scan p k (stop_access tables query p))
   scan_indexed p k served =
       let table = table_of tables query p in
-      let found = serving table (fixed query p) (order_rest query p) in
-      serving_found table (fixed query p) (order_rest query p) (stop_access tables query p)
+      let found = serving_access table (tied_set query p) (order_rest query p) in
+      serving_found table (tied_set query p) (order_rest query p) (stop_access tables query p)
       (some_unwrapped found (Secondary (length table.indexes + 1)) served)
 
 module _ (tables : List Table) (query : Query) (sound : IsQuery tables query) where

@@ -19,9 +19,9 @@ use Rattle.pq_schema.specs.declared.table.Access.TheVariants.{Primary, Secondary
 use Rattle.pq_schema.specs.declared.table.Index.{Index}
 use Rattle.pq_schema.specs.declared.table.KeyPart.{KeyPart}
 use Rattle.pq_schema.specs.declared.table.Table.{Table}
-use Rattle.pq_schema.specs.Relations.{table_of, is_equality, is_before, ties, fixed, order_rest}
+use Rattle.pq_schema.specs.Relations.{table_of, is_equality, is_before, ties, tied_set, order_rest}
 use Rattle.pq_schema.specs.Resolved.{IsPredicate, IsResolved}
-use Rattle.pq_schema.specs.Sequences.{ascending, columns_of, without, then_key, primary_sequence, index_sequence, no_index, sequence_of, IsAccess, begins_with, same_dir, same_parts, serves_with, serves, secondary, serving, new_index, group_access}
+use Rattle.pq_schema.specs.Sequences.{ascending_part, columns_of, without, then_key, primary_sequence, index_sequence, no_index, sequence_of, IsAccess, begins_with, same_dir, same_parts, serves_with, serves, secondary, serving_access, new_index, group_access}
 use Rattle.pq_schema.proofs.Counts.{position_is}
 use Rattle.pq_runnable.specs.Grown.{with_indexes}
 use Rattle.pq_runnable.proofs.Bits.{each_of_set, set_of-append, chosen_columns, columns_make, columns_counted}
@@ -111,7 +111,7 @@ access_of_last table index test passes =
 
 -- ---- the index that a query wants
 
-columns_ascending : (cols : List ℕ) → columns_of (map ascending cols) ≡ cols
+columns_ascending : (cols : List ℕ) → columns_of (map ascending_part cols) ≡ cols
 columns_ascending [] = refl
 columns_ascending (col ∷ cols) = ap (λ (rest : List ℕ). col ∷ rest) (columns_ascending cols)
 
@@ -124,24 +124,24 @@ parts_alike [] = refl
 parts_alike (p ∷ ps) = and_from _ _ (and_from _ _ (eq-eqb p.col p.col refl) (dirs_alike p.dir)) (parts_alike ps)
 
 -- parts that begin with the columns of the set and go on with the order serve
-serves_itself : (key cols : List ℕ) (order : List KeyPart) (set : ℕ) → set_of cols ≡ set → length cols ≡ count_ones set → serves_with key set order (then_key (map ascending cols ++ order) (set_of (columns_of (map ascending cols ++ order))) key) ≡ true
+serves_itself : (key cols : List ℕ) (order : List KeyPart) (set : ℕ) → set_of cols ≡ set → length cols ≡ count_ones set → serves_with key set order (then_key (map ascending_part cols ++ order) (set_of (columns_of (map ascending_part cols ++ order))) key) ≡ true
 serves_itself key cols order set make counted =
-    let front = map ascending cols in
+    let front = map ascending_part cols in
     let all : columns_of (front ++ order) ≡ cols ++ columns_of order =
     map-append (λ (part : KeyPart). part.col) front order ∙ ap (λ (cs : List ℕ). cs ++ columns_of order) (columns_ascending cols) in
     let whole : set_of (columns_of (front ++ order)) ≡ bit_or set (set_of (columns_of order)) =
     ap set_of all ∙ set_of-append cols (columns_of order) ∙ ap (λ s. bit_or s (set_of (columns_of order))) make in
-    let left = map ascending (without (set_of (columns_of (front ++ order))) key) in
+    let left = map ascending_part (without (set_of (columns_of (front ++ order))) key) in
     let columns : columns_of ((front ++ order) ++ left) ≡ cols ++ (columns_of order ++ columns_of left) =
     map-append (λ (part : KeyPart). part.col) (front ++ order) left ∙ ap (λ (cs : List ℕ). cs ++ columns_of left) all ∙ append_assoc cols (columns_of order) (columns_of left) in
     let first : take (count_ones set) (columns_of ((front ++ order) ++ left)) ≡ cols =
     (λ i. take (sym counted i) (columns i)) ∙ take-append_seam cols (columns_of order ++ columns_of left) in
-    let long : count_ones set ≡ length front = sym counted ∙ sym (length-map cols ascending) in
+    let long : count_ones set ≡ length front = sym counted ∙ sym (length-map cols ascending_part) in
     let rest : drop (count_ones set) ((front ++ order) ++ left) ≡ order ++ left =
     (λ i. drop (long i) (append_assoc front order left i)) ∙ drop-append_seam front (order ++ left) in
     and_from _ _
     (eq-eqb _ _ (ap set_of first ∙ make))
-    ((λ i. same_parts (rest i) (order ++ map ascending (without (sym whole i) key))) ∙ parts_alike (order ++ left))
+    ((λ i. same_parts (rest i) (order ++ map ascending_part (without (sym whole i) key))) ∙ parts_alike (order ++ left))
 
 module _ (tables : List Table) (query : Query) (p : ℕ) (resolved : IsResolved tables query) where
   abbrev pub width : ℕ
@@ -159,13 +159,13 @@ module _ (tables : List Table) (query : Query) (p : ℕ) (resolved : IsResolved 
         | false ↦ λ _. rest
       ] refl
 
-  fixed_inside : (k : ℕ) → bit_at (fixed query p) k ≡ 1 → k < width
+  fixed_inside : (k : ℕ) → bit_at (tied_set query p) k ≡ 1 → k < width
   fixed_inside = each_of_set (λ col. col < width) (map (λ (pred : Pred). pred.left.col) (filter (ties p) query.preds)) (tied_inside query.preds (recursion_from_All (IsPredicate tables query) query.preds resolved.preds))
 
-  pub new_serves : serves (table_of tables query p) (fixed query p) (order_rest query p) (index_sequence (table_of tables query p) (new_index (table_of tables query p) (fixed query p) (order_rest query p))) ≡ true
+  pub new_serves : serves (table_of tables query p) (tied_set query p) (order_rest query p) (index_sequence (table_of tables query p) (new_index (table_of tables query p) (tied_set query p) (order_rest query p))) ≡ true
   new_serves =
       let table = table_of tables query p in
-      let set = fixed query p in
+      let set = tied_set query p in
       serves_itself table.key (chosen_columns set 0 (length table.columns)) (order_rest query p) set
       (columns_make set (length table.columns) fixed_inside)
       (columns_counted set (length table.columns) fixed_inside)
@@ -175,11 +175,11 @@ module _ (tables : List Table) (query : Query) (p : ℕ) (resolved : IsResolved 
 pub group_found : (table : Table) (set : ℕ) (access : Access) → group_access table set ≡ Some access → IsAccess table access × (begins_with (sequence_of table access) set ≡ true)
 group_found table set access is = access_found table (λ sequence. begins_with sequence set) access is
 
-pub serving_found : (table : Table) (set : ℕ) (order : List KeyPart) (access : Access) → serving table set order ≡ Some access → IsAccess table access × (serves table set order (sequence_of table access) ≡ true)
+pub serving_found : (table : Table) (set : ℕ) (order : List KeyPart) (access : Access) → serving_access table set order ≡ Some access → IsAccess table access × (serves table set order (sequence_of table access) ≡ true)
 serving_found table set order access is = access_found table (serves table set order) access is
 
-pub serving_stays : (table : Table) (more : List Index) (set : ℕ) (order : List KeyPart) (access : Access) → serving table set order ≡ Some access → serving (with_indexes table more) set order ≡ Some access
+pub serving_stays : (table : Table) (more : List Index) (set : ℕ) (order : List KeyPart) (access : Access) → serving_access table set order ≡ Some access → serving_access (with_indexes table more) set order ≡ Some access
 serving_stays table more set order access is = access_stays table more (serves table set order) access is
 
-pub served_by_last : (table : Table) (index : Index) (set : ℕ) (order : List KeyPart) → serves table set order (index_sequence table index) ≡ true → is_some (serving (with_indexes table (index ∷ [])) set order) ≡ true
+pub served_by_last : (table : Table) (index : Index) (set : ℕ) (order : List KeyPart) → serves table set order (index_sequence table index) ≡ true → is_some (serving_access (with_indexes table (index ∷ [])) set order) ≡ true
 served_by_last table index set order passes = access_of_last table index (serves table set order) passes

@@ -15,11 +15,11 @@ use Rattle.pq_schema.specs.declared.table.Index.{Index}
 use Rattle.pq_schema.specs.declared.table.KeyPart.{KeyPart}
 use Rattle.pq_schema.specs.declared.table.Table.{Table}
 use Rattle.pq_schema.specs.Candidates.{Candidate, no_limit, stop_size}
-use Rattle.pq_schema.specs.Costs.{Reached}
-use Rattle.pq_schema.specs.Relations.{table_of, fixed, order_rest}
+use Rattle.pq_schema.specs.Costs.{ReachedCost}
+use Rattle.pq_schema.specs.Relations.{table_of, tied_set, order_rest}
 use Rattle.pq_schema.specs.Resolved.{IsResolved}
 use Rattle.pq_schema.specs.Schema.{Schema, with_wanted, with_query}
-use Rattle.pq_schema.specs.Sequences.{IsAccess, begins_with, serving, group_access}
+use Rattle.pq_schema.specs.Sequences.{IsAccess, begins_with, serving_access, group_access}
 use Rattle.pq_schema.specs.Sound.{IsQuery}
 use Rattle.pq_schema.specs.Tables.{is_lookup, data_bound, limit_place, limit_of}
 use Rattle.pq_schema.specs.Valid.{IsValid, IsDefined}
@@ -68,8 +68,8 @@ flat_map_alike P f g same (x ∷ xs) all =
 -- ---- one table
 
 -- a stop's sequence that is of the table serves
-stop_found : (table : Table) (set : ℕ) (order : List KeyPart) → IsAccess table (unwrap_or (serving table set order) (Secondary (length table.indexes + 1))) → serving table set order ≡ Some (unwrap_or (serving table set order) (Secondary (length table.indexes + 1)))
-stop_found table set order is = by_found (serving table set order) is
+stop_found : (table : Table) (set : ℕ) (order : List KeyPart) → IsAccess table (unwrap_or (serving_access table set order) (Secondary (length table.indexes + 1))) → serving_access table set order ≡ Some (unwrap_or (serving_access table set order) (Secondary (length table.indexes + 1)))
+stop_found table set order is = by_found (serving_access table set order) is
   where
     by_found : (o : Option Access) → IsAccess table (unwrap_or o (Secondary (length table.indexes + 1))) → o ≡ Some (unwrap_or o (Secondary (length table.indexes + 1)))
     by_found None is = let high = is.1 in absurd (omega (arith, high))
@@ -108,7 +108,7 @@ module _ (before now : List Table) (query : Query) (grown : HaveGrown before now
   read_more : (rel : ℕ) (more : List Index) → AllByRecursion (IsRun before query) (read_over query rel (old rel)) → read_over query rel (with_indexes (old rel) more) ≡ read_over query rel (old rel)
   read_more rel more all =
       let table = old rel in
-      let set = fixed query rel in
+      let set = tied_set query rel in
       elim (is_lookup table set) as (λ b. AllByRecursion (IsRun before query) (cond b (lookup rel ∷ keep rel ∷ []) (option_map_or (range_over rel table) (limit_place table set) [])) → cond b (lookup rel ∷ keep rel ∷ []) (option_map_or (range_over rel (with_indexes table more)) (limit_place table set) []) ≡ cond b (lookup rel ∷ keep rel ∷ []) (option_map_or (range_over rel table) (limit_place table set) [])) [
         | true ↦ λ _. refl
         | false ↦ λ all. by_place rel more (limit_place table set) all
@@ -120,10 +120,10 @@ module _ (before now : List Table) (query : Query) (grown : HaveGrown before now
   range_stays : (from count : ℕ) → AllByRecursion (IsRun before query) (range_nodes before query from count) → range_nodes now query from count ≡ range_nodes before query from count
   range_stays from count all = flat_map_alike (IsRun before query) (read_nodes before query) (read_nodes now query) read_stays (range_with_len from count) all
 
-  still_serves : (p : ℕ) → IsAccess (old p) (stop_access before query p) → serving (table_of now query p) (fixed query p) (order_rest query p) ≡ Some (stop_access before query p)
+  still_serves : (p : ℕ) → IsAccess (old p) (stop_access before query p) → serving_access (table_of now query p) (tied_set query p) (order_rest query p) ≡ Some (stop_access before query p)
   still_serves p is =
-      ap (λ (t : Table). serving t (fixed query p) (order_rest query p)) (grows p).is
-      ∙ serving_stays (old p) (grows p).more (fixed query p) (order_rest query p) (stop_access before query p) (stop_found (old p) (fixed query p) (order_rest query p) is)
+      ap (λ (t : Table). serving_access t (tied_set query p) (order_rest query p)) (grows p).is
+      ∙ serving_stays (old p) (grows p).more (tied_set query p) (order_rest query p) (stop_access before query p) (stop_found (old p) (tied_set query p) (order_rest query p) is)
 
   stop_stays : (p : ℕ) → IsAccess (old p) (stop_access before query p) → stop_access now query p ≡ stop_access before query p
   stop_stays p is = ap (λ (o : Option Access). unwrap_or o (Secondary (length (table_of now query p).indexes + 1))) (still_serves p is)
@@ -158,7 +158,7 @@ module _ (before now : List Table) (query : Query) (grown : HaveGrown before now
   limited_stays : (rel limit n : ℕ) (access : Access) → IsLimited before query rel limit n access → IsLimited now query rel limit n access
   limited_stays rel limit n access is =
       let same = (grows rel).is in
-      let set = fixed query rel in
+      let set = tied_set query rel in
       record {
         relation = is.relation;
         no_lookup = ap (λ (t : Table). is_lookup t set) same ∙ is.no_lookup;
@@ -172,7 +172,7 @@ module _ (before now : List Table) (query : Query) (grown : HaveGrown before now
         group = still_found rel limit access is.group;
       }
 
-  stopped_stays : (rel k : ℕ) (access : Access) → IsStopped before query rel k access → IsAccess (old rel) access → IsStopped now query rel k access × (serving (table_of now query rel) (fixed query rel) (order_rest query rel) ≡ Some access)
+  stopped_stays : (rel k : ℕ) (access : Access) → IsStopped before query rel k access → IsAccess (old rel) access → IsStopped now query rel k access × (serving_access (table_of now query rel) (tied_set query rel) (order_rest query rel) ≡ Some access)
   stopped_stays rel k access is own =
       let there : IsAccess (old rel) (stop_access before query rel) = subst (IsAccess (old rel)) is.sequence own in (
         record {
@@ -187,12 +187,12 @@ module _ (before now : List Table) (query : Query) (grown : HaveGrown before now
       )
 
   run_stays : (node : Node) → IsRun before query node → IsRun now query node
-  run_stays (lookup rel) is = (record { relation = is.0.relation; tied = ap (λ (t : Table). is_lookup t (fixed query rel)) (grows rel).is ∙ is.0.tied }, tt)
+  run_stays (lookup rel) is = (record { relation = is.0.relation; tied = ap (λ (t : Table). is_lookup t (tied_set query rel)) (grows rel).is ∙ is.0.tied }, tt)
   run_stays (limit_range rel limit n access) is =
       (limited_stays rel limit n access is.0, group_found (table_of now query rel) (set_of (limit_at (table_of now query rel) limit).cols) access (still_found rel limit access is.0.group))
   run_stays (stop_scan rel k access) is =
       let stays = stopped_stays rel k access is.0 is.1.0 in
-      (stays.0, serving_found (table_of now query rel) (fixed query rel) (order_rest query rel) access stays.1)
+      (stays.0, serving_found (table_of now query rel) (tied_set query rel) (order_rest query rel) access stays.1)
   run_stays (keep rel) is = is
   run_stays sort is = is
   run_stays (cut k) is = is
@@ -253,7 +253,7 @@ plan_defined s query made valid defined is =
         indexed = subst (AllByRecursion (HasIndex now query)) (sym built) (plan_indexed now query sound made.choice has (served_choice now query made.choice index));
         order = subst (StandInOrder 0) (sym built) (plan_runs now query sound made.choice has).0;
         whole = subst (AreWhole (length query.relations) 0) (sym built) (plan_whole now query sound made.choice has);
-        paid = subst (λ (b : Bound). IsAtMost b (cost made.plan)) (ap (λ (r : Reached). r.cost) (reach_nodes made.plan)) (at_most_itself (cost made.plan));
+        paid = subst (λ (b : Bound). IsAtMost b (cost made.plan)) (ap (λ (r : ReachedCost). r.cost) (reach_nodes made.plan)) (at_most_itself (cost made.plan));
       };
       narrow_ops = few_bits _ small.0;
       narrow_entries = few_bits _ small.1;

@@ -4,7 +4,7 @@ use Rattle.std.specs.List.{AllByRecursion}
 use Rattle.pq_base.specs.declared.number.Bound.{Bound}
 use Rattle.pq_schema.specs.declared.query.Query.{Query}
 use Rattle.pq_schema.specs.declared.table.Table.{Table}
-use Rattle.pq_schema.specs.Costs.{Reached, plus}
+use Rattle.pq_schema.specs.Costs.{ReachedCost, plus}
 use Rattle.pq_schema.specs.Sound.{IsQuery}
 use Rattle.pq_plan.specs.Cost.{cost}
 use Rattle.pq_plan.specs.Nodes.{Node, nodes, run_of}
@@ -56,7 +56,7 @@ compiled_runnable tables query made sound is none =
       indexed = compiled_indexed tables query sound made is none;
       order = subst (StandInOrder 0) (sym is.plan.built) (plan_runs tables query sound made.choice has).0;
       whole = subst (AreWhole (length query.relations) 0) (sym is.plan.built) (plan_whole tables query sound made.choice has);
-      paid = subst (λ (b : Bound). IsAtMost b (cost made.plan)) (ap (λ (r : Reached). r.cost) (reach_nodes made.plan)) (at_most_itself (cost made.plan));
+      paid = subst (λ (b : Bound). IsAtMost b (cost made.plan)) (ap (λ (r : ReachedCost). r.cost) (reach_nodes made.plan)) (at_most_itself (cost made.plan));
     }
 
 -- and its numbers can be granted

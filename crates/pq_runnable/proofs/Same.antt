@@ -8,8 +8,8 @@ use Rattle.pq_base.specs.declared.number.Choice.TheVariants.{Whole, Stop}
 use Rattle.pq_schema.specs.declared.query.Query.{Query}
 use Rattle.pq_schema.specs.declared.table.Table.{Table}
 use Rattle.pq_schema.specs.Candidates.{Candidate, candidates, can_stop_at, stop_size, read_cost}
-use Rattle.pq_schema.specs.Costs.{Reached, start, bound, plus, read_each, read_stop}
-use Rattle.pq_schema.specs.Relations.{relation_at, table_of, fixed, order_rest, range_on, is_whole}
+use Rattle.pq_schema.specs.Costs.{ReachedCost, start, bound, plus, read_each, read_stop}
+use Rattle.pq_schema.specs.Relations.{relation_at, table_of, tied_set, order_rest, range_on, is_whole}
 use Rattle.pq_schema.specs.Resolved.{IsResolved}
 use Rattle.pq_schema.specs.Sequences.{primary_sequence, serves}
 use Rattle.pq_schema.specs.Tables.{is_lookup, data_bound}
@@ -19,12 +19,12 @@ use Rattle.pq_runnable.proofs.Growing.{relation_grown}
 -- the candidates where each relation has this table
 module _ (table : ℕ → Table) (query : Query) where
   abbrev bound_on : ℕ → Option ℕ
-  bound_on rel = data_bound (table rel) (fixed query rel)
+  bound_on rel = data_bound (table rel) (tied_set query rel)
 
-  abbrev next_on : Reached → ℕ → Reached
-  next_on reached rel = read_each (unwrap_or (bound_on rel) 0) (read_cost (table rel) (fixed query rel)) reached
+  abbrev next_on : ReachedCost → ℕ → ReachedCost
+  next_on reached rel = read_each (unwrap_or (bound_on rel) 0) (read_cost (table rel) (tied_set query rel)) reached
 
-  abbrev reached_on : ℕ → Reached
+  abbrev reached_on : ℕ → ReachedCost
   reached_on count = fold next_on start (range_with_len 1 count)
 
   abbrev bounded_on : ℕ → Bool
@@ -44,13 +44,13 @@ module _ (table : ℕ → Table) (query : Query) where
   abbrev can_stop_on : ℕ → Bool
   can_stop_on p =
       bounded_on (p - 1)
-      && not (is_lookup (table p) (fixed query p))
+      && not (is_lookup (table p) (tied_set query p))
       && list_all (λ item. nat_le item.col.rel p) query.order
       && range_on query p
       && list_all total_on (range_with_len (p + 1) (length query.relations - p))
 
   abbrev served_on : ℕ → Bool
-  served_on p = serves (table p) (fixed query p) (order_rest query p) (primary_sequence (table p))
+  served_on p = serves (table p) (tied_set query p) (order_rest query p) (primary_sequence (table p))
 
   abbrev cost_on : ℕ → ℕ → Bound
   cost_on k p =

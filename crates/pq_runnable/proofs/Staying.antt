@@ -12,15 +12,15 @@ use Rattle.pq_schema.specs.declared.query.Query.{Query}
 use Rattle.pq_schema.specs.declared.table.NewIndex.{NewIndex}
 use Rattle.pq_schema.specs.declared.table.Table.{Table}
 use Rattle.pq_schema.specs.Candidates.{Candidate, candidates, least}
-use Rattle.pq_schema.specs.Relations.{relation_at, table_of, fixed, order_rest}
+use Rattle.pq_schema.specs.Relations.{relation_at, table_of, tied_set, order_rest}
 use Rattle.pq_schema.specs.Resolved.{IsResolved}
 use Rattle.pq_schema.specs.Schema.{Schema, with_wanted, with_new_index, made_of, definition_at, query_at, query_of, no_definition, IsQueryDefinition}
-use Rattle.pq_schema.specs.Sequences.{serves, serving, index_sequence, new_index}
+use Rattle.pq_schema.specs.Sequences.{serves, serving_access, index_sequence, new_index}
 use Rattle.pq_schema.specs.Sound.{IsQuery}
 use Rattle.pq_schema.specs.Tables.{no_table, table_at}
 use Rattle.pq_schema.specs.Valid.{IsValid}
 use Rattle.pq_schema.specs.Valid.IsValid.{empty, then_table, then_query}
-use Rattle.pq_schema.specs.Wanted.{is_large, index_at, index_of, too_many_indexes, Chosen, with_index, chosen_of, chosen, no_bound, IsWanted}
+use Rattle.pq_schema.specs.Wanted.{is_large, index_at, index_of, too_many_indexes, ChosenCandidate, with_index, chosen_of, chosen_candidate, no_bound, IsWanted}
 use Rattle.pq_schema.proofs.Soundness.{valid_query}
 use Rattle.pq_schema.proofs.Valid.{wanted_there}
 use Rattle.pq_runnable.specs.Grown.{with_indexes, HasGrown, HaveGrown, WasDefined, IsStillChosen}
@@ -48,7 +48,7 @@ IsOkAnswer (Err why) = ⊥
 pub err_not_ok : {A : Type 0} (why : Refusal) (b : A) → Err why ≡ Ok b → ⊥
 err_not_ok why b is = subst IsOkAnswer (sym is) tt
 
-abbrev pub pair : Candidate → Option NewIndex → Chosen
+abbrev pub pair : Candidate → Option NewIndex → ChosenCandidate
 pair best wanted = record { best = best; wanted = wanted }
 
 -- the parts of what is chosen
@@ -58,14 +58,14 @@ pub record Parts (tables : List Table) (query : Query) (best : Candidate) (wante
   pub index : index_of tables query best.choice ≡ Ok wanted
 
 module _ (tables : List Table) (query : Query) (best : Candidate) (wanted : Option NewIndex) where
-  abbrev answer : Chosen
+  abbrev answer : ChosenCandidate
   answer = record { best = best; wanted = wanted }
 
   by_index : (c : Candidate) (r : Result (Option NewIndex) Refusal) → with_index c r ≡ Ok answer → (c ≡ best) × (r ≡ Ok wanted)
   by_index c (Ok w) is =
-      let first : Chosen = record { best = c; wanted = w } in
+      let first : ChosenCandidate = record { best = c; wanted = w } in
       let e : first ≡ answer = ok_same first answer is in
-      (ap (λ (h : Chosen). h.best) e, ap (λ (h : Chosen). Ok h.wanted) e)
+      (ap (λ (h : ChosenCandidate). h.best) e, ap (λ (h : ChosenCandidate). Ok h.wanted) e)
   by_index c (Err why) is = absurd (err_not_ok why answer is)
 
   by_size : (c : Candidate) (large : Bool) → is_large c.bound ≡ large → cond large (Err (refusal.BoundLarge c.bound.ops c.bound.entries)) (with_index c (index_of tables query c.choice)) ≡ Ok answer → (c ≡ best) × (is_large c.bound ≡ false) × (index_of tables query c.choice ≡ Ok wanted)
@@ -83,10 +83,10 @@ module _ (tables : List Table) (query : Query) (best : Candidate) (wanted : Opti
         index = ap (λ (b : Candidate). index_of tables query b.choice) (sym same) ∙ parts.2;
       }
 
-  pub chosen_parts : chosen tables query ≡ Ok answer → Parts tables query best wanted
+  pub chosen_parts : chosen_candidate tables query ≡ Ok answer → Parts tables query best wanted
   chosen_parts is = by_least (least (candidates tables query)) refl is
 
-  pub chosen_from : Parts tables query best wanted → chosen tables query ≡ Ok answer
+  pub chosen_from : Parts tables query best wanted → chosen_candidate tables query ≡ Ok answer
   chosen_from parts =
       ap (chosen_of tables query) parts.least
       ∙ ap (λ b. cond b (Err (refusal.BoundLarge best.bound.ops best.bound.entries)) (with_index best (index_of tables query best.choice))) parts.small
@@ -99,10 +99,10 @@ wants tables query p served =
     let table = table_of tables query p in
     cond served (Ok None)
     (cond (nat_le 16 (length table.indexes)) (Err too_many_indexes)
-    (Ok (Some (record { table = (relation_at query p).table; number = length table.indexes + 1; index = new_index table (fixed query p) (order_rest query p) }))))
+    (Ok (Some (record { table = (relation_at query p).table; number = length table.indexes + 1; index = new_index table (tied_set query p) (order_rest query p) }))))
 
 abbrev pub served_table : Query → ℕ → Table → Bool
-served_table query p table = is_some (serving table (fixed query p) (order_rest query p))
+served_table query p table = is_some (serving_access table (tied_set query p) (order_rest query p))
 
 some_is : {A : Type 0} (o : Option A) → is_some o ≡ true → (a : A) × (o ≡ Some a)
 some_is None is = absurd (let no_such : false ≡ true = is in cc)
@@ -111,9 +111,9 @@ some_is (Some a) is = (a, refl)
 -- a table that serves goes on to serve where it has grown
 served_stays : (query : Query) (p : ℕ) (before now : Table) → HasGrown before now → served_table query p before ≡ true → served_table query p now ≡ true
 served_stays query p before now grown served =
-    let found = some_is (serving before (fixed query p) (order_rest query p)) served in
-    ap (λ (t : Table). is_some (serving t (fixed query p) (order_rest query p))) grown.is
-    ∙ ap is_some (serving_stays before grown.more (fixed query p) (order_rest query p) found.0 found.1)
+    let found = some_is (serving_access before (tied_set query p) (order_rest query p)) served in
+    ap (λ (t : Table). is_some (serving_access t (tied_set query p) (order_rest query p))) grown.is
+    ∙ ap is_some (serving_stays before grown.more (tied_set query p) (order_rest query p) found.0 found.1)
 
 -- ---- the same choice, over tables that have grown from those with the wanted index
 
@@ -147,21 +147,21 @@ module _ (before : List Table) (query : Query) (wanted : Option NewIndex) (resol
       ∙ ap (λ n. with_indexes (table_at before n) (new.index ∷ [])) own
 
   -- and a relation whose index was wanted is served by it
-  served_by_index : (p : ℕ) (new : NewIndex) → wanted ≡ Some new → new.table ≡ (relation_at query p).table → new.index ≡ new_index (table_of before query p) (fixed query p) (order_rest query p) → served_table query p (table_of (with_wanted before wanted) query p) ≡ true
+  served_by_index : (p : ℕ) (new : NewIndex) → wanted ≡ Some new → new.table ≡ (relation_at query p).table → new.index ≡ new_index (table_of before query p) (tied_set query p) (order_rest query p) → served_table query p (table_of (with_wanted before wanted) query p) ≡ true
   served_by_index p new is own index =
       let table = table_of before query p in
-      ap (λ (t : Table). is_some (serving t (fixed query p) (order_rest query p))) (table_with p new is own)
-      ∙ served_by_last table new.index (fixed query p) (order_rest query p)
-      (subst (λ i. serves table (fixed query p) (order_rest query p) (index_sequence table i) ≡ true) (sym index) (new_serves before query p resolved))
+      ap (λ (t : Table). is_some (serving_access t (tied_set query p) (order_rest query p))) (table_with p new is own)
+      ∙ served_by_last table new.index (tied_set query p) (order_rest query p)
+      (subst (λ i. serves table (tied_set query p) (order_rest query p) (index_sequence table i) ≡ true) (sym index) (new_serves before query p resolved))
 
   abbrev pub wanted_index : ℕ → NewIndex
-  wanted_index p = record { table = (relation_at query p).table; number = length (table_of before query p).indexes + 1; index = new_index (table_of before query p) (fixed query p) (order_rest query p) }
+  wanted_index p = record { table = (relation_at query p).table; number = length (table_of before query p).indexes + 1; index = new_index (table_of before query p) (tied_set query p) (order_rest query p) }
 
   by_test : (p : ℕ) (served : Bool) → served_table query p (table_of before query p) ≡ served → wants before query p served ≡ Ok wanted → index_at now query p ≡ Ok None
   by_test p true is e = served_before p is
   by_test p false is e = by_room (nat_le 16 (length (table_of before query p).indexes)) e
     where
-      by_room : (full : Bool) → cond full (Err too_many_indexes) (Ok (Some (record { table = (relation_at query p).table; number = length (table_of before query p).indexes + 1; index = new_index (table_of before query p) (fixed query p) (order_rest query p) }))) ≡ Ok wanted → index_at now query p ≡ Ok None
+      by_room : (full : Bool) → cond full (Err too_many_indexes) (Ok (Some (record { table = (relation_at query p).table; number = length (table_of before query p).indexes + 1; index = new_index (table_of before query p) (tied_set query p) (order_rest query p) }))) ≡ Ok wanted → index_at now query p ≡ Ok None
       by_room true e = absurd (err_not_ok too_many_indexes wanted e)
       by_room false e = served_now p (served_by_index p (wanted_index p) (sym (ok_same (Some (wanted_index p)) wanted e)) refl refl)
 
@@ -172,7 +172,7 @@ module _ (before : List Table) (query : Query) (wanted : Option NewIndex) (resol
       at_stop : (p : ℕ) → index_at before query p ≡ Ok wanted → index_at now query p ≡ Ok None
       at_stop p e = by_test p (served_table query p (table_of before query p)) refl e
 
-  pub still_chosen : chosen now query ≡ Ok (record { best = there.best; wanted = None })
+  pub still_chosen : chosen_candidate now query ≡ Ok (record { best = there.best; wanted = None })
   still_chosen =
       let parts = chosen_parts before query there.best wanted there.chosen in
       chosen_from now query there.best None (record {

@@ -12,7 +12,7 @@ use Rattle.pq_schema.specs.declared.query.Query.{Query}
 use Rattle.pq_schema.specs.declared.table.Access.TheVariants.{Primary}
 use Rattle.pq_schema.specs.declared.table.Table.{Table}
 use Rattle.pq_schema.specs.Candidates.{no_limit, stop_size}
-use Rattle.pq_schema.specs.Relations.{table_of, fixed}
+use Rattle.pq_schema.specs.Relations.{table_of, tied_set}
 use Rattle.pq_schema.specs.Sequences.{group_access}
 use Rattle.pq_schema.specs.Sound.{IsQuery}
 use Rattle.pq_schema.specs.Tables.{is_lookup, limit_place}
@@ -56,7 +56,7 @@ module _ (tables : List Table) (query : Query) where
   read_anywhere : (rel : ℕ) → AllByRecursion IsAnywhere (read_nodes tables query rel)
   read_anywhere rel =
       let table = table_of tables query rel in
-      let set = fixed query rel in
+      let set = tied_set query rel in
       elim (is_lookup table set) as (λ b. AllByRecursion IsAnywhere (cond b (lookup rel ∷ keep rel ∷ []) (option_map_or (ranged rel) (limit_place table set) []))) [
         | true ↦ (λ all count. tt, (λ all count. tt, tt))
         | false ↦ elim (limit_place table set) as (λ o. AllByRecursion IsAnywhere (option_map_or (ranged rel) o [])) [

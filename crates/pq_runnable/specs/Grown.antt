@@ -7,7 +7,7 @@ use Rattle.pq_schema.specs.declared.table.Table.{Table}
 use Rattle.pq_schema.specs.Schema.{Schema, with_wanted}
 use Rattle.pq_schema.specs.Tables.{table_at}
 use Rattle.pq_schema.specs.Valid.{IsValid, IsDefined}
-use Rattle.pq_schema.specs.Wanted.{chosen}
+use Rattle.pq_schema.specs.Wanted.{chosen_candidate}
 
 abbrev pub with_indexes : Table → List Index → Table
 with_indexes table more = record table { indexes = table.indexes ++ more }
@@ -34,4 +34,4 @@ pub record WasDefined (tables : List Table) (query : Query) : Type 0 where
 -- the least candidate is that of its definition, and wants no index
 pub record IsStillChosen (schema : Schema) (query : Query) : Type 0 where
   pub was : WasDefined schema.tables query
-  pub chosen : chosen schema.tables query ≡ Ok (record { best = was.defined.chosen.best; wanted = None })
+  pub chosen : chosen_candidate schema.tables query ≡ Ok (record { best = was.defined.chosen.best; wanted = None })

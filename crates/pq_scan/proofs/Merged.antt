@@ -16,7 +16,7 @@ use Rattle.pq_schema.specs.Relations.{table_of}
 use Rattle.pq_schema.specs.Rows.{Rows, rows_of, types_of}
 use Rattle.pq_store.specs.Content.{Content, key_cmp}
 use Rattle.pq_content.specs.Pairs.{Pair, HoldsRows}
-use Rattle.pq_plan.specs.Answer.{Asked, rows_at, position, in_order, first_past}
+use Rattle.pq_plan.specs.Answer.{Question, rows_at, position, in_order, first_past}
 use Rattle.pq_plan.specs.Meaning.{read}
 use Rattle.pq_plan.proofs.Kept.{row_fits}
 use Rattle.pq_nodes.specs.Combos.{FitsTables}
@@ -71,7 +71,7 @@ abbrev Triple : Type 0
 Triple = ℕ × List (List Value) × List Value
 
 module _ (scan : Scan) (ready : IsScannable scan) (rows : Rows) (after : Option (List Value)) (cursor : IsCursor scan.catalog.now.tables scan.query.now after) (k : ℕ) where
-  abbrev q : Asked
+  abbrev q : Question
   q = asked_over scan rows
 
   abbrev p : ℕ

@@ -21,7 +21,7 @@ use Rattle.pq_scan.specs.declared.candidates.Candidate.{Candidate}
 use Rattle.pq_scan.specs.declared.merge.Numbered.{Numbered}
 use Rattle.pq_scan.specs.declared.merge.Rising.{Rising}
 use Rattle.pq_scan.specs.Candidates.{place_of_candidate}
-use Rattle.pq_scan.specs.Merging.{turn_cmp, turn_total, turn_of, candidate_of, numbered, head_cmp, listed, waiting, IsUpTo, Falls, IsRising, IsMerge, merged, PutsBack}
+use Rattle.pq_scan.specs.Merging.{turn_cmp, turn_total, turn_of, candidate_of, numbered_from, head_cmp, numbered_items, waiting_heads, IsUpTo, Falls, IsRising, IsMerge, merged_lists, PutsBack}
 use Rattle.pq_scan.proofs.Permuted.{IsPermutation-flat_map}
 
 -- ---- turns
@@ -62,16 +62,16 @@ not_above Greater h = absurd cc
 abbrev NotBefore : ℕ → Numbered → Type 0
 NotBefore n item = n ≤ item.number
 
-numbers_from : (low n : ℕ) (xs : List Candidate) → low ≤ n → AllByRecursion (NotBefore low) (numbered n xs)
+numbers_from : (low n : ℕ) (xs : List Candidate) → low ≤ n → AllByRecursion (NotBefore low) (numbered_from n xs)
 numbers_from low n [] h = tt
 numbers_from low n (c ∷ cs) h = (h, numbers_from low (n + 1) cs (omega (arith, h)))
 
-pub numbered_apart : (n : ℕ) (xs : List Candidate) → Apart turn_cmp turn_of (numbered n xs)
+pub numbered_apart : (n : ℕ) (xs : List Candidate) → Apart turn_cmp turn_of (numbered_from n xs)
 numbered_apart n [] = tt
 numbered_apart n (c ∷ cs) = (
   each_weaker (NotBefore (n + 1)) (λ m. eq_by_cmp turn_cmp (c.place, n) (turn_of m) ≡ false)
       (λ m l. ap (λ r. is_eq (ordering_then (key_cmp c.place m.candidate.place) r)) (earlier n m.number (omega (arith, l))) ∙ apart_by_less (key_cmp c.place m.candidate.place))
-      (numbered (n + 1) cs) (numbers_from (n + 1) (n + 1) cs (omega arith)),
+      (numbered_from (n + 1) cs) (numbers_from (n + 1) (n + 1) cs (omega arith)),
   numbered_apart (n + 1) cs,
 )
 
@@ -89,17 +89,17 @@ placed_alike c n (m ∷ ms) h =
     ]
 
 -- in the order of their turns, they are in that of their positions, and those of one position stay
-pub numbered_sorted : (n : ℕ) (xs : List Candidate) → map candidate_of (sort_by turn_cmp turn_of (numbered n xs)) ≡ sort_by key_cmp place_of_candidate xs
+pub numbered_sorted : (n : ℕ) (xs : List Candidate) → map candidate_of (sort_by turn_cmp turn_of (numbered_from n xs)) ≡ sort_by key_cmp place_of_candidate xs
 numbered_sorted n [] = refl
 numbered_sorted n (c ∷ cs) =
-    placed_alike c n (sort_by turn_cmp turn_of (numbered (n + 1) cs)) (each-sort_by turn_cmp turn_of (NotBefore (n + 1)) (numbered (n + 1) cs) (numbers_from (n + 1) (n + 1) cs (omega arith)))
+    placed_alike c n (sort_by turn_cmp turn_of (numbered_from (n + 1) cs)) (each-sort_by turn_cmp turn_of (NotBefore (n + 1)) (numbered_from (n + 1) cs) (numbers_from (n + 1) (n + 1) cs (omega arith)))
     ∙ ap (placed key_cmp place_of_candidate c) (numbered_sorted (n + 1) cs)
 
-pub numbered_behind : (n : ℕ) (xs : List Candidate) (c : Candidate) → numbered n (xs ++ c ∷ []) ≡ numbered n xs ++ record { candidate = c; number = n + length xs } ∷ []
+pub numbered_behind : (n : ℕ) (xs : List Candidate) (c : Candidate) → numbered_from n (xs ++ c ∷ []) ≡ numbered_from n xs ++ record { candidate = c; number = n + length xs } ∷ []
 numbered_behind n [] c = let e : n ≡ n + 0 = omega arith in ap (λ (m : ℕ). (record { candidate = c; number = m }) ∷ []) e
 numbered_behind n (x ∷ xs) c =
     let e : n + 1 + length xs ≡ n + length (x ∷ xs) = omega arith in
-    ap (λ l. (record { candidate = x; number = n }) ∷ l) (numbered_behind (n + 1) xs c ∙ ap (λ (m : ℕ). numbered (n + 1) xs ++ (record { candidate = c; number = m }) ∷ []) e)
+    ap (λ l. (record { candidate = x; number = n }) ∷ l) (numbered_behind (n + 1) xs c ∙ ap (λ (m : ℕ). numbered_from (n + 1) xs ++ (record { candidate = c; number = m }) ∷ []) e)
 
 -- ---- lists
 permuted_each : {X : Type 0} (P : X → Type 0) (xs ys : List X) → IsPermutation xs ys → AllByRecursion P xs → AllByRecursion P ys
@@ -131,76 +131,76 @@ rises_before item list made h up first rest = record {
 }
 
 -- a list set aside, and another begun
-pub set_aside : (item : Numbered) (list : Rising) (lists : List Rising) → IsPermutation (item ∷ (listed list ++ waiting lists)) (item ∷ waiting (lists ++ list ∷ []))
+pub set_aside : (item : Numbered) (list : Rising) (lists : List Rising) → IsPermutation (item ∷ (numbered_items list ++ waiting_heads lists)) (item ∷ waiting_heads (lists ++ list ∷ []))
 set_aside item list lists =
-    IsPermutation-cons item (listed list ++ waiting lists) (waiting (lists ++ list ∷ [])) (IsPermutation-flat_map listed (list ∷ lists) (lists ++ list ∷ []) (IsPermutation-sym (lists ++ list ∷ []) (list ∷ lists) (IsPermutation-to_front lists list)))
+    IsPermutation-cons item (numbered_items list ++ waiting_heads lists) (waiting_heads (lists ++ list ∷ [])) (IsPermutation-flat_map numbered_items (list ∷ lists) (lists ++ list ∷ []) (IsPermutation-sym (lists ++ list ∷ []) (list ∷ lists) (IsPermutation-to_front lists list)))
 
-pub moved_before : (item : Numbered) (list : Rising) (behind more : List Numbered) → behind ≡ list.behind.items ++ list.head ∷ [] → IsPermutation (item ∷ (listed list ++ more)) (item ∷ (behind ++ more))
+pub moved_before : (item : Numbered) (list : Rising) (behind more : List Numbered) → behind ≡ list.behind.items ++ list.head ∷ [] → IsPermutation (item ∷ (numbered_items list ++ more)) (item ∷ (behind ++ more))
 moved_before item list behind more e =
-    IsPermutation-cons item (listed list ++ more) (behind ++ more) (IsPermutation-append_left more (listed list) behind
-    (subst (λ l. IsPermutation (listed list) l) (sym e) (IsPermutation-sym (list.behind.items ++ list.head ∷ []) (listed list) (IsPermutation-to_front list.behind.items list.head))))
+    IsPermutation-cons item (numbered_items list ++ more) (behind ++ more) (IsPermutation-append_left more (numbered_items list) behind
+    (subst (λ l. IsPermutation (numbered_items list) l) (sym e) (IsPermutation-sym (list.behind.items ++ list.head ∷ []) (numbered_items list) (IsPermutation-to_front list.behind.items list.head))))
 
 -- the last that was found goes before the lists
-pub one_more : (all : List Numbered) (found front : List Candidate) (c : Candidate) (n : ℕ) (before now : List Numbered) → found ≡ front ++ c ∷ [] → n ≡ length front → IsPermutation all (numbered 0 found ++ before) → IsPermutation ((record { candidate = c; number = n }) ∷ before) now → IsPermutation all (numbered 0 front ++ now)
+pub one_more : (all : List Numbered) (found front : List Candidate) (c : Candidate) (n : ℕ) (before now : List Numbered) → found ≡ front ++ c ∷ [] → n ≡ length front → IsPermutation all (numbered_from 0 found ++ before) → IsPermutation ((record { candidate = c; number = n }) ∷ before) now → IsPermutation all (numbered_from 0 front ++ now)
 one_more all found front c n before now e long p q =
-    let kept = numbered 0 front in
+    let kept = numbered_from 0 front in
     let x : Numbered = record { candidate = c; number = n } in
     let l : 0 + length front ≡ n = omega (arith, long) in
-    let parts : numbered 0 found ≡ kept ++ x ∷ [] = ap (numbered 0) e ∙ numbered_behind 0 front c ∙ ap (λ (m : ℕ). kept ++ (record { candidate = c; number = m }) ∷ []) l in
-    let moved : numbered 0 found ++ before ≡ kept ++ x ∷ before = ap (λ k. k ++ before) parts ∙ append_assoc kept (x ∷ []) before in
+    let parts : numbered_from 0 found ≡ kept ++ x ∷ [] = ap (numbered_from 0) e ∙ numbered_behind 0 front c ∙ ap (λ (m : ℕ). kept ++ (record { candidate = c; number = m }) ∷ []) l in
+    let moved : numbered_from 0 found ++ before ≡ kept ++ x ∷ before = ap (λ k. k ++ before) parts ∙ append_assoc kept (x ∷ []) before in
     IsPermutation-trans all (kept ++ x ∷ before) (kept ++ now) (subst (λ k. IsPermutation all k) moved p) (IsPermutation-append_right kept (x ∷ before) now q)
 
 pub alone : (list : Rising) → list.behind.items ≡ [] → IsRising list
 alone list e = record { head = subst (AllByRecursion (IsUpTo list.head)) (sym e) tt; behind = subst Falls (sym e) tt }
 
 -- the last that was found begins a list
-pub first_one : (found front : List Candidate) (c : Candidate) (n : ℕ) (behind : List Numbered) (lists : List Rising) → found ≡ front ++ c ∷ [] → n ≡ length front → behind ≡ [] → lists ≡ [] → IsPermutation (numbered 0 found) (numbered 0 front ++ (record { candidate = c; number = n }) ∷ (behind ++ waiting lists))
+pub first_one : (found front : List Candidate) (c : Candidate) (n : ℕ) (behind : List Numbered) (lists : List Rising) → found ≡ front ++ c ∷ [] → n ≡ length front → behind ≡ [] → lists ≡ [] → IsPermutation (numbered_from 0 found) (numbered_from 0 front ++ (record { candidate = c; number = n }) ∷ (behind ++ waiting_heads lists))
 first_one found front c n behind lists e long none empty =
     let x : Numbered = record { candidate = c; number = n } in
-    let all = numbered 0 found in
-    subst (λ (l : List Numbered). IsPermutation all (numbered 0 front ++ x ∷ (l ++ waiting lists))) (sym none)
-    (subst (λ (l : List Rising). IsPermutation all (numbered 0 front ++ x ∷ waiting l)) (sym empty)
+    let all = numbered_from 0 found in
+    subst (λ (l : List Numbered). IsPermutation all (numbered_from 0 front ++ x ∷ (l ++ waiting_heads lists))) (sym none)
+    (subst (λ (l : List Rising). IsPermutation all (numbered_from 0 front ++ x ∷ waiting_heads l)) (sym empty)
     (one_more all found front c n [] (x ∷ []) e long (subst (λ l. IsPermutation all l) (sym (append-nil all)) (IsPermutation-refl all)) (IsPermutation-refl (x ∷ []))))
 
 -- none is left, and the last list joins the others
-pub all_listed : (all : List Numbered) (found : List Candidate) (list : Rising) (lists now : List Rising) → found ≡ [] → now ≡ lists ++ list ∷ [] → IsPermutation all (numbered 0 found ++ (listed list ++ waiting lists)) → IsPermutation all (waiting now)
+pub all_listed : (all : List Numbered) (found : List Candidate) (list : Rising) (lists now : List Rising) → found ≡ [] → now ≡ lists ++ list ∷ [] → IsPermutation all (numbered_from 0 found ++ (numbered_items list ++ waiting_heads lists)) → IsPermutation all (waiting_heads now)
 all_listed all found list lists now none e p =
-    IsPermutation-trans all (listed list ++ waiting lists) (waiting now) (subst (λ (l : List Candidate). IsPermutation all (numbered 0 l ++ (listed list ++ waiting lists))) none p)
-    (IsPermutation-flat_map listed (list ∷ lists) now (subst (λ (l : List Rising). IsPermutation (list ∷ lists) l) (sym e) (IsPermutation-sym (lists ++ list ∷ []) (list ∷ lists) (IsPermutation-to_front lists list))))
+    IsPermutation-trans all (numbered_items list ++ waiting_heads lists) (waiting_heads now) (subst (λ (l : List Candidate). IsPermutation all (numbered_from 0 l ++ (numbered_items list ++ waiting_heads lists))) none p)
+    (IsPermutation-flat_map numbered_items (list ∷ lists) now (subst (λ (l : List Rising). IsPermutation (list ∷ lists) l) (sym e) (IsPermutation-sym (lists ++ list ∷ []) (list ∷ lists) (IsPermutation-to_front lists list))))
 
 -- ---- the merge
 pub put_back_made : (list : List Numbered) (made : Rising) (before now : List Rising) → list ≡ made.behind.items ++ made.head ∷ [] → KeepsHeap head_cmp before now → IsPermutation (made ∷ before) now → PutsBack list before now
 put_back_made list made before now e keeps p = record {
   heap = keeps;
   rise = λ f all. permuted_each IsRising (made ∷ before) now p (let s = falls_front made.behind.items made.head (subst Falls e f) in record { head = s.1; behind = s.0 }, all);
-  same = IsPermutation-trans (list ++ waiting before) (listed made ++ waiting before) (waiting now)
-      (IsPermutation-append_left (waiting before) list (listed made) (subst (λ l. IsPermutation l (listed made)) (sym e) (IsPermutation-to_front made.behind.items made.head)))
-      (IsPermutation-flat_map listed (made ∷ before) now p);
+  same = IsPermutation-trans (list ++ waiting_heads before) (numbered_items made ++ waiting_heads before) (waiting_heads now)
+      (IsPermutation-append_left (waiting_heads before) list (numbered_items made) (subst (λ l. IsPermutation l (numbered_items made)) (sym e) (IsPermutation-to_front made.behind.items made.head)))
+      (IsPermutation-flat_map numbered_items (made ∷ before) now p);
 }
 
 pub put_back_none : (list : List Numbered) (lists : List Rising) → list ≡ [] → PutsBack list lists lists
 put_back_none list lists e = record {
   heap = λ h. h;
   rise = λ f all. all;
-  same = subst (λ l. IsPermutation (l ++ waiting lists) (waiting lists)) (sym e) (IsPermutation-refl (waiting lists));
+  same = subst (λ l. IsPermutation (l ++ waiting_heads lists) (waiting_heads lists)) (sym e) (IsPermutation-refl (waiting_heads lists));
 }
 
-pub next_made : (old popped now : List Rising) (r : Rising) → IsMerge old → IsPermutation old (r ∷ popped) → PopsGreatest head_cmp old r popped → PutsBack r.behind.items popped now → IsMerge now × (merged old ≡ r.head.candidate ∷ merged now)
+pub next_made : (old popped now : List Rising) (r : Rising) → IsMerge old → IsPermutation old (r ∷ popped) → PopsGreatest head_cmp old r popped → PutsBack r.behind.items popped now → IsMerge now × (merged_lists old ≡ r.head.candidate ∷ merged_lists now)
 next_made old popped now r is p pops back =
     let greatest = pops is.heap in
     let parts : AllByRecursion IsRising (r ∷ popped) = permuted_each IsRising old (r ∷ popped) p is.rise in
     let highest = permuted_each (λ s. is_lt (head_cmp r s) ≡ false) old (r ∷ popped) p greatest.1 in
-    let whole : IsPermutation (waiting old) (r.head ∷ waiting now) =
-    IsPermutation-trans (waiting old) (waiting (r ∷ popped)) (r.head ∷ waiting now) (IsPermutation-flat_map listed old (r ∷ popped) p)
-    (IsPermutation-cons r.head (r.behind.items ++ waiting popped) (waiting now) back.same) in
-    let apart : Apart turn_cmp turn_of (r.head ∷ waiting now) = apart_permuted turn_cmp turn_of turn_total exact_turn (waiting old) (r.head ∷ waiting now) whole is.apart in
-    let others : AllByRecursion (IsUpTo r.head) (waiting popped) = each_flat_map (IsUpTo r.head) listed popped (λ s i.
+    let whole : IsPermutation (waiting_heads old) (r.head ∷ waiting_heads now) =
+    IsPermutation-trans (waiting_heads old) (waiting_heads (r ∷ popped)) (r.head ∷ waiting_heads now) (IsPermutation-flat_map numbered_items old (r ∷ popped) p)
+    (IsPermutation-cons r.head (r.behind.items ++ waiting_heads popped) (waiting_heads now) back.same) in
+    let apart : Apart turn_cmp turn_of (r.head ∷ waiting_heads now) = apart_permuted turn_cmp turn_of turn_total exact_turn (waiting_heads old) (r.head ∷ waiting_heads now) whole is.apart in
+    let others : AllByRecursion (IsUpTo r.head) (waiting_heads popped) = each_flat_map (IsUpTo r.head) numbered_items popped (λ s i.
     let low : IsUpTo r.head s.head = ap is_gt (turn_total.antisymm (turn_of r.head) (turn_of s.head)) ∙ not_gt (turn_cmp (turn_of s.head) (turn_of r.head)) (each_in (λ t. is_lt (head_cmp r t) ≡ false) popped highest.1 s i) in
     (low, up_through r.head s.head s.behind.items low (each_in IsRising popped parts.1 s i).head)) in
-    let all : AllByRecursion (IsUpTo r.head) (waiting now) = permuted_each (IsUpTo r.head) (r.behind.items ++ waiting popped) (waiting now) back.same (each_append (IsUpTo r.head) r.behind.items (waiting popped) parts.0.head others) in (
+    let all : AllByRecursion (IsUpTo r.head) (waiting_heads now) = permuted_each (IsUpTo r.head) (r.behind.items ++ waiting_heads popped) (waiting_heads now) back.same (each_append (IsUpTo r.head) r.behind.items (waiting_heads popped) parts.0.head others) in (
       record { heap = back.heap greatest.0; rise = back.rise parts.0.behind parts.1; apart = apart.1 },
-      ap (map candidate_of) (sort_by-IsPermutation turn_cmp turn_of turn_total exact_turn (waiting old) (r.head ∷ waiting now) whole is.apart
-          ∙ placed_first turn_cmp turn_of r.head (sort_by turn_cmp turn_of (waiting now)) (each-sort_by turn_cmp turn_of (IsUpTo r.head) (waiting now) all)),
+      ap (map candidate_of) (sort_by-IsPermutation turn_cmp turn_of turn_total exact_turn (waiting_heads old) (r.head ∷ waiting_heads now) whole is.apart
+          ∙ placed_first turn_cmp turn_of r.head (sort_by turn_cmp turn_of (waiting_heads now)) (each-sort_by turn_cmp turn_of (IsUpTo r.head) (waiting_heads now) all)),
     )
   where
     not_gt : (s : Ordering) → is_lt s ≡ false → is_gt (ordering_reverse s) ≡ false
@@ -208,12 +208,12 @@ next_made old popped now r is p pops back =
     not_gt Equal h = refl
     not_gt Greater h = refl
 
-pub merge_made : (found : List Candidate) (lists heap : List Rising) → AllByRecursion IsRising lists → IsPermutation (numbered 0 found) (waiting lists) → IsPermutation lists heap → IsHeap head_cmp heap → IsMerge heap × (merged heap ≡ sort_by key_cmp place_of_candidate found)
+pub merge_made : (found : List Candidate) (lists heap : List Rising) → AllByRecursion IsRising lists → IsPermutation (numbered_from 0 found) (waiting_heads lists) → IsPermutation lists heap → IsHeap head_cmp heap → IsMerge heap × (merged_lists heap ≡ sort_by key_cmp place_of_candidate found)
 merge_made found lists heap rise same p is =
-    let all = numbered 0 found in
-    let whole : IsPermutation all (waiting heap) = IsPermutation-trans all (waiting lists) (waiting heap) same (IsPermutation-flat_map listed lists heap p) in (
-      record { heap = is; rise = permuted_each IsRising lists heap p rise; apart = apart_permuted turn_cmp turn_of turn_total exact_turn all (waiting heap) whole (numbered_apart 0 found) },
-      ap (map candidate_of) (sym (sort_by-IsPermutation turn_cmp turn_of turn_total exact_turn all (waiting heap) whole (numbered_apart 0 found))) ∙ numbered_sorted 0 found,
+    let all = numbered_from 0 found in
+    let whole : IsPermutation all (waiting_heads heap) = IsPermutation-trans all (waiting_heads lists) (waiting_heads heap) same (IsPermutation-flat_map numbered_items lists heap p) in (
+      record { heap = is; rise = permuted_each IsRising lists heap p rise; apart = apart_permuted turn_cmp turn_of turn_total exact_turn all (waiting_heads heap) whole (numbered_apart 0 found) },
+      ap (map candidate_of) (sym (sort_by-IsPermutation turn_cmp turn_of turn_total exact_turn all (waiting_heads heap) whole (numbered_apart 0 found))) ∙ numbered_sorted 0 found,
     )
 
 -- ---- the first few

@@ -6,7 +6,7 @@ use Rattle.pq_base.proofs.Sorts.{each-sort_by}
 use Rattle.pq_schema.specs.declared.table.Access.{Access}
 use Rattle.pq_schema.specs.declared.table.Access.TheVariants.{Primary, Secondary}
 use Rattle.pq_store.specs.Content.{key_cmp}
-use Rattle.pq_store.specs.Counts.{Allowed}
+use Rattle.pq_store.specs.Counts.{AllowedCounts}
 use Rattle.pq_calls.specs.World.{Affords}
 use Rattle.pq_plan.specs.Nodes.{stop_scan}
 use Rattle.pq_nodes.specs.Operators.{AffordsNode}
@@ -24,7 +24,7 @@ cost_entries Primary rel n k = refl
 cost_entries (Secondary index) rel n k = refl
 
 -- the ranges are a part of the share
-pub ranges_share : (access : Access) (rel n k : ℕ) (allowed : Allowed) → AffordsNode allowed n (stop_scan rel k access) → Affords allowed n (n * k)
+pub ranges_share : (access : Access) (rel n k : ℕ) (allowed : AllowedCounts) → AffordsNode allowed n (stop_scan rel k access) → Affords allowed n (n * k)
 ranges_share access rel n k allowed left =
     let o = cost_ops access rel n k in
     let e = cost_entries access rel n k in

@@ -15,7 +15,7 @@ use Rattle.pq_schema.specs.declared.table.Access.TheVariants.{Primary, Secondary
 use Rattle.pq_schema.specs.declared.table.KeyPart.{KeyPart}
 use Rattle.pq_schema.specs.declared.table.Table.{Table}
 use Rattle.pq_schema.specs.Keys.{dirs_of}
-use Rattle.pq_schema.specs.Relations.{relation_at, table_of, fixed}
+use Rattle.pq_schema.specs.Relations.{relation_at, table_of, tied_set}
 use Rattle.pq_schema.specs.Rows.{Rows, cells, types_of}
 use Rattle.pq_schema.specs.Sequences.{columns_of, sequence_of}
 use Rattle.pq_schema.specs.Tables.{table_at}
@@ -25,7 +25,7 @@ use Rattle.pq_content.specs.Tables.{values_of}
 use Rattle.pq_content.proofs.Values.{values_of-columns_of}
 use Rattle.pq_entries.specs.Entries.{key_front, pair_of}
 use Rattle.pq_operands.specs.Ties.{cells_tied}
-use Rattle.pq_plan.specs.Answer.{Asked, rows_at, position}
+use Rattle.pq_plan.specs.Answer.{Question, rows_at, position}
 use Rattle.pq_plan.proofs.Kept.{row_fits}
 use Rattle.pq_plan.proofs.Orders.{in_permuted}
 use Rattle.pq_nodes.specs.Combos.{FitsTables}
@@ -33,12 +33,12 @@ use Rattle.pq_nodes.specs.Operators.{IsCursor}
 use Rattle.pq_serving.specs.Keys.{bound_key, higher, highest, lowest, range_low, range_high}
 use Rattle.pq_serving.specs.Laws.{IsScanned, Serves}
 use Rattle.pq_serving.specs.Scanning.{position_directions, constant, constants, own_preds, passes, lowers, uppers, first_direction, rest, ties, lies_within, lying, found, cells_of}
-use Rattle.pq_serving.specs.Starts.{under, start_of, filled}
+use Rattle.pq_serving.specs.Starts.{under, start_of, filled_values}
 use Rattle.pq_serving.proofs.Found.{found_position}
 use Rattle.pq_serving.proofs.Whole.{entry_scans, row_scans, served_is, wide_is, cursor_long}
 use Rattle.pq_scan.specs.declared.keys.Input.{Input}
 use Rattle.pq_scan.specs.declared.prepared.Scan.{Scan}
-use Rattle.pq_scan.specs.Candidates.{scanned_table, held_of, shown, AreFirst, candidate_at, row_candidate, input_candidates}
+use Rattle.pq_scan.specs.Candidates.{scanned_table, held_of, shown_values, AreFirst, candidate_at, row_candidate, input_candidates}
 use Rattle.pq_scan.specs.Inputs.{IsInputOf, low_code, high_code}
 use Rattle.pq_scan.specs.Prepared.{asked_over, item_directions, IsSound}
 
@@ -55,7 +55,7 @@ map_same f g [] h = refl
 map_same f g (x ∷ xs) h = λ i. h x (inl refl) i ∷ map_same f g xs (λ y there. h y (inr there)) i
 
 module _ (scan : Scan) (sound : IsSound scan) (rows : Rows) (after : Option (List Value)) (combo : List (List Value)) (input : Input) (of : IsInputOf scan combo input) where
-  abbrev q : Asked
+  abbrev q : Question
   q = asked_over scan rows
 
   abbrev p : ℕ
@@ -130,13 +130,13 @@ module _ (scan : Scan) (sound : IsSound scan) (rows : Rows) (after : Option (Lis
           range_is given
           ∙ ap (λ b. map (held_of scan.access scan.sequence) (cond b (take k (lying q p scan.sequence after combo)) [])) (sym passed)
 
-    shown_held : (access : Access) (s : List KeyPart) (r : List Value) → shown access s (held_of access s r) ≡ cells (columns_of s) r
+    shown_held : (access : Access) (s : List KeyPart) (r : List Value) → shown_values access s (held_of access s r) ≡ cells (columns_of s) r
     shown_held Primary s r = refl
     shown_held (Secondary index) s r = values_of-columns_of s r
 
-    position_of : (k : ℕ) (r : List Value) → In r (found q p scan.sequence k after combo) → position q (combo ++ r ∷ []) ≡ filled (constants q p combo) (drop (count_ones (fixed q.query p)) (cells (columns_of scan.sequence) r))
+    position_of : (k : ℕ) (r : List Value) → In r (found q p scan.sequence k after combo) → position q (combo ++ r ∷ []) ≡ filled_values (constants q p combo) (drop (count_ones (tied_set q.query p)) (cells (columns_of scan.sequence) r))
     position_of k =
-        subst (λ (s : List KeyPart). (r : List Value) → In r (found q p s k after combo) → position q (combo ++ r ∷ []) ≡ filled (constants q p combo) (drop (count_ones (fixed q.query p)) (cells (columns_of s) r))) (sym sound.sequence_is)
+        subst (λ (s : List KeyPart). (r : List Value) → In r (found q p s k after combo) → position q (combo ++ r ∷ []) ≡ filled_values (constants q p combo) (drop (count_ones (tied_set q.query p)) (cells (columns_of s) r))) (sym sound.sequence_is)
         (found_position q p (sequence_of (table_of q.tables q.query p) scan.access) after k combo (served_is q p is scan.access serves) (wide_is q p is scan.access serves) (cursor_long q p is after cursor) long)
       where
         long : suc (length combo) ≡ p
@@ -150,7 +150,7 @@ module _ (scan : Scan) (sound : IsSound scan) (rows : Rows) (after : Option (Lis
         ∙ map_map (held_of scan.access scan.sequence) (candidate_at scan input.constants place) some
         ∙ map_same (λ r. candidate_at scan input.constants place (held_of scan.access scan.sequence r)) (row_candidate scan rows place combo) some (λ r here i.
         record {
-          place = (ap (code_of scan.position_dirs) ((λ j. filled (constants_are j) (drop (count_ones (sound.fixed_is j)) (shown_held scan.access scan.sequence r j))) ∙ sym (position_of k r here))) i;
+          place = (ap (code_of scan.position_dirs) ((λ j. filled_values (constants_are j) (drop (count_ones (sound.fixed_is j)) (shown_held scan.access scan.sequence r j))) ∙ sym (position_of k r here))) i;
           input = place;
           held = held_of scan.access scan.sequence r;
         })

@@ -18,7 +18,7 @@ use Rattle.pq_content.specs.Tables.{values_of}
 use Rattle.pq_entries.specs.Entries.{IsEntryThere, AreFirstRows, AreFirstValues}
 use Rattle.pq_plan.specs.Answer.{position}
 use Rattle.pq_serving.specs.Scanning.{found}
-use Rattle.pq_serving.specs.Starts.{filled}
+use Rattle.pq_serving.specs.Starts.{filled_values}
 use Rattle.pq_scan.specs.declared.candidates.Candidate.{Candidate}
 use Rattle.pq_scan.specs.declared.prepared.Scan.{Scan}
 use Rattle.pq_scan.specs.Prepared.{asked_over}
@@ -33,9 +33,9 @@ held_of Primary sequence row = row
 held_of (Secondary index) sequence row = values_of sequence row
 
 -- the values in the sequence of what is kept
-abbrev pub shown : Access → List KeyPart → List Value → List Value
-shown Primary sequence held = cells (columns_of sequence) held
-shown (Secondary index) sequence held = held
+abbrev pub shown_values : Access → List KeyPart → List Value → List Value
+shown_values Primary sequence held = cells (columns_of sequence) held
+shown_values (Secondary index) sequence held = held
 
 -- what is kept fits, and an entry is there
 abbrev pub IsHeldOf : Table → ℕ → Option Content → Access → List Value → Type 0
@@ -57,7 +57,7 @@ AreFirst t table (Secondary index) low high limit held content =
 -- the code of the position, by the constants of an input
 abbrev pub place_code : Scan → List (Option Value) → List Value → List ℕ
 place_code scan constants held =
-    code_of scan.position_dirs (filled constants (drop (count_ones scan.fixed) (shown scan.access scan.sequence held)))
+    code_of scan.position_dirs (filled_values constants (drop (count_ones scan.fixed) (shown_values scan.access scan.sequence held)))
 
 abbrev pub candidate_at : Scan → List (Option Value) → ℕ → List Value → Candidate
 candidate_at scan constants input held = record { place = place_code scan constants held; input = input; held = held }

@@ -5,7 +5,7 @@ use Rattle.pq_base.specs.declared.value.Value.{Value}
 use Rattle.pq_schema.specs.declared.query.Op.{Op}
 use Rattle.pq_schema.specs.declared.query.Pred.{Pred}
 use Rattle.pq_schema.specs.Relations.{belongs_to}
-use Rattle.pq_plan.specs.Answer.{Asked, side}
+use Rattle.pq_plan.specs.Answer.{Question, side}
 use Rattle.pq_serving.specs.Keys.{bound_key, higher, lesser, highest, lowest}
 use Rattle.pq_serving.specs.Scanning.{is_tied, passes_one, bounds_with, first_direction, rest}
 use Rattle.pq_serving.specs.Starts.{Bound, under, start_of, lower, upper, at_value, past_value}
@@ -20,7 +20,7 @@ use Rattle.pq_scan.specs.declared.keys.End.TheVariants.{Low, High}
 use Rattle.pq_scan.specs.declared.starts.Start.{Start}
 
 -- it is of another relation, or says so of the input
-abbrev pub passes_own : Asked → ℕ → List (List Value) → Pred → Bool
+abbrev pub passes_own : Question → ℕ → List (List Value) → Pred → Bool
 passes_own q p combo pred = not (belongs_to pred == p) || passes_one q p combo pred
 
 abbrev pub bound_of : Start → Bound
@@ -42,12 +42,12 @@ bounds_by Low d op w = lower d op w
 bounds_by High d op w = upper d op w
 
 -- those of a predicate with its operand
-abbrev pub pred_bounds : Asked → ℕ → End → Dir → List (List Value) → Pred → List Bound
+abbrev pub pred_bounds : Question → ℕ → End → Dir → List (List Value) → Pred → List Bound
 pred_bounds q p end d combo pred =
     cond (is_tied q p pred) [] (bounds_with q p (bounds_by end d pred.op) (side q.params combo pred.right))
 
 -- those of the predicates that belong to the relation
-abbrev pub own_bounds : Asked → ℕ → End → Dir → List (List Value) → List Pred → List Bound
+abbrev pub own_bounds : Question → ℕ → End → Dir → List (List Value) → List Pred → List Bound
 own_bounds q p end d combo preds = flat_map (pred_bounds q p end d combo) (filter (λ pred. belongs_to pred == p) preds)
 
 -- which of two keys is the end: the higher low one, the lesser high one
@@ -71,9 +71,9 @@ direction_of None = Asc
 direction_of (Some part) = part.dir
 
 -- a low end, and the start that a cursor makes
-abbrev pub started : List Dir → List Value → List Dir → List (Option Value) → Option (List Value) → List ℕ → List ℕ
-started ds e position_dirs constants None key = key
-started ds e position_dirs constants (Some at) key =
+abbrev pub started_key : List Dir → List Value → List Dir → List (Option Value) → Option (List Value) → List ℕ → List ℕ
+started_key ds e position_dirs constants None key = key
+started_key ds e position_dirs constants (Some at) key =
     higher (bound_key ds (under e (start_of position_dirs constants at))) key
 
 -- an end of an input's range as a code, before a cursor plays a part

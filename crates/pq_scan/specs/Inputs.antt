@@ -7,7 +7,7 @@ use Rattle.pq_scan.specs.declared.keys.Edge.TheVariants.{At, Past}
 use Rattle.pq_scan.specs.declared.keys.End.TheVariants.{Low, High}
 use Rattle.pq_scan.specs.declared.keys.Input.{Input}
 use Rattle.pq_scan.specs.declared.prepared.Scan.{Scan}
-use Rattle.pq_scan.specs.Ends.{started, end_code}
+use Rattle.pq_scan.specs.Ends.{started_key, end_code}
 use Rattle.pq_scan.specs.Prepared.{asked_over}
 
 pub record IsInputOf (scan : Scan) (combo : List (List Value)) (input : Input) : Type 0 where
@@ -17,7 +17,7 @@ pub record IsInputOf (scan : Scan) (combo : List (List Value)) (input : Input) :
 -- where the range of an input starts, strictly after a cursor, and before which code it ends
 abbrev pub low_code : Scan → List (List Value) → Input → Option (List Value) → List ℕ
 low_code scan combo input after =
-    started scan.dirs input.ties scan.position_dirs input.constants after (end_code scan combo input.ties Low At)
+    started_key scan.dirs input.ties scan.position_dirs input.constants after (end_code scan combo input.ties Low At)
 
 abbrev pub high_code : Scan → List (List Value) → Input → List ℕ
 high_code scan combo input = end_code scan combo input.ties High Past

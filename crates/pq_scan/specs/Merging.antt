@@ -31,9 +31,9 @@ abbrev pub candidate_of : Numbered → Candidate
 candidate_of item = item.candidate
 
 -- with their numbers, from one on
-abbrev pub numbered : ℕ → List Candidate → List Numbered
-numbered n [] = []
-numbered n (c ∷ cs) = record { candidate = c; number = n } ∷ numbered (n + 1) cs
+abbrev pub numbered_from : ℕ → List Candidate → List Numbered
+numbered_from n [] = []
+numbered_from n (c ∷ cs) = record { candidate = c; number = n } ∷ numbered_from (n + 1) cs
 
 -- ---- lists
 
@@ -48,11 +48,11 @@ pub head_total : IsTotalOrder head_cmp
 head_total = back_total (on_total head_turn turn_total)
 
 -- all of a list, and of lists
-abbrev pub listed : Rising → List Numbered
-listed list = list.head ∷ list.behind.items
+abbrev pub numbered_items : Rising → List Numbered
+numbered_items list = list.head ∷ list.behind.items
 
-abbrev pub waiting : List Rising → List Numbered
-waiting = flat_map listed
+abbrev pub waiting_heads : List Rising → List Numbered
+waiting_heads = flat_map numbered_items
 
 -- x doesn't come behind y
 abbrev pub IsUpTo : Numbered → Numbered → Type 0
@@ -72,17 +72,17 @@ pub record IsRising (list : Rising) : Type 0 where
 pub record IsMerge (lists : List Rising) : Type 0 where
   pub heap : IsHeap head_cmp lists
   pub rise : AllByRecursion IsRising lists
-  pub apart : Apart turn_cmp turn_of (waiting lists)
+  pub apart : Apart turn_cmp turn_of (waiting_heads lists)
 
 -- what the lists have, in order
-abbrev pub merged : List Rising → List Candidate
-merged lists = map candidate_of (sort_by turn_cmp turn_of (waiting lists))
+abbrev pub merged_lists : List Rising → List Candidate
+merged_lists lists = map candidate_of (sort_by turn_cmp turn_of (waiting_heads lists))
 
 -- what is left of a list joins the others
 pub record PutsBack (list : List Numbered) (before now : List Rising) : Type 0 where
   pub heap : IsHeap head_cmp before → IsHeap head_cmp now
   pub rise : Falls list → AllByRecursion IsRising before → AllByRecursion IsRising now
-  pub same : IsPermutation (list ++ waiting before) (waiting now)
+  pub same : IsPermutation (list ++ waiting_heads before) (waiting_heads now)
 
 abbrev pub GivesNext : List Candidate → List Candidate → Option Candidate → Type 0
 GivesNext before now None = before ≡ []

@@ -9,11 +9,11 @@ use Rattle.pq_schema.specs.declared.query.Query.{Query}
 use Rattle.pq_schema.specs.declared.table.Access.{Access}
 use Rattle.pq_schema.specs.declared.table.Table.{Table}
 use Rattle.pq_schema.specs.Keys.{dirs_of}
-use Rattle.pq_schema.specs.Relations.{fixed, position_columns, relation_at, table_of}
+use Rattle.pq_schema.specs.Relations.{tied_set, position_columns, relation_at, table_of}
 use Rattle.pq_schema.specs.Rows.{Rows}
 use Rattle.pq_schema.specs.Sequences.{columns_of, sequence_of}
 use Rattle.pq_schema.specs.Candidates.{can_stop_at}
-use Rattle.pq_plan.specs.Answer.{Asked}
+use Rattle.pq_plan.specs.Answer.{Question}
 use Rattle.pq_nodes.specs.Inverse.{IsRelationOf}
 use Rattle.pq_nodes.specs.Operators.{IsAsked}
 use Rattle.pq_serving.specs.Laws.{Serves}
@@ -42,16 +42,16 @@ subject_of scan =
     }
 
 -- the query and its parameters over rows
-abbrev pub asked_over : Scan → Rows → Asked
+abbrev pub asked_over : Scan → Rows → Question
 asked_over scan rows =
     record { tables = scan.catalog.now.tables; query = scan.query.now; rows = rows; params = scan.params.now }
 
 -- the parts of a scan are what they are called
 pub record IsSound (scan : Scan) : Type 0 where
   pub number_is : scan.number ≡ (relation_at scan.query.now scan.rel).table
-  pub fixed_is : scan.fixed ≡ fixed scan.query.now scan.rel
+  pub fixed_is : scan.fixed ≡ tied_set scan.query.now scan.rel
   pub sequence_is : scan.sequence ≡ sequence_of (table_of scan.catalog.now.tables scan.query.now scan.rel) scan.access
-  pub front_is : scan.front ≡ take (count_ones (fixed scan.query.now scan.rel)) (columns_of scan.sequence)
+  pub front_is : scan.front ≡ take (count_ones (tied_set scan.query.now scan.rel)) (columns_of scan.sequence)
   pub dirs_is : scan.dirs ≡ dirs_of scan.sequence
   pub items_is : scan.items ≡ position_columns scan.catalog.now.tables scan.query.now
   pub position_dirs_is : scan.position_dirs ≡ item_directions scan.items

@@ -7,8 +7,8 @@ ghost use Rattle.pq_key_code.specs.KeyCode.{code_of};
 ghost use Rattle.pq_schema.specs.Relations.{belongs_to};
 ghost use Rattle.pq_serving.specs.Keys.{bound_key, higher, lesser};
 ghost use Rattle.pq_serving.specs.Scanning.{first_direction, rest};
-ghost use Rattle.pq_serving.specs.Starts.{under, lower, upper, filled};
-ghost use Rattle.pq_scan.specs.Ends.{is_past, edge_bounds, bounds_by, pred_bounds, own_bounds, farther, farthest, with_key, bound_of, direction_of, started, end_code};
+ghost use Rattle.pq_serving.specs.Starts.{under, lower, upper, filled_values};
+ghost use Rattle.pq_scan.specs.Ends.{is_past, edge_bounds, bounds_by, pred_bounds, own_bounds, farther, farthest, with_key, bound_of, direction_of, started_key, end_code};
 ghost use Rattle.pq_scan.specs.Inputs.{IsInputOf, low_code, high_code};
 ghost use Rattle.pq_entries.specs.Entries.{key_front};
 ghost use Rattle.pq_scan.specs.Prepared.{asked_over, IsSound};
@@ -189,7 +189,8 @@ fn pred_key(
     requires sound { IsSound scan.now }
     requires column { pred.now.left.col < 32 }
     ensures { IfOk result (λ key. option_to_list key ≡ map (λ b. bound_key scan.now.dirs (under ties.now b))
-        (cond (belongs_to pred.now == scan.now.rel) (pred_bounds (asked_over scan.now []) scan.now.rel end dir combo.now pred.now) [])) }
+        (cond (belongs_to pred.now == scan.now.rel)
+        (pred_bounds (asked_over scan.now []) scan.now.rel end dir combo.now pred.now) [])) }
 {
     if belongs_to(pred) != scan.rel || is_tied(scan, pred) {
         return Ok(None);
@@ -261,7 +262,7 @@ fn with_start(
     after: Option<&Row>,
     key: Bytes,
 ) -> Result<Bytes, NoMem>
-    ensures { IfOk result (λ low. low ≡ started scan.now.dirs ties.now scan.now.position_dirs constants.now
+    ensures { IfOk result (λ low. low ≡ started_key scan.now.dirs ties.now scan.now.position_dirs constants.now
         (option_copied after.entry) key) }
 {
     match after {
@@ -359,7 +360,7 @@ pub(crate) fn place_of(
     constants: &[Option<Value>],
     values: &[Value],
 ) -> Result<Bytes, NoMem>
-    ensures { IfOk result (λ key. key ≡ code_of scan.now.position_dirs (filled constants.now (drop
+    ensures { IfOk result (λ key. key ≡ code_of scan.now.position_dirs (filled_values constants.now (drop
         (count_ones scan.now.fixed) values.now))) }
 {
     let tied = scan.fixed.count() as usize;

@@ -7,7 +7,7 @@ ghost use Rattle.std.specs.Ordering.{eq_by_cmp, as_partial_cmp};
 ghost use Rattle.pq_base.specs.Sorting.{sort_by};
 ghost use Rattle.pq_store.specs.Content.{key_cmp};
 ghost use Rattle.pq_scan.specs.Candidates.{place_of_candidate};
-ghost use Rattle.pq_scan.specs.Merging.{turn_of, turn_cmp, head_cmp, head_total, numbered, listed, waiting, IsRising, IsMerge, merged, PutsBack, GivesNext};
+ghost use Rattle.pq_scan.specs.Merging.{turn_of, turn_cmp, head_cmp, head_total, numbered_from, numbered_items, waiting_heads, IsRising, IsMerge, merged_lists, PutsBack, GivesNext};
 
 use crate::candidates::Candidate;
 use pq_base::{List, NoMem};
@@ -92,8 +92,8 @@ fn put_before(
     requires all_rise { AllByRecursion IsRising lists.old.items }
     ensures rises { IfOk result IsRising }
     ensures all_rise { OnOk result (AllByRecursion IsRising lists.new.items) }
-    ensures same { IfOk result (λ made. IsPermutation (item ∷ (listed list ++ waiting lists.old.items))
-        (listed made ++ waiting lists.new.items)) }
+    ensures same { IfOk result (λ made. IsPermutation (item ∷ (numbered_items list ++ waiting_heads lists.old.items))
+        (numbered_items made ++ waiting_heads lists.new.items)) }
 {
     if item.turn(&list.head).is_gt() {
         lists.push(list)?;
@@ -111,7 +111,7 @@ fn put_before(
 /// in the order of their positions it makes at most one.
 fn rising_lists(alloc: Global, mut found: Vec<Candidate>) -> Result<Vec<Rising>, NoMem>
     ensures rise { IfOk result (λ lists. AllByRecursion IsRising lists.items) }
-    ensures same { IfOk result (λ lists. IsPermutation (numbered 0 found.items) (waiting lists.items)) }
+    ensures same { IfOk result (λ lists. IsPermutation (numbered_from 0 found.items) (waiting_heads lists.items)) }
 {
     let mut lists = Vec::new(alloc);
     let Some(candidate) = found.pop() else {
@@ -144,7 +144,7 @@ impl Merge {
     pub(crate) fn over(alloc: Global, found: List<Candidate>) -> Result<Merge, NoMem>
         ensures ready { IfOk result (λ merge. IsMerge (heap_items merge.heap)) }
         ensures merged { IfOk result (λ merge.
-            merged (heap_items merge.heap) ≡ sort_by key_cmp place_of_candidate found) }
+            merged_lists (heap_items merge.heap) ≡ sort_by key_cmp place_of_candidate found) }
     {
         let lists = rising_lists(alloc, found.into_vec())?;
         Ok(Merge {
@@ -166,7 +166,7 @@ impl Merge {
     fn next(&mut self) -> Result<Option<Candidate>, NoMem>
         requires { IsMerge (heap_items self.old.heap) }
         ensures ready { OnOk result (IsMerge (heap_items self.new.heap)) }
-        ensures next { IfOk result (GivesNext (merged (heap_items self.old.heap)) (merged (heap_items self.new.heap))) }
+        ensures next { IfOk result (GivesNext (merged_lists (heap_items self.old.heap)) (merged_lists (heap_items self.new.heap))) }
     {
         let Some(Rising { head, behind }) = self.heap.pop() else {
             return Ok(None);
@@ -179,7 +179,7 @@ impl Merge {
     /// takes one pop and one push on a heap of as many lists as are left. The merge is spent.
     pub(crate) fn first(mut self, alloc: Global, k: usize) -> Result<List<Candidate>, NoMem>
         requires { IsMerge (heap_items self.heap) }
-        ensures { IfOk result (λ first. first ≡ take k (merged (heap_items self.heap))) }
+        ensures { IfOk result (λ first. first ≡ take k (merged_lists (heap_items self.heap))) }
     {
         let mut first = List::new(alloc);
         for _ in 0..k {

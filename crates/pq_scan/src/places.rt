@@ -2,7 +2,7 @@
 ghost use Rattle.std.specs.Prelude.{◌≡◌, [], ◌<◌, ◌++◌, map, drop, unwrap_or, option_copied, slice_index_or, IfOk};
 ghost use Rattle.pq_schema.specs.Rows.{no_value};
 ghost use Rattle.pq_plan.specs.Answer.{cell};
-ghost use Rattle.pq_serving.specs.Starts.{filled};
+ghost use Rattle.pq_serving.specs.Starts.{filled_values};
 ghost use Rattle.pq_serving.specs.Scanning.{constant_value, constant};
 ghost use Rattle.pq_scan.specs.Prepared.{asked_over, IsSound};
 
@@ -83,7 +83,7 @@ fn filled_behind(
     own: &[Value],
     mut row: Row,
 ) -> Result<Row, NoMem>
-    ensures { IfOk result (λ whole. whole ≡ row ++ filled constants.now own.now) }
+    ensures { IfOk result (λ whole. whole ≡ row ++ filled_values constants.now own.now) }
 {
     let Some((constant, constants)) = constants.split_first() else {
         return Ok(row);
@@ -121,7 +121,7 @@ pub(crate) fn position(
     tied: usize,
     values: &[Value],
 ) -> Result<Row, NoMem>
-    ensures { IfOk result (λ position. position ≡ filled constants.now (drop tied values.now)) }
+    ensures { IfOk result (λ position. position ≡ filled_values constants.now (drop tied values.now)) }
 {
     filled_behind(alloc, constants, values_from(values, tied), Row::new(alloc))
 }

@@ -1,6 +1,6 @@
 //! Where the range of an input starts.
 ghost use Rattle.std.specs.Prelude.{◌≡◌, ◌++◌, IfOk};
-ghost use Rattle.pq_base.specs.Order.{directed, value_cmp};
+ghost use Rattle.pq_base.specs.Order.{directed_order, value_cmp};
 ghost use Rattle.pq_serving.specs.Starts.{start_of};
 ghost use Rattle.pq_scan.specs.Ends.{bound_of};
 
@@ -18,7 +18,7 @@ pub(crate) struct Start {
 
 /// The order of two values in a direction.
 fn order_in(dir: Dir, a: &Value, b: &Value) -> Ordering
-    ensures { result ≡ directed dir (value_cmp a.now b.now) }
+    ensures { result ≡ directed_order dir (value_cmp a.now b.now) }
 {
     match dir {
         Dir::Asc => order_of(a, b),

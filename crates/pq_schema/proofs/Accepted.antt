@@ -24,7 +24,7 @@ use Rattle.pq_schema.specs.declared.table.Limit.{Limit}
 use Rattle.pq_schema.specs.declared.table.Foreign.{Foreign}
 use Rattle.pq_schema.specs.declared.table.Index.{Index}
 use Rattle.pq_schema.specs.declared.table.Table.{Table}
-use Rattle.pq_schema.specs.Definitions.{text_size, cardinality, has_type, column_of, is_column, is_unknown, place_of, places_of, no_column, repeated, refused_if, is_outside, first_repeated, definition_refusal, name_refusal, counts_refusal, columns_refusal, names_refusal, key_refusal, limit_refusal, limits_refusal, has_shape, reference_refusal, foreign_refusal, foreigns_refusal, groups_refusal, table_refusal, limit_of_def, foreign_of_def, bare_table, table_of_def, or_ok, new_table}
+use Rattle.pq_schema.specs.Definitions.{text_size, cardinality, has_type, column_of, is_column, is_unknown, place_of, places_of, no_column, repeated_name, refused_if, is_outside, first_repeated, definition_refusal, name_refusal, counts_refusal, columns_refusal, names_refusal, key_refusal, limit_refusal, limits_refusal, has_shape, reference_refusal, foreign_refusal, foreigns_refusal, groups_refusal, table_refusal, limit_of_def, foreign_of_def, bare_table, table_of_def, or_ok, new_table}
 use Rattle.pq_schema.specs.Schema.{Schema, find_table, is_table, is_taken, number_of}
 use Rattle.pq_schema.specs.Sequences.{groups, group_access, with_group}
 use Rattle.pq_schema.specs.Sound.{IsTable, IsBare, AreColumns, IsSized, AreKeyColumns, IsMadeLimit, IsMadeForeign, IsMade}
@@ -105,9 +105,9 @@ module _ (columns : List ColumnDef) where
   -- names that are not refused have different places among the columns
   names_made : (names : List (List ℕ)) → names_refusal columns names ≡ None → All (λ col. col < length columns) (places_of columns names) × IsDifferent (places_of columns names)
   names_made names none =
-      let parts = neither (option_map no_column (find (is_unknown columns) names)) (option_map repeated (first_repeated names)) none in
+      let parts = neither (option_map no_column (find (is_unknown columns) names)) (option_map repeated_name (first_repeated names)) none in
       let known = known_names columns names (none_mapped no_column (find (is_unknown columns) names) parts.0) in
-      (places_within columns names known, different_places columns names known (none_mapped repeated (first_repeated names) parts.1))
+      (places_within columns names known, different_places columns names known (none_mapped repeated_name (first_repeated names) parts.1))
 
   key_columns : (names : List (List ℕ)) → names_refusal columns names ≡ None → is_outside (length names) 4 ≡ false → AreKeyColumns (length columns) (places_of columns names)
   key_columns names none count =
@@ -272,7 +272,7 @@ module _ (schema : Schema) (def : TableDef) (none : table_refusal schema def ≡
 
   types : list_all has_type def.columns ≡ true
   types =
-      let names = option_map repeated (first_repeated (map (λ (column : ColumnDef). column.name) def.columns)) in
+      let names = option_map repeated_name (first_repeated (map (λ (column : ColumnDef). column.name) def.columns)) in
       let one = neither (refused_if (not (list_all has_type def.columns)) (refusal.Count count_word.TEXT)) names third.0 in
       not-false (list_all has_type def.columns) (not_refused (not (list_all has_type def.columns)) (refusal.Count count_word.TEXT) one.0)
 

@@ -15,7 +15,7 @@ use Rattle.pq_schema.specs.declared.table.Index.{Index}
 use Rattle.pq_schema.specs.declared.table.KeyPart.{KeyPart}
 use Rattle.pq_schema.specs.declared.table.Table.{Table}
 use Rattle.pq_schema.specs.Schema.{with_new_index}
-use Rattle.pq_schema.specs.Sequences.{ascending, columns_of, without, primary_sequence, index_sequence, begins_with, group_access, secondary, with_group}
+use Rattle.pq_schema.specs.Sequences.{ascending_part, columns_of, without, primary_sequence, index_sequence, begins_with, group_access, secondary, with_group}
 use Rattle.pq_schema.specs.Sound.{IsTable, AreColumns, AreParts}
 use Rattle.pq_schema.proofs.Counts.{position_is}
 
@@ -88,23 +88,23 @@ index_has table index set begins =
 -- ---- an index on a group
 
 abbrev pub group_index : List ℕ → Index
-group_index cols = record { cols = map ascending cols }
+group_index cols = record { cols = map ascending_part cols }
 
 abbrev pub IsDifferent : List ℕ → Type 0
 IsDifferent cols = count_ones (set_of cols) ≡ length cols
 
-columns_ascending : (cols : List ℕ) → columns_of (map ascending cols) ≡ cols
+columns_ascending : (cols : List ℕ) → columns_of (map ascending_part cols) ≡ cols
 columns_ascending [] = refl
 columns_ascending (col ∷ cols) = ap (λ (rest : List ℕ). col ∷ rest) (columns_ascending cols)
 
 own_begins : (table : Table) (cols : List ℕ) → IsDifferent cols → begins_with (index_sequence table (group_index cols)) (set_of cols) ≡ true
 own_begins table cols different =
-    let left = map ascending (without (set_of (columns_of (map ascending cols))) table.key) in
-    let all : columns_of (map ascending cols ++ left) ≡ cols ++ columns_of left =
-    map-append (λ (part : KeyPart). part.col) (map ascending cols) left ∙ ap (λ (cs : List ℕ). cs ++ columns_of left) (columns_ascending cols) in
-    let first : take (count_ones (set_of cols)) (columns_of (map ascending cols ++ left)) ≡ cols =
-    ap (λ n. take n (columns_of (map ascending cols ++ left))) different ∙ ap (take (length cols)) all ∙ take-append_seam cols (columns_of left) in
-    eq-eqb (set_of (take (count_ones (set_of cols)) (columns_of (map ascending cols ++ left)))) (set_of cols) (ap set_of first)
+    let left = map ascending_part (without (set_of (columns_of (map ascending_part cols))) table.key) in
+    let all : columns_of (map ascending_part cols ++ left) ≡ cols ++ columns_of left =
+    map-append (λ (part : KeyPart). part.col) (map ascending_part cols) left ∙ ap (λ (cs : List ℕ). cs ++ columns_of left) (columns_ascending cols) in
+    let first : take (count_ones (set_of cols)) (columns_of (map ascending_part cols ++ left)) ≡ cols =
+    ap (λ n. take n (columns_of (map ascending_part cols ++ left))) different ∙ ap (take (length cols)) all ∙ take-append_seam cols (columns_of left) in
+    eq-eqb (set_of (take (count_ones (set_of cols)) (columns_of (map ascending_part cols ++ left)))) (set_of cols) (ap set_of first)
 
 -- what holds of the table, and of the table with the index where no sequence begins with the set, holds with the group
 group_cases : (P : Table → Type 0) (table : Table) (cols : List ℕ) → (IsSome (group_access table (set_of cols)) → P table) → P (with_new_index table (group_index cols)) → P (with_group table cols)
@@ -168,8 +168,8 @@ AreInside width indexes = All (λ index. All (λ part. part.col < width) index.c
 pub inside_more : (width : ℕ) (indexes : List Index) (index : Index) → AreInside width indexes → All (λ part. part.col < width) index.cols → AreInside width (indexes ++ index ∷ [])
 inside_more width indexes index all one = All-push (λ (i : Index). All (λ part. part.col < width) i.cols) indexes index all one
 
-group_parts : (width : ℕ) (cols : List ℕ) → All (λ col. col < width) cols → All (λ part. part.col < width) (map ascending cols)
-group_parts width cols all = All-map (λ part. part.col < width) ascending cols all
+group_parts : (width : ℕ) (cols : List ℕ) → All (λ col. col < width) cols → All (λ part. part.col < width) (map ascending_part cols)
+group_parts width cols all = All-map (λ part. part.col < width) ascending_part cols all
 
 group_inside : (width : ℕ) (table : Table) (cols : List ℕ) → AreInside width table.indexes → All (λ col. col < width) cols → AreInside width (with_group table cols).indexes
 group_inside width table cols all inside =

@@ -9,7 +9,7 @@ use Rattle.std.specs.Int.{bit_at}
 use Rattle.pq_base.specs.Columns.{has_col}
 use Rattle.pq_schema.specs.declared.table.KeyPart.{KeyPart}
 use Rattle.pq_schema.specs.Sound.{AreColumns, AreParts}
-use Rattle.pq_schema.specs.Sequences.{then_key, without, ascending}
+use Rattle.pq_schema.specs.Sequences.{then_key, without, ascending_part}
 
 pub past : {X : Type 0} (xs : List X) (i : ℕ) → slice_get xs i ≡ None → length xs ≤ i
 past xs i none = elim ((slice_get_cases xs i).1) [
@@ -30,8 +30,8 @@ one_more f xs i x is =
 
 pub sequence_columns : (parts : List KeyPart) (set : ℕ) (key : List ℕ) → AreParts parts → AreColumns key → AreParts (then_key parts set key)
 sequence_columns parts set key p k =
-    All-append (λ part. part.col < 32) parts (map ascending (without set key)) p
-    (All-map (λ part. part.col < 32) ascending (without set key) (All-filter (λ col. not (has_col set col)) (λ col. col < 32) key k))
+    All-append (λ part. part.col < 32) parts (map ascending_part (without set key)) p
+    (All-map (λ part. part.col < 32) ascending_part (without set key) (All-filter (λ col. not (has_col set col)) (λ col. col < 32) key k))
 
 pub column_at : (parts : List KeyPart) (i : ℕ) (part : KeyPart) → AreParts parts → slice_get parts i ≡ Some part → part.col < 32
 column_at parts i part all is =

@@ -21,9 +21,9 @@ use Rattle.pq_schema.specs.declared.query.Relation.{Relation}
 use Rattle.pq_schema.specs.declared.query.Query.{Query}
 use Rattle.pq_schema.specs.declared.query.Stop.{Stop as StopWord}
 use Rattle.pq_schema.specs.declared.query.Stop.TheVariants as stop
-use Rattle.pq_schema.specs.Sequences.{ascending, with_groups, serving, new_index, index_sequence}
+use Rattle.pq_schema.specs.Sequences.{ascending_part, with_groups, serving_access, new_index, index_sequence}
 use Rattle.pq_schema.specs.Tables.{limit_place}
-use Rattle.pq_schema.specs.Relations.{fixed, order_rest, position_columns, is_total}
+use Rattle.pq_schema.specs.Relations.{tied_set, order_rest, position_columns, is_total}
 use Rattle.pq_schema.specs.Costs.{bound}
 use Rattle.pq_schema.specs.Candidates.{Candidate, candidates, least}
 
@@ -84,7 +84,7 @@ abbrev pub tables : List Table
 tables = users ∷ subs ∷ thoughts ∷ []
 
 -- the index (target) of subs
-made_subs : subs.indexes ≡ record { cols = ascending 1 ∷ [] } ∷ []
+made_subs : subs.indexes ≡ record { cols = ascending_part 1 ∷ [] } ∷ []
 unfolding ones
 made_subs = refl
 
@@ -106,11 +106,11 @@ home_all : length (candidates tables home) ≡ 1
 unfolding ones
 home_all = refl
 
-home_access : serving thoughts (fixed home 2) (order_rest home 2) ≡ None
+home_access : serving_access thoughts (tied_set home 2) (order_rest home 2) ≡ None
 unfolding ones
 home_access = refl
 
-home_index : new_index thoughts (fixed home 2) (order_rest home 2) ≡ record { cols = ascending 0 ∷ record { col = 1; dir = Desc } ∷ [] }
+home_index : new_index thoughts (tied_set home 2) (order_rest home 2) ≡ record { cols = ascending_part 0 ∷ record { col = 1; dir = Desc } ∷ [] }
 unfolding ones
 home_index = refl
 
@@ -130,7 +130,7 @@ city_least : chosen tables (in_city (stop.Limit 10)) ≡ stops 1 11 20
 unfolding ones
 city_least = refl
 
-city_index : new_index users (fixed (in_city (stop.Limit 10)) 1) (order_rest (in_city (stop.Limit 10)) 1) ≡ record { cols = ascending 1 ∷ [] }
+city_index : new_index users (tied_set (in_city (stop.Limit 10)) 1) (order_rest (in_city (stop.Limit 10)) 1) ≡ record { cols = ascending_part 1 ∷ [] }
 unfolding ones
 city_index = refl
 
@@ -151,7 +151,7 @@ friends_least : chosen tables (friends []) ≡ stops 1 11 20
 unfolding ones
 friends_least = refl
 
-friends_access : serving subs (fixed (friends []) 1) (order_rest (friends []) 1) ≡ Some Primary
+friends_access : serving_access subs (tied_set (friends []) 1) (order_rest (friends []) 1) ≡ Some Primary
 unfolding ones
 friends_access = refl
 
@@ -174,7 +174,7 @@ pages_least : chosen (m ∷ []) (pages (stop.Paginate 2)) ≡ stops 1 3 4
 unfolding ones
 pages_least = refl
 
-pages_index : new_index m (fixed (pages (stop.Limit 2)) 1) (order_rest (pages (stop.Limit 2)) 1) ≡ record { cols = ascending 1 ∷ [] }
+pages_index : new_index m (tied_set (pages (stop.Limit 2)) 1) (order_rest (pages (stop.Limit 2)) 1) ≡ record { cols = ascending_part 1 ∷ [] }
 unfolding ones
 pages_index = refl
 
@@ -220,11 +220,11 @@ pair_least = refl
 abbrev pub k : Table
 k = made (any_column ∷ any_column ∷ any_column ∷ []) (0 ∷ 1 ∷ []) (limit 5 (2 ∷ 1 ∷ []) ∷ []) []
 
-k_index : k.indexes ≡ record { cols = ascending 2 ∷ ascending 1 ∷ [] } ∷ []
+k_index : k.indexes ≡ record { cols = ascending_part 2 ∷ ascending_part 1 ∷ [] } ∷ []
 unfolding ones
 k_index = refl
 
-k_sequence : index_sequence k (record { cols = ascending 2 ∷ ascending 1 ∷ [] }) ≡ ascending 2 ∷ ascending 1 ∷ ascending 0 ∷ []
+k_sequence : index_sequence k (record { cols = ascending_part 2 ∷ ascending_part 1 ∷ [] }) ≡ ascending_part 2 ∷ ascending_part 1 ∷ ascending_part 0 ∷ []
 unfolding ones
 k_sequence = refl
 
@@ -236,16 +236,16 @@ kx_least : chosen (k ∷ []) kx ≡ stops 1 4 6
 unfolding ones
 kx_least = refl
 
-kx_access : serving k (fixed kx 1) (order_rest kx 1) ≡ None
+kx_access : serving_access k (tied_set kx 1) (order_rest kx 1) ≡ None
 unfolding ones
 kx_access = refl
 
-kx_new : new_index k (fixed kx 1) (order_rest kx 1) ≡ record { cols = ascending 2 ∷ [] }
+kx_new : new_index k (tied_set kx 1) (order_rest kx 1) ≡ record { cols = ascending_part 2 ∷ [] }
 unfolding ones
 kx_new = refl
 
 -- WHERE x = [1] ORDER BY b: the index serves
-kb : serving k 4 (ascending 1 ∷ []) ≡ Some (Secondary 1)
+kb : serving_access k 4 (ascending_part 1 ∷ []) ≡ Some (Secondary 1)
 unfolding ones
 kb = refl
 

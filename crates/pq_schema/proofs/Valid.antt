@@ -25,18 +25,18 @@ use Rattle.pq_schema.specs.declared.table.KeyPart.{KeyPart}
 use Rattle.pq_schema.specs.declared.table.Limit.{Limit}
 use Rattle.pq_schema.specs.declared.table.NewIndex.{NewIndex}
 use Rattle.pq_schema.specs.declared.table.Table.{Table}
-use Rattle.pq_schema.specs.Candidates.{Candidate, candidates, whole, stop_at, stop_size, can_stop_at, lesser, least, reached_after, are_bounded, stop_cost}
+use Rattle.pq_schema.specs.Candidates.{Candidate, candidates, whole_candidates, stop_at, stop_size, can_stop_at, lesser, least, reached_after, are_bounded, stop_cost}
 use Rattle.pq_schema.specs.Costs.{is_less}
 use Rattle.pq_schema.specs.Definitions.{definition_refusal}
-use Rattle.pq_schema.specs.Relations.{relation_at, table_of, fixed, order_rest, is_rest, part_of, no_relation}
+use Rattle.pq_schema.specs.Relations.{relation_at, table_of, tied_set, order_rest, is_rest, part_of, no_relation}
 use Rattle.pq_schema.specs.Resolved.{IsRelation, IsColumnOf, IsResolved}
 use Rattle.pq_schema.specs.Schema.{Schema, IsSmall, empty_schema, with_query, with_wanted, with_new_index, made_of}
-use Rattle.pq_schema.specs.Sequences.{ascending, group_access, serving, new_index}
+use Rattle.pq_schema.specs.Sequences.{ascending_part, group_access, serving_access, new_index}
 use Rattle.pq_schema.specs.Sound.{IsMadeForeign, IsMade, AreMade}
 use Rattle.pq_schema.specs.Tables.{no_table, table_at, types_at, same_kinds}
 use Rattle.pq_schema.specs.Valid.{IsValid, IsSound}
 use Rattle.pq_schema.specs.Valid.IsValid.{empty, then_table, then_query}
-use Rattle.pq_schema.specs.Wanted.{is_large, index_at, index_of, too_many_indexes, Chosen, with_index, chosen_of, no_bound, IsWanted}
+use Rattle.pq_schema.specs.Wanted.{is_large, index_at, index_of, too_many_indexes, ChosenCandidate, with_index, chosen_of, no_bound, IsWanted}
 use Rattle.pq_schema.proofs.Accepted.{accepted, definition_room, table_room, room, made_none, made_by_def}
 use Rattle.pq_schema.proofs.Groups.{index_keeps, inside_more}
 
@@ -215,7 +215,7 @@ module _ (tables : List Table) (query : Query) where
   all_places : AllByRecursion (HasPlace (length query.relations)) (candidates tables query)
   all_places =
       let m = length query.relations in
-      rec_append (HasPlace m) (whole tables query) (option_map_or (λ k. flat_map (stop_at tables query k) (range_with_len 1 m)) (stop_size query.stop) [])
+      rec_append (HasPlace m) (whole_candidates tables query) (option_map_or (λ k. flat_map (stop_at tables query k) (range_with_len 1 m)) (stop_size query.stop) [])
       (cond_both (are_bounded tables query m) (record { choice = Whole; bound = (reached_after tables query m).cost } ∷ []) [] (AllByRecursion (HasPlace m)) (λ _. (tt, tt)) (λ _. tt))
       (by_size m (stop_size query.stop))
     where
@@ -237,10 +237,10 @@ module _ (tables : List Table) (query : Query) where
 
   with_index_is : (c : Candidate) (r : Result (Option NewIndex) Refusal) (best : Candidate) (wanted : Option NewIndex) → with_index c r ≡ Ok (record { best = best; wanted = wanted }) → (c ≡ best) × (r ≡ Ok wanted)
   with_index_is c (Ok w) best wanted is =
-      let first : Chosen = record { best = c; wanted = w } in
-      let second : Chosen = record { best = best; wanted = wanted } in
+      let first : ChosenCandidate = record { best = c; wanted = w } in
+      let second : ChosenCandidate = record { best = best; wanted = wanted } in
       let e : first ≡ second = ok_same first second (Ok first) refl is in
-      (ap (λ (h : Chosen). h.best) e, ap (λ (h : Chosen). Ok h.wanted) e)
+      (ap (λ (h : ChosenCandidate). h.best) e, ap (λ (h : ChosenCandidate). Ok h.wanted) e)
   with_index_is c (Err why) best wanted is = absurd (err_not_ok why (record { best = best; wanted = wanted }) (Err why) refl is)
 
   large_is : (large : Bool) (why : Refusal) (c : Candidate) (r : Result (Option NewIndex) Refusal) (best : Candidate) (wanted : Option NewIndex) → cond large (Err why) (with_index c r) ≡ Ok (record { best = best; wanted = wanted }) → (c ≡ best) × (r ≡ Ok wanted)
@@ -272,13 +272,13 @@ module _ (tables : List Table) (query : Query) where
       (λ is. (subst (λ r. item.col.col < length (table_of tables query r).columns) (eqb-true item.col.rel p (and_parts (item.col.rel == p) (not (has_col s item.col.col)) is).0) all.0.inside, rest))
       (λ _. rest)
 
-  new_inside : (p : ℕ) → IsResolved tables query → All (λ (part : KeyPart). part.col < length (table_of tables query p).columns) (new_index (table_of tables query p) (fixed query p) (order_rest query p)).cols
+  new_inside : (p : ℕ) → IsResolved tables query → All (λ (part : KeyPart). part.col < length (table_of tables query p).columns) (new_index (table_of tables query p) (tied_set query p) (order_rest query p)).cols
   new_inside p resolved =
       let w = length (table_of tables query p).columns in
       let Inside : KeyPart → Type 0 = λ part. part.col < w in
-      All-append Inside (map ascending (filter (has_col (fixed query p)) (range_with_len 0 w))) (order_rest query p)
-      (All-map Inside ascending (filter (has_col (fixed query p)) (range_with_len 0 w)) (All-filter (has_col (fixed query p)) (λ c. c < w) (range_with_len 0 w) (All-from_recursion (λ c. c < w) (range_with_len 0 w) (range_below 0 w w (omega arith)))))
-      (All-from_recursion Inside (order_rest query p) (order_inside p (fixed query p) query.order (recursion_from_All (λ (item : OrderItem). IsColumnOf tables query item.col) query.order resolved.order)))
+      All-append Inside (map ascending_part (filter (has_col (tied_set query p)) (range_with_len 0 w))) (order_rest query p)
+      (All-map Inside ascending_part (filter (has_col (tied_set query p)) (range_with_len 0 w)) (All-filter (has_col (tied_set query p)) (λ c. c < w) (range_with_len 0 w) (All-from_recursion (λ c. c < w) (range_with_len 0 w) (range_below 0 w w (omega arith)))))
+      (All-from_recursion Inside (order_rest query p) (order_inside p (tied_set query p) query.order (recursion_from_All (λ (item : OrderItem). IsColumnOf tables query item.col) query.order resolved.order)))
 
   relation_there : (p : ℕ) → 1 ≤ p → p ≤ length query.relations → IsResolved tables query → IsRelation tables (relation_at query p)
   relation_there p one there resolved = resolved.relations (p - 1) no_relation (omega arith)
@@ -286,8 +286,8 @@ module _ (tables : List Table) (query : Query) where
   fits_at : (p : ℕ) (new : NewIndex) → 1 ≤ p → p ≤ length query.relations → IsResolved tables query → index_at tables query p ≡ Ok (Some new) → Fits tables new
   fits_at p new one there resolved is =
       let table = table_of tables query p in
-      let n : NewIndex = record { table = (relation_at query p).table; number = length table.indexes + 1; index = new_index table (fixed query p) (order_rest query p) } in
-      let parts = some_is (is_some (serving table (fixed query p) (order_rest query p))) (nat_le 16 (length table.indexes)) n new is in
+      let n : NewIndex = record { table = (relation_at query p).table; number = length table.indexes + 1; index = new_index table (tied_set query p) (order_rest query p) } in
+      let parts = some_is (is_some (serving_access table (tied_set query p) (order_rest query p))) (nat_le 16 (length table.indexes)) n new is in
       let relation = relation_there p one there resolved in
       let fits : Fits tables n = record { from_one = relation.from_one; there = relation.there; room = leb-false 16 (length table.indexes) parts.0; inside = new_inside p resolved } in
       subst (Fits tables) parts.1 fits

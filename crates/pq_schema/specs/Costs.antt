@@ -16,19 +16,22 @@ abbrev pub limit_cost : Bool → ℕ → Bound
 limit_cost primary n = if primary then bound 1 n else bound (1 + n) (2 * n)
 
 -- N(i), the inputs of the next relation, and the cost so far
-pub record Reached : Type 0 where
+pub record ReachedCost : Type 0 where
   pub inputs : ℕ
   pub cost : Bound
 
-abbrev pub start : Reached
+abbrev pub start : ReachedCost
 start = record { inputs = 1; cost = bound 0 0 }
 
 -- for each input one read, which gives at most so many rows
-abbrev pub read_each : ℕ → Bound → Reached → Reached
-read_each size cost before = record { inputs = before.inputs * size; cost = plus before.cost (times before.inputs cost) }
+abbrev pub read_each : ℕ → Bound → ReachedCost → ReachedCost
+read_each size cost before = record {
+  inputs = before.inputs * size;
+  cost = plus before.cost (times before.inputs cost);
+}
 
 -- a range of k entries for each input, then the first k, each of which is fetched unless the primary sequence serves
-abbrev pub read_stop : ℕ → Bool → Reached → Reached
+abbrev pub read_stop : ℕ → Bool → ReachedCost → ReachedCost
 read_stop k served before = record {
   inputs = k;
   cost = plus (plus before.cost (bound before.inputs (before.inputs * k))) (if served then bound 0 0 else bound k k);

@@ -71,8 +71,8 @@ places_of columns names = map (place_of columns) names
 abbrev pub no_column : List ℕ → Refusal
 no_column name = refusal.NoColumn name
 
-abbrev pub repeated : List ℕ → Refusal
-repeated name = refusal.Repeated name
+abbrev pub repeated_name : List ℕ → Refusal
+repeated_name name = refusal.Repeated name
 
 -- refused where the test holds
 abbrev pub refused_if : Bool → Refusal → Option Refusal
@@ -92,7 +92,8 @@ definition_refusal schema name =
 -- definitions, the name, tables
 abbrev pub name_refusal : Schema → List ℕ → Option Refusal
 name_refusal schema name =
-    or_else (definition_refusal schema name) (refused_if (nat_le 64 (length schema.tables)) (refusal.Count count_word.TABLES))
+    or_else (definition_refusal schema name)
+    (refused_if (nat_le 64 (length schema.tables)) (refusal.Count count_word.TABLES))
 
 -- columns, limits, foreign
 abbrev pub counts_refusal : TableDef → Option Refusal
@@ -105,16 +106,17 @@ counts_refusal def =
 abbrev pub columns_refusal : List ColumnDef → Option Refusal
 columns_refusal columns =
     or_else (refused_if (not (list_all has_type columns)) (refusal.Count count_word.TEXT))
-    (option_map repeated (first_repeated (map (λ column. column.name) columns)))
+    (option_map repeated_name (first_repeated (map (λ column. column.name) columns)))
 
 -- an unknown name, and a repeated one
 abbrev pub names_refusal : List ColumnDef → List (List ℕ) → Option Refusal
 names_refusal columns names =
-    or_else (option_map no_column (find (is_unknown columns) names)) (option_map repeated (first_repeated names))
+    or_else (option_map no_column (find (is_unknown columns) names)) (option_map repeated_name (first_repeated names))
 
 -- the key's names, and their number
 abbrev pub key_refusal : List ColumnDef → List (List ℕ) → Option Refusal
-key_refusal columns key = or_else (names_refusal columns key) (refused_if (is_outside (length key) 4) (refusal.Count count_word.KEY))
+key_refusal columns key = or_else (names_refusal columns key)
+    (refused_if (is_outside (length key) 4) (refusal.Count count_word.KEY))
 
 -- the names of a limit, their number, and its n
 abbrev pub limit_refusal : List ColumnDef → LimitDef → Option Refusal
@@ -129,7 +131,8 @@ limits_refusal columns (limit ∷ limits) = or_else (limit_refusal columns limit
 
 -- the columns are of the number and kinds of the key of the table
 abbrev pub has_shape : List ColumnDef → List (List ℕ) → Table → Bool
-has_shape columns names table = same_kinds (types_at (map column_of columns) (places_of columns names)) (types_at table.columns table.key)
+has_shape columns names table = same_kinds (types_at (map column_of columns) (places_of columns names))
+    (types_at table.columns table.key)
 
 -- the table that a foreign key names is unknown, or its key is of another shape
 abbrev pub reference_refusal : Schema → List ColumnDef → ℕ → ForeignDef → Option ℕ → Option Refusal
@@ -140,7 +143,8 @@ reference_refusal schema columns number foreign (Some table) =
 -- the names of a foreign key, its table, and its shape
 abbrev pub foreign_refusal : Schema → List ColumnDef → ℕ → ForeignDef → Option Refusal
 foreign_refusal schema columns number foreign =
-    or_else (names_refusal columns foreign.cols) (reference_refusal schema columns number foreign (find_table schema foreign.table))
+    or_else (names_refusal columns foreign.cols)
+    (reference_refusal schema columns number foreign (find_table schema foreign.table))
 
 -- the foreign keys from this number on
 abbrev pub foreigns_refusal : Schema → List ColumnDef → ℕ → List ForeignDef → Option Refusal
@@ -204,7 +208,8 @@ abbrev pub new_query : Schema → Query → Option NewIndex → Result Schema Re
 new_query schema query wanted = or_ok (definition_refusal schema query.name) (with_query schema query wanted)
 
 -- the query was added last, with its index
-pub record AddsQuery (before : Schema) (query : Query) (wanted : Option NewIndex) (now : Schema) (number : ℕ) : Type 0 where
+pub record AddsQuery (before : Schema) (query : Query) (wanted : Option NewIndex) (now : Schema) (number : ℕ) :
+    Type 0 where
   pub made : new_query before query wanted ≡ Ok now
   pub added : now ≡ with_query before query wanted
   pub last : number ≡ length before.definitions + 1

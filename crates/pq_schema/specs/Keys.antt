@@ -38,6 +38,6 @@ abbrev pub dirs_of : List KeyPart → List Dir
 dirs_of parts = map (λ part. part.dir) parts
 
 -- the value that a column is given, where these columns are given these values
-abbrev pub given : List ℕ → List Value → ℕ → Value
-given (c ∷ cs) (x ∷ xs) col = if c == col then x else given cs xs col
-given _ _ col = no_value
+abbrev pub given_value : List ℕ → List Value → ℕ → Value
+given_value (c ∷ cs) (x ∷ xs) col = if c == col then x else given_value cs xs col
+given_value _ _ col = no_value

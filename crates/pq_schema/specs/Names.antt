@@ -2,7 +2,7 @@
 use Rattle.std.specs.Prelude.{◌≡◌, ◌⊎◌, ℕ, ℤ, pos, Bool, true, false, not, ◌==◌, ◌&&◌, ◌||◌, nat_le, All, List, [], ◌∷◌, map, length, codes}
 use Rattle.std.specs.Str.{bytes_eq}
 use Rattle.std.specs.List.{list_any, list_all}
-use Rattle.pq_base.specs.Words.{raised, keywords}
+use Rattle.pq_base.specs.Words.{uppercase_byte, keywords}
 use Rattle.pq_schema.specs.declared.definition.ColumnDef.{ColumnDef}
 use Rattle.pq_schema.specs.declared.definition.LimitDef.{LimitDef}
 use Rattle.pq_schema.specs.declared.definition.ForeignDef.{ForeignDef}
@@ -25,7 +25,7 @@ is_word (b ∷ bs) = is_letter b && list_all is_name_byte bs
 
 -- a keyword in any letter case
 abbrev pub is_keyword : List ℕ → Bool
-is_keyword name = list_any (bytes_eq (map raised name)) keywords
+is_keyword name = list_any (bytes_eq (map uppercase_byte name)) keywords
 
 -- a word of at most 32 bytes that is no keyword
 unfoldable pub is_name : List ℕ → Bool
@@ -36,7 +36,8 @@ IsName name = is_name name ≡ true
 
 -- INT and BOOL have size 0, TEXT any
 abbrev pub IsKind : List ℕ → ℤ → Type 0
-IsKind kind size = ((kind ≡ codes "INT") × (size ≡ pos 0)) ⊎ (((kind ≡ codes "BOOL") × (size ≡ pos 0)) ⊎ (kind ≡ codes "TEXT"))
+IsKind kind size = ((kind ≡ codes "INT") × (size ≡ pos 0))
+    ⊎ (((kind ≡ codes "BOOL") × (size ≡ pos 0)) ⊎ (kind ≡ codes "TEXT"))
 
 pub record IsColumnDef (column : ColumnDef) : Type 0 where
   pub name : IsName column.name

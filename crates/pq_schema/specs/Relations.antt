@@ -63,8 +63,8 @@ abbrev pub ties : ℕ → Pred → Bool
 ties rel pred = is_equality pred.op && pred.left.rel == rel && is_before rel pred.right
 
 -- the columns that equalities tie
-abbrev pub fixed : Query → ℕ → ℕ
-fixed query rel = set_of (map (λ pred. pred.left.col) (filter (ties rel) query.preds))
+abbrev pub tied_set : Query → ℕ → ℕ
+tied_set query rel = set_of (map (λ pred. pred.left.col) (filter (ties rel) query.preds))
 
 -- whether the operand is the column of the relation
 abbrev pub is_column : Operand → ℕ → ℕ → Bool
@@ -93,7 +93,8 @@ is_whole query rel earlier pairs =
 -- a foreign key declared from the table of the earlier relation ties the relation
 abbrev pub is_tied : List Table → Query → ℕ → ℕ → Bool
 is_tied tables query rel earlier =
-    list_any (λ foreign. foreign.table == (relation_at query rel).table && is_whole query rel earlier (zip foreign.cols (table_of tables query rel).key))
+    list_any (λ foreign. foreign.table == (relation_at query rel).table
+    && is_whole query rel earlier (zip foreign.cols (table_of tables query rel).key))
     (table_of tables query earlier).foreign
 
 abbrev pub is_total : List Table → Query → ℕ → Bool
@@ -108,7 +109,7 @@ part_of item = record { col = item.col.col; dir = item.dir }
 
 -- O': the ORDER BY columns of the relation that are not fixed
 abbrev pub order_rest : Query → ℕ → List KeyPart
-order_rest query rel = map part_of (filter (is_rest rel (fixed query rel)) query.order)
+order_rest query rel = map part_of (filter (is_rest rel (tied_set query rel)) query.order)
 
 -- the first column of the parts
 abbrev pub first_column : List KeyPart → Option ℕ
@@ -126,7 +127,7 @@ keeps_range rel set first pred =
 
 -- a predicate on a column that is not fixed is a range on the first column of O'
 abbrev pub range_on : Query → ℕ → Bool
-range_on query rel = list_all (keeps_range rel (fixed query rel) (first_column (order_rest query rel))) query.preds
+range_on query rel = list_all (keeps_range rel (tied_set query rel) (first_column (order_rest query rel))) query.preds
 
 -- ORDER BY names the column
 abbrev pub is_ordered : Query → ℕ → ℕ → Bool
@@ -139,8 +140,9 @@ key_item rel col = record { col = record { rel = rel; col = col }; dir = Asc }
 abbrev pub key_items : List Table → Query → ℕ → List OrderItem
 key_items tables query rel =
     let table = table_of tables query rel in
-    if is_lookup table (fixed query rel) then []
+    if is_lookup table (tied_set query rel) then []
     else map (key_item rel) (filter (λ col. not (is_ordered query rel col)) table.key)
 
 abbrev pub position_columns : List Table → Query → List OrderItem
-position_columns tables query = query.order ++ flat_map (key_items tables query) (range_with_len 1 (length query.relations))
+position_columns tables query = query.order ++ flat_map (key_items tables query)
+    (range_with_len 1 (length query.relations))

@@ -60,7 +60,8 @@ pub record IsJoined (tables : List Table) (query : Query) (pred : Pred) (col : C
 -- a constant or a parameter of the column's kind, or a column of an earlier relation
 abbrev pub IsOperand : List Table → Query → Pred → Operand → Type 0
 IsOperand tables query pred (operand.Const value) = FitsType (param_type (ref_type tables query pred.left)) value
-IsOperand tables query pred (operand.Param number) = IsParam query.params number (param_type (ref_type tables query pred.left))
+IsOperand tables query pred (operand.Param number) =
+    IsParam query.params number (param_type (ref_type tables query pred.left))
 IsOperand tables query pred (operand.Col col) = IsJoined tables query pred col
 
 pub record IsPredicate (tables : List Table) (query : Query) (pred : Pred) : Type 0 where

@@ -88,7 +88,8 @@ pub record IsSmall (schema : Schema) : Type 0 where
 abbrev pub with_table : Schema → Table → Schema
 with_table schema table = record {
   tables = schema.tables ++ table ∷ [];
-  definitions = schema.definitions ++ OfTable (length schema.tables + 1) (length table.columns) (length table.indexes) ∷ [];
+  definitions = schema.definitions ++ OfTable (length schema.tables + 1) (length table.columns)
+      (length table.indexes) ∷ [];
 }
 
 -- one more index behind the others

@@ -85,7 +85,8 @@ pub record IsMadeForeign (tables : List Table) (number : ℕ) (columns : List Co
   pub different : count_ones (set_of foreign.cols) ≡ length foreign.cols
   pub from_one : 1 ≤ foreign.table
   pub earlier : foreign.table < number
-  pub shape : same_kinds (types_at columns foreign.cols) (types_at (table_at tables foreign.table).columns (table_at tables foreign.table).key) ≡ true
+  pub shape : same_kinds (types_at columns foreign.cols)
+      (types_at (table_at tables foreign.table).columns (table_at tables foreign.table).key) ≡ true
 
 -- the table of this number of a schema
 pub record IsMade (tables : List Table) (number : ℕ) (table : Table) : Type 0 where

@@ -52,12 +52,14 @@ is_primary table limit = begins_with (primary_sequence table) (set_of limit.cols
 -- the first of the limits with this n that the primary sequence begins with, else the first of them
 abbrev pub first_limit : Table → ℕ → ℕ → Option ℕ
 first_limit table fixed n =
-    option_map_or (λ place. Some place) (position (λ limit. is_least n fixed limit && is_primary table limit) table.limits)
+    option_map_or (λ place. Some place) (position
+    (λ limit. is_least n fixed limit && is_primary table limit) table.limits)
     (position (is_least n fixed) table.limits)
 
 -- the limit taken, by its place from 0
 abbrev pub limit_place : Table → ℕ → Option ℕ
-limit_place table fixed = if is_lookup table fixed then None else option_and_then (first_limit table fixed) (least_limit table fixed)
+limit_place table fixed = if is_lookup table fixed then None
+    else option_and_then (first_limit table fixed) (least_limit table fixed)
 
 -- and by its number from 1
 abbrev pub limit_of : Table → ℕ → Option ℕ
@@ -80,14 +82,16 @@ same_kinds _ _ = false
 abbrev pub foreign_to : ℕ → ℕ → ℕ → List Foreign → List Referring
 foreign_to parent table number [] = []
 foreign_to parent table number (foreign ∷ rest) =
-    if foreign.table == parent then record { table = table; foreign = number } ∷ foreign_to parent table (number + 1) rest
+    if foreign.table == parent then record { table = table; foreign = number }
+    ∷ foreign_to parent table (number + 1) rest
     else foreign_to parent table (number + 1) rest
 
 -- the same for the tables from this number on
 abbrev pub referring_from : ℕ → ℕ → List Table → List Referring
 referring_from parent number [] = []
-referring_from parent number (table ∷ tables) = foreign_to parent number 1 table.foreign ++ referring_from parent (number + 1) tables
+referring_from parent number (table ∷ tables) =
+    foreign_to parent number 1 table.foreign ++ referring_from parent (number + 1) tables
 
 -- the foreign keys to the table, in order of tables, then of declaration
-abbrev pub referring : List Table → ℕ → List Referring
-referring tables parent = referring_from parent 1 tables
+abbrev pub referring_limits : List Table → ℕ → List Referring
+referring_limits tables parent = referring_from parent 1 tables

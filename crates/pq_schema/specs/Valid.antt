@@ -19,8 +19,10 @@ pub record IsDefined (schema : Schema) (query : Query) (wanted : Option NewIndex
 
 pub data IsValid : Schema → Type 0 where
   empty : IsValid empty_schema
-  then_table : (schema : Schema) (def : TableDef) (table : Table) → IsValid schema → IsTableDef def → new_table schema def ≡ Ok table → IsValid (with_table schema table)
-  then_query : (schema : Schema) (query : Query) (wanted : Option NewIndex) → IsValid schema → IsDefined schema query wanted → IsValid (with_query schema query wanted)
+  then_table : (schema : Schema) (def : TableDef) (table : Table) → IsValid schema → IsTableDef def
+      → new_table schema def ≡ Ok table → IsValid (with_table schema table)
+  then_query : (schema : Schema) (query : Query) (wanted : Option NewIndex) → IsValid schema
+      → IsDefined schema query wanted → IsValid (with_query schema query wanted)
 
 -- a valid schema, whose numbers are small
 pub record IsSound (schema : Schema) : Type 0 where

@@ -2,7 +2,7 @@
 ghost use Rattle.std.specs.Prelude.{◌≡◌, ◌≤◌, ◌<◌, ◌++◌, ◌∷◌, [], length, option_map, false, string_bytes, vec_capacity, Some, None, IfOk, IfSome, OnOk, OnErr};
 ghost use Rattle.pq_schema.specs.Schema.{empty_schema, definition_at, def_of, find_table, find_query, is_taken, IsQueryDefinition, query_at, query_of, with_table, with_query, with_wanted, made_of};
 ghost use Rattle.indexmap.specs.IndexMap.{get_by_text, spare};
-ghost use Rattle.pq_schema.specs.Tables.{table_at, referring, foreign_to};
+ghost use Rattle.pq_schema.specs.Tables.{table_at, referring_limits, foreign_to};
 ghost use Rattle.pq_schema.specs.Valid.{IsValid, IsDefined};
 
 use crate::made::{Def, Definition, Made};
@@ -284,7 +284,7 @@ impl Catalog {
     /// The foreign keys to the table of this number, in order of tables, then of declaration, each by its
     /// number from 1 among its table's foreign keys.
     pub fn referring(&self, alloc: Global, table: u8) -> Result<List<Referring>, NoMem>
-        ensures { IfOk result (λ found. found ≡ referring self.now.tables table) }
+        ensures { IfOk result (λ found. found ≡ referring_limits self.now.tables table) }
     {
         let mut found = List::new(alloc);
         for (place, child) in self.tables.iter().enumerate() {

@@ -7,7 +7,7 @@ ghost use Rattle.pq_schema.specs.Definitions.{first_repeated, text_size, cardina
 ghost use Rattle.pq_schema.specs.Names.{IsName, IsTableDef};
 ghost use Rattle.pq_schema.specs.Resolved.{IsResolved};
 ghost use Rattle.pq_schema.specs.Schema.{find_table};
-ghost use Rattle.pq_schema.specs.Sequences.{ascending, groups, with_group, with_groups};
+ghost use Rattle.pq_schema.specs.Sequences.{ascending_part, groups, with_group, with_groups};
 ghost use Rattle.pq_schema.specs.Sound.{IsTable, IsBare, AreColumns};
 ghost use Rattle.pq_schema.specs.Tables.{type_at, types_at, same_kinds};
 ghost use Rattle.pq_schema.specs.Wanted.{IsWanted};
@@ -158,7 +158,8 @@ fn named_type(columns: &[ColumnDef], name: &PText) -> ColType
 
 /// Whether the columns are of the number and kinds of the key.
 fn has_shape(columns: &[ColumnDef], names: &[PText], parent: &[Column], key: &[u8]) -> bool
-    ensures { result ≡ same_kinds (types_at (map column_of columns.now) (places_of columns.now names.now)) (types_at parent.now key.now) }
+    ensures { result ≡ same_kinds (types_at (map column_of columns.now) (places_of columns.now names.now))
+        (types_at parent.now key.now) }
 {
     match (names.split_first(), key.split_first()) {
         (None, None) => true,
@@ -285,7 +286,8 @@ impl Catalog {
         number: u8,
         foreign: &ForeignDef,
     ) -> Result<(), Stopped>
-        ensures { Passes result (reference_refusal self.now columns.now number foreign.now (find_table self.now foreign.now.table)) }
+        ensures { Passes result (reference_refusal self.now columns.now number foreign.now
+            (find_table self.now foreign.now.table)) }
     {
         let Some(found) = self.find_table(&foreign.table) else {
             let name = foreign.table.copy(alloc)?;
@@ -423,7 +425,7 @@ impl Catalog {
 
 /// The columns, ascending.
 fn ascending(alloc: Global, cols: &[u8]) -> Result<List<KeyPart>, NoMem>
-    ensures { IfOk result (λ parts. parts ≡ map ascending cols.now) }
+    ensures { IfOk result (λ parts. parts ≡ map ascending_part cols.now) }
 {
     let mut parts = List::new(alloc);
     for col in cols {

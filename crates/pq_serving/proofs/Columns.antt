@@ -14,8 +14,8 @@ use Rattle.pq_schema.specs.declared.table.Table.{Table}
 use Rattle.pq_schema.specs.declared.query.OrderItem.{OrderItem}
 use Rattle.pq_schema.specs.declared.query.Query.{Query}
 use Rattle.pq_schema.specs.Tables.{is_lookup}
-use Rattle.pq_schema.specs.Sequences.{ascending, columns_of, without, then_key, same_dir, same_parts}
-use Rattle.pq_schema.specs.Relations.{table_of, fixed, is_rest, part_of, order_rest, is_ordered, key_item, key_items, position_columns}
+use Rattle.pq_schema.specs.Sequences.{ascending_part, columns_of, without, then_key, same_dir, same_parts}
+use Rattle.pq_schema.specs.Relations.{table_of, tied_set, is_rest, part_of, order_rest, is_ordered, key_item, key_items, position_columns}
 use Rattle.pq_base.proofs.Members.{in_range}
 use Rattle.pq_base.proofs.Members.{each_by_in, in_filter, filter_in, filter_none, filter_same, filter_both, filter-map, filter-flat_map, in_map, map_in, any_at, any_from, in_flat_map, in_either}
 use Rattle.pq_base.proofs.Sets.{set_members, members_set}
@@ -92,7 +92,7 @@ only_one g p a (suc n) low high none =
 -- ---- the position columns of a relation that are not fixed
 module _ (tables : List Table) (query : Query) (p : ℕ) where
   abbrev set : ℕ
-  set = fixed query p
+  set = tied_set query p
 
   abbrev ordered_set : ℕ
   ordered_set = set_of (columns_of (order_rest query p))
@@ -147,19 +147,19 @@ module _ (tables : List Table) (query : Query) (p : ℕ) where
       and_true true = refl
       and_true false = refl
 
-  own_keys : is_lookup (table_of tables query p) set ≡ false → map part_of (filter (is_rest p set) (key_items tables query p)) ≡ map ascending (without (bit_or set ordered_set) key)
+  own_keys : is_lookup (table_of tables query p) set ≡ false → map part_of (filter (is_rest p set) (key_items tables query p)) ≡ map ascending_part (without (bit_or set ordered_set) key)
   own_keys free =
       ap (λ b. map part_of (filter (is_rest p set) (cond b [] (map (key_item p) (filter (λ col. not (is_ordered query p col)) key))))) free
       ∙ ap (map part_of) (filter-map (is_rest p set) (key_item p) (filter (λ col. not (is_ordered query p col)) key))
       ∙ map_twice part_of (key_item p) (filter (λ col. is_rest p set (key_item p col)) (filter (λ col. not (is_ordered query p col)) key))
-      ∙ ap (map ascending) (filter_both (λ col. is_rest p set (key_item p col)) (λ col. not (is_ordered query p col)) key
+      ∙ ap (map ascending_part) (filter_both (λ col. is_rest p set (key_item p col)) (λ col. not (is_ordered query p col)) key
       ∙ filter_same _ _ key (each_by_in _ key (λ k _. key_test k)))
 
   -- key items are of their own relation, which is no lookup, and of its key
-  key_item_rel : (i : ℕ) (item : OrderItem) → In item (key_items tables query i) → (item.col.rel ≡ i) × (is_lookup (table_of tables query i) (fixed query i) ≡ false) × In item.col.col (table_of tables query i).key
+  key_item_rel : (i : ℕ) (item : OrderItem) → In item (key_items tables query i) → (item.col.rel ≡ i) × (is_lookup (table_of tables query i) (tied_set query i) ≡ false) × In item.col.col (table_of tables query i).key
   key_item_rel i item here =
       let keys = filter (λ col. not (is_ordered query i col)) (table_of tables query i).key in
-      elim (is_lookup (table_of tables query i) (fixed query i)) as (λ b. is_lookup (table_of tables query i) (fixed query i) ≡ b → In item (cond b [] (map (key_item i) keys)) → (item.col.rel ≡ i) × (is_lookup (table_of tables query i) (fixed query i) ≡ false) × In item.col.col (table_of tables query i).key) [
+      elim (is_lookup (table_of tables query i) (tied_set query i)) as (λ b. is_lookup (table_of tables query i) (tied_set query i) ≡ b → In item (cond b [] (map (key_item i) keys)) → (item.col.rel ≡ i) × (is_lookup (table_of tables query i) (tied_set query i) ≡ false) × In item.col.col (table_of tables query i).key) [
         | true ↦ λ _ there. absurd there
         | false ↦ λ is there.
             let m = in_map (key_item i) item keys there in
@@ -171,8 +171,8 @@ module _ (tables : List Table) (query : Query) (p : ℕ) where
       false_from_ne_true (is_rest p set item) (λ h. other (sym (key_item_rel i item here).0 ∙ rest_is_own item h))))
 
   -- of the position columns, those of the relation that are not fixed are the order's rest and the key columns left
-  pub rest_columns : 1 ≤ p → p ≤ length query.relations → is_lookup (table_of tables query p) (fixed query p) ≡ false →
-      map part_of (filter (is_rest p (fixed query p)) (position_columns tables query)) ≡ then_key (order_rest query p) (bit_or (fixed query p) (set_of (columns_of (order_rest query p)))) (table_of tables query p).key
+  pub rest_columns : 1 ≤ p → p ≤ length query.relations → is_lookup (table_of tables query p) (tied_set query p) ≡ false →
+      map part_of (filter (is_rest p (tied_set query p)) (position_columns tables query)) ≡ then_key (order_rest query p) (bit_or (tied_set query p) (set_of (columns_of (order_rest query p)))) (table_of tables query p).key
   rest_columns low high free =
       let m = length query.relations in
       let keys = flat_map (key_items tables query) (range_with_len 1 m) in
@@ -182,14 +182,14 @@ module _ (tables : List Table) (query : Query) (p : ℕ) where
       ∙ ap (λ l. order_rest query p ++ l) (own_keys free)
 
   -- what the position columns are of
-  pub position_item : (item : OrderItem) → In item (position_columns tables query) → In item query.order ⊎ ((1 ≤ item.col.rel) × (item.col.rel ≤ length query.relations) × (is_lookup (table_of tables query item.col.rel) (fixed query item.col.rel) ≡ false) × In item.col.col (table_of tables query item.col.rel).key)
+  pub position_item : (item : OrderItem) → In item (position_columns tables query) → In item query.order ⊎ ((1 ≤ item.col.rel) × (item.col.rel ≤ length query.relations) × (is_lookup (table_of tables query item.col.rel) (tied_set query item.col.rel) ≡ false) × In item.col.col (table_of tables query item.col.rel).key)
   position_item item here = elim (in_either item query.order _ here) [
     | inl a ↦ inl a
     | inr b ↦
         let f = in_flat_map (key_items tables query) item (range_with_len 1 (length query.relations)) b in
         let r = in_range f.0 1 (length query.relations) f.1 in
         let k = key_item_rel f.0 item f.2 in
-        inr (omega (arith, k.0, r.0), omega (arith, k.0, r.1), ap (λ (i : ℕ). is_lookup (table_of tables query i) (fixed query i)) k.0 ∙ k.1, subst (λ (i : ℕ). In item.col.col (table_of tables query i).key) (sym k.0) k.2)
+        inr (omega (arith, k.0, r.0), omega (arith, k.0, r.1), ap (λ (i : ℕ). is_lookup (table_of tables query i) (tied_set query i)) k.0 ∙ k.1, subst (λ (i : ℕ). In item.col.col (table_of tables query i).key) (sym k.0) k.2)
   ]
 
   -- where nothing is left, each key column is fixed
@@ -203,10 +203,10 @@ module _ (tables : List Table) (query : Query) (p : ℕ) where
     | inr h ↦ let one : bit_at 0 k ≡ 1 = eqb-true _ _ h in let z = bit_at-zero k in absurd (omega arith)
   ]
     where
-      each : (cols : List ℕ) → map ascending (without (bit_or set 0) cols) ≡ [] → (k : ℕ) → In k cols → has_col (bit_or set 0) k ≡ true
+      each : (cols : List ℕ) → map ascending_part (without (bit_or set 0) cols) ≡ [] → (k : ℕ) → In k cols → has_col (bit_or set 0) k ≡ true
       each [] e k here = absurd here
       each (c ∷ cols) e k here =
-          elim (has_col (bit_or set 0) c) as (λ b. has_col (bit_or set 0) c ≡ b → map ascending (cond (not b) (c ∷ without (bit_or set 0) cols) (without (bit_or set 0) cols)) ≡ [] → has_col (bit_or set 0) k ≡ true) [
+          elim (has_col (bit_or set 0) c) as (λ b. has_col (bit_or set 0) c ≡ b → map ascending_part (cond (not b) (c ∷ without (bit_or set 0) cols) (without (bit_or set 0) cols)) ≡ [] → has_col (bit_or set 0) k ≡ true) [
             | true ↦ λ is e. elim here [ inl same ↦ ap (has_col (bit_or set 0)) (sym same) ∙ is | inr there ↦ each cols e k there ]
             | false ↦ λ _ e. absurd cc
           ] refl e

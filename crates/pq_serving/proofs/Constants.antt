@@ -14,14 +14,14 @@ use Rattle.pq_schema.specs.declared.table.KeyPart.{KeyPart}
 use Rattle.pq_schema.specs.declared.query.ColRef.{ColRef}
 use Rattle.pq_schema.specs.declared.query.OrderItem.{OrderItem}
 use Rattle.pq_schema.specs.Sequences.{columns_of}
-use Rattle.pq_schema.specs.Relations.{fixed, is_rest, part_of, position_columns}
-use Rattle.pq_plan.specs.Answer.{Asked, row_of, no_value, position, by_position}
+use Rattle.pq_schema.specs.Relations.{tied_set, is_rest, part_of, position_columns}
+use Rattle.pq_plan.specs.Answer.{Question, row_of, no_value, position, by_position}
 use Rattle.pq_plan.specs.Kept.{cells}
 use Rattle.pq_plan.specs.Meaning.{keeps}
 use Rattle.pq_plan.specs.Running.{tied_value}
 use Rattle.pq_base.proofs.Sets.{set_members}
 use Rattle.pq_plan.proofs.Fixed.{last, earlier_row, tied_one}
-use Rattle.pq_serving.specs.Starts.{filled, own_count, own, reaches, start_of}
+use Rattle.pq_serving.specs.Starts.{filled_values, own_count, own, reaches, start_of}
 use Rattle.pq_serving.specs.Scanning.{constant_value, constant, constants, position_directions, front, rest, cells_of}
 use Rattle.pq_serving.proofs.Columns.{map_twice, map-append}
 use Rattle.pq_serving.proofs.Places.{fill, own_is, count_is, order_law, start_law, front_law}
@@ -36,12 +36,12 @@ dirs_twice : (items : List OrderItem) → dirs_of (map part_of items) ≡ map (�
 dirs_twice [] = refl
 dirs_twice (item ∷ items) = ap (λ (l : List Dir). item.dir ∷ l) (dirs_twice items)
 
-module _ (q : Asked) (p : ℕ) (sequence : List KeyPart) (s : IsServed q p sequence) where
+module _ (q : Question) (p : ℕ) (sequence : List KeyPart) (s : IsServed q p sequence) where
   abbrev items : List OrderItem
   items = position_columns q.tables q.query
 
   abbrev open_items : List OrderItem
-  open_items = filter (is_rest p (fixed q.query p)) items
+  open_items = filter (is_rest p (tied_set q.query p)) items
 
   abbrev rest_cells : List Value → List Value
   rest_cells r = cells (columns_of (rest q p sequence)) r
@@ -51,11 +51,11 @@ module _ (q : Asked) (p : ℕ) (sequence : List KeyPart) (s : IsServed q p seque
 
   -- the places that are not constant have the dirs_of of the rest
   pub own_directions : (c : List (List Value)) → own (position_directions q p) (constants q p c) ≡ dirs_of (rest q p sequence)
-  own_directions c = own_is (is_rest p (fixed q.query p)) (constant_value q p c) (constant_value q p c) (constant_value q p c) (λ (item : OrderItem). item.dir) items ∙ sym (dirs_twice open_items) ∙ ap dirs_of s.rest_is
+  own_directions c = own_is (is_rest p (tied_set q.query p)) (constant_value q p c) (constant_value q p c) (constant_value q p c) (λ (item : OrderItem). item.dir) items ∙ sym (dirs_twice open_items) ∙ ap dirs_of s.rest_is
 
   -- and are as many
   pub own_many : (c : List (List Value)) → own_count (constants q p c) ≡ length (rest q p sequence)
-  own_many c = count_is (is_rest p (fixed q.query p)) (constant_value q p c) (constant_value q p c) (constant_value q p c) items ∙ sym (length-map open_items part_of) ∙ ap (λ (parts : List KeyPart). length parts) s.rest_is
+  own_many c = count_is (is_rest p (tied_set q.query p)) (constant_value q p c) (constant_value q p c) (constant_value q p c) items ∙ sym (length-map open_items part_of) ∙ ap (λ (parts : List KeyPart). length parts) s.rest_is
 
   pub rest_long : (c : List (List Value)) (r : List Value) → length (rest_cells r) ≡ own_count (constants q p c)
   rest_long c r = length-map (columns_of (rest q p sequence)) (λ (col : ℕ). get_or r col no_value) ∙ length-map (rest q p sequence) (λ (part : KeyPart). part.col) ∙ sym (own_many c)
@@ -64,13 +64,13 @@ module _ (q : Asked) (p : ℕ) (sequence : List KeyPart) (s : IsServed q p seque
   constants_long c = length-map items (λ (item : OrderItem). item.dir) ∙ sym (length-map items (constant q p c))
 
   -- a position column that is no part of the rest has its constant
-  constant_is : (c : List (List Value)) (r : List Value) → suc (length c) ≡ p → keeps q p (c ++ r ∷ []) ≡ true → (item : OrderItem) → In item items → is_rest p (fixed q.query p) item ≡ false → constant_value q p c item ≡ get_or (row_of item.col.rel (c ++ r ∷ [])) item.col.col no_value
+  constant_is : (c : List (List Value)) (r : List Value) → suc (length c) ≡ p → keeps q p (c ++ r ∷ []) ≡ true → (item : OrderItem) → In item items → is_rest p (tied_set q.query p) item ≡ false → constant_value q p c item ≡ get_or (row_of item.col.rel (c ++ r ∷ [])) item.col.col no_value
   constant_is c r long keep item here closed =
       let bounds = s.items item here in
       elim (cases_eq item.col.rel p) [
         | inl same ↦
             let k = item.col.col in
-            let tied : has_col (fixed q.query p) k ≡ true = closed_is (item.col.rel == p) (has_col (fixed q.query p) k) (eq-eqb _ _ same) closed in
+            let tied : has_col (tied_set q.query p) k ≡ true = closed_is (item.col.rel == p) (has_col (tied_set q.query p) k) (eq-eqb _ _ same) closed in
             let e = tied_one q s.named p k (set_members _ k tied) c r long keep in
             ap (λ b. cond b (unwrap_or (tied_value q p c k) no_value) (get_or (row_of item.col.rel c) k no_value)) (eq-eqb _ _ same)
             ∙ ap (λ (o : Option Value). unwrap_or o no_value) e.2
@@ -88,24 +88,24 @@ module _ (q : Asked) (p : ℕ) (sequence : List KeyPart) (s : IsServed q p seque
       closed_is true false e h = absurd (false≢true (sym h))
       closed_is false b e h = absurd (false≢true e)
 
-  own_cell : (c : List (List Value)) (r : List Value) → suc (length c) ≡ p → (item : OrderItem) → is_rest p (fixed q.query p) item ≡ true → get_or r item.col.col no_value ≡ get_or (row_of item.col.rel (c ++ r ∷ [])) item.col.col no_value
+  own_cell : (c : List (List Value)) (r : List Value) → suc (length c) ≡ p → (item : OrderItem) → is_rest p (tied_set q.query p) item ≡ true → get_or r item.col.col no_value ≡ get_or (row_of item.col.rel (c ++ r ∷ [])) item.col.col no_value
   own_cell c r long item h =
       let same : item.col.rel ≡ p = eqb-true _ _ (and_parts _ _ h).0 in
       ap (λ (row : List Value). get_or row item.col.col no_value) (sym (ap (λ (n : ℕ). row_of n (c ++ r ∷ [])) same ∙ last c r p long))
 
   -- with the rest's values in the places that are not constant it is the position
-  pub position_is : (c : List (List Value)) (r : List Value) → suc (length c) ≡ p → keeps q p (c ++ r ∷ []) ≡ true → filled (constants q p c) (rest_cells r) ≡ position q (c ++ r ∷ [])
+  pub position_is : (c : List (List Value)) (r : List Value) → suc (length c) ≡ p → keeps q p (c ++ r ∷ []) ≡ true → filled_values (constants q p c) (rest_cells r) ≡ position q (c ++ r ∷ [])
   position_is c r long keep =
       let at = λ (item : OrderItem). get_or (row_of item.col.rel (c ++ r ∷ [])) item.col.col no_value in
-      ap (filled (constants q p c)) (rest_cells_are r)
-      ∙ fill (is_rest p (fixed q.query p)) (constant_value q p c) at (λ (item : OrderItem). get_or r item.col.col no_value) items
+      ap (filled_values (constants q p c)) (rest_cells_are r)
+      ∙ fill (is_rest p (tied_set q.query p)) (constant_value q p c) at (λ (item : OrderItem). get_or r item.col.col no_value) items
       (λ item here h. own_cell c r long item h)
       (λ item here h. constant_is c r long keep item here h)
       ∙ sym (map_twice (λ (col : ColRef). get_or (row_of col.rel (c ++ r ∷ [])) col.col no_value) (λ (item : OrderItem). item.col) items)
 
   -- ---- the sequence, as its front and its rest
   abbrev many : ℕ
-  many = count_ones (fixed q.query p)
+  many = count_ones (tied_set q.query p)
 
   pub dirs_are : dirs_of sequence ≡ dirs_of (take many sequence) ++ dirs_of (rest q p sequence)
   dirs_are = ap dirs_of (sym (take-append-drop many sequence)) ∙ map-append (λ (part : KeyPart). part.dir) (take many sequence) (rest q p sequence)

@@ -24,15 +24,15 @@ use Rattle.pq_content.specs.Tables.{types_of, IsOfKind}
 use Rattle.pq_serving.proofs.Typed.{kind_from_fit, fit_get}
 use Rattle.pq_schema.specs.declared.query.OrderItem.{OrderItem}
 use Rattle.pq_schema.specs.Sequences.{columns_of}
-use Rattle.pq_schema.specs.Relations.{table_of, fixed, position_columns}
+use Rattle.pq_schema.specs.Relations.{table_of, tied_set, position_columns}
 use Rattle.pq_store.specs.Content.{key_cmp}
-use Rattle.pq_plan.specs.Answer.{Asked, row_of, rows_at, no_value, position, by_position, in_order}
+use Rattle.pq_plan.specs.Answer.{Question, row_of, rows_at, no_value, position, by_position, in_order}
 use Rattle.pq_plan.specs.Kept.{cells}
 use Rattle.pq_plan.specs.Meaning.{keeps}
 use Rattle.pq_base.proofs.Members.{in_take, in_filter, get_at}
 use Rattle.pq_plan.proofs.Orders.{in_permuted}
 use Rattle.std.proofs.lemmas.List.Sorted.{IsPermutation-sym}
-use Rattle.pq_serving.specs.Starts.{filled}
+use Rattle.pq_serving.specs.Starts.{filled_values}
 use Rattle.pq_serving.specs.Scanning.{is_after, position_directions, constants, passes, lies_within, rest, cells_of, found}
 use Rattle.pq_serving.specs.Keys.{Fits}
 use Rattle.pq_serving.proofs.Keys.{fits_values, fits_kinds}
@@ -41,7 +41,7 @@ use Rattle.pq_serving.proofs.Constants.{position_is}
 use Rattle.pq_serving.proofs.Rows.{row_after}
 use Rattle.pq_serving.proofs.Scans.{sort_alike}
 
-module _ (q : Asked) (p : ℕ) (sequence : List KeyPart) (after : Option (List Value)) (k : ℕ) (c : List (List Value)) where
+module _ (q : Question) (p : ℕ) (sequence : List KeyPart) (after : Option (List Value)) (k : ℕ) (c : List (List Value)) where
   -- no more than k
   pub found_few : length (found q p sequence k after c) ≤ k
   found_few = elim (passes q p c) as (λ b. length (cond b (take k (sort_by (position_cmp (dirs_of sequence)) (cells_of q p sequence) (filter (λ row. lies_within q p sequence c after (cells_of q p sequence row)) (rows_at q p)))) []) ≤ k) [
@@ -73,16 +73,16 @@ module _ (q : Asked) (p : ℕ) (sequence : List KeyPart) (after : Option (List V
         and_parts (keeps q p (c ++ r ∷ [])) (is_after q after (c ++ r ∷ [])) (row_after q p sequence s c long r (wide r f.0) after fits ∙ and_from _ _ f.1 f.2)
 
     -- its position is made of the constants and of the values that stand behind the tied ones
-    pub found_position : (r : List Value) → In r (found q p sequence k after c) → position q (c ++ r ∷ []) ≡ filled (constants q p c) (drop (count_ones (fixed q.query p)) (cells_of q p sequence r))
+    pub found_position : (r : List Value) → In r (found q p sequence k after c) → position q (c ++ r ∷ []) ≡ filled_values (constants q p c) (drop (count_ones (tied_set q.query p)) (cells_of q p sequence r))
     found_position r here =
-        let many = count_ones (fixed q.query p) in
+        let many = count_ones (tied_set q.query p) in
         let column = λ (part : KeyPart). part.col in
         let value = λ (col : ℕ). get_or r col no_value in
         let behind : drop many (cells_of q p sequence r) ≡ cells (columns_of (rest q p sequence)) r = drop-map value many (columns_of sequence) ∙ ap (map value) (drop-map column many sequence) in
-        sym (position_is q p sequence s c r long (found_kept r here).0) ∙ ap (filled (constants q p c)) (sym behind)
+        sym (position_is q p sequence s c r long (found_kept r here).0) ∙ ap (filled_values (constants q p c)) (sym behind)
 
 -- the values of a position are of the types of its columns
-pub position_fits : (q : Asked) (combo : List (List Value)) → ((item : OrderItem) → In item (position_columns q.tables q.query) → AllFit (types_of (table_of q.tables q.query item.col.rel)) (row_of item.col.rel combo) × (item.col.col < length (table_of q.tables q.query item.col.rel).columns)) → Fits (map (λ (item : OrderItem). ref_type q.tables q.query item.col) (position_columns q.tables q.query)) (position q combo)
+pub position_fits : (q : Question) (combo : List (List Value)) → ((item : OrderItem) → In item (position_columns q.tables q.query) → AllFit (types_of (table_of q.tables q.query item.col.rel)) (row_of item.col.rel combo) × (item.col.col < length (table_of q.tables q.query item.col.rel).columns)) → Fits (map (λ (item : OrderItem). ref_type q.tables q.query item.col) (position_columns q.tables q.query)) (position q combo)
 position_fits q combo each = all (position_columns q.tables q.query) each
   where
     one : (table : Table) (row : List Value) (col : ℕ) → AllFit (types_of table) row → col < length table.columns → IsOfKind (type_at table.columns col) (get_or row col no_value)
@@ -96,7 +96,7 @@ position_fits q combo each = all (position_columns q.tables q.query) each
     all (item ∷ items) each = (let f = each item (inl refl) in one (table_of q.tables q.query item.col.rel) (row_of item.col.rel combo) item.col.col f.0 f.1, all items (λ x here. each x (inr here)))
 
 -- combinations whose positions are typed are in the order of their positions by the codes of these
-pub by_code : (q : Asked) (p : ℕ) (ts : List ColType) (combos : List (List (List Value))) → AllByRecursion (λ combo. Fits ts (position q combo)) combos → sort_by key_cmp (λ combo. code_of (position_directions q p) (position q combo)) combos ≡ in_order q combos
+pub by_code : (q : Question) (p : ℕ) (ts : List ColType) (combos : List (List (List Value))) → AllByRecursion (λ combo. Fits ts (position q combo)) combos → sort_by key_cmp (λ combo. code_of (position_directions q p) (position q combo)) combos ≡ in_order q combos
 by_code q p ts combos typed =
     sort_alike key_cmp (λ combo. code_of (position_directions q p) (position q combo)) (by_position q) (position q) (λ combo. Fits ts (position q combo))
     (λ c d f g. codes_cmp (position_directions q p) (position q c) (position q d) (fits_values ts (position q c) f) (fits_values ts (position q d) g) (fits_kinds ts (position q c) (position q d) f g) (long c) (long d))

@@ -22,7 +22,7 @@ use Rattle.pq_key_code.proofs.Order.{past_cmp, prefix_cmp}
 use Rattle.pq_store.specs.Content.{key_cmp}
 use Rattle.pq_content.specs.Tables.{IsOfKind}
 use Rattle.pq_content.proofs.Ranges.{in_range}
-use Rattle.pq_plan.specs.Answer.{Asked}
+use Rattle.pq_plan.specs.Answer.{Question}
 use Rattle.pq_serving.specs.Starts.{Bound, reaches, under}
 use Rattle.pq_serving.specs.Scanning.{ties, lows, highs, lies_within}
 use Rattle.pq_serving.specs.Keys.{bound_key, higher, lesser, highest, lowest, Fits, AreFit, range_low, range_high}
@@ -221,6 +221,6 @@ module _ (ts : List ColType) (ds : List Dir) (xs : List Value) (long : length xs
       ∙ between (common_cmp ds e xs) (list_all (λ b. reaches ds b xs) lower) (list_all (λ b. not (reaches ds b xs)) upper)
 
 -- a row's code lies in the range of an input exactly where the row lies within it
-pub key_range : (q : Asked) (p : ℕ) (sequence : List KeyPart) (c : List (List Value)) (after : Option (List Value)) (ts : List ColType) (xs : List Value) → length ts ≡ length (dirs_of sequence) → length xs ≡ length (dirs_of sequence) → Fits ts xs → Fits ts (ties q p sequence c) → AreFit ts (map (under (ties q p sequence c)) (lows q p sequence c after)) → AreFit ts (map (under (ties q p sequence c)) (highs q p sequence c)) →
+pub key_range : (q : Question) (p : ℕ) (sequence : List KeyPart) (c : List (List Value)) (after : Option (List Value)) (ts : List ColType) (xs : List Value) → length ts ≡ length (dirs_of sequence) → length xs ≡ length (dirs_of sequence) → Fits ts xs → Fits ts (ties q p sequence c) → AreFit ts (map (under (ties q p sequence c)) (lows q p sequence c after)) → AreFit ts (map (under (ties q p sequence c)) (highs q p sequence c)) →
     in_range (range_low q p sequence c after) (range_high q p sequence c) (code_of (dirs_of sequence) xs) ≡ lies_within q p sequence c after xs
 key_range q p sequence c after ts xs wide long typed e l h = within_law ts (dirs_of sequence) xs long wide typed (ties q p sequence c) (map (under (ties q p sequence c)) (lows q p sequence c after)) (map (under (ties q p sequence c)) (highs q p sequence c)) e l h

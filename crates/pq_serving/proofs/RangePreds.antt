@@ -8,7 +8,7 @@ use Rattle.std.proofs.lemmas.Bool.{false≢true}
 use Rattle.pq_base.specs.declared.value.Dir.{Dir}
 use Rattle.pq_base.specs.declared.value.Dir.TheVariants.{Asc, Desc}
 use Rattle.pq_base.specs.declared.value.Value.{Value}
-use Rattle.pq_base.specs.Order.{value_cmp, directed}
+use Rattle.pq_base.specs.Order.{value_cmp, directed_order}
 use Rattle.pq_schema.specs.declared.query.Op.{Op}
 use Rattle.pq_schema.specs.declared.query.Op.TheVariants as op
 use Rattle.pq_schema.specs.Relations.{is_range}
@@ -29,7 +29,7 @@ verdict Desc op.Gt o = not (is_le o)
 verdict Desc op.Ge o = not (is_lt o)
 verdict _ _ o = false
 
-meets_verdict : (d : Dir) (o : Op) (r : Ordering) → is_range o ≡ true → meets o r ≡ verdict d o (directed d (ordering_reverse r))
+meets_verdict : (d : Dir) (o : Op) (r : Ordering) → is_range o ≡ true → meets o r ≡ verdict d o (directed_order d (ordering_reverse r))
 meets_verdict d op.Eq r h = absurd (false≢true h)
 meets_verdict d op.Ne r h = absurd (false≢true h)
 meets_verdict Asc op.Lt Less h = refl
@@ -61,8 +61,8 @@ and_true : (b : Bool) → b ≡ (b && true)
 and_true true = refl
 and_true false = refl
 
-first_only : (d : Dir) (ds : List Dir) (w x : Value) (xs : List Value) → directed d (ordering_reverse (value_cmp x w)) ≡ common_cmp (d ∷ ds) (w ∷ []) (x ∷ xs)
-first_only d ds w x xs = ap (directed d) (sym (value_cmp_total.antisymm w x)) ∙ alone (directed d (value_cmp w x)) (common_cmp ds [] xs) (none ds xs)
+first_only : (d : Dir) (ds : List Dir) (w x : Value) (xs : List Value) → directed_order d (ordering_reverse (value_cmp x w)) ≡ common_cmp (d ∷ ds) (w ∷ []) (x ∷ xs)
+first_only d ds w x xs = ap (directed_order d) (sym (value_cmp_total.antisymm w x)) ∙ alone (directed_order d (value_cmp w x)) (common_cmp ds [] xs) (none ds xs)
   where
     none : (ds : List Dir) (xs : List Value) → Equal ≡ common_cmp ds [] xs
     none [] xs = refl

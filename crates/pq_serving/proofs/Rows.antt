@@ -17,8 +17,8 @@ use Rattle.pq_schema.specs.declared.query.Operand.{Operand}
 use Rattle.pq_schema.specs.declared.query.Operand.TheVariants as operand
 use Rattle.pq_schema.specs.declared.query.Pred.{Pred}
 use Rattle.pq_schema.specs.Sequences.{columns_of}
-use Rattle.pq_schema.specs.Relations.{belongs_to, fixed, position_columns}
-use Rattle.pq_plan.specs.Answer.{Asked, row_of, cell, side, compares, holds, no_value}
+use Rattle.pq_schema.specs.Relations.{belongs_to, tied_set, position_columns}
+use Rattle.pq_plan.specs.Answer.{Question, row_of, cell, side, compares, holds, no_value}
 use Rattle.pq_plan.specs.Kept.{cells}
 use Rattle.pq_plan.specs.Meaning.{keeps}
 use Rattle.pq_plan.specs.Running.{tied_value}
@@ -67,7 +67,7 @@ map_at_in f g [] e k i = absurd i
 map_at_in f g (j ∷ ks) e k (inl same) = let first : f j ≡ g j = cc in ap f (sym same) ∙ first ∙ ap g same
 map_at_in f g (j ∷ ks) e k (inr i) = let more : map f ks ≡ map g ks = cc in map_at_in f g ks more k i
 
-module _ (q : Asked) (p : ℕ) (sequence : List KeyPart) (s : IsServed q p sequence) (c : List (List Value)) (long : suc (length c) ≡ p) (r : List Value) (wide : HasColumns sequence r) where
+module _ (q : Question) (p : ℕ) (sequence : List KeyPart) (s : IsServed q p sequence) (c : List (List Value)) (long : suc (length c) ≡ p) (r : List Value) (wide : HasColumns sequence r) where
   abbrev d : List (List Value)
   d = c ++ r ∷ []
 
@@ -116,7 +116,7 @@ module _ (q : Asked) (p : ℕ) (sequence : List KeyPart) (s : IsServed q p seque
       ∙ (λ i. list_all (λ b. reaches (dirs_of (sym f.first i)) b (cells (columns_of (sym f.first i)) r)) (lower (first_direction (sym f.first i)) pred.op w) && list_all (λ b. not (reaches (dirs_of (sym f.first i)) b (cells (columns_of (sym f.first i)) r))) (upper (first_direction (sym f.first i)) pred.op w))
     where
       in_rest : (k : ℕ) → In k (columns_of (rest q p sequence)) → In k (columns_of sequence)
-      in_rest k here = later (count_ones (fixed q.query p)) sequence k here
+      in_rest k here = later (count_ones (tied_set q.query p)) sequence k here
         where
           later : (n : ℕ) (parts : List KeyPart) (k : ℕ) → In k (columns_of (drop n parts)) → In k (columns_of parts)
           later zero parts k here = here
@@ -172,7 +172,7 @@ module _ (q : Asked) (p : ℕ) (sequence : List KeyPart) (s : IsServed q p seque
           let both = sides pred.op (tied_value q p c k) (side q.params c pred.right) one in
           let in_front = fixed_in_front q p sequence s k tied in
           let value : get_or r k no_value ≡ both.0 = map_at_in (λ col. get_or r col no_value) (λ col. unwrap_or (tied_value q p c col) no_value) (front q p sequence) same k in_front ∙ ap (λ (o : Option Value). unwrap_or o no_value) both.2 in
-          let left : slice_get r k ≡ tied_value q p c k = get_at r k no_value (wide k (in_take (count_ones (fixed q.query p)) (columns_of sequence) k in_front)) ∙ ap (λ (v : Value). Some v) value ∙ sym both.2 in
+          let left : slice_get r k ≡ tied_value q p c k = get_at r k no_value (wide k (in_take (count_ones (tied_set q.query p)) (columns_of sequence) k in_front)) ∙ ap (λ (v : Value). Some v) value ∙ sym both.2 in
           holds_is pred here ∙ ap (λ (o : Option Value). compares pred.op o (side q.params c pred.right)) left ∙ one
         where
           in_take : (n : ℕ) (cols : List ℕ) (k : ℕ) → In k (take n cols) → In k cols
@@ -186,7 +186,7 @@ module _ (q : Asked) (p : ℕ) (sequence : List KeyPart) (s : IsServed q p seque
       open_holds pred here untied (Some w) is some l h = range_is pred here untied w is ∙ and_from _ _ l h
 
   -- ---- both
-  ties_long : length (dirs_of (take (count_ones (fixed q.query p)) sequence)) ≡ length (tie_values q p sequence c)
+  ties_long : length (dirs_of (take (count_ones (tied_set q.query p)) sequence)) ≡ length (tie_values q p sequence c)
   ties_long = front_long q p sequence s r ∙ length-map (front q p sequence) (λ (col : ℕ). get_or r col no_value) ∙ sym (length-map (front q p sequence) (λ (col : ℕ). unwrap_or (tied_value q p c col) no_value))
 
   abbrev begins : Bool
@@ -200,15 +200,15 @@ module _ (q : Asked) (p : ℕ) (sequence : List KeyPart) (s : IsServed q p seque
 
   front_from : begins ≡ true → cells (front q p sequence) r ≡ tie_values q p sequence c
   front_from h =
-      front_equal (dirs_of (take (count_ones (fixed q.query p)) sequence)) ds (tie_values q p sequence c) (cells (front q p sequence) r) ys ties_long
+      front_equal (dirs_of (take (count_ones (tied_set q.query p)) sequence)) ds (tie_values q p sequence c) (cells (front q p sequence) r) ys ties_long
       (sym (front_long q p sequence s r) ∙ ties_long)
-      (is_equal (common_cmp (dirs_of (take (count_ones (fixed q.query p)) sequence) ++ ds) (tie_values q p sequence c) (cells (front q p sequence) r ++ ys)) ((λ i. is_eq (common_cmp (sym (dirs_are q p sequence s) i) (tie_values q p sequence c) (sym (cells_are q p sequence s r) i))) ∙ h))
+      (is_equal (common_cmp (dirs_of (take (count_ones (tied_set q.query p)) sequence) ++ ds) (tie_values q p sequence c) (cells (front q p sequence) r ++ ys)) ((λ i. is_eq (common_cmp (sym (dirs_are q p sequence s) i) (tie_values q p sequence c) (sym (cells_are q p sequence s r) i))) ∙ h))
 
   -- bounds behind the ties are bounds of the rest
   under_ties : cells (front q p sequence) r ≡ tie_values q p sequence c → (f : Bool → Bool) (bs : List Bound) → list_all (λ b. f (reaches (dirs_of sequence) b (cells_of q p sequence r))) (map (under (tie_values q p sequence c)) bs) ≡ list_all (λ b. f (reaches ds b ys)) bs
   under_ties same f bs =
       (λ i. list_all (λ b. f (reaches (dirs_are q p sequence s i) b (cells_tied same i))) (map (under (tie_values q p sequence c)) bs))
-      ∙ each_under f (dirs_of (take (count_ones (fixed q.query p)) sequence)) ds (tie_values q p sequence c) ys ties_long bs
+      ∙ each_under f (dirs_of (take (count_ones (tied_set q.query p)) sequence)) ds (tie_values q p sequence c) ys ties_long bs
 
   abbrev reach_lows : Option (List Value) → Bool
   reach_lows after = list_all (λ b. reaches (dirs_of sequence) b (cells_of q p sequence r)) (map (under (tie_values q p sequence c)) (lows q p sequence c after))

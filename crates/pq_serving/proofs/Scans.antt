@@ -14,7 +14,7 @@ use Rattle.pq_base.specs.Sorting.{placed, sort_by}
 use Rattle.pq_schema.specs.Keys.{dirs_of}
 use Rattle.pq_schema.specs.declared.table.KeyPart.{KeyPart}
 use Rattle.pq_schema.specs.Relations.{position_columns}
-use Rattle.pq_plan.specs.Answer.{Asked, rows_at, position, by_position, in_order, past, first_past}
+use Rattle.pq_plan.specs.Answer.{Question, rows_at, position, by_position, in_order, past, first_past}
 use Rattle.pq_plan.specs.Meaning.{keeps, partners, followed, read}
 use Rattle.pq_base.proofs.Members.{each_in, each_by_in, in_filter, filter_same, filter_all, filter_both, filter-map, filter-flat_map, flat_map_same}
 use Rattle.pq_plan.proofs.Orders.{filter-sort_by}
@@ -46,11 +46,11 @@ module _ {K J X : Type 0} (R : K → K → Ordering) (key : X → K) (Q : J → 
   sort_alike (x ∷ xs) h = ap (placed R key x) (sort_alike xs h.1) ∙ placed_alike x (sort_by Q other xs) h.0 (each-sort_by Q other P xs h.1)
 
 -- strictly after the cursor, as a filter
-past_is : (q : Asked) (after : Option (List Value)) (combos : List (List (List Value))) → past q after combos ≡ filter (is_after q after) combos
+past_is : (q : Question) (after : Option (List Value)) (combos : List (List (List Value))) → past q after combos ≡ filter (is_after q after) combos
 past_is q None combos = sym (filter_all (λ _. true) combos (each_by_in _ combos (λ c here. refl)))
 past_is q (Some at) combos = refl
 
-module _ (q : Asked) (p : ℕ) (sequence : List KeyPart) (s : IsServed q p sequence) (wide : (r : List Value) → In r (rows_at q p) → HasColumns sequence r)
+module _ (q : Question) (p : ℕ) (sequence : List KeyPart) (s : IsServed q p sequence) (wide : (r : List Value) → In r (rows_at q p) → HasColumns sequence r)
     (after : Option (List Value)) (fits : (at : List Value) → after ≡ Some at → length at ≡ length (position_columns q.tables q.query)) (k : ℕ) where
   abbrev behind : List (List Value) → List Value → List (List Value)
   behind c r = c ++ r ∷ []

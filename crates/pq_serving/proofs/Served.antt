@@ -18,11 +18,11 @@ use Rattle.pq_schema.specs.declared.query.OrderItem.{OrderItem}
 use Rattle.pq_schema.specs.declared.query.Query.{Query}
 use Rattle.pq_schema.specs.Sound.{IsQuery, IsNamedPred}
 use Rattle.pq_schema.specs.Resolved.{IsColumnOf, IsJoined, IsOperand, IsPredicate, IsResolved}
-use Rattle.pq_schema.specs.Sequences.{ascending, columns_of, without, begins_with, serves}
+use Rattle.pq_schema.specs.Sequences.{ascending_part, columns_of, without, begins_with, serves}
 use Rattle.pq_schema.specs.Tables.{is_lookup}
-use Rattle.pq_schema.specs.Relations.{relation_at, table_of, later, belongs_to, is_range, is_before, ties, fixed, is_rest, part_of, order_rest, first_column, is_column_at, keeps_range, range_on, position_columns, is_total}
+use Rattle.pq_schema.specs.Relations.{relation_at, table_of, later, belongs_to, is_range, is_before, ties, tied_set, is_rest, part_of, order_rest, first_column, is_column_at, keeps_range, range_on, position_columns, is_total}
 use Rattle.pq_schema.specs.Candidates.{can_stop_at, are_bounded}
-use Rattle.pq_plan.specs.Answer.{Asked, rows_at, no_value}
+use Rattle.pq_plan.specs.Answer.{Question, rows_at, no_value}
 use Rattle.pq_plan.specs.Kept.{cells, KeepsSchema}
 use Rattle.pq_plan.proofs.Kept.{row_fits}
 use Rattle.pq_plan.specs.Meaning.{keeps, looks_up}
@@ -53,7 +53,7 @@ pub record IsOwn (p : ℕ) (pred : Pred) : Type 0 where
   pub before : is_before p pred.right ≡ true
 
 -- and one on a column that is not fixed is a range on the first column of the rest, against a constant or parameter
-pub record IsFirstRange (q : Asked) (p : ℕ) (sequence : List KeyPart) (pred : Pred) : Type 0 where
+pub record IsFirstRange (q : Question) (p : ℕ) (sequence : List KeyPart) (pred : Pred) : Type 0 where
   pub range : is_range pred.op ≡ true
   pub free : IsFree pred.right
   pub part : KeyPart
@@ -62,26 +62,26 @@ pub record IsFirstRange (q : Asked) (p : ℕ) (sequence : List KeyPart) (pred : 
   pub column : part.col ≡ pred.left.col
 
 -- the sequence serves relation p of the query, at which a stop can stand
-pub record IsServed (q : Asked) (p : ℕ) (sequence : List KeyPart) : Type 0 where
+pub record IsServed (q : Question) (p : ℕ) (sequence : List KeyPart) : Type 0 where
   pub from_one : 1 ≤ p
   pub within : p ≤ length q.query.relations
   pub named : (pred : Pred) → In pred q.query.preds → IsNamedPred (length q.query.relations) pred
   pub items : (item : OrderItem) → In item (position_columns q.tables q.query) → (1 ≤ item.col.rel) × (item.col.rel ≤ p)
   pub free : looks_up q p ≡ false
   pub own : (pred : Pred) → In pred q.query.preds → belongs_to pred ≡ p → IsOwn p pred
-  pub begins : begins_with sequence (fixed q.query p) ≡ true
-  pub rest_is : map part_of (filter (is_rest p (fixed q.query p)) (position_columns q.tables q.query)) ≡ rest q p sequence
+  pub begins : begins_with sequence (tied_set q.query p) ≡ true
+  pub rest_is : map part_of (filter (is_rest p (tied_set q.query p)) (position_columns q.tables q.query)) ≡ rest q p sequence
   pub some_rest : rest q p sequence ≡ [] → ⊥
-  pub ranges : (pred : Pred) → In pred q.query.preds → belongs_to pred ≡ p → has_col (fixed q.query p) pred.left.col ≡ false → IsFirstRange q p sequence pred
+  pub ranges : (pred : Pred) → In pred q.query.preds → belongs_to pred ≡ p → has_col (tied_set q.query p) pred.left.col ≡ false → IsFirstRange q p sequence pred
 
 -- ---- the tied columns
-module _ (q : Asked) (p : ℕ) (sequence : List KeyPart) (s : IsServed q p sequence) where
+module _ (q : Question) (p : ℕ) (sequence : List KeyPart) (s : IsServed q p sequence) where
   -- the first columns are tied
   pub front_tied : AreTied q p (front q p sequence)
   front_tied k here = set_members _ k (ap (λ (set : ℕ). has_col set k) (sym (eqb-true _ _ s.begins)) ∙ members_set (front q p sequence) k here)
 
   -- each fixed column is among them
-  pub fixed_in_front : (k : ℕ) → has_col (fixed q.query p) k ≡ true → In k (front q p sequence)
+  pub fixed_in_front : (k : ℕ) → has_col (tied_set q.query p) k ≡ true → In k (front q p sequence)
   fixed_in_front k h = set_members (front q p sequence) k (ap (λ (set : ℕ). has_col set k) (eqb-true _ _ s.begins) ∙ h)
 
   -- a row that passes has the tied values there
@@ -100,10 +100,10 @@ module _ (q : Asked) (p : ℕ) (sequence : List KeyPart) (s : IsServed q p seque
 
 -- ---- that a sequence serves
 module _ (tables : List Table) (query : Query) (rows : List (ℕ × List Value)) (params : List Value) (sound : IsQuery tables query) (kept : KeepsSchema tables rows) (resolved : IsResolved tables query) (p : ℕ) (low : 1 ≤ p) (high : p ≤ length query.relations) (can : can_stop_at tables query p ≡ true) where
-  abbrev q : Asked
+  abbrev q : Question
   q = asked tables query rows params sound kept
 
-  no_lookup : is_lookup (table_of tables query p) (fixed query p) ≡ false
+  no_lookup : is_lookup (table_of tables query p) (tied_set query p) ≡ false
   no_lookup = not-true _ (and_parts (are_bounded tables query (p - 1)) _ (and_parts _ _ (and_parts _ _ (and_parts _ _ can).0).0).0).1
 
   ordered : (item : OrderItem) → In item query.order → item.col.rel ≤ p
@@ -157,11 +157,11 @@ module _ (tables : List Table) (query : Query) (rows : List (ℕ × List Value))
   first_of (part ∷ parts) tail col h = (part, parts ++ tail, refl, eqb-true _ _ h)
 
   abbrev left_keys : List KeyPart
-  left_keys = map ascending (without (bit_or (fixed query p) (set_of (columns_of (order_rest query p)))) (table_of tables query p).key)
+  left_keys = map ascending_part (without (bit_or (tied_set query p) (set_of (columns_of (order_rest query p)))) (table_of tables query p).key)
 
-  first_range : (sequence : List KeyPart) → rest q p sequence ≡ order_rest query p ++ left_keys → (pred : Pred) → In pred query.preds → belongs_to pred ≡ p → has_col (fixed query p) pred.left.col ≡ false → IsFirstRange q p sequence pred
+  first_range : (sequence : List KeyPart) → rest q p sequence ≡ order_rest query p ++ left_keys → (pred : Pred) → In pred query.preds → belongs_to pred ≡ p → has_col (tied_set query p) pred.left.col ≡ false → IsFirstRange q p sequence pred
   first_range sequence is pred here own free =
-      let k = all_at (keeps_range p (fixed query p) (first_column (order_rest query p))) query.preds ranged pred here in
+      let k = all_at (keeps_range p (tied_set query p) (first_column (order_rest query p))) query.preds ranged pred here in
       elim (or_cases _ _ k) [
         | inl a ↦ elim (or_cases _ _ a) [
           | inl other ↦ absurd (false≢true (sym (ap not (eq-eqb _ _ own)) ∙ other))
@@ -178,7 +178,7 @@ module _ (tables : List Table) (query : Query) (rows : List (ℕ × List Value))
       let fixed_columns = map (λ (pred : Pred). pred.left.col) (filter (ties p) query.preds) in
       false≢true (sym no_lookup ∙ members_within (table_of tables query p).key fixed_columns (λ k here. set_members fixed_columns k (none_left tables query p (order_rest query p) (sym is ∙ none) k here)))
 
-  pub served : (sequence : List KeyPart) → serves (table_of tables query p) (fixed query p) (order_rest query p) sequence ≡ true → IsServed q p sequence
+  pub served : (sequence : List KeyPart) → serves (table_of tables query p) (tied_set query p) (order_rest query p) sequence ≡ true → IsServed q p sequence
   served sequence h =
       let both = and_parts _ _ h in
       let is : rest q p sequence ≡ order_rest query p ++ left_keys = same_parts_are _ _ both.1 in

@@ -22,7 +22,7 @@ use Rattle.pq_content.proofs.Ranges.{in_range}
 use Rattle.pq_content.proofs.RowRanges.{row_range, key_bytes}
 use Rattle.pq_content.proofs.TableRows.{values_of-primary, dirs_of-primary}
 use Rattle.pq_content.proofs.Values.{kinds_from_fit, sequence_fits, values_of-columns_of}
-use Rattle.pq_plan.specs.Answer.{Asked, rows_at, no_value}
+use Rattle.pq_plan.specs.Answer.{Question, rows_at, no_value}
 use Rattle.pq_plan.specs.Kept.{KeepsSchema}
 use Rattle.pq_plan.proofs.Kept.{row_fits}
 use Rattle.pq_base.proofs.Members.{each_by_in, filter_same}
@@ -38,12 +38,12 @@ kinds_fit (t ∷ ts) [] h = absurd h
 kinds_fit (t ∷ ts) (x ∷ xs) h = (h.0, kinds_fit ts xs h.1)
 
 -- the values of an input's bounds are of the kinds of the sequence's columns
-pub record IsTyped (q : Asked) (p : ℕ) (sequence : List KeyPart) (c : List (List Value)) (after : Option (List Value)) (ts : List ColType) : Type 0 where
+pub record IsTyped (q : Question) (p : ℕ) (sequence : List KeyPart) (c : List (List Value)) (after : Option (List Value)) (ts : List ColType) : Type 0 where
   pub tied : Fits ts (ties q p sequence c)
   pub above : AreFit ts (map (under (ties q p sequence c)) (lows q p sequence c after))
   pub below : AreFit ts (map (under (ties q p sequence c)) (highs q p sequence c))
 
-module _ (q : Asked) (p : ℕ) (sequence : List KeyPart) (c : List (List Value)) (after : Option (List Value)) (others : List Pair)
+module _ (q : Question) (p : ℕ) (sequence : List KeyPart) (c : List (List Value)) (after : Option (List Value)) (others : List Pair)
     (kept : KeepsSchema q.tables q.rows) (beside : AreBeside others)
     (typed : IsTyped q p sequence c after (types_at (table_at q.tables (relation_at q.query p).table) (columns_of sequence))) where
   abbrev t : ℕ
@@ -79,7 +79,7 @@ module _ (q : Asked) (p : ℕ) (sequence : List KeyPart) (c : List (List Value))
       ap (λ rows. sort_by (position_cmp (dirs_of sequence)) (values_of sequence) rows) (filter_same test lies (rows_of t q.rows) (each_by_in _ (rows_of t q.rows) (λ r here. is r here ∙ test_is r here)))
       ∙ ap (λ (f : List Value → List Value). sort_by (position_cmp (dirs_of sequence)) f (filter lies (rows_of t q.rows))) (λ i r. values_of-columns_of sequence r i)
 
-module _ (q : Asked) (p : ℕ) (c : List (List Value)) (after : Option (List Value)) (others : List Pair)
+module _ (q : Question) (p : ℕ) (c : List (List Value)) (after : Option (List Value)) (others : List Pair)
     (kept : KeepsSchema q.tables q.rows) (beside : AreBeside others) where
   abbrev at : ℕ
   at = (relation_at q.query p).table

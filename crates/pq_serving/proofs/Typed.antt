@@ -11,7 +11,7 @@ use Rattle.pq_base.specs.declared.value.Value.{Value}
 use Rattle.pq_base.specs.declared.value.Value.TheVariants as value
 use Rattle.pq_base.specs.declared.value.ColType.{ColType}
 use Rattle.pq_base.specs.declared.value.ColType.TheVariants as type
-use Rattle.pq_base.specs.Order.{value_cmp, directed}
+use Rattle.pq_base.specs.Order.{value_cmp, directed_order}
 use Rattle.pq_base.specs.Values.{FitsType, AllFit}
 use Rattle.pq_base.specs.Members.{In}
 use Rattle.pq_schema.specs.declared.table.KeyPart.{KeyPart}
@@ -25,9 +25,9 @@ use Rattle.pq_schema.specs.declared.query.OrderItem.{OrderItem}
 use Rattle.pq_schema.specs.Resolved.{IsOperand, IsJoined, IsParam, IsPredicate, IsResolved, ref_type, param_type}
 use Rattle.pq_schema.specs.Sequences.{columns_of}
 use Rattle.pq_base.specs.Values.{same_kind}
-use Rattle.pq_schema.specs.Relations.{table_of, belongs_to, ties, fixed, is_rest, part_of, position_columns}
+use Rattle.pq_schema.specs.Relations.{table_of, belongs_to, ties, tied_set, is_rest, part_of, position_columns}
 use Rattle.pq_content.specs.Tables.{types_of, type_of, types_at, IsOfKind}
-use Rattle.pq_plan.specs.Answer.{Asked, row_of, side, compares, no_value}
+use Rattle.pq_plan.specs.Answer.{Question, row_of, side, compares, no_value}
 use Rattle.pq_plan.specs.Running.{tied_value}
 use Rattle.pq_base.proofs.Members.{all_at, found}
 use Rattle.pq_base.proofs.Members.{all_member, each_by_in, in_map, map_in, in_filter, filter_in, in_flat_map, in_either}
@@ -114,7 +114,7 @@ fits_start ts (d ∷ ds) (Some v ∷ gs) [] f = fits_none (own ts (Some v ∷ gs
 fits_start ts (d ∷ ds) (None ∷ gs) [] f = fits_none (own ts (None ∷ gs))
 fits_start [] (d ∷ ds) (Some v ∷ gs) (a ∷ at) f = absurd f
 fits_start [] (d ∷ ds) (None ∷ gs) (a ∷ at) f = absurd f
-fits_start (t ∷ ts) (d ∷ ds) (Some v ∷ gs) (a ∷ at) f = elim (directed d (value_cmp a v)) as (λ r. Fits (own ts gs) (by_case r (record { past = false; values = [] }) (start_of ds gs at) (record { past = true; values = [] })).values) [
+fits_start (t ∷ ts) (d ∷ ds) (Some v ∷ gs) (a ∷ at) f = elim (directed_order d (value_cmp a v)) as (λ r. Fits (own ts gs) (by_case r (record { past = false; values = [] }) (start_of ds gs at) (record { past = true; values = [] })).values) [
   | Less ↦ fits_none (own ts gs)
   | Equal ↦ fits_start ts ds gs at f.1
   | Greater ↦ fits_none (own ts gs)
@@ -160,7 +160,7 @@ right_there o None b h = absurd (false≢true h)
 right_there o (Some x) None h = absurd (false≢true h)
 right_there o (Some x) (Some y) h = (y, refl)
 
-module _ (q : Asked) (p : ℕ) (sequence : List KeyPart) (s : IsServed q p sequence) (resolved : IsResolved q.tables q.query)
+module _ (q : Question) (p : ℕ) (sequence : List KeyPart) (s : IsServed q p sequence) (resolved : IsResolved q.tables q.query)
     (fits : AllFit q.query.params q.params)
     (c : List (List Value)) (rows_fit : (j : ℕ) → 1 ≤ j → j < p → AllFit (types_of (table_of q.tables q.query j)) (row_of j c)) (pass : passes q p c ≡ true) where
   abbrev table : Table
@@ -217,7 +217,7 @@ module _ (q : Asked) (p : ℕ) (sequence : List KeyPart) (s : IsServed q p seque
 
   types_are : types_at table (columns_of sequence) ≡ front_types ++ rest_types
   types_are =
-      let many = count_ones (fixed q.query p) in
+      let many = count_ones (tied_set q.query p) in
       ap (types_at table) (sym (take-append-drop many (columns_of sequence)) ∙ ap (λ (l : List ℕ). front q p sequence ++ l) (drop-map (λ (part : KeyPart). part.col) many sequence))
       ∙ map-append (type_of table) (front q p sequence) (columns_of (rest q p sequence))
 
@@ -256,8 +256,8 @@ module _ (q : Asked) (p : ℕ) (sequence : List KeyPart) (s : IsServed q p seque
   module _ (after : Option (List Value)) (cursor : (at : List Value) → after ≡ Some at → AllFit (map (λ (item : OrderItem). ref_type q.tables q.query item.col) (position_columns q.tables q.query)) at) where
     own_types : own (map (λ (item : OrderItem). ref_type q.tables q.query item.col) (position_columns q.tables q.query)) (constants q p c) ≡ rest_types
     own_types =
-        own_is (is_rest p (fixed q.query p)) (constant_value q p c) (constant_value q p c) (constant_value q p c) (λ (item : OrderItem). ref_type q.tables q.query item.col) (position_columns q.tables q.query)
-        ∙ sym (of_relation (filter (is_rest p (fixed q.query p)) (position_columns q.tables q.query)) (λ item here. eqb-true _ _ (and_parts _ _ (in_filter (is_rest p (fixed q.query p)) item (position_columns q.tables q.query) here).1).0))
+        own_is (is_rest p (tied_set q.query p)) (constant_value q p c) (constant_value q p c) (constant_value q p c) (λ (item : OrderItem). ref_type q.tables q.query item.col) (position_columns q.tables q.query)
+        ∙ sym (of_relation (filter (is_rest p (tied_set q.query p)) (position_columns q.tables q.query)) (λ item here. eqb-true _ _ (and_parts _ _ (in_filter (is_rest p (tied_set q.query p)) item (position_columns q.tables q.query) here).1).0))
         ∙ ap (λ (parts : List KeyPart). types_at table (columns_of parts)) s.rest_is
       where
         of_relation : (items : List OrderItem) → ((item : OrderItem) → In item items → item.col.rel ≡ p) → types_at table (columns_of (map part_of items)) ≡ map (λ (item : OrderItem). ref_type q.tables q.query item.col) items

@@ -13,11 +13,11 @@ use Rattle.pq_schema.specs.declared.table.Table.{Table}
 use Rattle.pq_schema.specs.declared.query.OrderItem.{OrderItem}
 use Rattle.pq_schema.specs.Sound.{IsQuery, IsMade}
 use Rattle.pq_schema.specs.Resolved.{IsColumnOf, ref_type}
-use Rattle.pq_schema.specs.Sequences.{ascending, columns_of, without, index_numbered, no_index, sequence_of, IsAccess}
+use Rattle.pq_schema.specs.Sequences.{ascending_part, columns_of, without, index_numbered, no_index, sequence_of, IsAccess}
 use Rattle.pq_schema.specs.Relations.{relation_at, table_of, position_columns}
 use Rattle.pq_schema.proofs.Soundness.{resolved_is_query}
 use Rattle.pq_content.specs.Tables.{types_at}
-use Rattle.pq_plan.specs.Answer.{Asked, rows_at, position}
+use Rattle.pq_plan.specs.Answer.{Question, rows_at, position}
 use Rattle.pq_plan.specs.Kept.{KeepsSchema}
 use Rattle.pq_base.proofs.Members.{each_in, each_by_in, all_member, at_in, get_at, in_map, in_either, in_filter}
 use Rattle.pq_plan.proofs.Bounds.{number_at}
@@ -37,27 +37,27 @@ use Rattle.pq_serving.proofs.Typed.{typed}
 
 -- the columns of a table's sequence are columns of the table
 module _ (table : Table) (key : (k : ℕ) → In k table.key → k < length table.columns) where
-  then_inside : (parts : List KeyPart) (set : ℕ) → ((part : KeyPart) → In part parts → part.col < length table.columns) → (k : ℕ) → In k (columns_of (parts ++ map ascending (without set table.key))) → k < length table.columns
+  then_inside : (parts : List KeyPart) (set : ℕ) → ((part : KeyPart) → In part parts → part.col < length table.columns) → (k : ℕ) → In k (columns_of (parts ++ map ascending_part (without set table.key))) → k < length table.columns
   then_inside parts set inside k here =
-      let m = in_map (λ (part : KeyPart). part.col) k (parts ++ map ascending (without set table.key)) here in
-      subst (λ (n : ℕ). n < length table.columns) m.2 (elim (in_either m.0 parts (map ascending (without set table.key)) m.1) [
+      let m = in_map (λ (part : KeyPart). part.col) k (parts ++ map ascending_part (without set table.key)) here in
+      subst (λ (n : ℕ). n < length table.columns) m.2 (elim (in_either m.0 parts (map ascending_part (without set table.key)) m.1) [
         | inl a ↦ inside m.0 a
         | inr b ↦
-            let c = in_map ascending m.0 (without set table.key) b in
+            let c = in_map ascending_part m.0 (without set table.key) b in
             subst (λ (part : KeyPart). part.col < length table.columns) c.2 (key c.0 (in_filter _ c.0 table.key c.1).0)
       ])
 
-  key_inside : (k : ℕ) → In k (columns_of (map ascending table.key)) → k < length table.columns
+  key_inside : (k : ℕ) → In k (columns_of (map ascending_part table.key)) → k < length table.columns
   key_inside k here =
-      let m = in_map (λ (part : KeyPart). part.col) k (map ascending table.key) here in
-      let c = in_map ascending m.0 table.key m.1 in
+      let m = in_map (λ (part : KeyPart). part.col) k (map ascending_part table.key) here in
+      let c = in_map ascending_part m.0 table.key m.1 in
       subst (λ (n : ℕ). n < length table.columns) (ap (λ (part : KeyPart). part.col) c.2 ∙ m.2) (key c.0 c.1)
 
 -- the values of a cursor fit
 cursor_at : (tables : List Table) (query : Query) (after : Option (List Value)) → IsCursor tables query after → (at : List Value) → after ≡ Some at → AllFit (position_types tables query) at
 cursor_at tables query after cursor at is = subst (λ (o : Option (List Value)). IfSome o (AllFit (position_types tables query))) is cursor
 
-module _ (q : Asked) (p : ℕ) (is : IsScanned q p) where
+module _ (q : Question) (p : ℕ) (is : IsScanned q p) where
   query_is : IsQuery q.tables q.query
   query_is = resolved_is_query q.tables q.query is.asked.made is.asked.resolved
 

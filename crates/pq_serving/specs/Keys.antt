@@ -10,7 +10,7 @@ use Rattle.pq_schema.specs.declared.table.KeyPart.{KeyPart}
 use Rattle.pq_key_code.specs.KeyCode.{code_of}
 use Rattle.pq_store.specs.Content.{key_cmp}
 use Rattle.pq_content.specs.Tables.{IsOfKind}
-use Rattle.pq_plan.specs.Answer.{Asked}
+use Rattle.pq_plan.specs.Answer.{Question}
 use Rattle.pq_serving.specs.Starts.{Bound, under}
 use Rattle.pq_serving.specs.Scanning.{ties, lows, highs}
 
@@ -43,7 +43,7 @@ Fits (t ∷ ts) (x ∷ xs) = IsOfKind t x × Fits ts xs
 abbrev pub AreFit : List ColType → List Bound → Type 0
 AreFit ts bs = AllByRecursion (λ b. Fits ts b.values) bs
 
-module _ (q : Asked) (p : ℕ) (sequence : List KeyPart) (combo : List (List Value)) where
+module _ (q : Question) (p : ℕ) (sequence : List KeyPart) (combo : List (List Value)) where
   -- behind the tied values
   abbrev pub tied_bounds : List Bound → List Bound
   tied_bounds bs = map (under (ties q p sequence combo)) bs

@@ -14,8 +14,8 @@ use Rattle.pq_schema.specs.declared.query.Pred.{Pred}
 use Rattle.pq_schema.specs.declared.query.OrderItem.{OrderItem}
 use Rattle.pq_schema.specs.Sequences.{columns_of}
 use Rattle.pq_schema.specs.Keys.{dirs_of}
-use Rattle.pq_schema.specs.Relations.{belongs_to, fixed, is_rest, position_columns}
-use Rattle.pq_plan.specs.Answer.{Asked, row_of, rows_at, side, compares, no_value, position, by_position}
+use Rattle.pq_schema.specs.Relations.{belongs_to, tied_set, is_rest, position_columns}
+use Rattle.pq_plan.specs.Answer.{Question, row_of, rows_at, side, compares, no_value, position, by_position}
 use Rattle.pq_plan.specs.Kept.{cells}
 use Rattle.pq_plan.specs.Running.{tied_value}
 use Rattle.pq_nodes.specs.Tied.{tied_cells}
@@ -27,7 +27,7 @@ first_direction [] = Asc
 first_direction (part ∷ parts) = part.dir
 
 -- strictly after the cursor
-abbrev pub is_after : Asked → Option (List Value) → List (List Value) → Bool
+abbrev pub is_after : Question → Option (List Value) → List (List Value) → Bool
 is_after q None combo = true
 is_after q (Some at) combo = is_lt (by_position q at (position q combo))
 
@@ -36,7 +36,7 @@ abbrev pub is_operand : Option Value → Bool
 is_operand None = false
 is_operand (Some operand) = true
 
-module _ (q : Asked) (p : ℕ) where
+module _ (q : Question) (p : ℕ) where
   -- the value of a position column that is the same for each row of relation p that passes
   abbrev pub constant_value : List (List Value) → OrderItem → Value
   constant_value combo item =
@@ -45,7 +45,7 @@ module _ (q : Asked) (p : ℕ) where
 
   -- none for a column of relation p that is not fixed
   abbrev pub constant : List (List Value) → OrderItem → Option Value
-  constant combo item = cond (is_rest p (fixed q.query p) item) None (Some (constant_value combo item))
+  constant combo item = cond (is_rest p (tied_set q.query p) item) None (Some (constant_value combo item))
 
   abbrev pub constants : List (List Value) → List (Option Value)
   constants combo = map (constant combo) (position_columns q.tables q.query)
@@ -59,7 +59,7 @@ module _ (q : Asked) (p : ℕ) where
 
   -- of a column that equalities tie
   abbrev pub is_tied : Pred → Bool
-  is_tied pred = has_col (fixed q.query p) pred.left.col
+  is_tied pred = has_col (tied_set q.query p) pred.left.col
 
   -- what a predicate says of the input by itself: of a tied column all, of another one that there is an operand
   abbrev pub passes_one : List (List Value) → Pred → Bool
@@ -88,10 +88,10 @@ module _ (q : Asked) (p : ℕ) where
   module _ (sequence : List KeyPart) where
     -- the columns that are tied, and the parts behind them
     abbrev pub front : List ℕ
-    front = take (count_ones (fixed q.query p)) (columns_of sequence)
+    front = take (count_ones (tied_set q.query p)) (columns_of sequence)
 
     abbrev pub rest : List KeyPart
-    rest = drop (count_ones (fixed q.query p)) sequence
+    rest = drop (count_ones (tied_set q.query p)) sequence
 
     abbrev pub ties : List (List Value) → List Value
     ties combo = tied_cells q p front combo

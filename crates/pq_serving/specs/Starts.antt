@@ -6,7 +6,7 @@ use Rattle.std.specs.Ordering.{is_lt, is_le}
 use Rattle.pq_base.specs.declared.value.Dir.{Dir}
 use Rattle.pq_base.specs.declared.value.Dir.TheVariants.{Asc, Desc}
 use Rattle.pq_base.specs.declared.value.Value.{Value}
-use Rattle.pq_base.specs.Order.{value_cmp, directed}
+use Rattle.pq_base.specs.Order.{value_cmp, directed_order}
 use Rattle.pq_schema.specs.declared.query.Op.{Op}
 use Rattle.pq_schema.specs.declared.query.Op.TheVariants as op
 use Rattle.pq_key_code.specs.KeyOrder.{common_cmp}
@@ -17,11 +17,11 @@ pub record Bound : Type 0 where
   pub values : List Value
 
 -- a list with some places constant, and the others, in order, from another list
-abbrev pub filled : {A : Type 0} → List (Option A) → List A → List A
-filled [] xs = []
-filled (Some v ∷ gs) xs = v ∷ filled gs xs
-filled (None ∷ gs) [] = []
-filled (None ∷ gs) (x ∷ xs) = x ∷ filled gs xs
+abbrev pub filled_values : {A : Type 0} → List (Option A) → List A → List A
+filled_values [] xs = []
+filled_values (Some v ∷ gs) xs = v ∷ filled_values gs xs
+filled_values (None ∷ gs) [] = []
+filled_values (None ∷ gs) (x ∷ xs) = x ∷ filled_values gs xs
 
 -- how many places are not constant
 abbrev pub own_count : {A : Type 0} → List (Option A) → ℕ
@@ -48,7 +48,7 @@ reaches ds b xs = cond b.past (is_lt (common_cmp ds b.values xs)) (is_le (common
 -- the prefix so far, one below it none
 abbrev pub start_of : List Dir → List (Option Value) → List Value → Bound
 start_of (d ∷ ds) (Some v ∷ gs) (a ∷ at) =
-    by_case (directed d (value_cmp a v)) (record { past = false; values = [] }) (start_of ds gs at)
+    by_case (directed_order d (value_cmp a v)) (record { past = false; values = [] }) (start_of ds gs at)
     (record { past = true; values = [] })
 start_of (d ∷ ds) (None ∷ gs) (a ∷ at) = let b = start_of ds gs at in record { past = b.past; values = a ∷ b.values }
 start_of _ _ _ = record { past = true; values = [] }

@@ -25,7 +25,7 @@ use Rattle.pq_builds.specs.declared.build.Built.TheVariants.{Rows as Filled, Too
 use Rattle.pq_builds.specs.declared.target.NewQuery.{NewQuery}
 use Rattle.pq_builds.specs.declared.target.Target.{Target}
 use Rattle.pq_builds.specs.Stages.{ready_value}
-use Rattle.pq_builds.specs.Standing.{Origin, IsTarget, IsNewIn, HoldsOrigin, FillsIndex, IsMarkedOrReady, Makes, Leaves, before, whole}
+use Rattle.pq_builds.specs.Standing.{Origin, IsTarget, IsNewIn, HoldsOrigin, FillsIndex, IsMarkedOrReady, Makes, Leaves, before, whole_content}
 use Rattle.pq_builds.specs.Targets.{target_of}
 use Rattle.pq_builds.proofs.Filled.{intent_filling}
 use Rattle.pq_session.specs.Model.{Model}
@@ -124,7 +124,7 @@ module _ (m : Model) (query : Query) (new : NewIndex) (valid : IsValid m.schema)
   unfolding content_of
   before_is = refl
 
-  whole_is : whole (origin_of m new) (target_for m new) (last_query later) (ready_value (last_query later)) ≡ content_of (next_model m query new)
+  whole_is : whole_content (origin_of m new) (target_for m new) (last_query later) (ready_value (last_query later)) ≡ content_of (next_model m query new)
   unfolding content_of
   whole_is = ap (content_pairs later.tables m.rows) (sym (pairs_next m.schema query new valid defined))
 
@@ -145,7 +145,7 @@ module _ (m : Model) (query : Query) (new : NewIndex) (valid : IsValid m.schema)
   before_holds is = record { valid = valid; keeps = keeps; told = is ∙ ap (λ (c : Content). Some c) before_is }
 
   -- where all was made
-  pub whole_holds : {now : Option Content} → now ≡ Some (whole (origin_of m new) (target_for m new) (last_query later) (ready_value (last_query later))) → HoldsModel now (next_model m query new)
+  pub whole_holds : {now : Option Content} → now ≡ Some (whole_content (origin_of m new) (target_for m new) (last_query later) (ready_value (last_query later))) → HoldsModel now (next_model m query new)
   whole_holds is = record { valid = next_valid m.schema query new valid defined; keeps = next_keeps; told = is ∙ ap (λ (c : Content). Some c) whole_is }
 
   -- while the index is being filled

@@ -11,13 +11,13 @@ use Rattle.pq_print.specs.declared.report.Report.{Report}
 use Rattle.pq_schema.specs.Schema.{Schema, with_query}
 use Rattle.pq_schema.specs.declared.table.NewIndex.{NewIndex}
 use Rattle.pq_text.specs.declared.piece.Piece.{Piece}
-use Rattle.pq_session.specs.Actions.{Action, Creates, Writes, Prepares, Explains, Runs, Shows, asked, asked_bound, asked_schema}
-use Rattle.pq_session.specs.Checks.{IsChecked, checked, checked_as, check_step, without_rows}
+use Rattle.pq_session.specs.Actions.{Action, Creates, Writes, Prepares, Explains, Runs, Shows, action_of, asked_bound, asked_schema}
+use Rattle.pq_session.specs.Checks.{IsChecked, action_check, checked_as, check_step, without_rows}
 use Rattle.pq_session.specs.Lines.{planned_lines}
-use Rattle.pq_session.specs.Planning.{Planned, planned}
+use Rattle.pq_session.specs.Planning.{PlannedDefinition, planned_definition}
 use Rattle.pq_session.specs.Promise.{IsBound}
 use Rattle.pq_session.specs.Requests.{IsPlanFor}
-use Rattle.pq_session.specs.Step.{Step, crowded, prepared_over, report_of}
+use Rattle.pq_session.specs.Step.{Step, crowding_refusal, prepared_over, report_of}
 use Rattle.pq_session.specs.declared.planning.PlannedQuery.{PlannedQuery}
 use Rattle.pq_session.proofs.Defining.{explained_lines, lines_are, plan_is}
 
@@ -30,11 +30,11 @@ pub record IsCheckStep (schema : Schema) (number : ℕ) (asked : Result Action R
 
 module _ (schema : Schema) (number : ℕ) where
   -- over no rows none are too many
-  crowded_none : (wanted : Option NewIndex) → crowded (without_rows schema) wanted ≡ None
+  crowded_none : (wanted : Option NewIndex) → crowding_refusal (without_rows schema) wanted ≡ None
   crowded_none None = refl
   crowded_none (Some new) = refl
 
-  prepared_none : (plan : Planned) → checked schema number (Prepares plan) ≡ prepared_over (without_rows schema) number plan None
+  prepared_none : (plan : PlannedDefinition) → action_check schema number (Prepares plan) ≡ prepared_over (without_rows schema) number plan None
   prepared_none plan = ap (prepared_over (without_rows schema) number plan) (crowded_none plan.chosen.wanted)
 
   none_bound : (wanted : Option NewIndex) → IsBound (fixed_bound wanted) (prepare_bound wanted [])
@@ -53,16 +53,16 @@ module _ (schema : Schema) (number : ℕ) where
   is_check_step (Ok Shows) = record { numbered = refl; bound = refl; unused = refl; model = refl }
 
   -- the step of a piece, by what it asks for
-  pub check_by : (piece : Piece) (found : Result Action Refusal) → asked schema piece ≡ found → check_step (without_rows schema) number piece ≡ checked_as schema number found
+  pub check_by : (piece : Piece) (found : Result Action Refusal) → action_of schema piece ≡ found → check_step (without_rows schema) number piece ≡ checked_as schema number found
   unfolding check_step
   check_by piece found is = ap (checked_as schema number) is
 
   -- and its clauses, where what it asks for was checked
-  pub checked_report : (piece : Piece) (found : Result Action Refusal) (next : Schema) (report : Report) → asked schema piece ≡ found → IsChecked schema number found next report
+  pub checked_report : (piece : Piece) (found : Result Action Refusal) (next : Schema) (report : Report) → action_of schema piece ≡ found → IsChecked schema number found next report
       → report ≡ (check_step (without_rows schema) number piece).report
   checked_report piece found next report is done = done.report_is ∙ ap (λ (x : Step). x.report) (sym (check_by piece found is))
 
-  pub checked_next : (piece : Piece) (found : Result Action Refusal) (next : Schema) (report : Report) → asked schema piece ≡ found → IsChecked schema number found next report
+  pub checked_next : (piece : Piece) (found : Result Action Refusal) (next : Schema) (report : Report) → action_of schema piece ≡ found → IsChecked schema number found next report
       → next ≡ (check_step (without_rows schema) number piece).model.schema
   checked_next piece found next report is done = done.next_is ∙ ap (λ (x : Step). x.model.schema) (sym (check_by piece found is))
 
@@ -79,10 +79,10 @@ pub prepared_checked : (schema : Schema) (number : ℕ) (computed : PlannedQuery
     → (lines : List Line) → lines ≡ planned_lines schema.tables computed.query.name computed.compiled.choice (cost computed.compiled.plan) computed.compiled.wanted
     → (report : Report) → report ≡ report_of number lines Done (prepare_bound wanted []) → IsChecked schema number asked next report
 prepared_checked schema number computed asked is wanted wants next next_same lines lined report report_same =
-    let plan = planned computed.query is.plan.chosen.best wanted in
+    let plan = planned_definition computed.query is.plan.chosen.best wanted in
     let same = sym (prepared_none schema number plan) in
     subst (λ (a : Result Action Refusal). IsChecked schema number a next report) (sym is.asks)
-    (subst (λ (p : Planned). IsChecked schema number (Ok (Prepares p)) next report) (plan_is schema.tables number computed is.plan is.plan_is wanted wants)
+    (subst (λ (p : PlannedDefinition). IsChecked schema number (Ok (Prepares p)) next report) (plan_is schema.tables number computed is.plan is.plan_is wanted wants)
     (record {
       next_is = next_same ∙ ap (λ (x : Step). x.model.schema) same;
       report_is = report_same ∙ ap (λ (ls : List Line). report_of number ls Done (prepare_bound wanted [])) (lined ∙ lines_are schema.tables number computed is.plan is.plan_is wanted wants)

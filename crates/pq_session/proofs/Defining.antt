@@ -20,7 +20,7 @@ use Rattle.pq_content.proofs.MoreTables.{keeps-more}
 use Rattle.pq_print.specs.declared.report.Line.{Line}
 use Rattle.pq_print.specs.declared.report.End.TheVariants.{Done}
 use Rattle.pq_store.specs.Content.{Content}
-use Rattle.pq_store.specs.Counts.{Counts, charged}
+use Rattle.pq_store.specs.Counts.{Counts, charged_counts}
 use Rattle.pq_store.specs.declared.damage.Broke.{Broke}
 use Rattle.pq_store.specs.declared.damage.Broke.TheVariants as broke
 use Rattle.pq_session.specs.Evidence.{TellsEvidence}
@@ -35,13 +35,13 @@ use Rattle.pq_session.specs.Model.{Model}
 use Rattle.pq_print.specs.declared.report.Report.{Report}
 use Rattle.pq_schema.specs.Tables.{table_at, no_table}
 use Rattle.pq_session.specs.Extends.{Extends}
-use Rattle.pq_session.specs.Promise.{Done as Promised, Broken, Promises, IsBound, IsWithin, IsWithinFixed}
+use Rattle.pq_session.specs.Promise.{DoneStatement as Promised, BrokenStatement, Promises, IsBound, IsWithin, IsWithinFixed}
 use Rattle.pq_session.specs.Reports.{define_report}
 use Rattle.pq_session.specs.Stands.{HoldsModel, Stands, content_of, value_at, last_key, last_value}
 use Rattle.pq_builds.specs.Bounds.{bound}
-use Rattle.pq_session.specs.Actions.{Action, Creates, Prepares, action_bound, action_schema, asking}
-use Rattle.pq_session.specs.Planning.{Planned, planned}
-use Rattle.pq_session.specs.Step.{Step, report_of, acted, created, prepared_over, explanation}
+use Rattle.pq_session.specs.Actions.{Action, Creates, Prepares, action_bound, action_schema, action_from}
+use Rattle.pq_session.specs.Planning.{PlannedDefinition, planned_definition}
+use Rattle.pq_session.specs.Step.{Step, report_of, action_step, table_step, prepared_over, explanation}
 use Rattle.pq_session.specs.Lines.{table_lines, query_lines, planned_lines}
 use Rattle.pq_session.specs.Planned.{IsComputed, IsPlanOf}
 use Rattle.pq_session.specs.declared.planning.PlannedQuery.{PlannedQuery}
@@ -103,7 +103,7 @@ present_shown (Some content) schema broke.NoMem shows = tt
 present_shown (Some content) schema (broke.Damaged damage) shows = inr (inr shows)
 
 module _ (number : ℕ) (lines : List Line) (action : Action) (old now : Option Content) (schema next : Schema)
-    (leads : (m : Model) → Stands old schema m → Leads m next × (acted m number action ≡ defined m number next lines))
+    (leads : (m : Model) → Stands old schema m → Leads m next × (action_step m number action ≡ defined m number next lines))
     (one : action_bound schema action ≡ Some (bound 1 0)) (behind : next ≡ action_schema schema action) where
   added : (m : Model) → Stands old schema m → now ≡ Some (insert (content_of m) (last_key next) (last_value next)) → HoldsModel now (record m { schema = next })
   added m s is =
@@ -111,7 +111,7 @@ module _ (number : ℕ) (lines : List Line) (action : Action) (old now : Option 
       record { valid = l.valid; keeps = l.keeps; told = is ∙ ap Some l.put }
 
   pub define_done : (before : Counts) → PutsNew true (last_key next) (last_value next) old now
-      → Promised number (Ok action) old now schema next before (charged before 0) (define_report number lines)
+      → Promised number (Ok action) old now schema next before (charged_counts before 0) (define_report number lines)
   define_done before puts = record {
     matches = λ m s. rw (leads m s).1 (record { same = refl; ops = lit≤ tt; entries = lit≤ tt });
     made = λ m s.
@@ -131,7 +131,7 @@ module _ (number : ℕ) (lines : List Line) (action : Action) (old now : Option 
   -- the key is absent, so that no damage is found
   pub define_broken : (before after : Counts) (broke : Broke) → MayPut (last_key next) (last_value next) old now
       → IfSome old (λ pairs. get pairs (last_key next) ≡ None → IsUndamaged broke) → IsWithin (bound 1 0) before after
-      → length schema.definitions + 1 ≡ length next.definitions → IfSome old (λ pairs. IfDamaged (IsPresent (last_key next) pairs) broke) → Broken number (Ok action) old now schema before after broke
+      → length schema.definitions + 1 ≡ length next.definitions → IfSome old (λ pairs. IfDamaged (IsPresent (last_key next) pairs) broke) → BrokenStatement number (Ok action) old now schema before after broke
   define_broken before after broke may sound within more shows = record {
     stopped = λ m s. elim (subst (λ o. MayPut (last_key next) (last_value next) o now) s.settled.told may) [
       | inl same ↦ inl (settled_opens (record { valid = s.settled.valid; keeps = s.settled.keeps; told = same }))
@@ -145,10 +145,10 @@ module _ (number : ℕ) (lines : List Line) (action : Action) (old now : Option 
 -- ---- tables
 
 leads_created : (old : Option Content) (schema : Schema) (number : ℕ) (def : TableDef) (table : Table) → IsTableDef def → new_table schema def ≡ Ok table
-    → (m : Model) → Stands old schema m → Leads m (with_table schema table) × (created m number table ≡ defined m number (with_table schema table) (table_lines table))
+    → (m : Model) → Stands old schema m → Leads m (with_table schema table) × (table_step m number table ≡ defined m number (with_table schema table) (table_lines table))
 leads_created old schema number def table is_def made m s =
     let here : new_table m.schema def ≡ Ok table = ap (λ (x : Schema). new_table x def) (sym s.known) ∙ made in
-    subst (λ (x : Schema). Leads m (with_table x table) × (created m number table ≡ defined m number (with_table x table) (table_lines table))) (sym s.known)
+    subst (λ (x : Schema). Leads m (with_table x table) × (table_step m number table ≡ defined m number (with_table x table) (table_lines table))) (sym s.known)
     (leads_table m def table s.settled is_def here, refl)
 
 -- the last table has the number behind the others
@@ -164,12 +164,12 @@ IsWritten old now next number lines before after result =
     × OnOk result (PutsNew true (last_key next) (last_value next) old now)
     × OnErr result (MayPut (last_key next) (last_value next) old now)
     × IfErr result (λ broke. IfSome old (λ pairs. get pairs (last_key next) ≡ None → IsUndamaged broke))
-    × OnOk result (after ≡ charged before 0)
+    × OnOk result (after ≡ charged_counts before 0)
     × IsWithin (bound 1 0) before after
     × IfErr result (λ broke. IfSome old (λ pairs. IfDamaged (IsPresent (last_key next) pairs) broke))
 
 written_as : (action : Action) (old now : Option Content) (schema next : Schema) (number : ℕ) (lines : List Line) (before after : Counts) (result : Result (Schema × Report) Broke)
-    → ((m : Model) → Stands old schema m → Leads m next × (acted m number action ≡ defined m number next lines)) → action_bound schema action ≡ Some (bound 1 0) → next ≡ action_schema schema action
+    → ((m : Model) → Stands old schema m → Leads m next × (action_step m number action ≡ defined m number next lines)) → action_bound schema action ≡ Some (bound 1 0) → next ≡ action_schema schema action
     → length schema.definitions + 1 ≡ length next.definitions → IsWritten old now next number lines before after result → Promises number (Ok action) old now schema before after result
 written_as action old now schema next number lines before after (Ok made) leads one behind more h =
     rw (h.0.0, h.0.1, h.4) (define_done number lines action old now schema next leads one behind before h.1)
@@ -178,13 +178,13 @@ written_as action old now schema next number lines before after (Err broke) lead
 
 pub table_written : (old now : Option Content) (schema session : Schema) (number : ℕ) (def : TableDef) → IsTableDef def → (t : ℕ) (before after : Counts) (result : Result (Schema × Report) Broke)
     → Extends schema def session (Ok t) → IsWritten old now session number (table_lines (table_at session.tables t)) before after result
-    → Promises number (asking Creates (new_table schema def)) old now schema before after result
+    → Promises number (action_from Creates (new_table schema def)) old now schema before after result
 table_written old now schema session number def is_def t before after result e all =
     let table = e.0 in
     let next = with_table schema table in
     let there = subst (λ (s : Schema). IsWritten old now s number (table_lines (table_at s.tables t)) before after result) e.2 all in
     let lined = subst (λ (x : Table). IsWritten old now next number (table_lines x) before after result) (last_table schema.tables table t e.3) there in
-    subst (λ (r : Result Table Refusal). Promises number (asking Creates r) old now schema before after result) (sym e.1)
+    subst (λ (r : Result Table Refusal). Promises number (action_from Creates r) old now schema before after result) (sym e.1)
     (written_as (Creates table) old now schema next number (table_lines table) before after result (leads_created old schema number def table is_def e.1)
     refl refl (one_more schema.definitions (OfTable (length schema.tables + 1) (length table.columns) (length table.indexes))) lined)
 
@@ -192,8 +192,8 @@ table_written old now schema session number def is_def t before after result e a
 
 -- a query that wants no index is one write
 module _ (schema : Schema) (number : ℕ) (query : Query) (best : Candidate) where
-  abbrev plain : Planned
-  plain = planned query best None
+  abbrev plain : PlannedDefinition
+  plain = planned_definition query best None
 
   query_made : (m : Model) → m.schema ≡ schema → prepared_over m number plain None ≡ defined m number (with_query schema query None) (query_lines schema.tables plain)
   query_made m same = ap (λ (s : Schema). defined m number (with_query s query None) (query_lines s.tables plain)) same
@@ -224,20 +224,20 @@ computed_defined schema computed wanted is named are free =
     })
 
 -- a plan as it is computed
-module _ (tables : List Table) (number : ℕ) (computed : PlannedQuery) (plan : Planned) (is : IsPlanOf computed plan) (wanted : Option NewIndex) (wants : computed.compiled.wanted ≡ wanted) where
-  pub plan_is : planned computed.query plan.chosen.best wanted ≡ plan
+module _ (tables : List Table) (number : ℕ) (computed : PlannedQuery) (plan : PlannedDefinition) (is : IsPlanOf computed plan) (wanted : Option NewIndex) (wants : computed.compiled.wanted ≡ wanted) where
+  pub plan_is : planned_definition computed.query plan.chosen.best wanted ≡ plan
   plan_is = λ i. record { query = sym is.query i; chosen = record { best = plan.chosen.best; wanted = sym (is.wanted ∙ wants) i } }
 
-  pub lines_are : planned_lines tables computed.query.name computed.compiled.choice (cost computed.compiled.plan) computed.compiled.wanted ≡ query_lines tables (planned computed.query plan.chosen.best wanted)
+  pub lines_are : planned_lines tables computed.query.name computed.compiled.choice (cost computed.compiled.plan) computed.compiled.wanted ≡ query_lines tables (planned_definition computed.query plan.chosen.best wanted)
   unfolding query_lines
   lines_are = λ i. planned_lines tables computed.query.name (sym is.choice i) (sym is.bound i) (wants i)
 
   -- the promise of the plan is that of its parts
   pub planned_promise : (old now : Option Content) (schema : Schema) (before after : Counts) (result : Result (Schema × Report) Broke)
-      → Promises number (Ok (Prepares (planned computed.query plan.chosen.best wanted))) old now schema before after result
+      → Promises number (Ok (Prepares (planned_definition computed.query plan.chosen.best wanted))) old now schema before after result
       → Promises number (Ok (Prepares plan)) old now schema before after result
   planned_promise old now schema before after result promise =
-      subst (λ (p : Planned). Promises number (Ok (Prepares p)) old now schema before after result) plan_is promise
+      subst (λ (p : PlannedDefinition). Promises number (Ok (Prepares p)) old now schema before after result) plan_is promise
 
   -- and so are the lines of its explanation
   pub explained_lines : report_of number (planned_lines tables computed.query.name computed.compiled.choice (cost computed.compiled.plan) computed.compiled.wanted) Done (bound 0 0) ≡ explanation tables number plan

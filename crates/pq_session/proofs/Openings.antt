@@ -26,9 +26,9 @@ use Rattle.pq_session.specs.declared.format.Mark.{Mark}
 use Rattle.pq_session.specs.declared.format.Mark.TheVariants.{Ready, Building}
 use Rattle.pq_session.specs.Format.{marked_text, has_format}
 use Rattle.pq_session.specs.Opened.{TellsOpened}
-use Rattle.pq_session.specs.Opening.{Added, none_added, with_made, with_planned, defined_by, defined_as, text_defines, has_last_text, if_canonical, text_adds, if_formatted, value_adds, pair_adds, goes_on, opened_by, opened}
+use Rattle.pq_session.specs.Opening.{SchemaAndMark, none_added, with_made, with_planned, defined_by, defined_as, text_defines, has_last_text, if_canonical, text_adds, if_formatted, value_adds, pair_adds, goes_on, opened_by, added_from}
 use Rattle.pq_session.specs.Planned.{IsPlanned}
-use Rattle.pq_session.specs.Planning.{Planned, plan_from}
+use Rattle.pq_session.specs.Planning.{PlannedDefinition, plan_from}
 use Rattle.pq_session.specs.Stands.{last_made}
 use Rattle.pq_session.specs.declared.planning.PlannedQuery.{PlannedQuery}
 use Rattle.pq_session.proofs.Reopening.{schema_in}
@@ -45,7 +45,7 @@ query_one : (schema next : Schema) (query : Query) (wanted : Option NewIndex) (w
 query_one schema next query wanted None is = subst (IsOneMore schema) (same_Some _ _ is) (length-append schema.definitions _)
 query_one schema next query wanted (Some why) is = absurd (none-some _ is)
 
-planned_one : (schema next : Schema) (plan : Result Planned Refusal) → with_planned schema plan ≡ Some next → IsOneMore schema next
+planned_one : (schema next : Schema) (plan : Result PlannedDefinition Refusal) → with_planned schema plan ≡ Some next → IsOneMore schema next
 planned_one schema next (Ok plan) is = query_one schema next plan.query plan.chosen.wanted (definition_refusal schema plan.query.name) is
 planned_one schema next (Err why) is = absurd (none-some _ is)
 
@@ -94,15 +94,15 @@ text_some schema text = by (text_adds schema text) refl
     by (Some next) is = let one = text_one schema next text is in omega (arith, one)
 
 -- what a value adds, whose text adds this
-value_one : (schema : Schema) (added : Added) (value text : List ℕ) (mark : Mark) (o : Option Schema) → text_adds schema text ≡ o → option_map (λ (next : Schema). (next, mark)) (option_and_then (if_formatted value) o) ≡ Some added → IsOneMore schema added.0
+value_one : (schema : Schema) (added : SchemaAndMark) (value text : List ℕ) (mark : Mark) (o : Option Schema) → text_adds schema text ≡ o → option_map (λ (next : Schema). (next, mark)) (option_and_then (if_formatted value) o) ≡ Some added → IsOneMore schema added.0
 value_one schema added value text mark None is adds = absurd (none-some _ adds)
 value_one schema added value text mark (Some made) is adds = subst (IsOneMore schema) (by_format (has_format value made) adds) (text_one schema made text is)
   where
     by_format : (b : Bool) → option_map (λ (next : Schema). (next, mark)) (cond b (Some made) None) ≡ Some added → made ≡ added.0
-    by_format true e = ap (λ (x : Added). x.0) (same_Some (made, mark) added e)
+    by_format true e = ap (λ (x : SchemaAndMark). x.0) (same_Some (made, mark) added e)
     by_format false e = absurd (none-some _ e)
 
-adds_one : (schema : Schema) (added : Added) (pair : Pair) → pair_adds schema pair ≡ Some added → IsOneMore schema added.0
+adds_one : (schema : Schema) (added : SchemaAndMark) (pair : Pair) → pair_adds schema pair ≡ Some added → IsOneMore schema added.0
 unfolding pair_adds
 adds_one schema added pair adds = by_parts (bytes_eq pair.0 (catalog_key (length schema.definitions + 1))) (marked_text pair.1) adds
   where
@@ -112,7 +112,7 @@ adds_one schema added pair adds = by_parts (bytes_eq pair.0 (catalog_key (length
     by_parts false o e = absurd (none-some _ e)
 
 -- a pair of the next key, whose value has a mark and a text
-pub pair_formatted : (schema : Schema) (pair : Pair) (value other : List ℕ) (mark : Mark) (text : List ℕ) (next : Option Schema) (result : Option Added) → bytes_eq pair.0 (catalog_key (length schema.definitions + 1)) ≡ true → value ≡ pair.1 → other ≡ pair.1 → marked_text value ≡ Some (mark, text)
+pub pair_formatted : (schema : Schema) (pair : Pair) (value other : List ℕ) (mark : Mark) (text : List ℕ) (next : Option Schema) (result : Option SchemaAndMark) → bytes_eq pair.0 (catalog_key (length schema.definitions + 1)) ≡ true → value ≡ pair.1 → other ≡ pair.1 → marked_text value ≡ Some (mark, text)
     → next ≡ text_adds schema text → result ≡ option_map (λ (made : Schema). (made, mark)) (option_and_then (if_formatted other) next) → result ≡ pair_adds schema pair
 unfolding pair_adds
 pair_formatted schema pair value other mark text next result key value_is other_is marked adds is =
@@ -121,8 +121,8 @@ pair_formatted schema pair value other mark text next result key value_is other_
     ∙ ap (λ (o : Option Schema). option_map (λ (made : Schema). (made, mark)) (option_and_then (if_formatted pair.1) o)) adds
     ∙ sym (ap (λ (b : Bool). cond b (option_and_then (value_adds schema pair.1) (marked_text pair.1)) None) key ∙ ap (option_and_then (value_adds schema pair.1)) (ap marked_text (sym value_is) ∙ marked))
 
-length_of : (p : Pair) (ps : List Pair) (a b : Added) (o : Option Added) (more : Added → Result Added Pair) → pair_adds a.0 p ≡ o
-    → ((n : Added) → more n ≡ Ok b → length b.0.definitions ≡ length n.0.definitions + length ps) → opened_by p ps o more ≡ Ok b → length b.0.definitions ≡ length a.0.definitions + length (p ∷ ps)
+length_of : (p : Pair) (ps : List Pair) (a b : SchemaAndMark) (o : Option SchemaAndMark) (more : SchemaAndMark → Result SchemaAndMark Pair) → pair_adds a.0 p ≡ o
+    → ((n : SchemaAndMark) → more n ≡ Ok b → length b.0.definitions ≡ length n.0.definitions + length ps) → opened_by p ps o more ≡ Ok b → length b.0.definitions ≡ length a.0.definitions + length (p ∷ ps)
 length_of p ps a b None more is rest e = absurd (cc)
 length_of p ps a b (Some n) more is rest e =
     elim (goes_on n ps) as (λ t. cond t (more n) (Err p) ≡ Ok b → length b.0.definitions ≡ length a.0.definitions + length (p ∷ ps)) [
@@ -130,21 +130,21 @@ length_of p ps a b (Some n) more is rest e =
       | false ↦ λ e. absurd (cc)
     ] e
 
-pub opened_length : (ps : List Pair) (a b : Added) → opened a ps ≡ Ok b → length b.0.definitions ≡ length a.0.definitions + length ps
-unfolding opened
-opened_length [] a b e = let same : length a.0.definitions ≡ length b.0.definitions = ap (λ (r : Result Added Pair). length (schema_in r).definitions) e in omega (arith, same)
-opened_length (p ∷ ps) a b e = length_of p ps a b (pair_adds a.0 p) (λ n. opened n ps) refl (λ n is. opened_length ps n b is) e
+pub opened_length : (ps : List Pair) (a b : SchemaAndMark) → added_from a ps ≡ Ok b → length b.0.definitions ≡ length a.0.definitions + length ps
+unfolding added_from
+opened_length [] a b e = let same : length a.0.definitions ≡ length b.0.definitions = ap (λ (r : Result SchemaAndMark Pair). length (schema_in r).definitions) e in omega (arith, same)
+opened_length (p ∷ ps) a b e = length_of p ps a b (pair_adds a.0 p) (λ n. added_from n ps) refl (λ n is. opened_length ps n b is) e
 
 -- the mark of a build comes with an index alone
-abbrev IsOfIndex : Added → Type 0
+abbrev IsOfIndex : SchemaAndMark → Type 0
 IsOfIndex added = added.1 ≡ Building → is_some (last_made added.0) ≡ true
 
-going : (n : Added) (ps : List Pair) → goes_on n ps ≡ true → IsOfIndex n
+going : (n : SchemaAndMark) (ps : List Pair) → goes_on n ps ≡ true → IsOfIndex n
 going (s, Ready) ps h e = absurd (cc)
 going (s, Building) [] h e = h
 going (s, Building) (p ∷ ps) h e = absurd (false≢true h)
 
-marked_step : (p : Pair) (ps : List Pair) (b : Added) (o : Option Added) (more : Added → Result Added Pair) → ((n : Added) → IsOfIndex n → more n ≡ Ok b → IsOfIndex b)
+marked_step : (p : Pair) (ps : List Pair) (b : SchemaAndMark) (o : Option SchemaAndMark) (more : SchemaAndMark → Result SchemaAndMark Pair) → ((n : SchemaAndMark) → IsOfIndex n → more n ≡ Ok b → IsOfIndex b)
     → opened_by p ps o more ≡ Ok b → IsOfIndex b
 marked_step p ps b None more rest e = absurd (cc)
 marked_step p ps b (Some n) more rest e =
@@ -153,26 +153,26 @@ marked_step p ps b (Some n) more rest e =
       | false ↦ λ _ e. absurd (cc)
     ] refl e
 
-abbrev added_in : Result Added Pair → Added
+abbrev added_in : Result SchemaAndMark Pair → SchemaAndMark
 added_in (Ok added) = added
 added_in (Err pair) = none_added
 
-pub opened_marked : (ps : List Pair) (a b : Added) → IsOfIndex a → opened a ps ≡ Ok b → IsOfIndex b
-unfolding opened
+pub opened_marked : (ps : List Pair) (a b : SchemaAndMark) → IsOfIndex a → added_from a ps ≡ Ok b → IsOfIndex b
+unfolding added_from
 opened_marked [] a b first e = subst IsOfIndex (ap added_in e) first
-opened_marked (p ∷ ps) a b first e = marked_step p ps b (pair_adds a.0 p) (λ n. opened n ps) (λ n h is. opened_marked ps n b h is) e
+opened_marked (p ∷ ps) a b first e = marked_step p ps b (pair_adds a.0 p) (λ n. added_from n ps) (λ n h is. opened_marked ps n b h is) e
 
 pub none_marked : IsOfIndex none_added
 none_marked e = absurd (cc)
 
-pub as_many : (found : List Stored) (added : Added) → opened none_added (map entry found) ≡ Ok added → length found ≡ length added.0.definitions
+pub as_many : (found : List Stored) (added : SchemaAndMark) → added_from none_added (map entry found) ≡ Ok added → length found ≡ length added.0.definitions
 as_many found added is = let long = opened_length (map entry found) none_added added is in omega (arith, long, length-map found entry)
 
 -- what reading from a blank session gives
-pub read_from : (r : Result Added Damage) (s : Schema) (ps : List Pair) (a : Added) → TellsOpened r (opened (s, Ready) ps) → r ≡ Ok a → s ≡ empty_schema → opened none_added ps ≡ Ok a
+pub read_from : (r : Result SchemaAndMark Damage) (s : Schema) (ps : List Pair) (a : SchemaAndMark) → TellsOpened r (added_from (s, Ready) ps) → r ≡ Ok a → s ≡ empty_schema → added_from none_added ps ≡ Ok a
 read_from r s ps a tells is blank =
-    let at : opened (s, Ready) ps ≡ Ok a = subst (λ (x : Result Added Damage). TellsOpened x (opened (s, Ready) ps)) is tells in
-    ap (λ (x : Schema). opened (x, Ready) ps) (sym blank) ∙ at
+    let at : added_from (s, Ready) ps ≡ Ok a = subst (λ (x : Result SchemaAndMark Damage). TellsOpened x (added_from (s, Ready) ps)) is tells in
+    ap (λ (x : Schema). added_from (x, Ready) ps) (sym blank) ∙ at
 
 -- what a planned query adds
 pub planned_adds : (schema : Schema) (name text : List ℕ) (tokens : List Token) (from : ℕ) (computed : PlannedQuery) → IsPlanned schema name text tokens from computed

@@ -17,7 +17,7 @@ use Rattle.pq_schema.specs.Candidates.{bound_at, stop_size}
 use Rattle.pq_schema.specs.declared.query.Query.{Query}
 use Rattle.pq_schema.specs.Sound.{IsQuery}
 use Rattle.pq_schema.proofs.Soundness.{valid_query}
-use Rattle.pq_plan.specs.Answer.{Asked, answered, by_position, in_order, past, position, selected, stopped, whole}
+use Rattle.pq_plan.specs.Answer.{Question, answered, by_position, in_order, past, position, selected_values, stopped, whole}
 use Rattle.pq_plan.proofs.Bounds.{keeps_over}
 use Rattle.pq_plan.proofs.Combos.{reads, combos_are}
 use Rattle.pq_plan.proofs.Laws.{Keeps}
@@ -116,7 +116,7 @@ module _ {K X : Type 0} (R : K → K → Ordering) (key : X → K) where
 
 -- ---- pages, where the positions climb
 
-module _ (q : Asked) (k : ℕ) (o : IsTotalOrder (by_position q)) (up : Climbs (by_position q) (position q) (whole q)) (size : stop_size q.query.stop ≡ Some k) where
+module _ (q : Question) (k : ℕ) (o : IsTotalOrder (by_position q)) (up : Climbs (by_position q) (position q) (whole q)) (size : stop_size q.query.stop ≡ Some k) where
   -- what the first n pages leave
   abbrev left : ℕ → List (List (List Value))
   left n = drop n (whole q)
@@ -163,7 +163,7 @@ module _ (q : Asked) (k : ℕ) (o : IsTotalOrder (by_position q)) (up : Climbs (
 -- ---- positions climb where the rows keep the definitions
 
 module _ (m : Model) (query : Query) (params : List Value) (k : ℕ) (paged : IsPaged m query k) where
-  abbrev q : Asked
+  abbrev q : Question
   q = asked_of m query params
 
   sound : IsQuery m.schema.tables query
@@ -191,8 +191,8 @@ module _ (m : Model) (query : Query) (params : List Value) (k : ℕ) (paged : Is
   some : 1 ≤ k
   some = (subst (λ (s : Option ℕ). IfSome s (λ n. (1 ≤ n) × (n ≤ 1000))) size paged.resolved.stop).0
 
-  pub pages_all : (pages : List (List (List (List Value)))) → ArePages q k None pages → flat_map (map (selected query)) pages ≡ map (selected query) (whole q)
-  pages_all pages are = joined_from q k total up size (selected query) 0 None pages refl are
+  pub pages_all : (pages : List (List (List (List Value)))) → ArePages q k None pages → flat_map (map (selected_values query)) pages ≡ map (selected_values query) (whole q)
+  pages_all pages are = joined_from q k total up size (selected_values query) 0 None pages refl are
 
   pub pages_end : (pages : List (List (List (List Value)))) × ArePages q k None pages
   pages_end = pages_from q k total up size some (length (whole q)) 0 None (omega arith) refl

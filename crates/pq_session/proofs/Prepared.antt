@@ -41,13 +41,13 @@ use Rattle.pq_session.specs.Format.{format_of, last_definition}
 use Rattle.pq_session.specs.Lines.{query_lines}
 use Rattle.pq_session.specs.Matches.{Matches}
 use Rattle.pq_session.specs.Model.{Model}
-use Rattle.pq_session.specs.Planning.{Planned, planned}
-use Rattle.pq_session.specs.Promise.{Done, Broken}
-use Rattle.pq_session.specs.Reports.{build_report, too_many_report, used}
+use Rattle.pq_session.specs.Planning.{PlannedDefinition, planned_definition}
+use Rattle.pq_session.specs.Promise.{DoneStatement, BrokenStatement}
+use Rattle.pq_session.specs.Reports.{build_report, too_many_report, used_numbers}
 use Rattle.pq_session.specs.Stands.{Stands, Opens, last_query, new_query_of}
 use Rattle.pq_builds.specs.Bounds.{bound, build_bound}
 use Rattle.pq_session.specs.Actions.{Prepares}
-use Rattle.pq_session.specs.Step.{Step, report_of, refusal_report, crowded, prepared_over}
+use Rattle.pq_session.specs.Step.{Step, report_of, refusal_report, crowding_refusal, prepared_over}
 use Rattle.pq_session.proofs.Building.{next_schema, next_model, origin_of, target_for, at_end, holds_origin, new_in, target_is, leaves_opens, makes_next, before_holds}
 use Rattle.pq_session.proofs.Promises.{broken_kept, sound_shown}
 use Rattle.pq_session.proofs.Standing.{settled_opens}
@@ -92,11 +92,11 @@ filled_bound : (rows : ℕ) → rows ≤ 1000000 → bound (build_ops rows) (2 *
 filled_bound rows few = sym (ap (λ (b : Bool). if b then bound (build_ops rows) (2 * rows) else bound 1 1000001) (le_true rows 1000000 few))
 
 module _ (number : ℕ) (query : Query) (new : NewIndex) (best : Candidate) where
-  abbrev plan : Planned
-  plan = planned query best (Some new)
+  abbrev plan : PlannedDefinition
+  plan = planned_definition query best (Some new)
 
   abbrev pub build_step : Model → Step
-  build_step m = prepared_over m number plan (crowded m (Some new))
+  build_step m = prepared_over m number plan (crowding_refusal m (Some new))
 
   abbrev rows_at : Model → ℕ
   rows_at m = length (rows_of new.table m.rows)
@@ -151,7 +151,7 @@ module _ (number : ℕ) (query : Query) (new : NewIndex) (best : Candidate) wher
     pub build_done : (old now : Option Content) (before after : Counts) (count : ℕ) (lines : List Line) → count ≤ 1000000 → lines ≡ query_lines schema.tables plan
         → ((origin : Origin) → HoldsOrigin origin target written old → Makes origin target written (Filled count) now)
         → TakesBuild (Filled count) before after
-        → Done number (Ok (Prepares plan)) old now schema (with_query schema query (Some new)) before after (build_report number lines count)
+        → DoneStatement number (Ok (Prepares plan)) old now schema (with_query schema query (Some new)) before after (build_report number lines count)
     build_done old now before after count lines few lined makes takes =
         let made_at : (m : Model) → Stands old schema m → Makes (origin_of m new) (target_for m new) (last_query (next_schema m.schema query new)) (Filled count) now =
         λ m s. at_model (λ o t q. Makes o t q (Filled count) now) old m s makes in
@@ -160,7 +160,7 @@ module _ (number : ℕ) (query : Query) (new : NewIndex) (best : Candidate) wher
               let made = made_at m s in
               subst (λ (x : Step). Matches x.report (build_report number lines count)) (sym (few_step m made.1))
               (record {
-                same = λ i. record (report_of number (sym (lined ∙ ap (λ (x : Schema). query_lines x.tables plan) s.known) i) End.Done (bound (build_ops (made.0 i)) (2 * made.0 i))) { used = used (build_ops count) (2 * count) };
+                same = λ i. record (report_of number (sym (lined ∙ ap (λ (x : Schema). query_lines x.tables plan) s.known) i) End.Done (bound (build_ops (made.0 i)) (2 * made.0 i))) { used = used_numbers (build_ops count) (2 * count) };
                 ops = omega (arith, ap build_ops made.0);
                 entries = omega (arith, made.0);
               });
@@ -185,7 +185,7 @@ module _ (number : ℕ) (query : Query) (new : NewIndex) (best : Candidate) wher
     pub too_many_done : (old now : Option Content) (before after : Counts) (why : Refusal) → why ≡ refusal.TooManyRows (table_at schema.tables new.table).name
         → ((origin : Origin) → HoldsOrigin origin target written old → Makes origin target written TooMany now)
         → now ≡ old → TakesBuild TooMany before after
-        → Done number (Ok (Prepares plan)) old now schema schema before after (too_many_report number why)
+        → DoneStatement number (Ok (Prepares plan)) old now schema schema before after (too_many_report number why)
     too_many_done old now before after why is makes same takes = record {
       matches = λ m s.
           let made = at_model (λ o t q. Makes o t q TooMany now) old m s makes in
@@ -238,7 +238,7 @@ module _ (number : ℕ) (query : Query) (new : NewIndex) (best : Candidate) wher
         → IfSome old (λ c. StopsBuilding target written c now)
         → IfSome old (λ content. TellsEvidence schema content broke)
         → BuildsWithin build_ops before after
-        → Broken number (Ok (Prepares plan)) old now schema before after broke
+        → BrokenStatement number (Ok (Prepares plan)) old now schema before after broke
     build_broken old now before after broke leaves sound ended shown within = record {
       stopped = λ m s. stopped_at old now m s leaves ended;
       sound = λ m s. at_model (λ o t q. IsUndamaged broke) old m s sound;
@@ -250,7 +250,7 @@ module _ (number : ℕ) (query : Query) (new : NewIndex) (best : Candidate) wher
     pub build_lost : (old now : Option Content) (before after : Counts) (count : ℕ) → count ≤ 1000000
         → ((origin : Origin) → HoldsOrigin origin target written old → Makes origin target written (Filled count) now)
         → TakesBuild (Filled count) before after
-        → Broken number (Ok (Prepares plan)) old now schema before after broke.NoMem
+        → BrokenStatement number (Ok (Prepares plan)) old now schema before after broke.NoMem
     build_lost old now before after count few makes takes = record {
       stopped = λ m s.
           let made = at_model (λ o t q. Makes o t q (Filled count) now) old m s makes in
@@ -261,7 +261,7 @@ module _ (number : ℕ) (query : Query) (new : NewIndex) (best : Candidate) wher
     }
 
     -- want of memory behind a count of too many rows
-    pub too_many_lost : (old now : Option Content) (before after : Counts) → now ≡ old → TakesBuild TooMany before after → Broken number (Ok (Prepares plan)) old now schema before after broke.NoMem
+    pub too_many_lost : (old now : Option Content) (before after : Counts) → now ≡ old → TakesBuild TooMany before after → BrokenStatement number (Ok (Prepares plan)) old now schema before after broke.NoMem
     too_many_lost old now before after same takes =
         broken_kept number (Ok (Prepares plan)) old now schema before after broke.NoMem same (λ m s. tt)
         (record { count = 1000000; few = lit≤ tt; ops = omega (arith, takes.ops_are, one_of_many); entries = omega (arith, takes.entries_are) })

@@ -16,22 +16,22 @@ use Rattle.pq_store.specs.Counts.{Counts}
 use Rattle.pq_store.specs.Content.{Content}
 use Rattle.pq_store.specs.declared.damage.Broke.{Broke}
 use Rattle.pq_store.specs.declared.damage.Broke.TheVariants as broke
-use Rattle.pq_session.specs.Actions.{Action, Explains, Shows, action_bound, action_schema, asked, asked_bound, asked_schema, schema_after, statement_bound}
+use Rattle.pq_session.specs.Actions.{Action, Explains, Shows, action_bound, action_schema, action_of, asked_bound, asked_schema, schema_after, statement_bound}
 use Rattle.pq_session.specs.Evidence.{TellsEvidence}
 use Rattle.pq_session.specs.Model.{Model}
 use Rattle.pq_session.specs.Stands.{HoldsModel, Stands, Opens}
-use Rattle.pq_session.specs.Planning.{Planned}
-use Rattle.pq_session.specs.Step.{Step, acted, acted_as, step, refusal_report, report_of, reported, explanation, unread_report}
+use Rattle.pq_session.specs.Planning.{PlannedDefinition}
+use Rattle.pq_session.specs.Step.{Step, action_step, acted_as, step, refusal_report, report_of, report_step, explanation, unread_report}
 use Rattle.pq_text.specs.declared.piece.Piece.{Piece}
 use Rattle.pq_session.specs.Lines.{show_lines}
 use Rattle.pq_store.specs.Breaks.{IsUndamaged}
 use Rattle.pq_session.specs.Matches.{Matches}
-use Rattle.pq_session.specs.Promise.{Done, Broken, Promises, IsBound, IsRefusal, IsWithin, IsWithinFixed}
+use Rattle.pq_session.specs.Promise.{DoneStatement, BrokenStatement, Promises, IsBound, IsRefusal, IsWithin, IsWithinFixed}
 use Rattle.pq_session.proofs.Standing.{settled_opens}
 
 -- a statement that is refused before any call of the store changes nothing and uses nothing
 pub unread_done : (number : ℕ) (why : Refusal) (old : Option Content) (schema : Schema) (counts : Counts)
-    → Done number (Err why) old old schema schema counts counts (refusal_report number why (bound 0 0))
+    → DoneStatement number (Err why) old old schema schema counts counts (refusal_report number why (bound 0 0))
 unread_done number why old schema counts = record {
   matches = λ m s. record { same = refl; ops = lit≤ tt; entries = lit≤ tt };
   made = λ m s. s;
@@ -86,7 +86,7 @@ within_reported (Some most) report before after is ops entries few_ops few_entri
 
 -- nothing changed, no call was made and no damage found
 pub broken_same : (number : ℕ) (asked : Result Action Refusal) (old : Option Content) (schema : Schema) (counts : Counts) (broke : Broke)
-    → IsUndamaged broke → Broken number asked old old schema counts counts broke
+    → IsUndamaged broke → BrokenStatement number asked old old schema counts counts broke
 broken_same number asked old schema counts broke sound = record {
   stopped = λ m s. inl (settled_opens s.settled);
   sound = λ m s. sound;
@@ -97,7 +97,7 @@ broken_same number asked old schema counts broke sound = record {
 -- the same where the content is told to be as it was
 pub broken_kept : (number : ℕ) (asked : Result Action Refusal) (old now : Option Content) (schema : Schema) (before after : Counts) (broke : Broke)
     → now ≡ old → ((m : Model) → Stands old schema m → IsUndamaged broke) → IsWithinFixed (asked_bound schema asked) before after
-    → IfSome old (λ content. TellsEvidence schema content broke) → Broken number asked old now schema before after broke
+    → IfSome old (λ content. TellsEvidence schema content broke) → BrokenStatement number asked old now schema before after broke
 broken_kept number asked old now schema before after broke same sound within shown = record {
   stopped = λ m s. inl (settled_opens (subst (λ o. HoldsModel o m) (sym same) s.settled));
   sound = sound;
@@ -107,9 +107,9 @@ broken_kept number asked old now schema before after broke same sound within sho
 
 -- what is reported of the definitions alone makes no call of the store
 module _ (number : ℕ) (action : Action) (report : Schema → Report) (free : (schema : Schema) → (report schema).used ≡ record { ops = 0; entries = 0 })
-    (numbered : (schema : Schema) → (report schema).number ≡ number) (is : (m : Model) → acted m number action ≡ reported m (report m.schema)) where
+    (numbered : (schema : Schema) → (report schema).number ≡ number) (is : (m : Model) → action_step m number action ≡ report_step m (report m.schema)) where
   pub unpaid_done : (old : Option Content) (schema : Schema) (counts : Counts) → action_bound schema action ≡ Some (report schema).bound → schema ≡ action_schema schema action
-      → Done number (Ok action) old old schema schema counts counts (report schema)
+      → DoneStatement number (Ok action) old old schema schema counts counts (report schema)
   unpaid_done old schema counts most same =
       let ops : (report schema).used.ops ≡ 0 = ap (λ (u : Used). u.ops) (free schema) in
       let entries : (report schema).used.entries ≡ 0 = ap (λ (u : Used). u.entries) (free schema) in
@@ -130,23 +130,23 @@ module _ (number : ℕ) (action : Action) (report : Schema → Report) (free : (
 
 -- SHOW tells the definitions
 pub shown_done : (number : ℕ) (old : Option Content) (schema : Schema) (counts : Counts)
-    → Done number (Ok Shows) old old schema schema counts counts (report_of number (show_lines schema) End.Done (bound 0 0))
+    → DoneStatement number (Ok Shows) old old schema schema counts counts (report_of number (show_lines schema) End.Done (bound 0 0))
 shown_done number old schema counts = unpaid_done number Shows (λ s. report_of number (show_lines s) End.Done (bound 0 0)) (λ s. refl) (λ s. refl) (λ m. refl) old schema counts refl refl
 
 -- EXPLAIN tells a query's plan
-pub explained_done : (number : ℕ) (plan : Planned) (old : Option Content) (schema : Schema) (counts : Counts)
-    → Done number (Ok (Explains plan)) old old schema schema counts counts (explanation schema.tables number plan)
+pub explained_done : (number : ℕ) (plan : PlannedDefinition) (old : Option Content) (schema : Schema) (counts : Counts)
+    → DoneStatement number (Ok (Explains plan)) old old schema schema counts counts (explanation schema.tables number plan)
 explained_done number plan old schema counts = unpaid_done number (Explains plan) (λ s. explanation s.tables number plan) (λ s. refl) (λ s. refl) (λ m. refl) old schema counts refl refl
 
 -- ---- the clauses on the step of a piece
 
 module _ (number : ℕ) (piece : Piece) (old now : Option Content) (schema : Schema) (before after : Counts) where
   abbrev Promised : Result (Schema × Report) Broke → Type 0
-  Promised result = Promises number (asked schema piece) old now schema before after result
+  Promised result = Promises number (action_of schema piece) old now schema before after result
 
-  step_is : (m : Model) → schema ≡ m.schema → acted_as m number (asked schema piece) ≡ step m number piece
+  step_is : (m : Model) → schema ≡ m.schema → acted_as m number (action_of schema piece) ≡ step m number piece
   unfolding step
-  step_is m known = ap (λ (s : Schema). acted_as m number (asked s piece)) known
+  step_is m known = ap (λ (s : Schema). acted_as m number (action_of s piece)) known
 
   pub promised_matches : (result : Result (Schema × Report) Broke) → Promised result
       → IfOk result (λ p. (m : Model) → Stands old schema m → Matches (step m number piece).report p.1)
@@ -171,8 +171,8 @@ module _ (number : ℕ) (piece : Piece) (old now : Option Content) (schema : Sch
   promised_within (Ok made) p = within_fixed (statement_bound schema piece) (within_reported (statement_bound schema piece) made.1 before after p.bound p.ops p.entries p.few_ops p.few_entries)
   promised_within (Err broke) p = within_fixed (statement_bound schema piece) p.within
 
-  next_by : (next : Schema) (end : End) → (IsRefusal end → (now ≡ old) × (next ≡ schema)) → ((IsRefusal end → ⊥) → next ≡ asked_schema schema (asked schema piece))
-      → next ≡ (if is_refused end then schema else asked_schema schema (asked schema piece))
+  next_by : (next : Schema) (end : End) → (IsRefusal end → (now ≡ old) × (next ≡ schema)) → ((IsRefusal end → ⊥) → next ≡ asked_schema schema (action_of schema piece))
+      → next ≡ (if is_refused end then schema else asked_schema schema (action_of schema piece))
   next_by next End.Done refused accepted = accepted (λ none. none)
   next_by next (End.Rows count cursor) refused accepted = accepted (λ none. none)
   next_by next (End.Refused why) refused accepted = (refused tt).1
@@ -185,7 +185,7 @@ module _ (number : ℕ) (piece : Piece) (old now : Option Content) (schema : Sch
   promised_numbered (Ok made) p = p.numbered
   promised_numbered (Err broke) p = tt
 
-  pub promised_unread : (result : Result (Schema × Report) Broke) → Promised result → IfOk result (λ p. IfErr (asked schema piece) (λ why. p.1 ≡ unread_report number why))
+  pub promised_unread : (result : Result (Schema × Report) Broke) → Promised result → IfOk result (λ p. IfErr (action_of schema piece) (λ why. p.1 ≡ unread_report number why))
   promised_unread (Ok made) p = p.unread
   promised_unread (Err broke) p = tt
 

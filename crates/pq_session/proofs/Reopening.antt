@@ -19,7 +19,7 @@ use Rattle.pq_builds.specs.Stages.{ready_value, building_value}
 use Rattle.pq_builds.specs.declared.target.NewQuery.{NewQuery}
 use Rattle.pq_session.specs.declared.format.Mark.{Mark}
 use Rattle.pq_session.specs.declared.format.Mark.TheVariants.{Ready, Building}
-use Rattle.pq_session.specs.Opening.{Added, none_added, has_last_text, if_formatted, text_adds, pair_adds, opened_by, opened, catalog_in}
+use Rattle.pq_session.specs.Opening.{SchemaAndMark, none_added, has_last_text, if_formatted, text_adds, pair_adds, opened_by, added_from, catalog_in}
 use Rattle.pq_session.specs.Stands.{Holds, content_of, value_at, catalog_pairs, last_made, last_query, earlier_pairs}
 use Rattle.pq_session.proofs.Catalogs.{are_catalog, catalog_rises, pairs_length}
 use Rattle.pq_session.proofs.Definitions.{table_pairs, query_pairs}
@@ -33,29 +33,29 @@ same_bytes : (text : List ℕ) → bytes_eq text text ≡ true
 same_bytes text = (bytes_eq-Decides text text).1 refl
 
 -- the schema and the mark of an answer
-abbrev pub schema_in : Result Added Pair → Schema
+abbrev pub schema_in : Result SchemaAndMark Pair → Schema
 schema_in (Ok added) = added.0
 schema_in (Err pair) = empty_schema
 
-abbrev pub mark_in : Result Added Pair → Mark
+abbrev pub mark_in : Result SchemaAndMark Pair → Mark
 mark_in (Ok added) = added.1
 mark_in (Err pair) = Ready
 
-not_ready : (n s : Schema) (b : Bool) (p : Pair) → (let building : Result Added Pair = Ok (n, Building) in let ready : Result Added Pair = Ok (s, Ready) in cond b building (Err p) ≡ ready → ⊥)
+not_ready : (n s : Schema) (b : Bool) (p : Pair) → (let building : Result SchemaAndMark Pair = Ok (n, Building) in let ready : Result SchemaAndMark Pair = Ok (s, Ready) in cond b building (Err p) ≡ ready → ⊥)
 not_ready n s true p is = absurd (let wrong : Building ≡ Ready = ap mark_in is in cc)
 not_ready n s false p is = absurd (cc)
 
 module _ (pair : Pair) (next : Schema) where
-  end_of : (p : Pair) (ps : List Pair) (o : Option Added) (s : Schema) → ((n : Added) → opened n ps ≡ Ok (s, Ready) → opened n (ps ++ pair ∷ []) ≡ Ok (next, Ready))
-      → opened_by p ps o (λ n. opened n ps) ≡ Ok (s, Ready) → opened_by p (ps ++ pair ∷ []) o (λ n. opened n (ps ++ pair ∷ [])) ≡ Ok (next, Ready)
-  unfolding opened
+  end_of : (p : Pair) (ps : List Pair) (o : Option SchemaAndMark) (s : Schema) → ((n : SchemaAndMark) → added_from n ps ≡ Ok (s, Ready) → added_from n (ps ++ pair ∷ []) ≡ Ok (next, Ready))
+      → opened_by p ps o (λ n. added_from n ps) ≡ Ok (s, Ready) → opened_by p (ps ++ pair ∷ []) o (λ n. added_from n (ps ++ pair ∷ [])) ≡ Ok (next, Ready)
+  unfolding added_from
   end_of p ps None s rest is = absurd (cc)
   end_of p ps (Some (n, Ready)) s rest is = rest (n, Ready) is
   end_of p [] (Some (n, Building)) s rest is = absurd (not_ready n s (is_some (last_made n)) p is)
   end_of p (q ∷ qs) (Some (n, Building)) s rest is = absurd (cc)
 
-  pub opened_end : (ps : List Pair) (added : Added) (s : Schema) → opened added ps ≡ Ok (s, Ready) → pair_adds s pair ≡ Some (next, Ready) → opened added (ps ++ pair ∷ []) ≡ Ok (next, Ready)
-  unfolding opened
+  pub opened_end : (ps : List Pair) (added : SchemaAndMark) (s : Schema) → added_from added ps ≡ Ok (s, Ready) → pair_adds s pair ≡ Some (next, Ready) → added_from added (ps ++ pair ∷ []) ≡ Ok (next, Ready)
+  unfolding added_from
   opened_end [] added s is adds =
       let same : added.0 ≡ s = ap schema_in is in
       let here : pair_adds added.0 pair ≡ Some (next, Ready) = ap (λ (x : Schema). pair_adds x pair) same ∙ adds in
@@ -81,19 +81,19 @@ adds schema next n read last =
 last_number : (definitions : List Definition) (last : Definition) → length (definitions ++ last ∷ []) ≡ length definitions + 1
 last_number definitions last = omega (arith, length-append definitions (last ∷ []))
 
-pub reopened : (schema : Schema) → IsValid schema → opened none_added (catalog_pairs schema) ≡ Ok (schema, Ready)
-unfolding opened
+pub reopened : (schema : Schema) → IsValid schema → added_from none_added (catalog_pairs schema) ≡ Ok (schema, Ready)
+unfolding added_from
 reopened _ empty = refl
 reopened _ (then_table schema def table valid is_def made) =
     let next = with_table schema table in
     let n = length schema.definitions + 1 in
-    subst (λ (ps : List Pair). opened none_added ps ≡ Ok (next, Ready)) (sym (table_pairs schema table valid (made_of schema valid)))
+    subst (λ (ps : List Pair). added_from none_added ps ≡ Ok (next, Ready)) (sym (table_pairs schema table valid (made_of schema valid)))
     (opened_end _ next (catalog_pairs schema) none_added schema (reopened schema valid)
     (adds schema next n (table_read schema def table valid is_def made) (last_number schema.definitions _)))
 reopened _ (then_query schema query wanted valid defined) =
     let next = with_query schema query wanted in
     let n = length schema.definitions + 1 in
-    subst (λ (ps : List Pair). opened none_added ps ≡ Ok (next, Ready)) (sym (query_pairs schema query wanted valid defined))
+    subst (λ (ps : List Pair). added_from none_added ps ≡ Ok (next, Ready)) (sym (query_pairs schema query wanted valid defined))
     (opened_end _ next (catalog_pairs schema) none_added schema (reopened schema valid)
     (adds schema next n (query_read schema query wanted valid defined) (last_number schema.definitions _)))
 
@@ -105,8 +105,8 @@ catalog_of m valid =
     ap (take 257) (rising_catalog_range m.schema.tables m.rows (catalog_pairs m.schema) (are_catalog m.schema) (catalog_rises m.schema few))
     ∙ take_all 257 (catalog_pairs m.schema) (omega (arith, pairs_length m.schema, few))
 
-pub catalog_tells : (m : Model) → IsValid m.schema → opened none_added (catalog_in (content_of m)) ≡ Ok (m.schema, Ready)
-catalog_tells m valid = ap (opened none_added) (catalog_of m valid) ∙ reopened m.schema valid
+pub catalog_tells : (m : Model) → IsValid m.schema → added_from none_added (catalog_in (content_of m)) ≡ Ok (m.schema, Ready)
+catalog_tells m valid = ap (added_from none_added) (catalog_of m valid) ∙ reopened m.schema valid
 
 -- ---- while the last index is being filled
 
@@ -126,21 +126,21 @@ module _ (query : NewQuery) (s : Schema) (made : is_some (last_made s) ≡ true)
   one_pair true false D p q e = absurd (cc)
   one_pair false u D p q e = absurd (cc)
 
-  one_step : (p : Pair) (ps : List Pair) (x y : Pair) (o : Option Added) (more other : Added → Result Added Pair) → ((a : Added) → more a ≡ Ok (s, Ready) → other a ≡ Ok (s, Building))
+  one_step : (p : Pair) (ps : List Pair) (x y : Pair) (o : Option SchemaAndMark) (more other : SchemaAndMark → Result SchemaAndMark Pair) → ((a : SchemaAndMark) → more a ≡ Ok (s, Ready) → other a ≡ Ok (s, Building))
       → opened_by p (ps ++ x ∷ []) o more ≡ Ok (s, Ready) → opened_by p (ps ++ y ∷ []) o other ≡ Ok (s, Building)
   one_step p ps x y None more other rest e = absurd (cc)
   one_step p ps x y (Some (next, Ready)) more other rest e = rest (next, Ready) e
   one_step p [] x y (Some (next, Building)) more other rest e = absurd (cc)
   one_step p (q ∷ qs) x y (Some (next, Building)) more other rest e = absurd (cc)
 
-  pub with_mark : (ps : List Pair) (added : Added) → opened added (ps ++ (query.key, ready_value query) ∷ []) ≡ Ok (s, Ready) → opened added (ps ++ (query.key, building_value query) ∷ []) ≡ Ok (s, Building)
-  unfolding opened pair_adds
+  pub with_mark : (ps : List Pair) (added : SchemaAndMark) → added_from added (ps ++ (query.key, ready_value query) ∷ []) ≡ Ok (s, Ready) → added_from added (ps ++ (query.key, building_value query) ∷ []) ≡ Ok (s, Building)
+  unfolding added_from pair_adds
   with_mark [] added e =
       one_pair (bytes_eq query.key (catalog_key (length added.0.definitions + 1))) (is_utf8 query.text) (λ text. option_and_then (if_formatted (ready_value query)) (text_adds added.0 text))
       (query.key, ready_value query) (query.key, building_value query) e
   with_mark (p ∷ ps) added e =
       one_step p ps (query.key, ready_value query) (query.key, building_value query) (pair_adds added.0 p)
-      (λ n. opened n (ps ++ (query.key, ready_value query) ∷ [])) (λ n. opened n (ps ++ (query.key, building_value query) ∷ [])) (λ a is. with_mark ps a is) e
+      (λ n. added_from n (ps ++ (query.key, ready_value query) ∷ [])) (λ n. added_from n (ps ++ (query.key, building_value query) ∷ [])) (λ a is. with_mark ps a is) e
 
 -- ---- a content that holds a model
 
@@ -149,9 +149,9 @@ abbrev pub mark_held : (m : Model) (content : Content) → Holds m content → M
 mark_held m content (inl is) = Ready
 mark_held m content (inr filling) = Building
 
-pub held_tells : (m : Model) (content : Content) → IsValid m.schema → (holds : Holds m content) → opened none_added (catalog_in content) ≡ Ok (m.schema, mark_held m content holds)
-held_tells m content valid (inl is) = ap (λ (c : Content). opened none_added (catalog_in c)) is ∙ catalog_tells m valid
+pub held_tells : (m : Model) (content : Content) → IsValid m.schema → (holds : Holds m content) → added_from none_added (catalog_in content) ≡ Ok (m.schema, mark_held m content holds)
+held_tells m content valid (inl is) = ap (λ (c : Content). added_from none_added (catalog_in c)) is ∙ catalog_tells m valid
 held_tells m content valid (inr f) =
-    ap (opened none_added) (catalog_of_filling m content valid f)
+    ap (added_from none_added) (catalog_of_filling m content valid f)
     ∙ with_mark (last_query m.schema) m.schema (ap is_some f.last) (earlier_pairs m.schema) none_added
-    (ap (opened none_added) (sym (last_pairs m.schema valid f.made f.last)) ∙ reopened m.schema valid)
+    (ap (added_from none_added) (sym (last_pairs m.schema valid f.made f.last)) ∙ reopened m.schema valid)

@@ -20,7 +20,7 @@ use Rattle.pq_schema.specs.Names.{IsTableDef}
 use Rattle.pq_schema.specs.Schema.{Schema, no_definition, with_table, with_query}
 use Rattle.pq_schema.specs.Tables.{no_table}
 use Rattle.pq_schema.specs.Valid.{IsValid, IsDefined}
-use Rattle.pq_schema.specs.Wanted.{Chosen}
+use Rattle.pq_schema.specs.Wanted.{ChosenCandidate}
 use Rattle.pq_text.specs.declared.token.Token.{Token}
 use Rattle.pq_text.specs.Tokens.{tokens_of}
 use Rattle.pq_shape.specs.Shapes.{shape_of, shapes_of}
@@ -68,7 +68,7 @@ planned_again : (schema : Schema) (query : Query) (wanted : Option NewIndex) (te
 unfolding plan_from
 planned_again schema query wanted text defined rest =
     ap (λ (read : Result Query Refusal). with_planned schema (read >>= plan_of schema.tables)) rest
-    ∙ ap (λ (best : Result Chosen Refusal). with_planned schema (best >>= with_chosen query)) defined.chosen.chosen
+    ∙ ap (λ (best : Result ChosenCandidate Refusal). with_planned schema (best >>= with_chosen query)) defined.chosen.chosen
     ∙ ap result_ok defined.accepted
 
 defines_query : (schema : Schema) (query : Query) (wanted : Option NewIndex) (text : List ℕ) → IsDefined schema query wanted → IsReadBack schema query text → text_defines schema text ≡ Some (with_query schema query wanted)

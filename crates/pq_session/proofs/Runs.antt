@@ -23,15 +23,15 @@ use Rattle.pq_store.specs.Counts.{Counts}
 use Rattle.pq_store.specs.declared.damage.Broke.{Broke}
 use Rattle.pq_store.specs.declared.damage.Broke.TheVariants as broke
 use Rattle.pq_calls.specs.World.{where_told}
-use Rattle.pq_plan.specs.Answer.{selected}
+use Rattle.pq_plan.specs.Answer.{selected_values}
 use Rattle.pq_nodes.specs.Operators.{IsSoundOverRows, ShowsRead}
 use Rattle.pq_exec.specs.Execution.{RisesBy, RisesWithin}
-use Rattle.pq_pages.specs.Running.{IsPageOf, IsPageOver, IsQueryNumber, Running, begins, next_of, page_combos, page_size, query_bound, running, running_as, running_at, running_of}
+use Rattle.pq_pages.specs.Running.{IsPageOf, IsPageOver, IsQueryNumber, Running, begins, next_of, page_combos, page_size, query_bound, running_with, running_as, running_at, running_of}
 use Rattle.pq_pages.specs.declared.page.Page.{Page}
 use Rattle.pq_session.specs.Evidence.{TellsEvidence}
 use Rattle.pq_session.specs.Matches.{Matches}
 use Rattle.pq_session.specs.Model.{Model}
-use Rattle.pq_session.specs.Promise.{Broken, Done, IsWithin}
+use Rattle.pq_session.specs.Promise.{BrokenStatement, DoneStatement, IsWithin}
 use Rattle.pq_session.specs.Reports.{page_report}
 use Rattle.pq_session.specs.Stands.{Stands, catalog_pairs}
 use Rattle.pq_session.specs.Actions.{Runs}
@@ -69,8 +69,8 @@ page_reported : (m : Model) (number : ℕ) (run : Running) (page : Page) → IsP
     → record (page_of m number run) { used = page.used } ≡ page_report number page
 page_reported m number run page is most =
     let combos = page_combos m.schema.tables m.rows run in
-    let lines : map (λ (combo : List (List Value)). Row (selected run.query combo)) combos ≡ map Row page.rows = sym (map-map Row (selected run.query) combos) ∙ ap (map Row) (sym is.rows) in
-    let many : length combos ≡ length page.rows = sym (ap length is.rows ∙ length-map combos (selected run.query)) in
+    let lines : map (λ (combo : List (List Value)). Row (selected_values run.query combo)) combos ≡ map Row page.rows = sym (map-map Row (selected_values run.query) combos) ∙ ap (map Row) (sym is.rows) in
+    let many : length combos ≡ length page.rows = sym (ap length is.rows ∙ length-map combos (selected_values run.query)) in
     let next : next_of m.schema.tables m.rows run (page_size run.query.stop) combos ≡ page.next = sym is.next in
     let bound : query_bound m.schema.tables run.query ≡ page.bound = sym most in
     (λ i. record { number = number; lines = lines i; end = RowsEnd (many i) (next i); bound = bound i; used = page.used })
@@ -96,7 +96,7 @@ module _ (number : ℕ) (run : Running) (schema : Schema) where
 
   -- a page of the rows, on the query's bound
   pub page_done : (old now : Option Content) (before later : Counts) (page : Page) → IsPageOf old schema.tables run page → page.bound ≡ most
-      → RisesBy page.used before later → RisesWithin most before later → now ≡ old → Done number (Ok (Runs run)) old now schema schema before later (page_report number page)
+      → RisesBy page.used before later → RisesWithin most before later → now ≡ old → DoneStatement number (Ok (Runs run)) old now schema schema before later (page_report number page)
   page_done old now before later page is bound used rises same =
       let most_ops = ap (λ (b : Bound). b.ops) bound in
       let most_entries = ap (λ (b : Bound). b.entries) bound in
@@ -125,7 +125,7 @@ module _ (number : ℕ) (run : Running) (schema : Schema) where
 
   -- a run that broke off
   pub page_broke : (old now : Option Content) (before later : Counts) (error : Broke) → IsSoundOverRows old schema.tables error → IfDamaged (where_told (ShowsRead schema.tables) old) error
-      → RisesWithin most before later → now ≡ old → Broken number (Ok (Runs run)) old now schema before later error
+      → RisesWithin most before later → now ≡ old → BrokenStatement number (Ok (Runs run)) old now schema before later error
   page_broke old now before later error sound shows rises same =
       broken_kept number (Ok (Runs run)) old now schema before later error same
       (λ m s. sound m.rows (catalog_pairs schema) (settled_rows old schema m s))

@@ -11,15 +11,15 @@ use Rattle.pq_base.specs.declared.refusal.Refusal.{Refusal}
 use Rattle.pq_base.specs.declared.refusal.Refusal.TheVariants as refusal
 use Rattle.pq_base.proofs.Members.{each_append}
 use Rattle.pq_schema.specs.Candidates.{Candidate, candidates, least}
-use Rattle.pq_schema.specs.Relations.{relation_at, table_of, fixed, order_rest}
+use Rattle.pq_schema.specs.Relations.{relation_at, table_of, tied_set, order_rest}
 use Rattle.pq_schema.specs.Resolved.{IsResolved}
 use Rattle.pq_schema.specs.Schema.{Schema, def_of, with_new_index, with_wanted, made_of}
-use Rattle.pq_schema.specs.Sequences.{serving, new_index}
+use Rattle.pq_schema.specs.Sequences.{serving_access, new_index}
 use Rattle.pq_schema.specs.Sound.{IsMade, AreMade}
 use Rattle.pq_schema.specs.Tables.{table_at}
 use Rattle.pq_schema.specs.Valid.{IsValid}
 use Rattle.pq_schema.specs.Valid.IsValid.{empty, then_table, then_query}
-use Rattle.pq_schema.specs.Wanted.{Chosen, IsWanted, is_large, too_many_indexes, index_at, index_of, with_index, chosen_of}
+use Rattle.pq_schema.specs.Wanted.{ChosenCandidate, IsWanted, is_large, too_many_indexes, index_at, index_of, with_index, chosen_of}
 use Rattle.pq_schema.specs.declared.made.Def.{Def}
 use Rattle.pq_schema.specs.declared.made.Def.TheVariants as def
 use Rattle.pq_schema.specs.declared.made.Definition.{Definition}
@@ -57,7 +57,7 @@ some_wanted true full n new is = absurd (cc)
 some_wanted false true n new is = absurd (cc)
 some_wanted false false n new is = same_Some n new (same_wanted (Some n) (Some new) (Ok (Some n)) refl is)
 
-abbrev wanted_in : Result Chosen Refusal → Option NewIndex
+abbrev wanted_in : Result ChosenCandidate Refusal → Option NewIndex
 wanted_in (Ok chosen) = chosen.wanted
 wanted_in (Err why) = None
 
@@ -69,9 +69,9 @@ module _ (tables : List Table) (query : Query) (new : NewIndex) where
   next_at : (p : ℕ) → index_at tables query p ≡ Ok (Some new) → IsNext
   next_at p is =
       let table = table_of tables query p in
-      let n : NewIndex = record { table = (relation_at query p).table; number = length table.indexes + 1; index = new_index table (fixed query p) (order_rest query p) } in
+      let n : NewIndex = record { table = (relation_at query p).table; number = length table.indexes + 1; index = new_index table (tied_set query p) (order_rest query p) } in
       subst (λ (x : NewIndex). x.number ≡ length (table_at tables x.table).indexes + 1)
-      (some_wanted (is_some (serving table (fixed query p) (order_rest query p))) (nat_le 16 (length table.indexes)) n new is) refl
+      (some_wanted (is_some (serving_access table (tied_set query p) (order_rest query p))) (nat_le 16 (length table.indexes)) n new is) refl
 
   next_of : (choice : Choice) → index_of tables query choice ≡ Ok (Some new) → IsNext
   next_of Whole is = absurd (cc)

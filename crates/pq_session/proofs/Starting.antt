@@ -30,7 +30,7 @@ use Rattle.pq_session.specs.declared.format.Mark.TheVariants.{Ready, Building}
 use Rattle.pq_session.specs.declared.session.Started.{Started}
 use Rattle.pq_session.specs.Matches.{IsOpening}
 use Rattle.pq_session.specs.Model.{Model}
-use Rattle.pq_session.specs.Opening.{Added, none_added, opening_of, started_of, completion_bound, opened, catalog_in, IsStarted, IsLeft, IsAsMarked, rows_of_made, rows_left, rows_of_mark, TellsSchema, NamesPair, NamesFlaw, HasFewRows, HasFewLeft, ShowsMarked, intent_ops, HasBuild, IsOpeningBound}
+use Rattle.pq_session.specs.Opening.{SchemaAndMark, none_added, opening_of, started_of, completion_bound, added_from, catalog_in, IsStarted, IsLeft, IsAsMarked, rows_of_made, rows_left, rows_of_mark, TellsSchema, NamesPair, NamesFlaw, HasFewRows, HasFewLeft, ShowsMarked, intent_ops, HasBuild, IsOpeningBound}
 use Rattle.pq_session.specs.Stands.{HoldsModel, Stands, Opens, Holds, IsFillingLast, content_of, last_made}
 use Rattle.pq_session.proofs.Lefts.{filling_in_opens}
 use Rattle.pq_session.proofs.Reopening.{schema_in, mark_in, mark_held, held_tells}
@@ -62,7 +62,7 @@ rests_opens content m r = rests_by content m r.pairs r.valid r.keeps r.told r.ho
 
 -- what its catalog tells is the model's schema, and the mark how its content stands
 module _ (content : Option Content) (m : Model) where
-  by_holds : (pairs : Content) (a : Added) → IsValid m.schema → Keeps m.schema.tables m.rows → content ≡ Some pairs → Holds m pairs → opened none_added (catalog_in pairs) ≡ Ok a → (a.0 ≡ m.schema) × IsAsMarked a.1 content m
+  by_holds : (pairs : Content) (a : SchemaAndMark) → IsValid m.schema → Keeps m.schema.tables m.rows → content ≡ Some pairs → Holds m pairs → added_from none_added (catalog_in pairs) ≡ Ok a → (a.0 ≡ m.schema) × IsAsMarked a.1 content m
   by_holds pairs a valid keeps is (inl same) at =
       let e = sym at ∙ held_tells m pairs valid (inl same) in
       let mark_is : a.1 ≡ Ready = ap mark_in e in
@@ -72,10 +72,10 @@ module _ (content : Option Content) (m : Model) where
       let mark_is : a.1 ≡ Building = ap mark_in e in
       (ap schema_in e, subst (λ (k : Mark). IsAsMarked k content m) (sym mark_is) (record { valid = valid; keeps = keeps; pairs = pairs; told = is; filling = f }))
 
-  pub rests_as : (a : Added) → Rests content m → IfSome content (λ pairs. opened none_added (catalog_in pairs) ≡ Ok a) → (a.0 ≡ m.schema) × IsAsMarked a.1 content m
-  rests_as a r at = by_holds r.pairs a r.valid r.keeps r.told r.holds (subst (λ (o : Option Content). IfSome o (λ pairs. opened none_added (catalog_in pairs) ≡ Ok a)) r.told at)
+  pub rests_as : (a : SchemaAndMark) → Rests content m → IfSome content (λ pairs. added_from none_added (catalog_in pairs) ≡ Ok a) → (a.0 ≡ m.schema) × IsAsMarked a.1 content m
+  rests_as a r at = by_holds r.pairs a r.valid r.keeps r.told r.holds (subst (λ (o : Option Content). IfSome o (λ pairs. added_from none_added (catalog_in pairs) ≡ Ok a)) r.told at)
 
-  not_both : (p : Pair) (a : Added) → ◌≡◌ {A = Result Added Pair} (Err p) (Ok a) → ⊥
+  not_both : (p : Pair) (a : SchemaAndMark) → ◌≡◌ {A = Result SchemaAndMark Pair} (Err p) (Ok a) → ⊥
   not_both p a e = absurd (cc)
 
   pub rests_sound : (broke : Broke) → Rests content m → IfSome content (λ pairs. NamesPair pairs broke) → IsUndamaged broke
@@ -87,7 +87,7 @@ module _ (content : Option Content) (m : Model) where
 
 -- how the content stands after the reading
 module _ (old mid now : Option Content) (made : (settled : Content) → Settles old settled → IsSettled mid settled) (same : now ≡ mid) (schema : Schema) (mark : Mark)
-    (read : IfSome mid (λ pairs. opened none_added (catalog_in pairs) ≡ Ok (schema, mark))) (m : Model) (opens : Opens old m) where
+    (read : IfSome mid (λ pairs. added_from none_added (catalog_in pairs) ≡ Ok (schema, mark))) (m : Model) (opens : Opens old m) where
   pub read_mid : (schema ≡ m.schema) × IsAsMarked mark mid m
   read_mid = rests_as mid m (schema, mark) (opens_rests old mid made m opens) read
 
@@ -164,14 +164,14 @@ opens_as old mid n m mark s schema counts numbers made opens same stands few is 
 
 -- ---- what the catalog tells
 
-pub tells_schema : (old mid now : Option Content) (schema session : Schema) (mark : Mark) → now ≡ mid → IfSome old (λ pairs. LeavesSettled pairs mid) → IfSome mid (λ pairs. opened none_added (catalog_in pairs) ≡ Ok (schema, mark))
+pub tells_schema : (old mid now : Option Content) (schema session : Schema) (mark : Mark) → now ≡ mid → IfSome old (λ pairs. LeavesSettled pairs mid) → IfSome mid (λ pairs. added_from none_added (catalog_in pairs) ≡ Ok (schema, mark))
     → IfSome now (HasFewLeft schema mark) → session ≡ schema → IfSome old (λ pairs. TellsSchema pairs session)
 tells_schema None mid now schema session mark at are read few same = tt
 tells_schema (Some c) mid now schema session mark at are read few same = record {
   settled = are.settled;
   settles = are.settles;
   mark = mark;
-  opened = subst (λ (o : Option Content). IfSome o (λ pairs. opened none_added (catalog_in pairs) ≡ Ok (schema, mark))) are.stands.told read ∙ ap (λ (x : Schema). Ok (x, mark)) (sym same);
+  opened = subst (λ (o : Option Content). IfSome o (λ pairs. added_from none_added (catalog_in pairs) ≡ Ok (schema, mark))) are.stands.told read ∙ ap (λ (x : Schema). Ok (x, mark)) (sym same);
   few = subst (λ (x : Schema). HasFewLeft x mark are.settled) (sym same) (subst (λ (o : Option Content). IfSome o (HasFewLeft schema mark)) (at ∙ are.stands.told) few);
 }
 
@@ -212,13 +212,13 @@ read_flaw (Some c) mid (Damaged damage) are names =
     let at = subst (λ (o : Option Content). IfSome o (λ pairs. NamesPair pairs (Damaged damage))) are.stands.told names in
     inl (at.0, at.1, inr (are.settled, are.settles, at.2))
 
-pub build_flaw : (old mid now : Option Content) (schema : Schema) (mark : Mark) (broke : Broke) → now ≡ mid → IfSome old (λ pairs. LeavesSettled pairs mid) → IfSome mid (λ pairs. opened none_added (catalog_in pairs) ≡ Ok (schema, mark))
+pub build_flaw : (old mid now : Option Content) (schema : Schema) (mark : Mark) (broke : Broke) → now ≡ mid → IfSome old (λ pairs. LeavesSettled pairs mid) → IfSome mid (λ pairs. added_from none_added (catalog_in pairs) ≡ Ok (schema, mark))
     → IfSome now (λ c. ShowsMarked schema mark c broke) → IfSome old (λ pairs. NamesFlaw pairs broke)
 build_flaw None mid now schema mark broke same are read shows = tt
 build_flaw (Some c) mid now schema mark Failed same are read shows = tt
 build_flaw (Some c) mid now schema mark NoMem same are read shows = tt
 build_flaw (Some c) mid now schema mark (Damaged damage) same are read shows =
-    let at = subst (λ (o : Option Content). IfSome o (λ pairs. opened none_added (catalog_in pairs) ≡ Ok (schema, mark))) are.stands.told read in
+    let at = subst (λ (o : Option Content). IfSome o (λ pairs. added_from none_added (catalog_in pairs) ≡ Ok (schema, mark))) are.stands.told read in
     let shown = subst (λ (o : Option Content). IfSome o (λ c. ShowsMarked schema mark c (Damaged damage))) (same ∙ are.stands.told) shows in
     inr (record {
       settled = are.settled;

@@ -15,7 +15,7 @@ use Rattle.pq_text.specs.declared.piece.Piece.TheVariants as piece
 use Rattle.pq_text.specs.Tokens.{tokens_of}
 use Rattle.pq_def_read.specs.declared.statement.Statement.{Statement}
 use Rattle.pq_def_read.specs.Reading.{statement_of}
-use Rattle.pq_session.specs.Actions.{Action, asked, asked_by, asked_of, asked_text}
+use Rattle.pq_session.specs.Actions.{Action, action_of, asked_by, asked_of, asked_text}
 
 short : (n : ℕ) → n ≤ 65536 → nat_le n 65536 ≡ true
 short n few =
@@ -52,17 +52,17 @@ module _ (schema : Schema) (text : List ℕ) where
       → asked_text schema text ≡ Err (Syntax (offset_at text tokens (length tokens - left)))
   not_read tokens left few found is = by_tokens tokens few found ∙ ap (asked_of schema text tokens) is
 
-  pub text_piece : (p : Piece) → p ≡ piece.Statement text → asked schema p ≡ asked_text schema text
-  unfolding asked
-  text_piece p is = ap (asked schema) is
+  pub text_piece : (p : Piece) → p ≡ piece.Statement text → action_of schema p ≡ asked_text schema text
+  unfolding action_of
+  text_piece p is = ap (action_of schema) is
 
-pub other_piece : (schema : Schema) (p : Piece) → p ≡ piece.NotUtf8 → asked schema p ≡ Err NotUtf8
-unfolding asked
-other_piece schema p is = ap (asked schema) is
+pub other_piece : (schema : Schema) (p : Piece) → p ≡ piece.NotUtf8 → action_of schema p ≡ Err NotUtf8
+unfolding action_of
+other_piece schema p is = ap (action_of schema) is
 
-pub long_piece : (schema : Schema) (p : Piece) → p ≡ piece.TooLong → asked schema p ≡ Err StatementLong
-unfolding asked
-long_piece schema p is = ap (asked schema) is
+pub long_piece : (schema : Schema) (p : Piece) → p ≡ piece.TooLong → action_of schema p ≡ Err StatementLong
+unfolding action_of
+long_piece schema p is = ap (action_of schema) is
 
 -- reading stops for the place of the fault, or for want of memory
 pub stopped_reading : (schema : Schema) (text : List ℕ) (tokens : List Token) (stopped : Stopped) → length text ≤ 65536 → tokens ≡ tokens_of text → IsRefusalOf text tokens (statement_of text tokens) stopped → Refuses stopped (asked_text schema text)

@@ -10,7 +10,7 @@ use Rattle.pq_schema.specs.declared.table.Table.{Table}
 use Rattle.pq_schema.specs.Sound.{IsMade, IsMadeForeign, AreMade}
 use Rattle.pq_schema.specs.Tables.{table_at, no_table}
 use Rattle.pq_content.specs.Tables.{IsTableNumber}
-use Rattle.pq_print.specs.Lists.{each_after, separated}
+use Rattle.pq_print.specs.Lists.{each_after, separate_texts}
 use Rattle.pq_print.specs.Canonical.{column_name, column_text, columns_text, limit_text, foreign_text, items_text, table_text, with_first_columns, numbered_text, text_of}
 use Rattle.pq_reread.specs.ReadBack.{KeepNames}
 use Rattle.pq_reread.proofs.LaterTables.{query_same}
@@ -33,7 +33,7 @@ module _ (tables later : List Table) (table : Table) where
 
   same_items : AllByRecursion IsNamedAlike table.foreign → items_text later table ≡ items_text tables table
   unfolding items_text
-  same_items same = ap (λ (last : List ℕ). separated (codes ", ") column_text table.columns ++ codes ", PRIMARY KEY " ++ columns_text table.columns table.key ++ each_after (codes ", ") (limit_text table.columns) table.limits ++ last) (same_foreign table.foreign same)
+  same_items same = ap (λ (last : List ℕ). separate_texts (codes ", ") column_text table.columns ++ codes ", PRIMARY KEY " ++ columns_text table.columns table.key ++ each_after (codes ", ") (limit_text table.columns) table.limits ++ last) (same_foreign table.foreign same)
 
   same_table_text : AllByRecursion IsNamedAlike table.foreign → table_text later table ≡ table_text tables table
   unfolding table_text

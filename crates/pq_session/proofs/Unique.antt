@@ -13,7 +13,7 @@ use Rattle.pq_content.proofs.Settling.{settles_once}
 use Rattle.pq_content.proofs.Unique.{one_table}
 use Rattle.pq_store.specs.Content.{Content}
 use Rattle.pq_session.specs.Model.{Model}
-use Rattle.pq_session.specs.Opening.{Added}
+use Rattle.pq_session.specs.Opening.{SchemaAndMark}
 use Rattle.pq_session.specs.Stands.{Holds, Opens, IsFillingLast, content_of, catalog_pairs, earlier_pairs, last_query}
 use Rattle.pq_session.proofs.Catalogs.{are_beside}
 use Rattle.pq_session.proofs.Lefts.{earlier_catalog}
@@ -66,7 +66,7 @@ module _ (content : Option Content) (m n : Model) (p : Opens content m) (q : Ope
   held : Holds n p.pairs
   held = subst (Holds n) (sym one_content) q.holds
 
-  one_answer : ◌≡◌ {A = Result Added Pair} (Ok (m.schema, mark_held m p.pairs p.holds)) (Ok (n.schema, mark_held n p.pairs held))
+  one_answer : ◌≡◌ {A = Result SchemaAndMark Pair} (Ok (m.schema, mark_held m p.pairs p.holds)) (Ok (n.schema, mark_held n p.pairs held))
   one_answer = sym (held_tells m p.pairs p.valid p.holds) ∙ held_tells n p.pairs q.valid held
 
   pub opened_schema : m.schema ≡ n.schema

@@ -11,11 +11,11 @@ use Rattle.pq_schema.specs.Schema.{Schema}
 use Rattle.pq_schema.specs.declared.table.Table.{Table}
 use Rattle.pq_schema.proofs.Valid.{valid_small}
 use Rattle.pq_print.specs.declared.report.End.TheVariants as end
-use Rattle.pq_content.specs.Pairs.{Pair, changed}
+use Rattle.pq_content.specs.Pairs.{Pair, changed_content}
 use Rattle.pq_content.specs.Standing.{change_of}
 use Rattle.pq_content.specs.Tables.{Rows, Keeps}
 use Rattle.pq_store.specs.Content.{Content}
-use Rattle.pq_store.specs.Counts.{Counts, Allowed, granted, used_of}
+use Rattle.pq_store.specs.Counts.{Counts, AllowedCounts, granted_counts, used_of}
 use Rattle.pq_store.specs.declared.damage.Broke.{Broke}
 use Rattle.pq_store.specs.declared.damage.Broke.TheVariants as broke
 use Rattle.pq_store.specs.Breaks.{IfDamaged, IsPresent, IsUndamaged}
@@ -30,7 +30,7 @@ use Rattle.pq_index_keep.specs.declared.plan.Planned.{Planned}
 use Rattle.pq_index_keep.specs.declared.plan.Planned.TheVariants as planned
 use Rattle.pq_index_keep.specs.declared.write.Write.{Write}
 use Rattle.pq_index_keep.specs.Bounds.{write_tests, write_bound}
-use Rattle.pq_index_keep.specs.Checking.{checked, IsWriting}
+use Rattle.pq_index_keep.specs.Checking.{checked_write, IsWriting}
 use Rattle.pq_index_keep.specs.Effects.{effect}
 use Rattle.pq_index_keep.specs.Promises as keep
 use Rattle.pq_index_keep.specs.Promises.{Plans, MakesRows}
@@ -48,9 +48,9 @@ use Rattle.pq_schema.specs.Valid.{IsValid}
 use Rattle.pq_session.specs.Matches.{Matches}
 use Rattle.pq_session.specs.Model.{Model}
 use Rattle.pq_session.specs.Actions.{Writes}
-use Rattle.pq_session.specs.Promise.{Done, Broken, IsWithin}
+use Rattle.pq_session.specs.Promise.{DoneStatement, BrokenStatement, IsWithin}
 use Rattle.pq_session.specs.Stands.{HoldsModel, Stands, Opens, content_of, catalog_pairs}
-use Rattle.pq_session.specs.Step.{Step, report_of, refusal_report, refused, effected, effected_as}
+use Rattle.pq_session.specs.Step.{Step, report_of, refusal_report, refused_step, write_step, effected_as}
 use Rattle.pq_session.proofs.Catalogs.{are_beside}
 use Rattle.pq_session.proofs.Standing.{no_intent_in, settled_opens}
 
@@ -77,16 +77,16 @@ settled_for old mid schema m same s = record { told = same ∙ s.settled.told; n
 -- ---- refused
 
 step_refused : (m : Model) (number : ℕ) (write : Write) (why : Refusal) (schema : Schema) → schema ≡ m.schema → effect schema.tables m.rows write ≡ Err why
-    → effected m number write ≡ refused m number why (write_bound schema.tables write)
-unfolding effected
+    → write_step m number write ≡ refused_step m number why (write_bound schema.tables write)
+unfolding write_step
 step_refused m number write why schema known is =
-    subst (λ (x : Schema). effect x.tables m.rows write ≡ Err why → effected m number write ≡ refused m number why (write_bound x.tables write)) (sym known)
+    subst (λ (x : Schema). effect x.tables m.rows write ≡ Err why → write_step m number write ≡ refused_step m number why (write_bound x.tables write)) (sym known)
     (λ same. ap (effected_as m number (write_bound m.schema.tables write)) same) is
 
-refused_by : (number : ℕ) (write : Write) (why : Refusal) (old now : Option Content) (schema : Schema) (f0 f1 : ℕ) (allowed : Allowed) (before after : Counts)
-    → Reads (world old f0 (granted (write_bound schema.tables write).ops (write_bound schema.tables write).entries) before) (world now f1 allowed after) (write_tests schema.tables write).ops (write_tests schema.tables write).entries
+refused_by : (number : ℕ) (write : Write) (why : Refusal) (old now : Option Content) (schema : Schema) (f0 f1 : ℕ) (allowed : AllowedCounts) (before after : Counts)
+    → Reads (world old f0 (granted_counts (write_bound schema.tables write).ops (write_bound schema.tables write).entries) before) (world now f1 allowed after) (write_tests schema.tables write).ops (write_tests schema.tables write).entries
     → ((rows : Rows) (others : List Pair) → keep.HoldsRows old schema.tables rows others → effect schema.tables rows write ≡ Err why)
-    → Done number (Ok (Writes write)) old now schema schema before after (record (refusal_report number why (write_bound schema.tables write)) { used = used_of allowed })
+    → DoneStatement number (Ok (Writes write)) old now schema schema before after (record (refusal_report number why (write_bound schema.tables write)) { used = used_of allowed })
 refused_by number write why old now schema f0 f1 allowed before after reads answer = record {
   matches = λ m s. subst (λ (x : Step). Matches x.report (record (refusal_report number why (write_bound schema.tables write)) { used = used_of allowed }))
       (sym (step_refused m number write why schema s.known (answer m.rows (catalog_pairs schema) (settled_rows old schema m s))))
@@ -105,15 +105,15 @@ refused_by number write why old now schema f0 f1 allowed before after reads answ
   unread = tt;
 }
 
-pub refused_done : (number : ℕ) (write : Write) (why : Refusal) (old now : Option Content) (schema : Schema) (most : Bound) (f0 f1 : ℕ) (given allowed : Allowed) (before after : Counts) (q : Planned)
-    → most ≡ write_bound schema.tables write → given ≡ granted most.ops most.entries → q ≡ planned.Refused why
+pub refused_done : (number : ℕ) (write : Write) (why : Refusal) (old now : Option Content) (schema : Schema) (most : Bound) (f0 f1 : ℕ) (given allowed : AllowedCounts) (before after : Counts) (q : Planned)
+    → most ≡ write_bound schema.tables write → given ≡ granted_counts most.ops most.entries → q ≡ planned.Refused why
     → Reads (world old f0 given before) (world now f1 allowed after) (write_tests schema.tables write).ops (write_tests schema.tables write).entries
     → ((rows : Rows) (others : List Pair) → keep.HoldsRows old schema.tables rows others → Plans schema.tables rows others write q)
-    → Done number (Ok (Writes write)) old now schema schema before after (record (refusal_report number why most) { used = used_of allowed })
+    → DoneStatement number (Ok (Writes write)) old now schema schema before after (record (refusal_report number why most) { used = used_of allowed })
 refused_done number write why old now schema most f0 f1 given allowed before after q is_most is_given is reads answer =
-    subst (λ (x : Bound). Done number (Ok (Writes write)) old now schema schema before after (record (refusal_report number why x) { used = used_of allowed })) (sym is_most)
+    subst (λ (x : Bound). DoneStatement number (Ok (Writes write)) old now schema schema before after (record (refusal_report number why x) { used = used_of allowed })) (sym is_most)
     (refused_by number write why old now schema f0 f1 allowed before after
-    (subst (λ (a : Allowed). Reads (world old f0 a before) (world now f1 allowed after) (write_tests schema.tables write).ops (write_tests schema.tables write).entries) (is_given ∙ ap (λ (b : Bound). granted b.ops b.entries) is_most) reads)
+    (subst (λ (a : AllowedCounts). Reads (world old f0 a before) (world now f1 allowed after) (write_tests schema.tables write).ops (write_tests schema.tables write).entries) (is_given ∙ ap (λ (b : Bound). granted_counts b.ops b.entries) is_most) reads)
     (subst (λ (x : Planned). (rows : Rows) (others : List Pair) → keep.HoldsRows old schema.tables rows others → Plans schema.tables rows others write x) is answer))
 
 -- ---- made
@@ -145,21 +145,21 @@ abbrev with_rows : Model → Rows → Model
 with_rows m rows = record m { rows = rows }
 
 step_made : (m : Model) (number : ℕ) (write : Write) (rows : Rows) → effect m.schema.tables m.rows write ≡ Ok rows
-    → effected m number write ≡ record { model = with_rows m rows; report = report_of number [] end.Done (write_bound m.schema.tables write) }
-unfolding effected
+    → write_step m number write ≡ record { model = with_rows m rows; report = report_of number [] end.Done (write_bound m.schema.tables write) }
+unfolding write_step
 step_made m number write rows is = ap (effected_as m number (write_bound m.schema.tables write)) is
 
 content_made : (m : Model) (write : Write) (changes : List Change) (p : Made m.schema.tables m.rows (catalog_pairs m.schema) write changes)
-    → changed (map change_of changes) (content_of m) ≡ content_of (with_rows m p.rows_made)
+    → changed_content (map change_of changes) (content_of m) ≡ content_of (with_rows m p.rows_made)
 unfolding content_of
 content_made m write changes p = p.makes.content
 
-changed_by : (number : ℕ) (write : Write) (changes : List Change) (old mid now : Option Content) (schema : Schema) (f0 f1 : ℕ) (left allowed : Allowed) (before between after : Counts)
-    → Reads (world old f0 (granted (write_bound schema.tables write).ops (write_bound schema.tables write).entries) before) (world mid f1 left between) (write_tests schema.tables write).ops (write_tests schema.tables write).entries
+changed_by : (number : ℕ) (write : Write) (changes : List Change) (old mid now : Option Content) (schema : Schema) (f0 f1 : ℕ) (left allowed : AllowedCounts) (before between after : Counts)
+    → Reads (world old f0 (granted_counts (write_bound schema.tables write).ops (write_bound schema.tables write).entries) before) (world mid f1 left between) (write_tests schema.tables write).ops (write_tests schema.tables write).entries
     → ((rows : Rows) (others : List Pair) → keep.HoldsRows old schema.tables rows others → Plans schema.tables rows others write (planned.Changes changes))
-    → ((pairs : Content) → IsSettled mid pairs → now ≡ Some (changed (map change_of changes) pairs))
+    → ((pairs : Content) → IsSettled mid pairs → now ≡ Some (changed_content (map change_of changes) pairs))
     → (most : ℕ) → Spends most left allowed between after
-    → Done number (Ok (Writes write)) old now schema schema before after (record (report_of number [] end.Done (write_bound schema.tables write)) { used = used_of allowed })
+    → DoneStatement number (Ok (Writes write)) old now schema schema before after (record (report_of number [] end.Done (write_bound schema.tables write)) { used = used_of allowed })
 changed_by number write changes old mid now schema f0 f1 left allowed before between after reads answer commits most spends =
     let granted_ops = ap (λ (c : Counts). c.ops) reads.granted in
     let granted_entries = ap (λ (c : Counts). c.entries) reads.granted in
@@ -193,35 +193,35 @@ changed_by number write changes old mid now schema f0 f1 left allowed before bet
       unread = tt;
     }
 
-pub changed_done : (number : ℕ) (write : Write) (changes : List Change) (old mid now : Option Content) (schema : Schema) (most : Bound) (f0 f1 : ℕ) (given left allowed : Allowed) (before between after : Counts) (q : Planned)
-    → most ≡ write_bound schema.tables write → given ≡ granted most.ops most.entries → q ≡ planned.Changes changes
+pub changed_done : (number : ℕ) (write : Write) (changes : List Change) (old mid now : Option Content) (schema : Schema) (most : Bound) (f0 f1 : ℕ) (given left allowed : AllowedCounts) (before between after : Counts) (q : Planned)
+    → most ≡ write_bound schema.tables write → given ≡ granted_counts most.ops most.entries → q ≡ planned.Changes changes
     → Reads (world old f0 given before) (world mid f1 left between) (write_tests schema.tables write).ops (write_tests schema.tables write).entries
     → ((rows : Rows) (others : List Pair) → keep.HoldsRows old schema.tables rows others → Plans schema.tables rows others write q)
-    → ((pairs : Content) → IsSettled mid pairs → now ≡ Some (changed (map change_of changes) pairs))
+    → ((pairs : Content) → IsSettled mid pairs → now ≡ Some (changed_content (map change_of changes) pairs))
     → (limit : ℕ) → Spends limit left allowed between after
-    → Done number (Ok (Writes write)) old now schema schema before after (record (report_of number [] end.Done most) { used = used_of allowed })
+    → DoneStatement number (Ok (Writes write)) old now schema schema before after (record (report_of number [] end.Done most) { used = used_of allowed })
 changed_done number write changes old mid now schema most f0 f1 given left allowed before between after q is_most is_given is reads answer commits limit spends =
-    subst (λ (x : Bound). Done number (Ok (Writes write)) old now schema schema before after (record (report_of number [] end.Done x) { used = used_of allowed })) (sym is_most)
+    subst (λ (x : Bound). DoneStatement number (Ok (Writes write)) old now schema schema before after (record (report_of number [] end.Done x) { used = used_of allowed })) (sym is_most)
     (changed_by number write changes old mid now schema f0 f1 left allowed before between after
-    (subst (λ (a : Allowed). Reads (world old f0 a before) (world mid f1 left between) (write_tests schema.tables write).ops (write_tests schema.tables write).entries) (is_given ∙ ap (λ (b : Bound). granted b.ops b.entries) is_most) reads)
+    (subst (λ (a : AllowedCounts). Reads (world old f0 a before) (world mid f1 left between) (write_tests schema.tables write).ops (write_tests schema.tables write).entries) (is_given ∙ ap (λ (b : Bound). granted_counts b.ops b.entries) is_most) reads)
     (planned_as old schema write q changes is answer)
     commits limit spends)
 
 -- ---- broken off
 
 -- what was spent of the bound is not more than the bound
-pub planned_within : (most : Bound) (old mid : Option Content) (f0 f1 : ℕ) (given left : Allowed) (before after : Counts) (ops entries : ℕ) → given ≡ granted most.ops most.entries
+pub planned_within : (most : Bound) (old mid : Option Content) (f0 f1 : ℕ) (given left : AllowedCounts) (before after : Counts) (ops entries : ℕ) → given ≡ granted_counts most.ops most.entries
     → Reads (world old f0 given before) (world mid f1 left after) ops entries → IsWithin most before after
 planned_within most old mid f0 f1 given left before after ops entries is reads = record {
-  ops = omega (arith, reads.spent_ops, ap (λ (a : Allowed). a.left.ops) is);
-  entries = omega (arith, reads.spent_entries, ap (λ (a : Allowed). a.left.entries) is);
+  ops = omega (arith, reads.spent_ops, ap (λ (a : AllowedCounts). a.left.ops) is);
+  entries = omega (arith, reads.spent_entries, ap (λ (a : AllowedCounts). a.left.entries) is);
 }
 
-committed_within : (most : Bound) (old mid : Option Content) (f0 f1 : ℕ) (given left allowed : Allowed) (before between after : Counts) (ops entries limit : ℕ) → given ≡ granted most.ops most.entries
+committed_within : (most : Bound) (old mid : Option Content) (f0 f1 : ℕ) (given left allowed : AllowedCounts) (before between after : Counts) (ops entries limit : ℕ) → given ≡ granted_counts most.ops most.entries
     → Reads (world old f0 given before) (world mid f1 left between) ops entries → Spends limit left allowed between after → IsWithin most before after
 committed_within most old mid f0 f1 given left allowed before between after ops entries limit is reads spends = record {
-  ops = omega (arith, reads.spent_ops, spends.ops, ap (λ (a : Allowed). a.left.ops) is);
-  entries = omega (arith, reads.spent_entries, spends.entries, ap (λ (a : Allowed). a.left.entries) is);
+  ops = omega (arith, reads.spent_ops, spends.ops, ap (λ (a : AllowedCounts). a.left.ops) is);
+  entries = omega (arith, reads.spent_entries, spends.entries, ap (λ (a : AllowedCounts). a.left.entries) is);
 }
 
 -- the same of the bound of the write's step
@@ -229,14 +229,14 @@ within_effected : (write : Write) (schema : Schema) (most : Bound) (before after
 within_effected write schema most before after is within = subst (λ (b : Bound). IsWithin b before after) is within
 
 -- what explains damage shows it, and over what stands for a model there is none
-pub explained_shown : (old : Option Content) (schema : Schema) (error : Broke) (f0 f1 : ℕ) (given left : Allowed) (before after : Counts) (now : Option Content)
+pub explained_shown : (old : Option Content) (schema : Schema) (error : Broke) (f0 f1 : ℕ) (given left : AllowedCounts) (before after : Counts) (now : Option Content)
     → Explains (where_told (IsNoRow schema.tables)) (world old f0 given before) (world now f1 left after) error → IfSome old (λ content. TellsEvidence schema content error)
 explained_shown None schema error f0 f1 given left before after now explains = tt
 explained_shown (Some content) schema broke.Failed f0 f1 given left before after now explains = tt
 explained_shown (Some content) schema broke.NoMem f0 f1 given left before after now explains = tt
 explained_shown (Some content) schema (broke.Damaged damage) f0 f1 given left before after now explains = inl (no_row explains)
 
-pub explained_sound : (old : Option Content) (schema : Schema) (error : Broke) (f0 f1 : ℕ) (given left : Allowed) (before after : Counts) (now : Option Content) (m : Model) → Stands old schema m
+pub explained_sound : (old : Option Content) (schema : Schema) (error : Broke) (f0 f1 : ℕ) (given left : AllowedCounts) (before after : Counts) (now : Option Content) (m : Model) → Stands old schema m
     → Explains (where_told (IsNoRow schema.tables)) (world old f0 given before) (world now f1 left after) error → IsUndamaged error
 explained_sound old schema error f0 f1 given left before after now m s explains =
     explained_undamaged (where_told (IsNoRow schema.tables)) (world old f0 given before) (world now f1 left after) error
@@ -249,10 +249,10 @@ intent_shown (Some content) schema broke.Failed shows = tt
 intent_shown (Some content) schema broke.NoMem shows = tt
 intent_shown (Some content) schema (broke.Damaged damage) shows = inr (inl shows)
 
-pub planning_broke : (number : ℕ) (write : Write) (error : Broke) (old now : Option Content) (schema : Schema) (most : Bound) (f0 f1 : ℕ) (given left : Allowed) (before after : Counts) (ops entries : ℕ)
-    → most ≡ write_bound schema.tables write → given ≡ granted most.ops most.entries → Reads (world old f0 given before) (world now f1 left after) ops entries
+pub planning_broke : (number : ℕ) (write : Write) (error : Broke) (old now : Option Content) (schema : Schema) (most : Bound) (f0 f1 : ℕ) (given left : AllowedCounts) (before after : Counts) (ops entries : ℕ)
+    → most ≡ write_bound schema.tables write → given ≡ granted_counts most.ops most.entries → Reads (world old f0 given before) (world now f1 left after) ops entries
     → Explains (where_told (IsNoRow schema.tables)) (world old f0 given before) (world now f1 left after) error
-    → Broken number (Ok (Writes write)) old now schema before after error
+    → BrokenStatement number (Ok (Writes write)) old now schema before after error
 planning_broke number write error old now schema most f0 f1 given left before after ops entries is_most is_given reads explains = record {
   stopped = λ m s. inl (settled_opens (subst (λ o. HoldsModel o m) (sym reads.same) s.settled));
   sound = λ m s. explained_sound old schema error f0 f1 given left before after now m s explains;
@@ -262,19 +262,19 @@ planning_broke number write error old now schema most f0 f1 given left before af
 
 stopped_at : (m : Model) (number : ℕ) (write : Write) (changes : List Change) (now : Option Content) → IsValid m.schema → Keeps m.schema.tables m.rows
     → Made m.schema.tables m.rows (catalog_pairs m.schema) write changes
-    → Settles now (content_of m) ⊎ Settles now (changed (map change_of changes) (content_of m)) → Opens now m ⊎ Opens now (effected m number write).model
+    → Settles now (content_of m) ⊎ Settles now (changed_content (map change_of changes) (content_of m)) → Opens now m ⊎ Opens now (write_step m number write).model
 stopped_at m number write changes now valid keeps p (inl settles) = inl (record { valid = valid; keeps = keeps; pairs = content_of m; settles = settles; holds = inl refl })
 stopped_at m number write changes now valid keeps p (inr settles) =
     inr (subst (λ (x : Step). Opens now x.model) (sym (step_made m number write p.rows_made p.is))
-    (record { valid = valid; keeps = p.makes.keeps; pairs = changed (map change_of changes) (content_of m); settles = settles; holds = inl (content_made m write changes p) }))
+    (record { valid = valid; keeps = p.makes.keeps; pairs = changed_content (map change_of changes) (content_of m); settles = settles; holds = inl (content_made m write changes p) }))
 
-pub commit_broke : (number : ℕ) (write : Write) (changes : List Change) (error : Broke) (old mid now : Option Content) (schema : Schema) (most : Bound) (f0 f1 : ℕ) (given left allowed : Allowed) (before between after : Counts) (ops entries limit : ℕ) (q : Planned)
-    → most ≡ write_bound schema.tables write → given ≡ granted most.ops most.entries → q ≡ planned.Changes changes
+pub commit_broke : (number : ℕ) (write : Write) (changes : List Change) (error : Broke) (old mid now : Option Content) (schema : Schema) (most : Bound) (f0 f1 : ℕ) (given left allowed : AllowedCounts) (before between after : Counts) (ops entries limit : ℕ) (q : Planned)
+    → most ≡ write_bound schema.tables write → given ≡ granted_counts most.ops most.entries → q ≡ planned.Changes changes
     → Reads (world old f0 given before) (world mid f1 left between) ops entries → Spends limit left allowed between after
     → ((rows : Rows) (others : List Pair) → keep.HoldsRows old schema.tables rows others → Plans schema.tables rows others write q)
-    → ((pairs : Content) → IsSettled mid pairs → Settles now pairs ⊎ Settles now (changed (map change_of changes) pairs))
+    → ((pairs : Content) → IsSettled mid pairs → Settles now pairs ⊎ Settles now (changed_content (map change_of changes) pairs))
     → ((pairs : Content) → IsSettled mid pairs → IsUndamaged error) → IfSome mid (λ pairs. IfDamaged (IsPresent intent_key pairs) error)
-    → Broken number (Ok (Writes write)) old now schema before after error
+    → BrokenStatement number (Ok (Writes write)) old now schema before after error
 commit_broke number write changes error old mid now schema most f0 f1 given left allowed before between after ops entries limit q is_most is_given is reads spends answer stops sound shows = record {
   stopped = λ m s. stopped_at m number write changes now s.settled.valid s.settled.keeps (made_of schema m old write changes s (planned_as old schema write q changes is answer)) (stops (content_of m) (settled_for old mid schema m reads.same s));
   sound = λ m s. sound (content_of m) (settled_for old mid schema m reads.same s);

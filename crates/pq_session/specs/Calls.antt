@@ -12,4 +12,5 @@ PutsNew false key value (Some content) now = IsSome (get content key) × (now �
 -- nothing changed, or the key was absent and now has the value
 abbrev pub MayPut : List ℕ → List ℕ → Option Content → Option Content → Type 0
 MayPut key value None now = now ≡ None
-MayPut key value (Some content) now = (now ≡ Some content) ⊎ ((get content key ≡ None) × (now ≡ Some (insert content key value)))
+MayPut key value (Some content) now = (now ≡ Some content)
+    ⊎ ((get content key ≡ None) × (now ≡ Some (insert content key value)))

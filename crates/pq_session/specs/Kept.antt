@@ -19,10 +19,12 @@ pub record IsKeptPlan (tables : List Table) (query : Query) (plan : Physical) : 
 -- a place for each definition, with the plan of each query's
 pub record ArePlans (schema : Schema) (plans : List (Option Physical)) : Type 0 where
   pub long : length plans ≡ length schema.definitions
-  pub each : (n : ℕ) → IsQueryNumber schema n → MatchOption (slice_index_or plans (n - 1) None) ⊥ (IsKeptPlan schema.tables (query_at schema n))
+  pub each : (n : ℕ) → IsQueryNumber schema n
+      → MatchOption (slice_index_or plans (n - 1) None) ⊥ (IsKeptPlan schema.tables (query_at schema n))
 
 -- the plan that the query is compiled to over these tables, with the index that it wants
-pub record IsPlanWanting (tables : List Table) (query : Query) (plan : Physical) (wanted : Option NewIndex) : Type 0 where
+pub record IsPlanWanting (tables : List Table) (query : Query) (plan : Physical) (wanted : Option NewIndex) :
+    Type 0 where
   pub made : Compiled
   pub compiled : IsCompiled tables query made
   pub plan_is : made.plan ≡ plan

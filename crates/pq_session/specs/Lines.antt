@@ -12,7 +12,7 @@ use Rattle.pq_schema.specs.declared.table.NewIndex.{NewIndex}
 use Rattle.pq_schema.specs.declared.table.Table.{Table}
 use Rattle.pq_schema.specs.Schema.{Schema, definition_at, def_of}
 use Rattle.pq_schema.specs.Tables.{table_at}
-use Rattle.pq_session.specs.Planning.{Planned}
+use Rattle.pq_session.specs.Planning.{PlannedDefinition}
 use Rattle.pq_content.specs.Tables.{IsTableNumber}
 use Rattle.pq_print.specs.Canonical.{column_name, definition_text}
 use Rattle.pq_print.specs.declared.report.IndexCol.{IndexCol}
@@ -68,7 +68,9 @@ made_lines tables (def.Query (Some made)) = lines_at (table_at tables made.table
 
 -- a definition's text, and the indexes that it made
 unfoldable pub definition_lines : Schema → ℕ → List Line
-definition_lines schema number = line.Def number (definition_text schema number) ∷ made_lines schema.tables (def_of (definition_at schema number))
+definition_lines schema number =
+    line.Def number (definition_text schema number)
+    ∷ made_lines schema.tables (def_of (definition_at schema number))
 
 -- of each definition in order
 unfoldable pub show_lines : Schema → List Line
@@ -85,8 +87,9 @@ wanted_lines tables (Some new) = index_line (table_at tables new.table) new.numb
 abbrev pub planned_lines : List Table → List ℕ → Choice → Bound → Option NewIndex → List Line
 planned_lines tables name choice most wanted = line.Query name choice most ∷ wanted_lines tables wanted
 
-unfoldable pub query_lines : List Table → Planned → List Line
-query_lines tables plan = planned_lines tables plan.query.name plan.chosen.best.choice plan.chosen.best.bound plan.chosen.wanted
+unfoldable pub query_lines : List Table → PlannedDefinition → List Line
+query_lines tables plan = planned_lines tables plan.query.name plan.chosen.best.choice plan.chosen.best.bound
+    plan.chosen.wanted
 
 -- the table of a wanted index is there, and so are the columns that it names
 abbrev pub IsLined : List Table → Option NewIndex → Type 0

@@ -43,7 +43,7 @@ use Rattle.pq_session.specs.declared.format.Mark.TheVariants.{Ready, Building}
 use Rattle.pq_session.specs.Format.{marked_text, has_format}
 use Rattle.pq_session.specs.Model.{Model}
 use Rattle.pq_session.specs.Stands.{HoldsModel, IsFillingLast, content_of, last_made, last_query}
-use Rattle.pq_session.specs.Planning.{Planned, plan_from}
+use Rattle.pq_session.specs.Planning.{PlannedDefinition, plan_from}
 
 -- the line of an opening
 abbrev pub opening_of : Started → Opened
@@ -62,7 +62,10 @@ started_of schema settled found rows = record {
   session = schema;
   defs = length schema.definitions;
   bound = bound (settled.used.ops + 1 + (completion_bound rows).ops) (257 + (completion_bound rows).entries);
-  used = record { ops = settled.used.ops + 1 + (completion_bound rows).ops; entries = settled.used.entries + found + (completion_bound rows).entries };
+  used = record {
+    ops = settled.used.ops + 1 + (completion_bound rows).ops;
+    entries = settled.used.entries + found + (completion_bound rows).entries;
+  };
 }
 
 -- so many rows, where there are any, are few enough for an index to be filled
@@ -85,14 +88,15 @@ with_made schema (Ok table) = Some (with_table schema table)
 with_made schema (Err why) = None
 
 -- the schema with a query and the index that it wants
-abbrev pub with_planned : Schema → Result Planned Refusal → Option Schema
+abbrev pub with_planned : Schema → Result PlannedDefinition Refusal → Option Schema
 with_planned schema (Ok plan) = result_ok (new_query schema plan.query plan.chosen.wanted)
 with_planned schema (Err why) = None
 
 -- the schema with what a statement defines
 abbrev pub defined_by : Schema → List ℕ → List Token → Statement → Option Schema
 defined_by schema text tokens (statement.Create def) = with_made schema (new_table schema def)
-defined_by schema text tokens (statement.Prepare name from) = with_planned schema (plan_from schema name text tokens from)
+defined_by schema text tokens (statement.Prepare name from) =
+    with_planned schema (plan_from schema name text tokens from)
 defined_by schema text tokens (statement.Insert table cols values) = None
 defined_by schema text tokens (statement.Update table sets key) = None
 defined_by schema text tokens (statement.Delete table key) = None
@@ -117,42 +121,46 @@ if_canonical text next = if has_last_text text next then Some next else None
 
 -- a canonical text, of at most a mebibyte, that is accepted over the definitions before it
 unfoldable pub text_adds : Schema → List ℕ → Option Schema
-text_adds schema text = if nat_le (length text) 1048576 then option_and_then (if_canonical text) (text_defines schema text) else None
+text_adds schema text = if nat_le (length text) 1048576
+    then option_and_then (if_canonical text) (text_defines schema text) else None
 
 -- what a pair adds: the schema with its definition, and the definition's mark
-abbrev pub Added : Type 0
-Added = Schema × Mark
+abbrev pub SchemaAndMark : Type 0
+SchemaAndMark = Schema × Mark
 
 abbrev pub if_formatted : List ℕ → Schema → Option Schema
 if_formatted value next = if has_format value next then Some next else None
 
 -- the definition of a text, whose value has the format of the kind that the text makes
-abbrev pub value_adds : Schema → List ℕ → Mark × List ℕ → Option Added
-value_adds schema value marked = option_map (λ next. (next, marked.0)) (option_and_then (if_formatted value) (text_adds schema marked.1))
+abbrev pub value_adds : Schema → List ℕ → Mark × List ℕ → Option SchemaAndMark
+value_adds schema value marked =
+    option_map (λ next. (next, marked.0)) (option_and_then (if_formatted value) (text_adds schema marked.1))
 
 -- of the next definition's pair
-unfoldable pub pair_adds : Schema → Pair → Option Added
+unfoldable pub pair_adds : Schema → Pair → Option SchemaAndMark
 pair_adds schema pair =
-    if bytes_eq pair.0 (catalog_key (length schema.definitions + 1)) then option_and_then (value_adds schema pair.1) (marked_text pair.1)
+    if bytes_eq pair.0 (catalog_key (length schema.definitions + 1))
+    then option_and_then (value_adds schema pair.1) (marked_text pair.1)
     else None
 
 -- a definition that is ready; or one at the last pair, which made an index
-abbrev pub goes_on : Added → List Pair → Bool
+abbrev pub goes_on : SchemaAndMark → List Pair → Bool
 goes_on (next, Ready) rest = true
 goes_on (next, Building) [] = is_some (last_made next)
 goes_on (next, Building) (pair ∷ rest) = false
 
-abbrev pub opened_by : Pair → List Pair → Option Added → (Added → Result Added Pair) → Result Added Pair
+abbrev pub opened_by : Pair → List Pair → Option SchemaAndMark → (SchemaAndMark → Result SchemaAndMark Pair) → Result SchemaAndMark Pair
 opened_by pair rest None more = Err pair
 opened_by pair rest (Some added) more = if goes_on added rest then more added else Err pair
 
--- the schema with the definitions of some pairs, and the mark of the last one; or the first that is no definition's pair
-unfoldable pub opened : Added → List Pair → Result Added Pair
-opened added [] = Ok added
-opened added (pair ∷ pairs) = opened_by pair pairs (pair_adds added.0 pair) (λ next. opened next pairs)
+-- the schema with the definitions of some pairs, and the mark of the last one; or the first that is no
+-- definition's pair
+unfoldable pub added_from : SchemaAndMark → List Pair → Result SchemaAndMark Pair
+added_from added [] = Ok added
+added_from added (pair ∷ pairs) = opened_by pair pairs (pair_adds added.0 pair) (λ next. added_from next pairs)
 
 -- no definitions
-abbrev pub none_added : Added
+abbrev pub none_added : SchemaAndMark
 none_added = (empty_schema, Ready)
 
 -- the pairs of the catalog, at most one more than there may be definitions
@@ -174,14 +182,15 @@ pub record TellsSchema (content : Content) (schema : Schema) : Type 0 where
   pub settled : Content
   pub settles : SettlesTo content settled
   pub mark : Mark
-  pub opened : opened none_added (catalog_in settled) ≡ Ok (schema, mark)
+  pub opened : added_from none_added (catalog_in settled) ≡ Ok (schema, mark)
   pub few : HasFewLeft schema mark settled
 
 -- ---- a build that was left
 
 -- the index that a definition made, with its table
 abbrev pub target_left : Schema → Made → Target
-target_left schema made = target_of made.table made.index (table_at schema.tables made.table) (index_numbered (table_at schema.tables made.table) made.index)
+target_left schema made = target_of made.table made.index (table_at schema.tables made.table)
+    (index_numbered (table_at schema.tables made.table) made.index)
 
 -- what is built for the last definition
 pub record IsLeft (schema : Schema) (target : Target) (query : NewQuery) : Type 0 where
@@ -222,11 +231,13 @@ rows_of_mark Building m = Some (rows_left m)
 abbrev pub NamesPair : Content → Broke → Type 0
 NamesPair content Failed = Unit {0}
 NamesPair content NoMem = Unit {0}
-NamesPair content (Damaged damage) = (value : List ℕ) × (damage.value ≡ Some value) × (opened none_added (catalog_in content) ≡ Err (damage.key, value))
+NamesPair content (Damaged damage) = (value : List ℕ) × (damage.value ≡ Some value)
+    × (added_from none_added (catalog_in content) ≡ Err (damage.key, value))
 
 -- the build of this schema's last definition shows the damage
 abbrev pub ShowsLeftOf : Schema → Content → Broke → Type 0
-ShowsLeftOf schema content broke = (target : Target) × (query : NewQuery) × IsLeft schema target query × ShowsLeft target query content broke
+ShowsLeftOf schema content broke = (target : Target) × (query : NewQuery) × IsLeft schema target query
+    × ShowsLeft target query content broke
 
 -- where a mark tells of it
 abbrev pub ShowsMarked : Schema → Mark → Content → Broke → Type 0
@@ -239,7 +250,7 @@ pub record ShowsBuildLeft (content : Content) (damage : Damage) : Type 0 where
   pub settled : Content
   pub settles : SettlesTo content settled
   pub schema : Schema
-  pub left : opened none_added (catalog_in settled) ≡ Ok (schema, Building)
+  pub left : added_from none_added (catalog_in settled) ≡ Ok (schema, Building)
   pub shows : ShowsLeftOf schema settled (Damaged damage)
 
 -- the intent is none of a store; or what the content settles to has this first pair that is no definition's
@@ -247,7 +258,8 @@ abbrev pub ShowsFlaw : Content → Damage → Type 0
 ShowsFlaw content damage =
     (value : List ℕ) × (damage.value ≡ Some value)
     × (((damage.key ≡ intent_key) × (get content intent_key ≡ Some value) × IsNoIntent value)
-    ⊎ ((settled : Content) × SettlesTo content settled × (opened none_added (catalog_in settled) ≡ Err (damage.key, value))))
+    ⊎ ((settled : Content) × SettlesTo content settled
+    × (added_from none_added (catalog_in settled) ≡ Err (damage.key, value))))
 
 -- damage names the first flaw; or there is none, and a build that was left shows it
 abbrev pub NamesFlaw : Content → Broke → Type 0
@@ -263,12 +275,14 @@ intent_ops None = 0
 intent_ops (Some changes) = changes + 1
 
 abbrev pub opening_bound : Option ℕ → Option ℕ → Bound
-opening_bound changes rows = bound (2 + intent_ops changes + (completion_bound rows).ops) (257 + (completion_bound rows).entries)
+opening_bound changes rows = bound (2 + intent_ops changes + (completion_bound rows).ops)
+    (257 + (completion_bound rows).entries)
 
 -- a build over so many rows, or none
 abbrev pub HasBuild : Model → Content → Option ℕ → Type 0
 HasBuild m settled None = settled ≡ content_of m
-HasBuild m settled (Some rows) = (filling : IsFillingLast m settled) × (rows ≡ length (rows_of filling.made.table m.rows))
+HasBuild m settled (Some rows) = (filling : IsFillingLast m settled)
+    × (rows ≡ length (rows_of filling.made.table m.rows))
 
 -- two operations and 257 entries; where an intent stands one operation for each change and one for its removal; and
 -- where an index is being filled the completion of its build

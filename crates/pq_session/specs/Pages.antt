@@ -6,7 +6,7 @@ use Rattle.pq_schema.specs.declared.query.Stop.TheVariants.{Paginate}
 use Rattle.pq_schema.specs.Resolved.{IsResolved}
 use Rattle.pq_schema.specs.Valid.{IsValid}
 use Rattle.pq_content.specs.Tables.{Keeps}
-use Rattle.pq_plan.specs.Answer.{Asked, answered, position}
+use Rattle.pq_plan.specs.Answer.{Question, answered, position}
 use Rattle.pq_exec.specs.Execution.{last_of}
 use Rattle.pq_session.specs.Model.{Model}
 
@@ -18,10 +18,12 @@ pub record IsPaged (m : Model) (query : Query) (k : ℕ) : Type 0 where
   pub size : query.stop ≡ Paginate k
 
 -- the query over the rows of the model
-abbrev pub asked_of : Model → Query → List Value → Asked
+abbrev pub asked_of : Model → Query → List Value → Question
 asked_of m query params = record { tables = m.schema.tables; query = query; rows = m.rows; params = params }
 
 -- the pages behind a position: pages of k combinations, and then the first one with fewer
-pub data ArePages (q : Asked) (k : ℕ) : Option (List Value) → List (List (List (List Value))) → Type 0 where
+pub data ArePages (q : Question) (k : ℕ) : Option (List Value) → List (List (List (List Value))) → Type 0 where
   last : (after : Option (List Value)) → length (answered q after) < k → ArePages q k after (answered q after ∷ [])
-  next : (after : Option (List Value)) (combo : List (List Value)) (pages : List (List (List (List Value)))) → length (answered q after) ≡ k → last_of (answered q after) ≡ Some combo → ArePages q k (Some (position q combo)) pages → ArePages q k after (answered q after ∷ pages)
+  next : (after : Option (List Value)) (combo : List (List Value)) (pages : List (List (List (List Value))))
+      → length (answered q after) ≡ k → last_of (answered q after) ≡ Some combo
+      → ArePages q k (Some (position q combo)) pages → ArePages q k after (answered q after ∷ pages)

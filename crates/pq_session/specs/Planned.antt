@@ -6,11 +6,11 @@ use Rattle.pq_schema.specs.declared.table.Table.{Table}
 use Rattle.pq_text.specs.declared.token.Token.{Token}
 use Rattle.pq_plan.specs.Cost.{cost}
 use Rattle.pq_compile.specs.Chosen.{IsCompiled}
-use Rattle.pq_session.specs.Planning.{Planned, plan_from}
+use Rattle.pq_session.specs.Planning.{PlannedDefinition, plan_from}
 use Rattle.pq_session.specs.declared.planning.PlannedQuery.{PlannedQuery}
 
 -- the query, its candidate with that one's bound, and the index that it wants, as the plan has them
-pub record IsPlanOf (computed : PlannedQuery) (plan : Planned) : Type 0 where
+pub record IsPlanOf (computed : PlannedQuery) (plan : PlannedDefinition) : Type 0 where
   pub query : plan.query ≡ computed.query
   pub choice : plan.chosen.best.choice ≡ computed.compiled.choice
   pub bound : plan.chosen.best.bound ≡ cost computed.compiled.plan
@@ -22,9 +22,10 @@ pub record IsComputed (tables : List Table) (computed : PlannedQuery) : Type 0 w
   pub compiled : IsCompiled tables computed.query computed.compiled
 
 -- the query of this name that the tokens spell, with the plan of its least candidate
-pub record IsPlanned (schema : Schema) (name text : List ℕ) (tokens : List Token) (from : ℕ) (computed : PlannedQuery) : Type 0 where
+pub record IsPlanned (schema : Schema) (name text : List ℕ) (tokens : List Token) (from : ℕ)
+    (computed : PlannedQuery) : Type 0 where
   pub named : computed.query.name ≡ name
   pub computed_is : IsComputed schema.tables computed
-  pub plan : Planned
+  pub plan : PlannedDefinition
   pub plan_is : IsPlanOf computed plan
   pub is : plan_from schema name text tokens from ≡ Ok plan

@@ -4,44 +4,44 @@ use Rattle.pq_base.specs.declared.refusal.Refusal.{Refusal}
 use Rattle.pq_schema.specs.Candidates.{Candidate}
 use Rattle.pq_schema.specs.Definitions.{definition_refusal}
 use Rattle.pq_schema.specs.Schema.{Schema}
-use Rattle.pq_schema.specs.Wanted.{Chosen, chosen}
+use Rattle.pq_schema.specs.Wanted.{ChosenCandidate, chosen_candidate}
 use Rattle.pq_schema.specs.declared.query.Query.{Query}
 use Rattle.pq_schema.specs.declared.table.NewIndex.{NewIndex}
 use Rattle.pq_schema.specs.declared.table.Table.{Table}
 use Rattle.pq_text.specs.declared.token.Token.{Token}
 use Rattle.pq_query_read.specs.Queries.{query_of}
-use Rattle.pq_query_read.specs.Trying.{◌>>=◌, passed}
+use Rattle.pq_query_read.specs.Trying.{◌>>=◌, passed_unless}
 
 -- a query with its least candidate and the index that this wants
-pub record Planned : Type 0 where
+pub record PlannedDefinition : Type 0 where
   pub query : Query
-  pub chosen : Chosen
+  pub chosen : ChosenCandidate
 
-abbrev pub planned : Query → Candidate → Option NewIndex → Planned
-planned query best wanted = record { query = query; chosen = record { best = best; wanted = wanted } }
+abbrev pub planned_definition : Query → Candidate → Option NewIndex → PlannedDefinition
+planned_definition query best wanted = record { query = query; chosen = record { best = best; wanted = wanted } }
 
-abbrev pub with_chosen : Query → Chosen → Result Planned Refusal
+abbrev pub with_chosen : Query → ChosenCandidate → Result PlannedDefinition Refusal
 with_chosen query best = Ok (record { query = query; chosen = best })
 
 -- the query with its least candidate, or why it has none that may be run
-abbrev pub plan_of : List Table → Query → Result Planned Refusal
-plan_of tables query = chosen tables query >>= with_chosen query
+abbrev pub plan_of : List Table → Query → Result PlannedDefinition Refusal
+plan_of tables query = chosen_candidate tables query >>= with_chosen query
 
 -- the query of this name that the tokens of a text spell from a place on, or the first refusal
-unfoldable pub plan_from : Schema → List ℕ → List ℕ → List Token → ℕ → Result Planned Refusal
+unfoldable pub plan_from : Schema → List ℕ → List ℕ → List Token → ℕ → Result PlannedDefinition Refusal
 plan_from schema name text tokens from = query_of schema name text tokens from >>= plan_of schema.tables
 
 -- ---- PREPARE
 
-abbrev pub as_it_is : Planned → Unit {0} → Result Planned Refusal
+abbrev pub as_it_is : PlannedDefinition → Unit {0} → Result PlannedDefinition Refusal
 as_it_is plan free = Ok plan
 
 -- the query's refusals come before those of the definition
-abbrev pub definable : Schema → Planned → Result Planned Refusal
-definable schema plan = passed (definition_refusal schema plan.query.name) >>= as_it_is plan
+abbrev pub definable : Schema → PlannedDefinition → Result PlannedDefinition Refusal
+definable schema plan = passed_unless (definition_refusal schema plan.query.name) >>= as_it_is plan
 
 -- what a PREPARE defines
-unfoldable pub prepared_from : Schema → List ℕ → List ℕ → List Token → ℕ → Result Planned Refusal
+unfoldable pub prepared_from : Schema → List ℕ → List ℕ → List Token → ℕ → Result PlannedDefinition Refusal
 prepared_from schema name text tokens from = plan_from schema name text tokens from >>= definable schema
 
 -- ---- EXPLAIN
@@ -50,5 +50,5 @@ prepared_from schema name text tokens from = plan_from schema name text tokens f
 abbrev pub explained_name : List ℕ
 explained_name = codes "explain"
 
-unfoldable pub explained_from : Schema → List ℕ → List Token → ℕ → Result Planned Refusal
+unfoldable pub explained_from : Schema → List ℕ → List Token → ℕ → Result PlannedDefinition Refusal
 explained_from schema text tokens from = plan_from schema explained_name text tokens from

@@ -39,8 +39,9 @@ IsRefusal end.Done = ⊥
 IsRefusal (end.Rows count next) = ⊥
 IsRefusal (end.Refused why) = Unit {0}
 
--- what was asked for was made: whatever the content stood for, the report matches the step and the content stands for what it makes
-pub record Done (number : ℕ) (asked : Result Action Refusal) (old now : Option Content) (schema next : Schema)
+-- what was asked for was made: whatever the content stood for, the report matches the step and the content
+-- stands for what it makes
+pub record DoneStatement (number : ℕ) (asked : Result Action Refusal) (old now : Option Content) (schema next : Schema)
     (before after : Counts) (report : Report) : Type 0 where
   pub matches : (m : Model) → Stands old schema m → Matches (acted_as m number asked).report report
   pub made : (m : Model) → Stands old schema m → Stands now next (acted_as m number asked).model
@@ -55,13 +56,15 @@ pub record Done (number : ℕ) (asked : Result Action Refusal) (old now : Option
   pub unread : IfErr asked (λ why. report ≡ unread_report number why)
 
 -- it broke off: the content opens to what it stood for, or to what the step makes
-pub record Broken (number : ℕ) (asked : Result Action Refusal) (old now : Option Content) (schema : Schema)
+pub record BrokenStatement (number : ℕ) (asked : Result Action Refusal) (old now : Option Content) (schema : Schema)
     (before after : Counts) (broke : Broke) : Type 0 where
   pub stopped : (m : Model) → Stands old schema m → Opens now m ⊎ Opens now (acted_as m number asked).model
   pub sound : (m : Model) → Stands old schema m → IsUndamaged broke
   pub within : IsWithinFixed (asked_bound schema asked) before after
   pub shown : IfSome old (λ content. TellsEvidence schema content broke)
 
-abbrev pub Promises : ℕ → Result Action Refusal → Option Content → Option Content → Schema → Counts → Counts → Result (Schema × Report) Broke → Type 0
-Promises number asked old now schema before after (Ok made) = Done number asked old now schema made.0 before after made.1
-Promises number asked old now schema before after (Err broke) = Broken number asked old now schema before after broke
+abbrev pub Promises : ℕ → Result Action Refusal → Option Content → Option Content → Schema → Counts → Counts
+    → Result (Schema × Report) Broke → Type 0
+Promises number asked old now schema before after (Ok made) =
+    DoneStatement number asked old now schema made.0 before after made.1
+Promises number asked old now schema before after (Err broke) = BrokenStatement number asked old now schema before after broke

@@ -11,8 +11,8 @@ use Rattle.pq_builds.specs.Stages.{build_ops}
 use Rattle.pq_builds.specs.Bounds.{bound}
 use Rattle.pq_session.specs.Step.{refusal_report, report_of}
 
-abbrev pub used : ℕ → ℕ → Used
-used ops entries = record { ops = ops; entries = entries }
+abbrev pub used_numbers : ℕ → ℕ → Used
+used_numbers ops entries = record { ops = ops; entries = entries }
 
 -- a page
 abbrev pub page_report : ℕ → Page → Report
@@ -26,13 +26,14 @@ page_report number page = record {
 
 -- one write
 abbrev pub define_report : ℕ → List Line → Report
-define_report number lines = record (report_of number lines Done (bound 1 0)) { used = used 1 0 }
+define_report number lines = record (report_of number lines Done (bound 1 0)) { used = used_numbers 1 0 }
 
 -- an index that was filled over so many rows
 abbrev pub build_report : ℕ → List Line → ℕ → Report
 build_report number lines count =
-    record (report_of number lines Done (bound (build_ops count) (2 * count))) { used = used (build_ops count) (2 * count) }
+    record (report_of number lines Done (bound (build_ops count) (2 * count)))
+    { used = used_numbers (build_ops count) (2 * count) }
 
 -- rows that were counted, and are too many
 abbrev pub too_many_report : ℕ → Refusal → Report
-too_many_report number why = record (refusal_report number why (bound 1 1000001)) { used = used 1 1000001 }
+too_many_report number why = record (refusal_report number why (bound 1 1000001)) { used = used_numbers 1 1000001 }

@@ -7,18 +7,19 @@ use Rattle.pq_schema.specs.Names.{IsName, IsTableDef}
 use Rattle.pq_schema.specs.Schema.{Schema, query_at}
 use Rattle.pq_index_keep.specs.Sound.{IsWrite}
 use Rattle.pq_nodes.specs.Operators.{IsCursor}
-use Rattle.pq_pages.specs.Running.{IsQueryNumber, Running, running}
-use Rattle.pq_session.specs.Actions.{Action, Creates, Writes, Prepares, Explains, Runs, Shows, asking}
+use Rattle.pq_pages.specs.Running.{IsQueryNumber, Running, running_with}
+use Rattle.pq_session.specs.Actions.{Action, Creates, Writes, Prepares, Explains, Runs, Shows, action_from}
 use Rattle.pq_session.specs.Planned.{IsComputed, IsPlanOf}
-use Rattle.pq_session.specs.Planning.{Planned}
+use Rattle.pq_session.specs.Planning.{PlannedDefinition}
 use Rattle.pq_session.specs.declared.requests.Request.{Request}
 use Rattle.pq_session.specs.declared.requests.Request.TheVariants as request
 use Rattle.pq_session.specs.declared.requests.RunRequest.{RunRequest}
 use Rattle.pq_session.specs.declared.planning.PlannedQuery.{PlannedQuery}
 
 -- the plan is one for the action
-pub record IsPlanFor (action : Planned → Action) (asked : Result Action Refusal) (computed : PlannedQuery) : Type 0 where
-  pub plan : Planned
+pub record IsPlanFor (action : PlannedDefinition → Action) (asked : Result Action Refusal) (computed : PlannedQuery) :
+    Type 0 where
+  pub plan : PlannedDefinition
   pub plan_is : IsPlanOf computed plan
   pub asks : asked ≡ Ok (action plan)
 
@@ -33,15 +34,16 @@ pub record RunsAs (schema : Schema) (run : RunRequest) (found : Result Running R
   pub number : IsQueryNumber schema run.query
   pub fits : AllFit (query_at schema run.query).params run.params
   pub cursor : IsCursor schema.tables (query_at schema run.query) run.after
-  pub is : found ≡ Ok (running run.query (query_at schema run.query) run.params run.after)
+  pub is : found ≡ Ok (running_with run.query (query_at schema run.query) run.params run.after)
 
 -- it asks for this; whether a table is refused is found as it is added
 abbrev pub Asks : Schema → Request → Result Action Refusal → Type 0
-Asks schema (request.Create def) asked = IsTableDef def × (asked ≡ asking Creates (new_table schema def))
+Asks schema (request.Create def) asked = IsTableDef def × (asked ≡ action_from Creates (new_table schema def))
 Asks schema (request.Write write) asked = IsWrite schema.tables write × (asked ≡ Ok (Writes write))
 Asks schema (request.Prepare computed) asked = IsDefinable schema computed × IsPlanFor Prepares asked computed
 Asks schema (request.Explain computed) asked = IsComputed schema.tables computed × IsPlanFor Explains asked computed
-Asks schema (request.Run run) asked = (found : Result Running Refusal) × RunsAs schema run found × (asked ≡ asking Runs found)
+Asks schema (request.Run run) asked = (found : Result Running Refusal) × RunsAs schema run found
+    × (asked ≡ action_from Runs found)
 Asks schema request.Show asked = asked ≡ Ok Shows
 
 -- something is asked for

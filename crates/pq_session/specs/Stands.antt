@@ -28,7 +28,8 @@ catalog_pair tables number definition = (catalog_key number, catalog_value defin
 -- the pairs of these definitions, which are numbered from a number on
 abbrev pub catalog_from : List Table → ℕ → List Definition → List Pair
 catalog_from tables number [] = []
-catalog_from tables number (definition ∷ definitions) = catalog_pair tables number definition ∷ catalog_from tables (number + 1) definitions
+catalog_from tables number (definition ∷ definitions) =
+    catalog_pair tables number definition ∷ catalog_from tables (number + 1) definitions
 
 -- a pair for each definition, with its canonical text
 abbrev pub catalog_pairs : Schema → List Pair
@@ -94,7 +95,8 @@ pub record Stands (content : Option Content) (schema : Schema) (m : Model) : Typ
   pub settled : HoldsModel content m
   pub known : schema ≡ m.schema
 
--- the rows keep valid definitions, and the content is told and settles to one that holds the model: it is that content, or
+-- the rows keep valid definitions, and the content is told and settles to one that holds the model: it is
+-- that content, or
 -- an intent stands in it whose changes make it that content
 pub record Opens (content : Option Content) (m : Model) : Type 0 where
   pub valid : IsValid m.schema

@@ -4,7 +4,7 @@ ghost use Rattle.pq_base.specs.declared.refusal.Refusal.{Refusal};
 ghost use Rattle.pq_builds.specs.Bounds.{prepare_bound};
 ghost use Rattle.pq_schema.specs.Definitions.{new_table};
 ghost use Rattle.pq_schema.specs.Names.{IsTableDef};
-ghost use Rattle.pq_session.specs.Actions.{Action, Creates, Prepares, asking};
+ghost use Rattle.pq_session.specs.Actions.{Action, Creates, Prepares, action_from};
 ghost use Rattle.pq_session.specs.Checks.{IsChecked, check_step, without_rows};
 ghost use Rattle.pq_session.specs.Requests.{Asks, IsDefinable, IsPlanFor, IsRequest};
 
@@ -58,7 +58,8 @@ impl Session {
         request: Request,
     ) -> Result<(Session, Report), NoMem>
         requires { IsRequest self request }
-        ensures { IfOk result (λ p. (asked : Result Action Refusal) → Asks self request asked → IsChecked self number asked p.0 p.1) }
+        ensures { IfOk result (λ p. (asked : Result Action Refusal) → Asks self request asked
+            → IsChecked self number asked p.0 p.1) }
     {
         match request {
             Request::Create(def) => self.check_table(alloc, number, def),
@@ -87,7 +88,7 @@ impl Session {
         def: TableDef,
     ) -> Result<(Session, Report), NoMem>
         requires { IsTableDef def }
-        ensures { IfOk result (λ p. IsChecked self number (asking Creates (new_table self def)) p.0 p.1) }
+        ensures { IfOk result (λ p. IsChecked self number (action_from Creates (new_table self def)) p.0 p.1) }
     {
         let (session, made) = self.with_table_of(alloc, def)?;
         match made {
@@ -108,7 +109,8 @@ impl Session {
         plan: PlannedQuery,
     ) -> Result<(Session, Report), NoMem>
         requires { IsDefinable self plan }
-        ensures { IfOk result (λ p. (asked : Result Action Refusal) → IsPlanFor Prepares asked plan → IsChecked self number asked p.0 p.1) }
+        ensures { IfOk result (λ p. (asked : Result Action Refusal) → IsPlanFor Prepares asked plan
+            → IsChecked self number asked p.0 p.1) }
     {
         let lines = planned_lines(alloc, &self.catalog, &plan)?;
         let PlannedQuery { query, compiled } = plan;

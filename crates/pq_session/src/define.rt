@@ -3,7 +3,7 @@ ghost use Rattle.std.specs.Prelude.{◌≡◌, ◌≤◌, ◌<◌, ◌+◌, true
 ghost use Rattle.std.specs.FinMap.{get as value_at_key};
 ghost use Rattle.pq_base.specs.declared.refusal.Refusal.{Refusal};
 ghost use Rattle.pq_store.specs.Content.{HasBrokeCause};
-ghost use Rattle.pq_store.specs.Counts.{charged};
+ghost use Rattle.pq_store.specs.Counts.{charged_counts};
 ghost use Rattle.pq_session.specs.Calls.{PutsNew, MayPut};
 ghost use Rattle.pq_schema.specs.Resolved.{IsResolved};
 ghost use Rattle.pq_schema.specs.Wanted.{IsWanted};
@@ -12,9 +12,9 @@ ghost use Rattle.pq_store.specs.Breaks.{IfDamaged, IsPresent, IsUndamaged};
 ghost use Rattle.pq_session.specs.Promise.{Promises, IsWithin};
 ghost use Rattle.pq_session.specs.Reports.{define_report};
 ghost use Rattle.pq_session.specs.Kept.{IsPlanWanting};
-ghost use Rattle.pq_session.specs.Actions.{Action, Creates, Prepares, asking};
+ghost use Rattle.pq_session.specs.Actions.{Action, Creates, Prepares, action_from};
 ghost use Rattle.pq_session.specs.Planned.{IsComputed};
-ghost use Rattle.pq_session.specs.Planning.{planned};
+ghost use Rattle.pq_session.specs.Planning.{planned_definition};
 ghost use Rattle.pq_session.specs.Requests.{IsDefinable, IsPlanFor};
 ghost use Rattle.pq_session.specs.Stands.{new_query_of};
 ghost use Rattle.pq_schema.specs.Candidates.{Candidate};
@@ -84,10 +84,12 @@ fn put_absent<S: Store<L>, L: Ledger>(
 ) -> Result<(), Broke>
     ensures put { OnOk result (PutsNew true pair.key pair.value (S.content store.old) (S.content store.new)) }
     ensures stopped { OnErr result (MayPut pair.key pair.value (S.content store.old) (S.content store.new)) }
-    ensures damage { IfErr result (λ broke. IfSome (S.content store.old) (λ pairs. value_at_key pairs pair.key ≡ None → IsUndamaged broke)) }
-    ensures meter { OnOk result (meter.new ≡ charged meter.old 0) }
+    ensures damage { IfErr result (λ broke. IfSome (S.content store.old)
+        (λ pairs. value_at_key pairs pair.key ≡ None → IsUndamaged broke)) }
+    ensures meter { OnOk result (meter.new ≡ charged_counts meter.old 0) }
     ensures within { IsWithin (bound 1 0) meter.old meter.new }
-    ensures shown { IfErr result (λ broke. IfSome (S.content store.old) (λ pairs. IfDamaged (IsPresent pair.key pairs) broke)) }
+    ensures shown { IfErr result (λ broke. IfSome (S.content store.old)
+        (λ pairs. IfDamaged (IsPresent pair.key pairs) broke)) }
     ensures cause { HasBrokeCause (S.faults store.old) (S.faults store.new) result }
 {
     let Pair { key, value } = pair;
@@ -181,12 +183,16 @@ impl Session {
     ) -> Result<(Session, Report), Broke>
         requires { 1 ≤ length self.definitions }
         ensures done { IfOk result (λ made. (made.0 ≡ self) × (made.1 ≡ define_report number lines)) }
-        ensures put { OnOk result (PutsNew true (last_key self) (last_value self) (S.content store.old) (S.content store.new)) }
-        ensures stopped { OnErr result (MayPut (last_key self) (last_value self) (S.content store.old) (S.content store.new)) }
-        ensures damage { IfErr result (λ broke. IfSome (S.content store.old) (λ pairs. value_at_key pairs (last_key self) ≡ None → IsUndamaged broke)) }
-        ensures meter { OnOk result (meter.new ≡ charged meter.old 0) }
+        ensures put { OnOk result (PutsNew true (last_key self) (last_value self) (S.content store.old)
+            (S.content store.new)) }
+        ensures stopped { OnErr result (MayPut (last_key self) (last_value self) (S.content store.old)
+            (S.content store.new)) }
+        ensures damage { IfErr result (λ broke. IfSome (S.content store.old)
+            (λ pairs. value_at_key pairs (last_key self) ≡ None → IsUndamaged broke)) }
+        ensures meter { OnOk result (meter.new ≡ charged_counts meter.old 0) }
         ensures within { IsWithin (bound 1 0) meter.old meter.new }
-        ensures shown { IfErr result (λ broke. IfSome (S.content store.old) (λ pairs. IfDamaged (IsPresent (last_key self) pairs) broke)) }
+        ensures shown { IfErr result (λ broke. IfSome (S.content store.old)
+            (λ pairs. IfDamaged (IsPresent (last_key self) pairs) broke)) }
         ensures cause { HasBrokeCause (S.faults store.old) (S.faults store.new) result }
     {
         let pair = last_pair(alloc, &self.catalog)?;
@@ -204,7 +210,8 @@ impl Session {
         meter: &mut Meter<L>,
     ) -> Result<(Session, Report), Broke>
         requires { IsTableDef def }
-        ensures step { Promises number (asking Creates (new_table self def)) (S.content store.old) (S.content store.new) self meter.old meter.new result }
+        ensures step { Promises number (action_from Creates (new_table self def)) (S.content store.old)
+            (S.content store.new) self meter.old meter.new result }
         ensures cause { HasBrokeCause (S.faults store.old) (S.faults store.new) result }
     {
         let (session, made) = self.with_table_of(alloc, def)?;
@@ -248,8 +255,9 @@ impl Session {
     ) -> Result<(Session, Report), Broke>
         requires defined { IsDefined self query None }
         requires compiled { IsPlanWanting self.tables query plan None }
-        ensures step { (best : Candidate) → lines ≡ query_lines self.tables (planned query best None)
-            → Promises number (Ok (Prepares (planned query best None))) (S.content store.old) (S.content store.new) self meter.old meter.new result }
+        ensures step { (best : Candidate) → lines ≡ query_lines self.tables (planned_definition query best None)
+            → Promises number (Ok (Prepares (planned_definition query best None))) (S.content store.old)
+            (S.content store.new) self meter.old meter.new result }
         ensures cause { HasBrokeCause (S.faults store.old) (S.faults store.new) result }
     {
         let session = self.with_defined(alloc, query, plan, None)?;
@@ -271,7 +279,8 @@ impl Session {
     /// The index that a query wants, as it is filled.
     fn target(&self, alloc: Global, new: &NewIndex) -> Result<Target, NoMem>
         requires { IsTableNumber self.now.tables new.now.table × AreParts new.now.index.cols }
-        ensures { IfOk result (λ target. target ≡ target_of new.now.table new.now.number (table_at self.now.tables new.now.table) new.now.index) }
+        ensures { IfOk result (λ target. target
+            ≡ target_of new.now.table new.now.number (table_at self.now.tables new.now.table) new.now.index) }
     {
         Target::wanted(alloc, self.catalog.table(new.table), new)
     }
@@ -299,8 +308,9 @@ impl Session {
     ) -> Result<(Session, Report), Broke>
         requires defined { IsDefined self query (Some new) }
         requires compiled { IsPlanWanting self.tables query plan (Some new) }
-        ensures step { (best : Candidate) → lines ≡ query_lines self.tables (planned query best (Some new))
-            → Promises number (Ok (Prepares (planned query best (Some new)))) (S.content store.old) (S.content store.new) self meter.old meter.new result }
+        ensures step { (best : Candidate) → lines ≡ query_lines self.tables (planned_definition query best (Some new))
+            → Promises number (Ok (Prepares (planned_definition query best (Some new)))) (S.content store.old)
+            (S.content store.new) self meter.old meter.new result }
         ensures cause { HasBrokeCause (S.faults store.old) (S.faults store.new) result }
     {
         let target = self.target(alloc, &new)?;

@@ -70,9 +70,11 @@ fn complete_left<S: Store<L>, L: Ledger>(
     store: &mut S,
     meter: &mut Meter<L>,
 ) -> Result<u32, Broke>
-    ensures made { IfOk result (λ rows. (m : Model) → IsLeft m.schema target.now query.now → IsFillingIn (S.content store.old) m
+    ensures made { IfOk result (λ rows. (m : Model) → IsLeft m.schema target.now query.now
+        → IsFillingIn (S.content store.old) m
         → HoldsModel (S.content store.new) m × (rows ≡ rows_left m)) }
-    ensures stopped { OnErr result ((m : Model) → IsLeft m.schema target.now query.now → IsFillingIn (S.content store.old) m
+    ensures stopped { OnErr result ((m : Model) → IsLeft m.schema target.now query.now
+        → IsFillingIn (S.content store.old) m
         → Opens (S.content store.new) m) }
     ensures sound { IfErr result (λ broke. (m : Model) → IsLeft m.schema target.now query.now
         → IsFillingIn (S.content store.old) m → IsUndamaged broke) }
@@ -103,7 +105,8 @@ pub(crate) fn complete<S: Store<L>, L: Ledger>(
         → Opens (S.content store.new) m) }
     ensures sound { IfErr result (λ broke. (m : Model) → m.schema ≡ catalog.now → IsFillingIn (S.content store.old) m
         → IsUndamaged broke) }
-    ensures shown { IfErr result (λ broke. IfSome (S.content store.old) (λ c. ShowsMarked catalog.now Mark.Building c broke)) }
+    ensures shown { IfErr result (λ broke. IfSome (S.content store.old)
+        (λ c. ShowsMarked catalog.now Mark.Building c broke)) }
     ensures few { IfOk result (λ rows. rows ≤ 1000000) }
     ensures few_left { OnOk result (IfSome (S.content store.old) (HasFewRows (last_made catalog.now))) }
     ensures within { OnErr result (IsWithin left_ops meter.old meter.new) }

@@ -13,7 +13,7 @@ ghost use Rattle.pq_schema.specs.Valid.{IsValid, IsDefined};
 ghost use Rattle.pq_print.specs.Canonical.{definition_text};
 ghost use Rattle.pq_store.specs.Content.{Content};
 ghost use Rattle.pq_content.specs.Tables.{IsTableNumber, rows_of};
-ghost use Rattle.pq_plan.specs.Answer.{selected, whole};
+ghost use Rattle.pq_plan.specs.Answer.{selected_values, whole};
 ghost use Rattle.pq_session.specs.Model.{Model};
 ghost use Rattle.pq_session.specs.Opening.{text_defines};
 ghost use Rattle.pq_session.specs.Pages.{ArePages, IsPaged, asked_of};
@@ -22,10 +22,16 @@ ghost use Rattle.pq_session.specs.Stands.{Opens};
 /// The canonical text of a definition, read over the definitions before it, defines it again.
 pub fn reading_back_law()
     // Of a table over any valid schema, with its limits, its foreign keys and the indexes that these need.
-    ensures tables { (schema : Schema) (def : TableDef) (table : Table) → IsValid schema → IsTableDef def → new_table schema def ≡ Ok table → text_defines schema (definition_text (with_table schema table) (length schema.definitions + 1)) ≡ Some (with_table schema table) }
+    ensures tables { (schema : Schema) (def : TableDef) (table : Table) → IsValid schema → IsTableDef def
+        → new_table schema def ≡ Ok table
+        → text_defines schema (definition_text (with_table schema table) (length schema.definitions + 1))
+        ≡ Some (with_table schema table) }
 
     // Of a query over any valid schema, with the index that it wants or without one.
-    ensures queries { (schema : Schema) (query : Query) (wanted : Option NewIndex) → IsValid schema → IsDefined schema query wanted → text_defines schema (definition_text (with_query schema query wanted) (length schema.definitions + 1)) ≡ Some (with_query schema query wanted) }
+    ensures queries { (schema : Schema) (query : Query) (wanted : Option NewIndex) → IsValid schema
+        → IsDefined schema query wanted
+        → text_defines schema (definition_text (with_query schema query wanted) (length schema.definitions + 1))
+        ≡ Some (with_query schema query wanted) }
 {}
 
 /// A content opens to one schema, and to one set of rows of each table: the same content, whether it has an
@@ -33,17 +39,23 @@ pub fn reading_back_law()
 pub fn standing_law()
     ensures empty { Opens (Some empty) (record { schema = empty_schema; rows = [] }) }
 
-    ensures schema { (content : Option Content) (m n : Model) → Opens content m → Opens content n → m.schema ≡ n.schema }
+    ensures schema { (content : Option Content) (m n : Model) → Opens content m → Opens content n
+        → m.schema ≡ n.schema }
 
-    ensures rows { (content : Option Content) (m n : Model) → Opens content m → Opens content n → (t : ℕ) → IsTableNumber m.schema.tables t → IsPermutation (rows_of t m.rows) (rows_of t n.rows) }
+    ensures rows { (content : Option Content) (m n : Model) → Opens content m → Opens content n → (t : ℕ)
+        → IsTableNumber m.schema.tables t → IsPermutation (rows_of t m.rows) (rows_of t n.rows) }
 {}
 
 /// Over tables without a write between, and with the same parameters, the pages of a query with PAGINATE k are all of
 /// its answer in order, where each page begins behind the last row of the one before it.
 pub fn page_law()
     // One behind the other, up to the first with fewer than k rows.
-    ensures all { (m : Model) (query : Query) (params : List Value) (k : ℕ) (pages : List (List (List (List Value)))) → IsPaged m query k → ArePages (asked_of m query params) k None pages → flat_map (map (selected query)) pages ≡ map (selected query) (whole (asked_of m query params)) }
+    ensures all { (m : Model) (query : Query) (params : List Value) (k : ℕ)
+        (pages : List (List (List (List Value)))) → IsPaged m query k
+        → ArePages (asked_of m query params) k None pages
+        → flat_map (map (selected_values query)) pages ≡ map (selected_values query) (whole (asked_of m query params)) }
 
     // And there is such a page: the pages end.
-    ensures ends { (m : Model) (query : Query) (params : List Value) (k : ℕ) → IsPaged m query k → (pages : List (List (List (List Value)))) × ArePages (asked_of m query params) k None pages }
+    ensures ends { (m : Model) (query : Query) (params : List Value) (k : ℕ) → IsPaged m query k
+        → (pages : List (List (List (List Value)))) × ArePages (asked_of m query params) k None pages }
 {}

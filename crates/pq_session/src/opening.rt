@@ -7,7 +7,7 @@ ghost use Rattle.pq_session.specs.Planned.{IsComputed};
 ghost use Rattle.pq_schema.specs.Names.{IsName, IsTableDef};
 ghost use Rattle.pq_text.specs.Tokens.{tokens_of};
 ghost use Rattle.pq_session.specs.Planning.{plan_from};
-ghost use Rattle.pq_session.specs.Opening.{has_last_text, with_made, with_planned, defined_by, text_defines, text_adds, if_formatted, pair_adds, goes_on, opened};
+ghost use Rattle.pq_session.specs.Opening.{has_last_text, with_made, with_planned, defined_by, text_defines, text_adds, if_formatted, pair_adds, goes_on, added_from};
 ghost use Rattle.pq_session.specs.Opened.{TellsOpened};
 ghost use Rattle.pq_session.specs.Names.{IsNamed};
 
@@ -205,13 +205,13 @@ fn goes_on(added: &Added, rest: &[Pair]) -> bool
 
 /// The session with the definitions of the pairs and the mark of the last one, or the first pair that is
 /// none's.
-#[tactic(auto, unfolding(crate::specs::Opening::opened))]
+#[tactic(auto, unfolding(crate::specs::Opening::added_from))]
 pub(crate) fn with_pairs(
     alloc: Global,
     added: Added,
     pairs: &[Pair],
 ) -> Result<Result<Added, Damage>, NoMem>
-    ensures { IfOk result (λ answer. TellsOpened answer (opened added (map entry pairs.now))) }
+    ensures { IfOk result (λ answer. TellsOpened answer (added_from added (map entry pairs.now))) }
 {
     let (session, mark) = added;
     match pairs.split_first() {

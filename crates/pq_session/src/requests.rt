@@ -4,7 +4,7 @@ ghost use Rattle.pq_base.specs.Answers.{Passes, Refuses};
 ghost use Rattle.pq_pages.specs.Running.{running_of};
 ghost use Rattle.pq_schema.specs.Definitions.{definition_refusal};
 ghost use Rattle.pq_text.specs.Tokens.{tokens_of};
-ghost use Rattle.pq_session.specs.Actions.{asked, asked_by, asked_text};
+ghost use Rattle.pq_session.specs.Actions.{action_of, asked_by, asked_text};
 ghost use Rattle.pq_session.specs.Names.{IsNamed};
 ghost use Rattle.pq_session.specs.Planned.{IsPlanned};
 ghost use Rattle.pq_session.specs.Planning.{explained_name, prepared_from};
@@ -56,8 +56,8 @@ fn explained_name(alloc: Global) -> Result<PText, NoMem>
 impl Session {
     /// What a piece asks for, or the first refusal that needs no call of the store.
     pub(crate) fn asked(&self, alloc: Global, piece: &Piece) -> Result<Request, Stopped>
-        ensures asks { IfOk result (λ request. Asks self.now request (asked self.now piece.now)) }
-        ensures refused { IfErr result (λ stopped. Refuses stopped (asked self.now piece.now)) }
+        ensures asks { IfOk result (λ request. Asks self.now request (action_of self.now piece.now)) }
+        ensures refused { IfErr result (λ stopped. Refuses stopped (action_of self.now piece.now)) }
     {
         match piece {
             Piece::Statement(text) => self.asked_text(alloc, text),
@@ -89,7 +89,8 @@ impl Session {
     ) -> Result<Request, Stopped>
         requires spelled { tokens.now ≡ tokens_of text.now }
         requires named { IsNamed tokens.now statement }
-        ensures asks { IfOk result (λ request. Asks self.now request (asked_by self.now text.now tokens.now statement)) }
+        ensures asks { IfOk result
+            (λ request. Asks self.now request (asked_by self.now text.now tokens.now statement)) }
         ensures refused { IfErr result (λ stopped. Refuses stopped (asked_by self.now text.now tokens.now statement)) }
     {
         match statement {
@@ -134,7 +135,8 @@ impl Session {
         requires within { from ≤ length tokens.now }
         ensures planned { IfOk result (IsPlanned self.now name text.now tokens.now from) }
         ensures free { IfOk result (λ plan. definition_refusal self.now plan.query.name ≡ None) }
-        ensures refused { IfErr result (λ stopped. Refuses stopped (prepared_from self.now name text.now tokens.now from)) }
+        ensures refused { IfErr result
+            (λ stopped. Refuses stopped (prepared_from self.now name text.now tokens.now from)) }
     {
         let plan = plan_query(alloc, &self.catalog, name, text, tokens, from)?;
         self.check_definition(alloc, &plan.query.name)?;
@@ -165,8 +167,10 @@ impl Session {
         params: Row,
         after: Option<&PText>,
     ) -> Result<RunRequest, Stopped>
-        ensures runs { IfOk result (λ run. RunsAs self.now run (running_of self.now name params (option_copied after.entry))) }
-        ensures refused { IfErr result (λ stopped. Refuses stopped (running_of self.now name params (option_copied after.entry))) }
+        ensures runs { IfOk result
+            (λ run. RunsAs self.now run (running_of self.now name params (option_copied after.entry))) }
+        ensures refused { IfErr result
+            (λ stopped. Refuses stopped (running_of self.now name params (option_copied after.entry))) }
     {
         let Some(query) = self.catalog.find_query(&name) else {
             return Err(Stopped::Refused(Refusal::NoQuery { name }));

@@ -4,7 +4,7 @@ ghost use Rattle.pq_base.specs.Values.{AllFit};
 ghost use Rattle.pq_schema.specs.Schema.{query_at};
 ghost use Rattle.pq_store.specs.Content.{HasBrokeCause};
 ghost use Rattle.pq_nodes.specs.Operators.{IsCursor};
-ghost use Rattle.pq_pages.specs.Running.{IsQueryNumber, running};
+ghost use Rattle.pq_pages.specs.Running.{IsQueryNumber, running_with};
 ghost use Rattle.pq_session.specs.Actions.{Runs};
 ghost use Rattle.pq_session.specs.Kept.{IsKeptPlan};
 ghost use Rattle.pq_session.specs.Promise.{Promises};
@@ -77,7 +77,9 @@ impl Session {
         requires number { IsQueryNumber self query }
         requires fits { AllFit (query_at self query).params params.now }
         requires cursor { IsCursor self.tables (query_at self query) (option_copied after) }
-        ensures step { Promises number (Ok (Runs (running query (query_at self query) params.now (option_copied after.entry)))) (S.content store.old) (S.content store.new) self meter.old meter.new result }
+        ensures step { Promises number
+            (Ok (Runs (running_with query (query_at self query) params.now (option_copied after.entry))))
+            (S.content store.old) (S.content store.new) self meter.old meter.new result }
         ensures cause { HasBrokeCause (S.faults store.old) (S.faults store.new) result }
     {
         let plan = self.kept_plan(query);

@@ -7,12 +7,12 @@ ghost use Rattle.pq_schema.specs.Schema.{empty_schema};
 ghost use Rattle.pq_print.specs.declared.report.End.TheVariants as End;
 ghost use Rattle.pq_base.specs.declared.refusal.Refusal.{Refusal};
 ghost use Rattle.pq_session.specs.Model.{Model as Tables};
-ghost use Rattle.pq_session.specs.Opening.{opening_of, started_of, none_added, opened, catalog_in, completion_bound, AreFewRows, HasFewLeft, IsStarted, IsAsMarked, rows_of_mark, TellsSchema, NamesPair, NamesFlaw, ShowsMarked};
+ghost use Rattle.pq_session.specs.Opening.{opening_of, started_of, none_added, added_from, catalog_in, completion_bound, AreFewRows, HasFewLeft, IsStarted, IsAsMarked, rows_of_mark, TellsSchema, NamesPair, NamesFlaw, ShowsMarked};
 ghost use Rattle.pq_session.specs.Within.{IsBounded, StopsWithin, IsWithinOpening};
 ghost use Rattle.pq_store.specs.Breaks.{IsUndamaged};
 ghost use Rattle.pq_session.specs.Matches.{Matches, IsOpening};
 ghost use Rattle.pq_session.specs.Evidence.{TellsEvidence};
-ghost use Rattle.pq_session.specs.Actions.{Action, asked, schema_after, statement_bound};
+ghost use Rattle.pq_session.specs.Actions.{Action, action_of, schema_after, statement_bound};
 ghost use Rattle.pq_session.specs.Promise.{Promises, IsBound, IsRefusal, IsWithin, IsWithinFixed};
 ghost use Rattle.pq_session.specs.Requests.{Asks, IsRequest};
 ghost use Rattle.pq_session.specs.Stands.{HoldsModel, Stands, Opens, last_made};
@@ -124,8 +124,10 @@ impl Session {
         store: &mut S,
         meter: &mut Meter<L>,
     ) -> Result<Started, Broke>
-        ensures opened { IfOk result (λ s. (m : Tables) → Opens (S.content store.old) m → IsOpening (S.content store.old) m (opening_of s)) }
-        ensures stands { IfOk result (λ s. (m : Tables) → Opens (S.content store.old) m → Stands (S.content store.new) s.session m) }
+        ensures opened { IfOk result (λ s. (m : Tables) → Opens (S.content store.old) m
+            → IsOpening (S.content store.old) m (opening_of s)) }
+        ensures stands { IfOk result (λ s. (m : Tables) → Opens (S.content store.old) m
+            → Stands (S.content store.new) s.session m) }
         ensures kept { (m : Tables) → Opens (S.content store.old) m → Opens (S.content store.new) m }
         ensures ops { IfOk result (λ s. meter.new.ops ≡ meter.old.ops + s.used.ops) }
         ensures entries { IfOk result (λ s. meter.new.entries ≡ meter.old.entries + s.used.entries) }
@@ -153,7 +155,8 @@ impl Session {
         store: &mut S,
         meter: &mut Meter<L>,
     ) -> Result<Found, Broke>
-        ensures told { IfOk result (λ f. IfSome (S.content store.old) (λ pairs. opened none_added (catalog_in pairs) ≡ Ok (f.session, f.mark))) }
+        ensures told { IfOk result (λ f. IfSome (S.content store.old)
+            (λ pairs. added_from none_added (catalog_in pairs) ≡ Ok (f.session, f.mark))) }
         ensures marked { IfOk result (λ f. f.mark ≡ Mark.Building → IsSome (last_made f.session)) }
         ensures takes { IfOk result (λ f. Takes 1 (length f.session.definitions) meter.old meter.new) }
         ensures few { IfOk result (λ f. length f.session.definitions ≤ 256) }
@@ -185,13 +188,18 @@ impl Session {
         requires ops { settled.now.used.ops < 2 ^ 40 }
         requires entries { settled.now.used.entries ≤ 1 }
         requires marked { found.mark ≡ Mark.Building → IsSome (last_made found.session) }
-        ensures stands { IfOk result (λ s. (m : Tables) → m.schema ≡ found.session → IsAsMarked found.mark (S.content store.old) m → HoldsModel (S.content store.new) m) }
+        ensures stands { IfOk result (λ s. (m : Tables) → m.schema ≡ found.session
+            → IsAsMarked found.mark (S.content store.old) m → HoldsModel (S.content store.new) m) }
         ensures started { IfOk result (λ s. IsStarted found.session s settled.now meter.old meter.new) }
-        ensures rows { IfOk result (λ s. (m : Tables) → m.schema ≡ found.session → IsAsMarked found.mark (S.content store.old) m
+        ensures rows { IfOk result (λ s. (m : Tables) → m.schema ≡ found.session
+            → IsAsMarked found.mark (S.content store.old) m
             → s ≡ started_of found.session settled.now (length found.session.definitions) (rows_of_mark found.mark m)) }
-        ensures stopped { OnErr result ((m : Tables) → m.schema ≡ found.session → IsAsMarked found.mark (S.content store.old) m → Opens (S.content store.new) m) }
-        ensures sound { IfErr result (λ broke. (m : Tables) → m.schema ≡ found.session → IsAsMarked found.mark (S.content store.old) m → IsUndamaged broke) }
-        ensures shown { IfErr result (λ broke. IfSome (S.content store.old) (λ c. ShowsMarked found.session found.mark c broke)) }
+        ensures stopped { OnErr result ((m : Tables) → m.schema ≡ found.session
+            → IsAsMarked found.mark (S.content store.old) m → Opens (S.content store.new) m) }
+        ensures sound { IfErr result (λ broke. (m : Tables) → m.schema ≡ found.session
+            → IsAsMarked found.mark (S.content store.old) m → IsUndamaged broke) }
+        ensures shown { IfErr result (λ broke. IfSome (S.content store.old)
+            (λ c. ShowsMarked found.session found.mark c broke)) }
         ensures few_left { OnOk result (IfSome (S.content store.old) (HasFewLeft found.session found.mark)) }
         ensures within { OnErr result (BuildsWithin left_ops meter.old meter.new) }
         ensures within_own { OnErr result ((m : Tables) → m.schema ≡ found.session
@@ -227,8 +235,10 @@ impl Session {
         store: &mut S,
         meter: &mut Meter<L>,
     ) -> Result<(Session, Report), Broke>
-        ensures matches { IfOk result (λ p. (m : Tables) → Stands (S.content store.old) self m → Matches (step m number piece.now).report p.1) }
-        ensures made { IfOk result (λ p. (m : Tables) → Stands (S.content store.old) self m → Stands (S.content store.new) p.0 (step m number piece.now).model) }
+        ensures matches { IfOk result (λ p. (m : Tables) → Stands (S.content store.old) self m
+            → Matches (step m number piece.now).report p.1) }
+        ensures made { IfOk result (λ p. (m : Tables) → Stands (S.content store.old) self m
+            → Stands (S.content store.new) p.0 (step m number piece.now).model) }
         ensures ops { IfOk result (λ p. meter.new.ops ≡ meter.old.ops + p.1.used.ops) }
         ensures entries { IfOk result (λ p. meter.new.entries ≡ meter.old.entries + p.1.used.entries) }
         // Over every store, told or not: the bound is fixed by the definitions and the piece alone, what is used
@@ -239,16 +249,20 @@ impl Session {
         ensures building { OnErr result (IsWithinFixed (statement_bound self piece.now) meter.old meter.new) }
         ensures few_ops { IfOk result (λ p. p.1.used.ops ≤ p.1.bound.ops) }
         ensures few_entries { IfOk result (λ p. p.1.used.entries ≤ p.1.bound.entries) }
-        ensures refused { IfOk result (λ p. IsRefusal p.1.end → (S.content store.new ≡ S.content store.old) × (p.0 ≡ self)) }
-        // What is refused before any call is reported as just that; and so are the definitions behind each report fixed.
+        ensures refused { IfOk result (λ p. IsRefusal p.1.end
+            → (S.content store.new ≡ S.content store.old) × (p.0 ≡ self)) }
+        // What is refused before any call is reported as just that; and so are the definitions
+        // behind each report fixed.
         ensures number { IfOk result (λ p. p.1.number ≡ number) }
-        ensures unread { IfOk result (λ p. IfErr (asked self piece.now) (λ why. p.1 ≡ unread_report number why)) }
+        ensures unread { IfOk result (λ p. IfErr (action_of self piece.now) (λ why. p.1 ≡ unread_report number why)) }
         ensures next { IfOk result (λ p. p.0 ≡ schema_after self piece.now p.1) }
         ensures stopped { OnErr result ((m : Tables) → Stands (S.content store.old) self m
             → Opens (S.content store.new) m ⊎ Opens (S.content store.new) (step m number piece.now).model) }
-        ensures damage { IfErr result (λ broke. (m : Tables) → Stands (S.content store.old) self m → IsUndamaged broke) }
+        ensures damage { IfErr result (λ broke. (m : Tables) → Stands (S.content store.old) self m
+            → IsUndamaged broke) }
         // Damage is told with what shows it in the content that was there.
-        ensures shown { IfErr result (λ broke. IfSome (S.content store.old) (λ content. TellsEvidence self content broke)) }
+        ensures shown { IfErr result (λ broke. IfSome (S.content store.old)
+            (λ content. TellsEvidence self content broke)) }
         ensures cause { HasBrokeCause (S.faults store.old) (S.faults store.new) result }
     {
         self.piece(alloc, number, piece, store, meter)
@@ -263,7 +277,8 @@ impl Session {
         store: &mut S,
         meter: &mut Meter<L>,
     ) -> Result<(Session, Report), Broke>
-        ensures step { Promises number (asked self piece.now) (S.content store.old) (S.content store.new) self meter.old meter.new result }
+        ensures step { Promises number (action_of self piece.now) (S.content store.old) (S.content store.new) self
+            meter.old meter.new result }
         ensures cause { HasBrokeCause (S.faults store.old) (S.faults store.new) result }
     {
         match self.asked(alloc, piece) {

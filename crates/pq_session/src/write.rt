@@ -25,7 +25,8 @@ impl Session {
         meter: &mut Meter<L>,
     ) -> Result<(Session, Report), Broke>
         requires { IsWrite self.tables write.now }
-        ensures step { Promises number (Ok (Writes write.now)) (S.content store.old) (S.content store.new) self meter.old meter.new result }
+        ensures step { Promises number (Ok (Writes write.now)) (S.content store.old) (S.content store.new) self
+            meter.old meter.new result }
         ensures cause { HasBrokeCause (S.faults store.old) (S.faults store.new) result }
     {
         let bound = write_bound(&self.catalog, write);

@@ -6,7 +6,7 @@ use Rattle.std.specs.Prelude.{nat_lt, nat_eq, slice_index, ◌-ℤ◌}
 use Rattle.std.specs.Int.{w64}
 use Rattle.std.proofs.lemmas.Int.{to_z-of_z, to_z_pos, ints}
 use Rattle.std.proofs.Math.IntN.{neg_ℤ}
-use Rattle.pq_shape.specs.Numbers.{digits_after, has_64_bits, fitting, number_of}
+use Rattle.pq_shape.specs.Numbers.{digits_after, has_64_bits, fitting_number, number_of}
 
 -- more digits write no smaller number
 pub digits_above : (n : ℕ) (bs : List ℕ) → n ≤ digits_after n bs
@@ -22,21 +22,21 @@ pub digits_none : (n : ℕ) → digits_after n [] ≡ n
 unfolding digits_after
 digits_none n = refl
 
-pub fitting_pos : (n : ℕ) → n < 2 ^ 63 → fitting (pos n) ≡ Some (pos n)
-unfolding fitting has_64_bits
+pub fitting_pos : (n : ℕ) → n < 2 ^ 63 → fitting_number (pos n) ≡ Some (pos n)
+unfolding fitting_number has_64_bits
 fitting_pos n h = let is : nat_lt n (2 ^ 63) ≡ true = grind arith in rw is refl
 
-pub fitting_none : (n : ℕ) → 2 ^ 63 ≤ n → fitting (pos n) ≡ None
-unfolding fitting has_64_bits
+pub fitting_none : (n : ℕ) → 2 ^ 63 ≤ n → fitting_number (pos n) ≡ None
+unfolding fitting_number has_64_bits
 fitting_none n h = let is : nat_lt n (2 ^ 63) ≡ false = grind arith in rw is refl
 
-pub fitting_neg : (n : ℕ) → n ≤ 2 ^ 63 → fitting (neg_ℤ (pos n)) ≡ Some (neg_ℤ (pos n))
-unfolding fitting has_64_bits
+pub fitting_neg : (n : ℕ) → n ≤ 2 ^ 63 → fitting_number (neg_ℤ (pos n)) ≡ Some (neg_ℤ (pos n))
+unfolding fitting_number has_64_bits
 fitting_neg zero h = refl
 fitting_neg (suc n) h = let is : nat_lt n (2 ^ 63) ≡ true = grind arith in rw is refl
 
-pub fitting_below : (n : ℕ) → 2 ^ 63 < n → fitting (neg_ℤ (pos n)) ≡ None
-unfolding fitting has_64_bits
+pub fitting_below : (n : ℕ) → 2 ^ 63 < n → fitting_number (neg_ℤ (pos n)) ≡ None
+unfolding fitting_number has_64_bits
 fitting_below zero h = absurd (omega arith)
 fitting_below (suc n) h = let is : nat_lt n (2 ^ 63) ≡ false = grind arith in rw is refl
 

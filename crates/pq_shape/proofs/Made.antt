@@ -3,7 +3,7 @@ use Rattle.std.proofs.Common.{◌≡◌, ℕ, Bool, true, false, cond, List, [],
 use Rattle.std.specs.Prelude.{IsUtf8, MatchOption}
 use Rattle.std.specs.Str.{is_utf8}
 use Rattle.std.proofs.lemmas.Str.{IsUtf8-from_is_utf8, is_utf8-from_IsUtf8}
-use Rattle.pq_shape.specs.Shapes.{checked, kept, is_kept_quote, undoubled}
+use Rattle.pq_shape.specs.Shapes.{utf8_text, kept_byte, is_kept_quote, undoubled_quotes}
 use Rattle.std.proofs.Math.Seq.{drop-cons}
 use Rattle.std.proofs.lemmas.List.{drop_all}
 
@@ -11,16 +11,16 @@ none_is : (b : Bool) (bs : List ℕ) → is_utf8 bs ≡ b → (IsUtf8 bs → ⊥
 none_is true bs is h = absurd (h (IsUtf8-from_is_utf8 bs is))
 none_is false bs is h = refl
 
-pub checked_is : (found : Option (List ℕ)) (bs : List ℕ) → MatchOption found (¬ IsUtf8 bs) (λ text. IsUtf8 bs × text ≡ bs) → found ≡ checked bs
-unfolding checked
+pub checked_is : (found : Option (List ℕ)) (bs : List ℕ) → MatchOption found (¬ IsUtf8 bs) (λ text. IsUtf8 bs × text ≡ bs) → found ≡ utf8_text bs
+unfolding utf8_text
 checked_is None bs h = none_is (is_utf8 bs) bs refl h
 checked_is (Some t) bs h = rw (is_utf8-from_IsUtf8 bs h.0) (ap (λ (u : List ℕ). Some u) h.1)
 
 -- one byte put
-pub undoubled_step : (q : Bool) (i : ℕ) (bs : List ℕ) → i < length bs → undoubled q (drop i bs) ≡ kept q (get_or bs i 0) ++ undoubled (is_kept_quote q (get_or bs i 0)) (drop (i + 1) bs)
-unfolding undoubled
+pub undoubled_step : (q : Bool) (i : ℕ) (bs : List ℕ) → i < length bs → undoubled_quotes q (drop i bs) ≡ kept_byte q (get_or bs i 0) ++ undoubled_quotes (is_kept_quote q (get_or bs i 0)) (drop (i + 1) bs)
+unfolding undoubled_quotes
 undoubled_step q i bs h = rw (add-one, drop-cons bs i 0) refl
 
-pub undoubled_end : (q : Bool) (i : ℕ) (bs : List ℕ) → length bs ≤ i → undoubled q (drop i bs) ≡ []
-unfolding undoubled
+pub undoubled_end : (q : Bool) (i : ℕ) (bs : List ℕ) → length bs ≤ i → undoubled_quotes q (drop i bs) ≡ []
+unfolding undoubled_quotes
 undoubled_end q i bs h = rw (drop_all i bs h) refl

@@ -3,7 +3,7 @@ use Rattle.std.proofs.Common.{◌≡◌, ℕ, ℤ, pos, Bool, true, false, cond,
 use Rattle.std.proofs.lemmas.Bool.{eqb-true}
 use Rattle.pq_base.specs.declared.value.Value.{Value}
 use Rattle.pq_base.specs.declared.value.Value.TheVariants as value
-use Rattle.pq_grammar.specs.Language.{one, separated}
+use Rattle.pq_grammar.specs.Language.{one, separated_by}
 use Rattle.pq_grammar.specs.Reader.{Reader, begins, separated_at}
 use Rattle.pq_grammar.proofs.Steps.{Reads, never, begins-never}
 use Rattle.pq_grammar.proofs.Readers.{one_reads}
@@ -145,7 +145,7 @@ value_opens (value.Bool false) w h = one_opens is_value (shape.Keyword FALSE) re
 
 -- ---- lists with commas
 
-pub comma_separated : {X : Type 0} (S : X → List Shape → Type 0) (r : Reader Shape X) → Reads S never r → Reads (separated comma S) (is_mark COMMA) (separated_at (is_mark COMMA) (mark_at COMMA) r)
+pub comma_separated : {X : Type 0} (S : X → List Shape → Type 0) (r : Reader Shape X) → Reads S never r → Reads (separated_by comma S) (is_mark COMMA) (separated_at (is_mark COMMA) (mark_at COMMA) r)
 comma_separated S r h =
     separated_reads comma S (is_mark COMMA) never (is_mark COMMA) (mark_at COMMA) r (mark_reads COMMA) h
     (λ w s. one_opens (is_mark COMMA) (shape.Mark COMMA) (mark_passes COMMA) w s) (λ u e. refl) (λ rest e. begins-never rest) (λ rest e. e)

@@ -30,7 +30,9 @@ abbrev pub IsNoMem : Stopped → Type 0
 IsNoMem NoMem = Unit {0}
 IsNoMem (Refused r) = ⊥
 
--- memory ran out, or this is the offset of the first token such that nothing of the set begins with the tokens from a place on up to and with it
+-- memory ran out, or this is the offset of the first token such that nothing of the set begins with the
+-- tokens from a place on up to and with it
 abbrev pub IsFaultFrom : {X : Type 0} → (X → List Shape → Type 0) → List ℕ → List Token → ℕ → Stopped → Type 0
 IsFaultFrom S text ts from NoMem = Unit {0}
-IsFaultFrom S text ts from (Refused r) = (place : ℕ) × IsFaultPlace S (drop from (shapes_of text ts)) place × (r ≡ Syntax (offset_at text ts (from + place)))
+IsFaultFrom S text ts from (Refused r) = (place : ℕ) × IsFaultPlace S (drop from (shapes_of text ts)) place
+    × (r ≡ Syntax (offset_at text ts (from + place)))

@@ -8,16 +8,16 @@ digits_after n [] = n
 digits_after n (b ∷ bs) = digits_after (n * 10 + (b - 48)) bs
 
 -- the number that digits write, a `-` before them or not
-abbrev pub signed : List ℕ → ℤ
-signed bs = if slice_index bs 0 == 45 then neg_ℤ (pos (digits_after 0 (drop 1 bs))) else pos (digits_after 0 bs)
+abbrev pub signed_number : List ℕ → ℤ
+signed_number bs = if slice_index bs 0 == 45 then neg_ℤ (pos (digits_after 0 (drop 1 bs))) else pos (digits_after 0 bs)
 
 -- from -2^63 to 2^63 - 1
 unfoldable pub has_64_bits : ℤ → Bool
 has_64_bits (pos n) = nat_lt n (2 ^ 63)
 has_64_bits (negsuc n) = nat_lt n (2 ^ 63)
 
-unfoldable pub fitting : ℤ → Option ℤ
-fitting z = if has_64_bits z then Some z else None
+unfoldable pub fitting_number : ℤ → Option ℤ
+fitting_number z = if has_64_bits z then Some z else None
 
 abbrev pub number_of : List ℕ → Option ℤ
-number_of bs = fitting (signed bs)
+number_of bs = fitting_number (signed_number bs)

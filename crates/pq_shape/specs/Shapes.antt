@@ -3,7 +3,7 @@ use Rattle.std.specs.Prelude.{ℕ, ℤ, suc, ◌+◌, ◌-◌, ◌*◌, ◌==◌
 use Rattle.std.specs.Option.{option_map}
 use Rattle.std.specs.Char.{to_ascii_lowercase}
 use Rattle.std.specs.Str.{is_utf8}
-use Rattle.pq_base.specs.Words.{raised, keywords}
+use Rattle.pq_base.specs.Words.{uppercase_byte, keywords}
 use Rattle.pq_text.specs.declared.token.Kind.{Kind}
 use Rattle.pq_text.specs.declared.token.Kind.TheVariants as kind
 use Rattle.pq_text.specs.declared.token.Token.{Token}
@@ -20,24 +20,24 @@ unfoldable pub place_of : List (List ℕ) → List ℕ → Option ℕ
 place_of [] w = None
 place_of (v ∷ vs) w = if bytes_eq v w then Some 0 else option_map suc (place_of vs w)
 
-abbrev pub lowered : List ℕ → List ℕ
-lowered bs = map to_ascii_lowercase bs
+abbrev pub lowercase_bytes : List ℕ → List ℕ
+lowercase_bytes bs = map to_ascii_lowercase bs
 
 -- the bytes, if they are UTF-8
-unfoldable pub checked : List ℕ → Option (List ℕ)
-checked bs = if is_utf8 bs then Some bs else None
+unfoldable pub utf8_text : List ℕ → Option (List ℕ)
+utf8_text bs = if is_utf8 bs then Some bs else None
 
-abbrev pub named : Option (List ℕ) → Shape
-named None = shape.Other
-named (Some n) = shape.Name n
+abbrev pub named_shape : Option (List ℕ) → Shape
+named_shape None = shape.Other
+named_shape (Some n) = shape.Name n
 
-abbrev pub quoted : Option (List ℕ) → Shape
-quoted None = shape.Other
-quoted (Some t) = shape.Text t
+abbrev pub text_shape : Option (List ℕ) → Shape
+text_shape None = shape.Other
+text_shape (Some t) = shape.Text t
 
 -- a name has at most 32 bytes, and is read in small letters
 abbrev pub name_shape : List ℕ → Shape
-name_shape bs = if nat_le (length bs) 32 then named (checked (lowered bs)) else shape.Other
+name_shape bs = if nat_le (length bs) 32 then named_shape (utf8_text (lowercase_bytes bs)) else shape.Other
 
 abbrev pub keyword_or : Shape → Option ℕ → Shape
 keyword_or name None = name
@@ -45,28 +45,28 @@ keyword_or name (Some k) = shape.Keyword k
 
 -- a word that the keyword table holds, in any letter case, is no name
 abbrev pub word_shape : List ℕ → Shape
-word_shape bs = keyword_or (name_shape bs) (place_of keywords (map raised bs))
+word_shape bs = keyword_or (name_shape bs) (place_of keywords (map uppercase_byte bs))
 
 abbrev pub number_or_other : Option ℤ → Shape
 number_or_other None = shape.Other
 number_or_other (Some z) = shape.Number z
 
 -- a quote behind a quote that stays is left out
-abbrev pub kept : Bool → ℕ → List ℕ
-kept quoted b = if quoted then (if b == 39 then [] else b ∷ []) else b ∷ []
+abbrev pub kept_byte : Bool → ℕ → List ℕ
+kept_byte text_shape b = if text_shape then (if b == 39 then [] else b ∷ []) else b ∷ []
 
 -- the byte is a quote that stays
 abbrev pub is_kept_quote : Bool → ℕ → Bool
-is_kept_quote quoted b = if quoted then false else b == 39
+is_kept_quote text_shape b = if text_shape then false else b == 39
 
 -- each doubled quote once: the flag says that the byte before is a quote that stays
-unfoldable pub undoubled : Bool → List ℕ → List ℕ
-undoubled quoted [] = []
-undoubled quoted (b ∷ bs) = kept quoted b ++ undoubled (is_kept_quote quoted b) bs
+unfoldable pub undoubled_quotes : Bool → List ℕ → List ℕ
+undoubled_quotes text_shape [] = []
+undoubled_quotes text_shape (b ∷ bs) = kept_byte text_shape b ++ undoubled_quotes (is_kept_quote text_shape b) bs
 
 -- what stands between the quotes of a text
 abbrev pub between_quotes : List ℕ → List ℕ
-between_quotes bs = undoubled false (slice_range bs 1 (length bs - 1))
+between_quotes bs = undoubled_quotes false (slice_range bs 1 (length bs - 1))
 
 -- a mark by its code: its byte, or 256 times the first of two bytes and the second
 abbrev pub mark_code : List ℕ → ℕ
@@ -75,7 +75,7 @@ mark_code bs = if nat_le 2 (length bs) then slice_index bs 0 * 256 + slice_index
 abbrev pub kind_shape : Kind → List ℕ → Shape
 kind_shape kind.Word bs = word_shape bs
 kind_shape kind.Number bs = number_or_other (number_of bs)
-kind_shape kind.Text bs = quoted (checked (between_quotes bs))
+kind_shape kind.Text bs = text_shape (utf8_text (between_quotes bs))
 kind_shape kind.Mark bs = shape.Mark (mark_code bs)
 kind_shape kind.Other bs = shape.Other
 

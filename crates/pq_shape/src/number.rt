@@ -1,7 +1,7 @@
 //! Numbers of 64 bits with their sign.
 ghost use Rattle.std.specs.Prelude.{◌≡◌, ◌<◌, ◌≤◌, ◌^◌, MatchOption, pos, slice_index, drop, ◌==◌};
 ghost use Rattle.std.proofs.Math.IntN.{neg_ℤ};
-ghost use Rattle.pq_shape.specs.Numbers.{digits_after, fitting, number_of};
+ghost use Rattle.pq_shape.specs.Numbers.{digits_after, fitting_number, number_of};
 ghost use Rattle.std.proofs.Math.IntN.{neg_ℤ};
 
 /// One more than the greatest number.
@@ -9,7 +9,8 @@ const LIMIT: u128 = 1 << 63;
 
 /// The number that decimal digits write, where it is at most 2^63.
 fn magnitude(digits: &[u8]) -> Option<u128>
-    ensures { MatchOption result (2 ^ 63 < digits_after 0 digits.now) (λ n. (n ≡ digits_after 0 digits.now) × (n ≤ 2 ^ 63)) }
+    ensures { MatchOption result (2 ^ 63 < digits_after 0 digits.now)
+        (λ n. (n ≡ digits_after 0 digits.now) × (n ≤ 2 ^ 63)) }
 {
     let mut number: u128 = 0;
     for digit in digits {
@@ -23,7 +24,7 @@ fn magnitude(digits: &[u8]) -> Option<u128>
 
 fn positive(magnitude: u128) -> Option<i64>
     requires { magnitude ≤ 2 ^ 63 }
-    ensures { result ≡ fitting (pos magnitude) }
+    ensures { result ≡ fitting_number (pos magnitude) }
 {
     if magnitude < LIMIT {
         Some(magnitude as i64)
@@ -34,7 +35,7 @@ fn positive(magnitude: u128) -> Option<i64>
 
 fn negative(magnitude: u128) -> Option<i64>
     requires { magnitude ≤ 2 ^ 63 }
-    ensures { result ≡ fitting (neg_ℤ (pos magnitude)) }
+    ensures { result ≡ fitting_number (neg_ℤ (pos magnitude)) }
 {
     if magnitude < LIMIT {
         Some(-(magnitude as i64))

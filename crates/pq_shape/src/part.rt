@@ -21,7 +21,8 @@ pub trait Part: Drop {
         ensures { Gives (λ x. (x, c.new)) result (reads c.old) };
 
     /// Each takes a token at least.
-    ghost shrinks: { (ts : prelude.List Shape) (x : Self) (rest : prelude.List Shape) → reads ts ≡ Ok (x, rest) → length rest < length ts };
+    ghost shrinks: { (ts : prelude.List Shape) (x : Self) (rest : prelude.List Shape) → reads ts ≡ Ok (x, rest)
+        → length rest < length ts };
 }
 
 /// Reads what stands between, and a part.

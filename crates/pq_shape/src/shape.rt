@@ -1,7 +1,7 @@
 //! What each token of a text stands for.
 ghost use Rattle.std.specs.Prelude.{◌≡◌, ◌<◌, Some, None, IfOk, OnOk, MatchOption, length, map, ◌++◌, slice_range, ◌-◌, false};
-ghost use Rattle.pq_base.specs.Words.{raised, keywords};
-ghost use Rattle.pq_shape.specs.Shapes.{bytes_of, place_of, lowered, checked, name_shape, word_shape, kept, is_kept_quote, undoubled, number_or_other, mark_code, kind_shape, shape_of, shapes_of};
+ghost use Rattle.pq_base.specs.Words.{uppercase_byte, keywords};
+ghost use Rattle.pq_shape.specs.Shapes.{bytes_of, place_of, lowercase_bytes, utf8_text, name_shape, word_shape, kept_byte, is_kept_quote, undoubled_quotes, number_or_other, mark_code, kind_shape, shape_of, shapes_of};
 ghost use Rattle.pq_shape.specs.Numbers.{number_of};
 ghost use Rattle.pq_text.specs.declared.token.Kind.TheVariants as kind;
 
@@ -38,7 +38,7 @@ fn bytes_at(text: &[u8], token: Token) -> &[u8]
 
 /// The place of a word in the keyword table, in any letter case.
 fn keyword(bytes: &[u8]) -> Option<u8>
-    ensures { result ≡ place_of keywords (map raised bytes.now) }
+    ensures { result ≡ place_of keywords (map uppercase_byte bytes.now) }
 {
     match keyword_table().lookup(bytes) {
         Some(place) => Some(place as u8),
@@ -48,7 +48,7 @@ fn keyword(bytes: &[u8]) -> Option<u8>
 
 /// The bytes with the ASCII letters lowered.
 fn lower(alloc: Global, bytes: &[u8]) -> Result<Bytes, NoMem>
-    ensures { IfOk result (λ low. low ≡ lowered bytes.now) }
+    ensures { IfOk result (λ low. low ≡ lowercase_bytes bytes.now) }
 {
     let low = bytes.iter().map(|b| b.to_ascii_lowercase()).collect(alloc)?;
     Ok(Bytes::from_vec(low))
@@ -56,7 +56,7 @@ fn lower(alloc: Global, bytes: &[u8]) -> Result<Bytes, NoMem>
 
 /// The text of these bytes, where they are UTF-8.
 fn text_of(alloc: Global, bytes: &[u8]) -> Result<Option<PText>, NoMem>
-    ensures { IfOk result (λ found. found ≡ checked bytes.now) }
+    ensures { IfOk result (λ found. found ≡ utf8_text bytes.now) }
 {
     let found = PText::from_bytes(alloc, bytes)?;
     Ok(found)
@@ -97,7 +97,7 @@ fn inner(bytes: &[u8]) -> &[u8]
 
 /// Puts a byte, but a quote behind a quote that stays, and says whether it is a quote that stays.
 fn put(alloc: Global, plain: &mut Bytes, quoted: bool, byte: u8) -> Result<bool, NoMem>
-    ensures bytes { OnOk result (plain.new ≡ plain.old ++ kept quoted byte) }
+    ensures bytes { OnOk result (plain.new ≡ plain.old ++ kept_byte quoted byte) }
     ensures quote { IfOk result (λ is. is ≡ is_kept_quote quoted byte) }
 {
     let quote = byte == b'\'';
@@ -110,7 +110,7 @@ fn put(alloc: Global, plain: &mut Bytes, quoted: bool, byte: u8) -> Result<bool,
 
 /// The bytes with each doubled quote once.
 fn undouble(alloc: Global, bytes: &[u8]) -> Result<Bytes, NoMem>
-    ensures { IfOk result (λ plain. plain ≡ undoubled false bytes.now) }
+    ensures { IfOk result (λ plain. plain ≡ undoubled_quotes false bytes.now) }
 {
     let mut plain = Bytes::new(alloc);
     let mut quoted = false;

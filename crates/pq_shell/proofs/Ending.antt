@@ -13,7 +13,7 @@ use Rattle.pq_text.specs.declared.piece.Piece.{Piece}
 use Rattle.pq_text.specs.Pieces.{pieces_of, rest_of, is_unfinished}
 use Rattle.pq_text.specs.Summaries.{start, pieces_from, unfinished_from, Summary}
 use Rattle.pq_text.proofs.Cuts.{pieces_from-start, unfinished_from-start}
-use Rattle.pq_print.specs.Report.{damage_line, is_refusal, printed}
+use Rattle.pq_print.specs.Report.{damage_line, is_refusal, printed_report}
 use Rattle.pq_print.specs.declared.report.Opened.{Opened}
 use Rattle.pq_print.specs.declared.report.Report.{Report}
 use Rattle.pq_session.specs.Checks.{without_rows}
@@ -21,15 +21,15 @@ use Rattle.pq_session.specs.Model.{Model}
 use Rattle.pq_session.specs.Matches.{Matches}
 use Rattle.pq_session.specs.Stands.{Opens}
 use Rattle.pq_session.proofs.Standing.{settled_opens}
-use Rattle.pq_shell.specs.Fold.{Moment, Made, Served, Stopped}
-use Rattle.pq_shell.specs.Forms.{HasItems, HasOpening, OpensAt, StandsIn, close, shown}
+use Rattle.pq_shell.specs.Fold.{Moment, MadeReports, Served, StoppedItem}
+use Rattle.pq_shell.specs.Forms.{HasItems, HasOpening, OpensAt, StandsIn, close, shown_report}
 use Rattle.pq_shell.specs.Items.{Item, Cut, Rest, cut_items, rest_items, items_of}
 use Rattle.pq_shell.specs.Making.{IsRead, Makes, moment}
 use Rattle.pq_shell.specs.Openings.{Opening, OpensWith, StoppedOpening}
-use Rattle.pq_shell.specs.Reading.{Took, script_limit}
-use Rattle.pq_shell.specs.Run.{World, Ran, Finished, Broken, StopsOpening, StopsLater, HasRead, IsReadInParts, NamesDamage, Ends, EndsDamaged, Closes, IsPlain, IsScript, Suffices, status_of, world, written}
-use Rattle.pq_shell.specs.Run.Broken.{AtOpening, AtItem, AtClose}
-use Rattle.pq_shell.specs.Serving.{Fed, Consumed, StoppedAmong, ReportsRest, StoppedAtRest, has_rest, rest_report, rest_text}
+use Rattle.pq_shell.specs.Reading.{TookBytes, script_limit}
+use Rattle.pq_shell.specs.Run.{World, RanItems, FinishedRun, BrokenRun, StopsOpening, StopsLater, HasRead, IsReadInParts, NamesDamage, Ends, EndsDamaged, Closes, IsPlain, IsScript, Suffices, status_of, world, written_world}
+use Rattle.pq_shell.specs.Run.BrokenRun.{AtOpening, AtItem, AtClose}
+use Rattle.pq_shell.specs.Serving.{FedPieces, ConsumedSource, StoppedAmong, ReportsRest, StoppedAtRest, has_rest, rest_report, rest_text}
 use Rattle.pq_shell.specs.Stops.{CutsOff}
 use Rattle.pq_shell.specs.declared.reading.Ending.{Ending}
 use Rattle.pq_shell.specs.declared.reading.Ending.TheVariants.{Whole, Faulted, TooLong}
@@ -57,15 +57,15 @@ unfolding pieces_from
 none_from s = refl
 
 -- a splitter that was fed a script from its start has told its pieces
-told_all : {bytes : List ℕ} {told : List Piece} {to : Summary} → Fed start bytes told to → told ≡ pieces_of bytes
+told_all : {bytes : List ℕ} {told : List Piece} {to : Summary} → FedPieces start bytes told to → told ≡ pieces_of bytes
 told_all {bytes = bytes} {told = told} {to = to} fed =
     sym (sym (pieces_from-start bytes) ∙ ap (pieces_from start) (sym (append-nil bytes)) ∙ fed.pieces [] ∙ ap (λ v. told ++ v) (none_from to) ∙ append-nil told)
 
-rest_all : {bytes : List ℕ} {told : List Piece} {to : Summary} → Fed start bytes told to → unfinished_from to [] ≡ is_unfinished (rest_of bytes)
+rest_all : {bytes : List ℕ} {told : List Piece} {to : Summary} → FedPieces start bytes told to → unfinished_from to [] ≡ is_unfinished (rest_of bytes)
 rest_all {bytes = bytes} fed = sym (fed.rest []) ∙ ap (unfinished_from start) (append-nil bytes) ∙ unfinished_from-start bytes
 
 -- what is run: the pieces that were told, and the rest where there is one
-items_all : (ending : Ending) {bytes : List ℕ} {told : List Piece} {to : Summary} → Fed start bytes told to → cut_items told ++ rest_items (has_rest ending to) ≡ items_of ending bytes
+items_all : (ending : Ending) {bytes : List ℕ} {told : List Piece} {to : Summary} → FedPieces start bytes told to → cut_items told ++ rest_items (has_rest ending to) ≡ items_of ending bytes
 items_all Whole {bytes = bytes} {told = told} {to = to} fed = ap (λ v. cut_items v ++ rest_items (unfinished_from to [])) (told_all fed) ∙ ap (λ v. cut_items (pieces_of bytes) ++ rest_items v) (rest_all fed)
 items_all Faulted {told = told} fed = append-nil (cut_items told) ∙ ap cut_items (told_all fed)
 items_all TooLong {told = told} fed = append-nil (cut_items told) ∙ ap cut_items (told_all fed)
@@ -88,7 +88,7 @@ rest_made Check read n s content counts = record {
 }
 rest_made (Fill k) read n s content counts = absurd read
 
-shown_printed : (f : Form) → IsRead f → (n : ℕ) → shown f (rest_report n) ≡ printed (rest_report n)
+shown_printed : (f : Form) → IsRead f → (n : ℕ) → shown_report f (rest_report n) ≡ printed_report (rest_report n)
 shown_printed Run read n = refl
 shown_printed Check read n = refl
 shown_printed (Fill k) read n = absurd read
@@ -107,13 +107,13 @@ served_rest f read s a h' n false refused text = record {
 -- what was read and made from the start of a script
 record FromStart (f : Form) (ending : Ending) (left left_now : Option (List ℕ)) (first last : Schema) (from to : Moment) (now : Progress) : Type 0 where
   bytes : List ℕ
-  took : Took ending left left_now bytes
+  took : TookBytes ending left left_now bytes
   told : List Piece
-  fed : Fed start bytes told now.splitter
+  fed : FedPieces start bytes told now.splitter
   served : Served f first last from to 1 (cut_items told) false now.tally.refused
   counted : now.tally.count + 1 ≡ 1 + length (cut_items told)
 
-from_start : {f : Form} {ending : Ending} {left left' : Option (List ℕ)} {s t : Schema} {a b : Moment} {p q : Progress} → p.splitter ≡ start → p.tally.count ≡ 0 → p.tally.refused ≡ false → Consumed f ending left left' s t a b p q → FromStart f ending left left' s t a b q
+from_start : {f : Form} {ending : Ending} {left left' : Option (List ℕ)} {s t : Schema} {a b : Moment} {p q : Progress} → p.splitter ≡ start → p.tally.count ≡ 0 → p.tally.refused ≡ false → ConsumedSource f ending left left' s t a b p q → FromStart f ending left left' s t a b q
 from_start {f = f} {s = s} {t = t} {a = a} {b = b} {p = p} {q = q} fresh none clean c =
     let progressed = c.progressed in
     let told = progressed.told in
@@ -122,13 +122,13 @@ from_start {f = f} {s = s} {t = t} {a = a} {b = b} {p = p} {q = q} fresh none cl
       bytes = c.bytes;
       took = c.took;
       told = told;
-      fed = subst (λ s. Fed s c.bytes told q.splitter) fresh progressed.fed;
+      fed = subst (λ s. FedPieces s c.bytes told q.splitter) fresh progressed.fed;
       served = subst (λ y. Served f s t a b 1 (cut_items told) y q.tally.refused) clean (subst (λ n. Served f s t a b n (cut_items told) p.tally.refused q.tally.refused) number progressed.served);
       counted = omega (arith, progressed.counted, none, length-map told Cut);
     }
 
 -- of a form that reads, the items are those of the bytes
-read_items : (f : Form) → IsRead f → (ending : Ending) (left left' : Option (List ℕ)) (bytes : List ℕ) (items : List Item) → Took ending left left' bytes → items ≡ items_of ending bytes → HasItems f ending left left' items
+read_items : (f : Form) → IsRead f → (ending : Ending) (left left' : Option (List ℕ)) (bytes : List ℕ) (items : List Item) → TookBytes ending left left' bytes → items ≡ items_of ending bytes → HasItems f ending left left' items
 read_items Run read ending left left' bytes items took same = (bytes, took, same)
 read_items Check read ending left left' bytes items took same = (bytes, took, same)
 read_items (Fill n) read ending left left' bytes items took same = absurd read
@@ -145,7 +145,7 @@ closes_none Check read opened reports held = sym (append_known-none held)
 closes_none (Fill n) read opened reports held = absurd read
 
 -- a rest is there only where the source was read to its end
-whole_taken : (ending : Ending) (splitter : Summary) (left left' : Option (List ℕ)) (bytes : List ℕ) → has_rest ending splitter ≡ true → Took ending left left' bytes → left ≡ prepend_known bytes left'
+whole_taken : (ending : Ending) (splitter : Summary) (left left' : Option (List ℕ)) (bytes : List ℕ) → has_rest ending splitter ≡ true → TookBytes ending left left' bytes → left ≡ prepend_known bytes left'
 whole_taken Whole splitter left left' bytes is took = took.0
 whole_taken Faulted splitter left left' bytes is took = took.0
 whole_taken TooLong splitter left left' bytes is took = absurd (true≢false (sym is))
@@ -159,19 +159,19 @@ abbrev pub with_held : Moment → Option (List ℕ) → Moment
 with_held a held = record a { held = held }
 
 module _ {f : Form} (read : IsRead f) {left left' : Option (List ℕ)} {s t : Schema} {a b c : Moment} {p q : Progress} {ending : Ending} (fresh : p.splitter ≡ start) (none : p.tally.count ≡ 0) where
-  module _ (clean : p.tally.refused ≡ false) (opening : Opening f s a b) (consumed : Consumed f ending left left' s t b c p q) (h' : Option (List ℕ)) where
+  module _ (clean : p.tally.refused ≡ false) (opening : Opening f s a b) (consumed : ConsumedSource f ending left left' s t b c p q) (h' : Option (List ℕ)) where
     abbrev from : FromStart f ending left left' s t b c q
     from = from_start fresh none clean consumed
 
     abbrev flag : Bool
     flag = has_rest ending q.splitter
 
-    pub Finished-of : (ended : Ended) → ReportsRest ending q ended c.held h' → Finished f ended.ending ended.refused (at_end left a) (at_end left' (with_held c h'))
+    pub Finished-of : (ended : Ended) → ReportsRest ending q ended c.held h' → FinishedRun f ended.ending ended.refused (at_end left a) (at_end left' (with_held c h'))
     Finished-of ended rest =
         let last : Served f t t c (with_held c h') (1 + length (cut_items from.told)) (rest_items flag) q.tally.refused (q.tally.refused || flag) =
         subst (λ n. Served f t t c (with_held c h') n (rest_items flag) q.tally.refused (q.tally.refused || flag)) from.counted (served_rest f read t c h' (q.tally.count + 1) flag q.tally.refused rest.text) in
         let all = Served-append from.served last in
-        subst (λ e. Finished f e ended.refused (at_end left a) (at_end left' (with_held c h'))) (sym rest.ending_is)
+        subst (λ e. FinishedRun f e ended.refused (at_end left a) (at_end left' (with_held c h'))) (sym rest.ending_is)
         (record {
           items = cut_items from.told ++ rest_items flag;
           held = h';
@@ -182,10 +182,10 @@ module _ {f : Form} (read : IsRead f) {left left' : Option (List ℕ)} {s t : Sc
         })
 
     -- the run stopped at the rest
-    pub Stopped-at_rest : (stop : Stop) → StoppedAtRest stop ending q c.held h' → Broken f stop (at_end left a) (at_end left' (with_held c h'))
+    pub Stopped-at_rest : (stop : Stop) → StoppedAtRest stop ending q c.held h' → BrokenRun f stop (at_end left a) (at_end left' (with_held c h'))
     Stopped-at_rest stop rest =
         let n = q.tally.count + 1 in
-        let here : Stopped f stop t c (with_held c h') n (Rest ∷ []) =
+        let here : StoppedItem f stop t c (with_held c h') n (Rest ∷ []) =
         Stopped-writing f stop Rest n t t c.content c.content c.held h' c.counts c.counts (rest_report n) (rest_made f read n t c.content c.counts) (λ m. stands_opens f c.content t m)
         (subst (λ text. CutsOff stop text c.held h') (sym (shown_printed f read n)) rest.cut) in
         let last = from_number from.counted here in
@@ -210,7 +210,7 @@ module _ {f : Form} (read : IsRead f) {left left' : Option (List ℕ)} {s t : Sc
 
 -- the run stopped among the pieces
 pub Stopped-among : {f : Form} (read : IsRead f) {stop : Stop} {left left' : Option (List ℕ)} {s : Schema} {a b c : Moment} {p : Progress} → p.splitter ≡ start → p.tally.count ≡ 0
-    → Opening f s a b → StoppedAmong f stop left left' s b c p → Broken f stop (at_end left a) (at_end left' c)
+    → Opening f s a b → StoppedAmong f stop left left' s b c p → BrokenRun f stop (at_end left a) (at_end left' c)
 Stopped-among {f = f} read {left = left} {left' = left'} {s = s} {b = b} {p = p} fresh none opening among =
     let number : p.tally.count + 1 ≡ 1 = omega (arith, none) in
     let whole = among.early ++ among.late in
@@ -235,18 +235,18 @@ Stopped-among {f = f} read {left = left} {left' = left'} {s = s} {b = b} {p = p}
     })
 
 -- the run stopped at the opening
-pub Stopped-opening : (f : Form) (stop : Stop) (left : Option (List ℕ)) (a b : Moment) → HasOpening f → StoppedOpening stop a b → Broken f stop (at_end left a) (at_end left b)
+pub Stopped-opening : (f : Form) (stop : Stop) (left : Option (List ℕ)) (a b : Moment) → HasOpening f → StoppedOpening stop a b → BrokenRun f stop (at_end left a) (at_end left b)
 Stopped-opening f stop left a b some stopped = AtOpening (record { some = some; unread = refl; stopped = stopped })
 
 -- ---- each status
 
-finished : (f : Form) (ending : Ending) (refused : Bool) (before now : World) → Finished f ending refused before now → Ends f (status_of ending refused) before now
+finished : (f : Form) (ending : Ending) (refused : Bool) (before now : World) → FinishedRun f ending refused before now → Ends f (status_of ending refused) before now
 finished f Whole false before now is = is
 finished f Whole true before now is = is
 finished f Faulted refused before now is = (refused, is)
 finished f TooLong refused before now is = (refused, is)
 
-damaged : (f : Form) (is : Status) (damage : Damage) (before mid : World) (h' : Option (List ℕ)) → Broken f (stops.Damaged damage) before mid → EndsDamaged is damage.key mid.moment.held h' → Ends f is before (written mid h')
+damaged : (f : Form) (is : Status) (damage : Damage) (before mid : World) (h' : Option (List ℕ)) → BrokenRun f (stops.Damaged damage) before mid → EndsDamaged is damage.key mid.moment.held h' → Ends f is before (written_world mid h')
 damaged f status.Damaged damage before mid h' broken ends = record { damage = damage; held = mid.moment.held; line = damage_line damage.key; broken = broken; tail = refl; text = ends }
 damaged f status.WriteFault damage before mid h' broken ends = inr (record { damage = damage; held = mid.moment.held; line = ends.0; broken = broken; tail = ends.1; text = ends.2 })
 damaged f status.NoMem damage before mid h' broken ends = inr (record { damage = damage; held = mid.moment.held; line = []; broken = broken; tail = refl; text = ends ∙ sym (append_known-none mid.moment.held) })
@@ -257,11 +257,11 @@ damaged f status.ReadFault damage before mid h' broken ends = absurd ends
 damaged f status.StoreFault damage before mid h' broken ends = absurd ends
 damaged f status.TooLong damage before mid h' broken ends = absurd ends
 
-at_status : (f : Form) (is expected : Status) (before mid : World) (h' : Option (List ℕ)) → is ≡ expected → h' ≡ mid.moment.held → Ends f expected before mid → Ends f is before (written mid h')
-at_status f is expected before mid h' same kept ends = subst (λ k. Ends f is before (written mid k)) (sym kept) (subst (λ s. Ends f s before mid) (sym same) ends)
+at_status : (f : Form) (is expected : Status) (before mid : World) (h' : Option (List ℕ)) → is ≡ expected → h' ≡ mid.moment.held → Ends f expected before mid → Ends f is before (written_world mid h')
+at_status f is expected before mid h' same kept ends = subst (λ k. Ends f is before (written_world mid k)) (sym kept) (subst (λ s. Ends f s before mid) (sym same) ends)
 
-pub Ends-of : (f : Form) (outcome : Result Ended Stop) (is : Status) (before mid : World) (h' : Option (List ℕ)) → IfOk outcome (λ ended. Finished f ended.ending ended.refused before mid) → IfErr outcome (λ stop. Broken f stop before mid)
-    → Closes outcome is mid.moment.held h' → Ends f is before (written mid h')
+pub Ends-of : (f : Form) (outcome : Result Ended Stop) (is : Status) (before mid : World) (h' : Option (List ℕ)) → IfOk outcome (λ ended. FinishedRun f ended.ending ended.refused before mid) → IfErr outcome (λ stop. BrokenRun f stop before mid)
+    → Closes outcome is mid.moment.held h' → Ends f is before (written_world mid h')
 Ends-of f (Ok ended) is before mid h' ok err closes = at_status f is (status_of ended.ending ended.refused) before mid h' closes.0 closes.1 (finished f ended.ending ended.refused before mid ok)
 Ends-of f (Err stops.StoreFailed) is before mid h' ok err closes = at_status f is status.StoreFault before mid h' closes.0 closes.1 err
 Ends-of f (Err stops.WriteFailed) is before mid h' ok err closes = at_status f is status.WriteFault before mid h' closes.0 closes.1 (inl err)
@@ -270,7 +270,7 @@ Ends-of f (Err (stops.Damaged damage)) is before mid h' ok err closes = damaged 
 
 -- ---- completeness
 
-too_long : (left left' : Option (List ℕ)) (bytes : List ℕ) → Took TooLong left left' bytes → IsScript left → ⊥
+too_long : (left left' : Option (List ℕ)) (bytes : List ℕ) → TookBytes TooLong left left' bytes → IsScript left → ⊥
 too_long left left' bytes took script =
     let long = known-length left' (bytes ++ took.0 ∷ []) script.script (sym script.told ∙ took.1) in
     omega (arith, long, took.2, script.short, length-append bytes (took.0 ∷ []))
@@ -289,7 +289,7 @@ never_too_long (Fill n) before left' items read enough = not_whole read.0
     not_whole e = subst IsWhole (sym e) tt
 
 -- over what opens no damage is found, and a check finds none
-sound : (f : Form) (damage : Damage) (before now : World) → Broken f (stops.Damaged damage) before now → Suffices f before → ⊥
+sound : (f : Form) (damage : Damage) (before now : World) → BrokenRun f (stops.Damaged damage) before now → Suffices f before → ⊥
 sound Run damage before now (AtOpening b) enough = (b.stopped.stands enough.1.0 enough.1.1).1
 sound Run damage before now (AtItem b) enough = (b.stopped.stands enough.1.0 (b.opening.opens enough.1.0 enough.1.1).1).1
 sound Run damage before now (AtClose b) enough = b.part_is
@@ -301,7 +301,7 @@ sound (Fill n) damage before now (AtItem b) enough = (b.stopped.stands enough.0 
 sound (Fill n) damage before now (AtClose b) enough = b.part_is
 
 -- a form that fails at the store opens it
-opens_store : (f : Form) (before now : World) → Broken f stops.StoreFailed before now → HasOpening f
+opens_store : (f : Form) (before now : World) → BrokenRun f stops.StoreFailed before now → HasOpening f
 opens_store f before now (AtOpening b) = b.some
 opens_store f before now (AtItem b) = b.stopped.part_is.0
 opens_store f before now (AtClose b) = absurd b.part_is

@@ -12,7 +12,7 @@ use Rattle.std.proofs.lemmas.Option.{get_or_from_slice_get, none-some, slice_get
 use Rattle.pq_base.specs.declared.number.Used.{Used}
 use Rattle.std.proofs.lemmas.Nat.{mul-le}
 use Rattle.pq_fill.proofs.Places.{kinds_long, statements_long}
-use Rattle.pq_fill.specs.Script.{fill_kinds, fill_script, followed}
+use Rattle.pq_fill.specs.Script.{fill_kinds, fill_script, followed_user}
 use Rattle.pq_fill.specs.Summary.{no_reports, summary_of, summary_text, with_report}
 use Rattle.pq_fill.specs.declared.item.Kind.{Kind}
 use Rattle.pq_fill.specs.declared.numbers.Numbers.{Numbers}
@@ -25,14 +25,14 @@ use Rattle.pq_print.specs.Report.{is_refusal}
 use Rattle.pq_print.specs.declared.report.Opened.{Opened}
 use Rattle.pq_print.specs.declared.report.Report.{Report}
 use Rattle.pq_shell.specs.Filling.{FillsSome, Fills}
-use Rattle.pq_shell.specs.Fold.{Moment, Made, Stopped}
+use Rattle.pq_shell.specs.Fold.{Moment, MadeReports, StoppedItem}
 use Rattle.pq_shell.specs.Forms.{fill_items}
 use Rattle.pq_shell.specs.Items.{Item, Cut, cut_items}
 use Rattle.pq_shell.specs.Making.{BreaksAt, Makes, moment}
 use Rattle.pq_shell.specs.Openings.{OpensWith}
 use Rattle.pq_shell.specs.Outside.{IsCut}
-use Rattle.pq_shell.specs.Run.{Broken, Finished, Ran}
-use Rattle.pq_shell.specs.Run.Broken.{AtItem, AtClose}
+use Rattle.pq_shell.specs.Run.{BrokenRun, FinishedRun, RanItems}
+use Rattle.pq_shell.specs.Run.BrokenRun.{AtItem, AtClose}
 use Rattle.pq_shell.specs.Stops.{CutsOff}
 use Rattle.pq_shell.specs.declared.filling.Filled.{Filled}
 use Rattle.pq_shell.specs.declared.reading.Ending.TheVariants.{Whole}
@@ -77,8 +77,8 @@ never_past xs k within none =
 -- there are not many
 pub few_statements : (n : ℕ) → 1 ≤ n → n ≤ 20000 → length (fill_script n) < 1000000
 few_statements n one few =
-    let five : followed n ≤ 5 = min-le_left 5 (n - 1) in
-    let subs : n * followed n ≤ 20000 * 5 = mul-le n (followed n) 20000 5 few five in
+    let five : followed_user n ≤ 5 = min-le_left 5 (n - 1) in
+    let subs : n * followed_user n ≤ 20000 * 5 = mul-le n (followed_user n) 20000 5 few five in
     omega (arith, statements_long n, subs, few)
 
 -- ---- one more statement
@@ -121,8 +121,8 @@ module _ (n made : ℕ) (text : List ℕ) (kind : Kind) (text_at : slice_get (fi
   filled_next first last next from old now held before after filled filled_now report so_far makes summary refused =
       let some = so_far.some in
       let here = Made-one (Fill n) item (made + 1) last next old now held held before after report makes (sym (append_known-none held)) in
-      let on : Made (Fill n) last next (moment old held before) (moment now held after) (1 + length (take made (fill_items n))) (item ∷ []) (report ∷ []) =
-      subst (λ k. Made (Fill n) last next (moment old held before) (moment now held after) k (item ∷ []) (report ∷ [])) number here in
+      let on : MadeReports (Fill n) last next (moment old held before) (moment now held after) (1 + length (take made (fill_items n))) (item ∷ []) (report ∷ []) =
+      subst (λ k. MadeReports (Fill n) last next (moment old held before) (moment now held after) k (item ∷ []) (report ∷ [])) number here in
       let all = Made-append some.made_are on in
       let reports = some.reports ++ report ∷ [] in
       let noted : filled_now.summary ≡ fold with_report (no_reports used) (zip (take (made + 1) (fill_kinds n)) reports) =
@@ -133,7 +133,7 @@ module _ (n made : ℕ) (text : List ℕ) (kind : Kind) (text_at : slice_get (fi
       record {
         some = record {
           reports = reports;
-          made_are = subst (λ items. Made (Fill n) first next from (moment now held after) 1 items reports) (sym (take_next (fill_items n) made item (item_at n made text text_at))) all;
+          made_are = subst (λ items. MadeReports (Fill n) first next from (moment now held after) 1 items reports) (sym (take_next (fill_items n) made item (item_at n made text text_at))) all;
           noted = noted;
           refused_is = refused ∙ ap (λ v. v || is_refusal report) some.refused_is ∙ sym (list_any-append is_refusal some.reports (report ∷ []) ∙ or-last (list_any is_refusal some.reports) (is_refusal report));
         };
@@ -152,16 +152,16 @@ module _ (n made : ℕ) (text : List ℕ) (kind : Kind) (text_at : slice_get (fi
   -- the run stopped at it
   pub stopped_next : (stop : Stop) (first last : Schema) (from : Moment) (old now : Option Content) (held : Option (List ℕ)) (before after : Counts) (filled : Filled)
       → FillsSoFar n first last used from (moment old held before) made filled → BreaksAt (Fill n) stop item (made + 1) last old now before after
-      → Stopped (Fill n) stop first from (moment now held after) 1 (fill_items n)
+      → StoppedItem (Fill n) stop first from (moment now held after) 1 (fill_items n)
   stopped_next stop first last from old now held before after filled so_far breaks =
-      let here : Stopped (Fill n) stop last (moment old held before) (moment now held after) (1 + length (take made (fill_items n))) (item ∷ []) = from_number number (breaks held) in
+      let here : StoppedItem (Fill n) stop last (moment old held before) (moment now held after) (1 + length (take made (fill_items n))) (item ∷ []) = from_number number (breaks held) in
       let all = Stopped-after so_far.some.made_are here in
-      let some : Stopped (Fill n) stop first from (moment now held after) 1 (take (made + 1) (fill_items n)) = among_items (sym (take_next (fill_items n) made item (item_at n made text text_at))) all in
+      let some : StoppedItem (Fill n) stop first from (moment now held after) 1 (take (made + 1) (fill_items n)) = among_items (sym (take_next (fill_items n) made item (item_at n made text text_at))) all in
       among_items (take-append-drop (made + 1) (fill_items n)) (Stopped-before (drop (made + 1) (fill_items n)) some)
 
 -- there was no memory for the text of the next one
 pub stopped_before : (n made : ℕ) (used : Used) (first last : Schema) (from : Moment) (to : Moment) (filled : Filled) → made ≤ length (fill_script n) → FillsSoFar n first last used from to made filled
-    → Stopped (Fill n) stops.NoMem first from to 1 (fill_items n)
+    → StoppedItem (Fill n) stops.NoMem first from to 1 (fill_items n)
 stopped_before n made used first last from to filled within so_far =
     let here = Stopped-between (Fill n) last to (1 + length (take made (fill_items n))) (drop made (fill_items n)) (λ m. stands_opens (Fill n) to.content last m) in
     among_items (take-append-drop made (fill_items n)) (Stopped-after so_far.some.made_are here)
@@ -176,7 +176,7 @@ all_filled n made used first last from to filled all kinds so_far =
     record {
       reports = some.reports;
       last = last;
-      made = subst (λ xs. Made (Fill n) first last from to 1 xs some.reports) items some.made_are;
+      made = subst (λ xs. MadeReports (Fill n) first last from to 1 xs some.reports) items some.made_are;
       noted = some.noted ∙ ap (λ ks. fold with_report (no_reports used) (zip ks some.reports)) every;
       refused_is = some.refused_is;
     }
@@ -189,7 +189,7 @@ unfolding summary_of
 noted_all n used first b c filled fills opened same = fills.noted ∙ ap (λ (u : Used). fold with_report (no_reports u) (zip (fill_kinds n) fills.reports)) (sym same)
 
 module _ (n : ℕ) (left : Option (List ℕ)) (begun : Begun) (a b c : Moment) (opens : OpensWith (Fill n) begun a b) where
-  pub stops_filling : (stop : Stop) → Stopped (Fill n) stop begun.session b c 1 (fill_items n) → Broken (Fill n) stop (at_end left a) (at_end left c)
+  pub stops_filling : (stop : Stop) → StoppedItem (Fill n) stop begun.session b c 1 (fill_items n) → BrokenRun (Fill n) stop (at_end left a) (at_end left c)
   stops_filling stop stopped = AtItem (record {
     ending = Whole;
     items = fill_items n;
@@ -202,13 +202,13 @@ module _ (n : ℕ) (left : Option (List ℕ)) (begun : Begun) (a b c : Moment) (
   })
 
   module _ (h' : Option (List ℕ)) (filled : Filled) (fills : Fills n begun.session begun.used b c filled) where
-    abbrev ran : Ran (Fill n) a c (fill_items n)
+    abbrev ran : RanItems (Fill n) a c (fill_items n)
     ran = record { reports = fills.reports; first = begun.session; last = fills.last; between = b; opening = opens.opening; made = fills.made }
 
     summed : summary_text n filled.summary ≡ summary_text n (summary_of n opens.opening.opened fills.reports)
     summed = ap (summary_text n) (noted_all n begun.used begun.session b c filled fills opens.opening.opened opens.used_is)
 
-    pub finishes_filling : h' ≡ append_known c.held (summary_text n filled.summary) → Finished (Fill n) Whole filled.refused (at_end left a) (at_end left (with_held c h'))
+    pub finishes_filling : h' ≡ append_known c.held (summary_text n filled.summary) → FinishedRun (Fill n) Whole filled.refused (at_end left a) (at_end left (with_held c h'))
     finishes_filling text = record {
       items = fill_items n;
       held = c.held;
@@ -218,7 +218,7 @@ module _ (n : ℕ) (left : Option (List ℕ)) (begun : Begun) (a b c : Moment) (
       refusal = fills.refused_is;
     }
 
-    pub stops_closing : (stop : Stop) → CutsOff stop (summary_text n filled.summary) c.held h' → Broken (Fill n) stop (at_end left a) (at_end left (with_held c h'))
+    pub stops_closing : (stop : Stop) → CutsOff stop (summary_text n filled.summary) c.held h' → BrokenRun (Fill n) stop (at_end left a) (at_end left (with_held c h'))
     stops_closing stops.StoreFailed cut = absurd cut
     stops_closing (stops.Damaged damage) cut = absurd cut
     stops_closing stops.NoMem cut = AtClose (record {

@@ -15,7 +15,7 @@ use Rattle.pq_content.proofs.Settling.{settles_once}
 use Rattle.pq_intent.specs.Settling.{IsNoIntent}
 use Rattle.pq_intent.proofs.Ends.{no_settling}
 use Rattle.pq_session.specs.declared.format.Mark.TheVariants.{Building}
-use Rattle.pq_session.specs.Opening.{Added, none_added, opened, catalog_in, TellsSchema, ShowsFlaw, NamesFlaw}
+use Rattle.pq_session.specs.Opening.{SchemaAndMark, none_added, added_from, catalog_in, TellsSchema, ShowsFlaw, NamesFlaw}
 use Rattle.pq_shell.specs.Flaw.{IsFlaw, HaltsAtFlaw, StopsAtFlaw, EndsAtFlaw}
 use Rattle.pq_shell.specs.Run.{Closes}
 use Rattle.pq_shell.specs.Stops.{stop_of}
@@ -28,11 +28,11 @@ use Rattle.pq_shell.specs.declared.stop.Stop.TheVariants as stops
 abbrev Flaw : Type 0
 Flaw = List ℕ × List ℕ
 
-abbrev key_or : List ℕ → Result Added Flaw → List ℕ
+abbrev key_or : List ℕ → Result SchemaAndMark Flaw → List ℕ
 key_or other (Ok added) = other
 key_or other (Err flaw) = flaw.0
 
-abbrev IsErrAnswer : Result Added Flaw → Type 0
+abbrev IsErrAnswer : Result SchemaAndMark Flaw → Type 0
 IsErrAnswer (Ok added) = ⊥
 IsErrAnswer (Err flaw) = Unit {0}
 
@@ -49,16 +49,16 @@ one_flaw c key damage flaw named =
       ]
       | inr a ↦ elim named.2 [
         | inl b ↦ absurd (no_intent_settles c a.0 named.0 b.1 b.2 a.1)
-        | inr b ↦ ap (key_or []) (sym b.2 ∙ ap (λ (s : Content). opened none_added (catalog_in s)) (settles_once c b.0 a.0 b.1 a.1) ∙ a.2)
+        | inr b ↦ ap (key_or []) (sym b.2 ∙ ap (λ (s : Content). added_from none_added (catalog_in s)) (settles_once c b.0 a.0 b.1 a.1) ∙ a.2)
       ]
     ]
 
 -- what settles to definitions has no flaw
-no_flaw_in : (c settled : Content) (added : Added) (key : List ℕ) → SettlesTo c settled → opened none_added (catalog_in settled) ≡ Ok added → IsFlaw c key → ⊥
+no_flaw_in : (c settled : Content) (added : SchemaAndMark) (key : List ℕ) → SettlesTo c settled → added_from none_added (catalog_in settled) ≡ Ok added → IsFlaw c key → ⊥
 no_flaw_in c settled added key settles is flaw =
     elim flaw.1.2 [
       | inl a ↦ no_intent_settles c settled flaw.1.0 a.1 a.2 settles
-      | inr a ↦ subst IsErrAnswer (sym a.2 ∙ ap (λ (s : Content). opened none_added (catalog_in s)) (settles_once c a.0 settled a.1 settles) ∙ is) tt
+      | inr a ↦ subst IsErrAnswer (sym a.2 ∙ ap (λ (s : Content). added_from none_added (catalog_in s)) (settles_once c a.0 settled a.1 settles) ∙ is) tt
     ]
 
 same_flaw : (c : Content) (key : List ℕ) (damage : Damage) → IsFlaw c key → NamesFlaw c (Damaged damage) → damage.key ≡ key

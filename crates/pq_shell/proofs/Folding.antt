@@ -16,8 +16,8 @@ use Rattle.pq_session.specs.Model.{Model}
 use Rattle.pq_session.specs.Matches.{Matches}
 use Rattle.pq_session.specs.Promise.{IsWithinFixed}
 use Rattle.pq_session.proofs.Promises.{within_none, within_reported}
-use Rattle.pq_shell.specs.Fold.{Moment, IsReport, Reports, RisesBy, IsWithinItem, IsPart, after, Reported, Halts, Made, Served, Stopped, schema_behind}
-use Rattle.pq_shell.specs.Forms.{HasOpening, StandsIn, OpensAt, asked_item, item_step, shown}
+use Rattle.pq_shell.specs.Fold.{Moment, IsReport, Reports, RisesBy, IsWithinItem, IsPart, after, ReportedItems, Halts, MadeReports, Served, StoppedItem, schema_behind}
+use Rattle.pq_shell.specs.Forms.{HasOpening, StandsIn, OpensAt, asked_item, item_step, shown_report}
 use Rattle.pq_shell.specs.Items.{Item}
 use Rattle.pq_shell.specs.Making.{Makes, moment}
 use Rattle.pq_shell.specs.Outside.{IsCut}
@@ -37,12 +37,12 @@ after-append f m n [] ys = ap (λ k. after f m k ys) (sym (add-zero n))
 after-append f m n (x ∷ xs) ys =
     after-append f (item_step f m n x).model (n + 1) xs ys ∙ ap (λ k. after f (after f (item_step f m n x).model (n + 1) xs) k ys) (sym (goes_on n x xs))
 
-Reported-append : (f : Form) (m : Model) (n : ℕ) (xs ys : List Item) (rs ss : List Report) → Reported f m n xs rs → Reported f (after f m n xs) (n + length xs) ys ss → Reported f m n (xs ++ ys) (rs ++ ss)
-Reported-append f m n [] ys [] ss h k = subst (λ i. Reported f m i ys ss) (add-zero n) k
+Reported-append : (f : Form) (m : Model) (n : ℕ) (xs ys : List Item) (rs ss : List Report) → ReportedItems f m n xs rs → ReportedItems f (after f m n xs) (n + length xs) ys ss → ReportedItems f m n (xs ++ ys) (rs ++ ss)
+Reported-append f m n [] ys [] ss h k = subst (λ i. ReportedItems f m i ys ss) (add-zero n) k
 Reported-append f m n [] ys (r ∷ rs) ss h k = absurd h
 Reported-append f m n (x ∷ xs) ys [] ss h k = absurd h
 Reported-append f m n (x ∷ xs) ys (r ∷ rs) ss h k =
-    (h.0, Reported-append f (item_step f m n x).model (n + 1) xs ys rs ss h.1 (subst (λ i. Reported f (after f (item_step f m n x).model (n + 1) xs) i ys ss) (goes_on n x xs) k))
+    (h.0, Reported-append f (item_step f m n x).model (n + 1) xs ys rs ss h.1 (subst (λ i. ReportedItems f (after f (item_step f m n x).model (n + 1) xs) i ys ss) (goes_on n x xs) k))
 
 pub Reports-append : (first mid last : Schema) (n : ℕ) (xs ys : List Item) (rs ss : List Report) → Reports first n xs rs mid → Reports mid (n + length xs) ys ss last → Reports first n (xs ++ ys) (rs ++ ss) last
 Reports-append first mid last n [] ys [] ss h k = subst (λ (s : Schema). Reports s n ys ss last) h (subst (λ i. Reports mid i ys ss last) (add-zero n) k)
@@ -65,27 +65,27 @@ Rises-none c = record { ops = sym (add-zero c.ops); entries = sym (add-zero c.en
 
 -- ---- items that were made
 
-pub Made-none : (f : Form) (s : Schema) (a : Moment) (n : ℕ) → Made f s s a a n [] []
+pub Made-none : (f : Form) (s : Schema) (a : Moment) (n : ℕ) → MadeReports f s s a a n [] []
 Made-none f s a n = record { told = refl; folds = λ m is. (is, tt); text = sym (append_known-none a.held); rises = Rises-none a.counts }
 
-pub Made-append : {f : Form} {r s t : Schema} {a b c : Moment} {n : ℕ} {xs ys : List Item} {rs ss : List Report} → Made f r s a b n xs rs → Made f s t b c (n + length xs) ys ss → Made f r t a c n (xs ++ ys) (rs ++ ss)
+pub Made-append : {f : Form} {r s t : Schema} {a b c : Moment} {n : ℕ} {xs ys : List Item} {rs ss : List Report} → MadeReports f r s a b n xs rs → MadeReports f s t b c (n + length xs) ys ss → MadeReports f r t a c n (xs ++ ys) (rs ++ ss)
 Made-append {f = f} {r = r} {s = s} {t = t} {a = a} {c = c} {n = n} {xs = xs} {ys = ys} {rs = rs} {ss = ss} p q = record {
   told = Reports-append r s t n xs ys rs ss p.told q.told;
   folds = λ m is.
       let first = p.folds m is in
       let second = q.folds (after f m n xs) first.0 in
       (subst (StandsIn f c.content t) (sym (after-append f m n xs ys)) second.0, Reported-append f m n xs ys rs ss first.1 second.1);
-  text = q.text ∙ ap (λ k. append_known k (flat_map (shown f) ss)) p.text ∙ append_known-append a.held _ _ ∙ ap (append_known a.held) (sym (flat_map-append (shown f) rs ss));
+  text = q.text ∙ ap (λ k. append_known k (flat_map (shown_report f) ss)) p.text ∙ append_known-append a.held _ _ ∙ ap (append_known a.held) (sym (flat_map-append (shown_report f) rs ss));
   rises = Rises-append rs ss p.rises q.rises;
 }
 
 -- one item was made, and what is shown of its report is out
 pub Made-one : (f : Form) (item : Item) (n : ℕ) (s t : Schema) (old now : Option Content) (h h' : Option (List ℕ)) (before after : Counts) (report : Report)
-    → Makes f item n s t old now before after report → h' ≡ append_known h (shown f report) → Made f s t (moment old h before) (moment now h' after) n (item ∷ []) (report ∷ [])
+    → Makes f item n s t old now before after report → h' ≡ append_known h (shown_report f report) → MadeReports f s t (moment old h before) (moment now h' after) n (item ∷ []) (report ∷ [])
 Made-one f item n s t old now h h' before after report made text = record {
   told = (made.is, made.next_is);
   folds = λ m is. (made.stands m is, (made.matches m is, tt));
-  text = text ∙ ap (append_known h) (sym (append-nil (shown f report)));
+  text = text ∙ ap (append_known h) (sym (append-nil (shown_report f report)));
   rises = made.rises;
 }
 
@@ -107,7 +107,7 @@ Served-append {y = y} p q = record {
   refusal = q.refusal ∙ ap (λ v. v || list_any is_refusal q.reports) p.refusal ∙ or-assoc y _ _ ∙ ap (λ v. y || v) (sym (list_any-append is_refusal p.reports q.reports));
 }
 
-pub Served-one : {f : Form} {s t : Schema} {a b : Moment} {n : ℕ} {item : Item} {report : Report} (y y' : Bool) → Made f s t a b n (item ∷ []) (report ∷ []) → y' ≡ (y || is_refusal report) → Served f s t a b n (item ∷ []) y y'
+pub Served-one : {f : Form} {s t : Schema} {a b : Moment} {n : ℕ} {item : Item} {report : Report} (y y' : Bool) → MadeReports f s t a b n (item ∷ []) (report ∷ []) → y' ≡ (y || is_refusal report) → Served f s t a b n (item ∷ []) y y'
 Served-one {report = report} y y' made refusal = record { reports = report ∷ []; made = made; refusal = refusal ∙ ap (λ v. y || v) (or-false (is_refusal report)) }
 
 -- ---- stops
@@ -136,7 +136,7 @@ halts_more f stops.WriteFailed m n (x ∷ xs) more now part h = h
 halts_more f (stops.Damaged damage) m n todo more now part h = absurd h
 
 -- a run that stopped among some items stopped among these and more
-pub Stopped-before : {f : Form} {stop : Stop} {s : Schema} {a b : Moment} {n : ℕ} {xs : List Item} (ys : List Item) → Stopped f stop s a b n xs → Stopped f stop s a b n (xs ++ ys)
+pub Stopped-before : {f : Form} {stop : Stop} {s : Schema} {a b : Moment} {n : ℕ} {xs : List Item} (ys : List Item) → StoppedItem f stop s a b n xs → StoppedItem f stop s a b n (xs ++ ys)
 Stopped-before {f = f} {stop = stop} {b = b} {n = n} ys p = record {
   done = p.done;
   todo = p.todo ++ ys;
@@ -153,7 +153,7 @@ Stopped-before {f = f} {stop = stop} {b = b} {n = n} ys p = record {
 }
 
 -- some items were made, and then the run stopped among others
-pub Stopped-after : {f : Form} {stop : Stop} {r s : Schema} {a b c : Moment} {n : ℕ} {xs ys : List Item} {rs : List Report} → Made f r s a b n xs rs → Stopped f stop s b c (n + length xs) ys → Stopped f stop r a c n (xs ++ ys)
+pub Stopped-after : {f : Form} {stop : Stop} {r s : Schema} {a b c : Moment} {n : ℕ} {xs ys : List Item} {rs : List Report} → MadeReports f r s a b n xs rs → StoppedItem f stop s b c (n + length xs) ys → StoppedItem f stop r a c n (xs ++ ys)
 Stopped-after {f = f} {stop = stop} {r = r} {s = s} {a = a} {c = c} {n = n} {xs = xs} {ys = ys} {rs = rs} p q =
     let number : (n + length xs) + length q.done ≡ n + length (xs ++ q.done) = omega (arith, length-append xs q.done) in
     record {
@@ -165,7 +165,7 @@ Stopped-after {f = f} {stop = stop} {r = r} {s = s} {a = a} {c = c} {n = n} {xs 
       between = q.between;
       among = ap (λ zs. xs ++ zs) q.among ∙ sym (append_assoc xs q.done q.todo);
       told = Reports-append r s q.last n xs q.done rs q.reports p.told q.told;
-      text = q.text ∙ ap (λ k. append_known k (flat_map (shown f) q.reports ++ q.part)) p.text ∙ append_known-append a.held _ _ ∙ ap (append_known a.held) (sym (append_assoc (flat_map (shown f) rs) (flat_map (shown f) q.reports) q.part) ∙ ap (λ t. t ++ q.part) (sym (flat_map-append (shown f) rs q.reports)));
+      text = q.text ∙ ap (λ k. append_known k (flat_map (shown_report f) q.reports ++ q.part)) p.text ∙ append_known-append a.held _ _ ∙ ap (append_known a.held) (sym (append_assoc (flat_map (shown_report f) rs) (flat_map (shown_report f) q.reports) q.part) ∙ ap (λ t. t ++ q.part) (sym (flat_map-append (shown_report f) rs q.reports)));
       rises = Rises-append rs q.reports p.rises q.rises;
       part_is = subst (λ k. IsPart f stop q.last k q.todo q.part q.between c.counts) number q.part_is;
       stands = λ m is.
@@ -178,7 +178,7 @@ Stopped-after {f = f} {stop = stop} {r = r} {s = s} {a = a} {c = c} {n = n} {xs 
 
 -- the run stopped before any of these items was reported
 pub Stopped-at : (f : Form) (stop : Stop) (s : Schema) (a b : Moment) (n : ℕ) (items : List Item) (part : List ℕ) → b.held ≡ append_known a.held part
-    → IsPart f stop s n items part a.counts b.counts → ((m : Model) → StandsIn f a.content s m → Halts f stop m n items b.content part) → Stopped f stop s a b n items
+    → IsPart f stop s n items part a.counts b.counts → ((m : Model) → StandsIn f a.content s m → Halts f stop m n items b.content part) → StoppedItem f stop s a b n items
 Stopped-at f stop s a b n items part text is halts = record {
   done = [];
   todo = items;
@@ -203,7 +203,7 @@ halts_same f m n [] now h = h
 halts_same f m n (x ∷ xs) now h = inl h
 
 -- the run stopped for want of memory before the next item was read whole
-pub Stopped-between : (f : Form) (s : Schema) (a : Moment) (n : ℕ) (items : List Item) → ((m : Model) → StandsIn f a.content s m → OpensAt f a.content m) → Stopped f stops.NoMem s a a n items
+pub Stopped-between : (f : Form) (s : Schema) (a : Moment) (n : ℕ) (items : List Item) → ((m : Model) → StandsIn f a.content s m → OpensAt f a.content m) → StoppedItem f stops.NoMem s a a n items
 Stopped-between f s a n items opens =
     Stopped-at f stops.NoMem s a a n items [] (sym (append_known-none a.held)) (refl, within_nothing s items a.counts) (λ m is. halts_same f m n items a.content (opens m is))
 
@@ -216,8 +216,8 @@ within_item s n item report before after is rises =
 
 -- the run stopped while this item was reported
 pub Stopped-writing : (f : Form) (stop : Stop) (item : Item) (n : ℕ) (s t : Schema) (old now : Option Content) (h h' : Option (List ℕ)) (before after : Counts) (report : Report)
-    → Makes f item n s t old now before after report → ((m : Model) → StandsIn f now t m → OpensAt f now m) → CutsOff stop (shown f report) h h'
-    → Stopped f stop s (moment old h before) (moment now h' after) n (item ∷ [])
+    → Makes f item n s t old now before after report → ((m : Model) → StandsIn f now t m → OpensAt f now m) → CutsOff stop (shown_report f report) h h'
+    → StoppedItem f stop s (moment old h before) (moment now h' after) n (item ∷ [])
 Stopped-writing f stops.StoreFailed item n s t old now h h' before after report made opens cut = absurd cut
 Stopped-writing f (stops.Damaged damage) item n s t old now h h' before after report made opens cut = absurd cut
 Stopped-writing f stops.NoMem item n s t old now h h' before after report made opens cut =
@@ -228,7 +228,7 @@ Stopped-writing f stops.WriteFailed item n s t old now h h' before after report 
     (report, made.is, cut.1, made.rises) (λ m is. (report, made.matches m is, cut.1, opens (item_step f m n item).model (made.stands m is)))
 
 -- the items by another name
-pub among_items : {f : Form} {stop : Stop} {s : Schema} {a b : Moment} {n : ℕ} {xs ys : List Item} → xs ≡ ys → Stopped f stop s a b n xs → Stopped f stop s a b n ys
+pub among_items : {f : Form} {stop : Stop} {s : Schema} {a b : Moment} {n : ℕ} {xs ys : List Item} → xs ≡ ys → StoppedItem f stop s a b n xs → StoppedItem f stop s a b n ys
 among_items same p = record {
   done = p.done;
   todo = p.todo;
@@ -245,7 +245,7 @@ among_items same p = record {
 }
 
 -- and numbered from the same number by another name
-pub from_number : {f : Form} {stop : Stop} {s : Schema} {a b : Moment} {n k : ℕ} {xs : List Item} → n ≡ k → Stopped f stop s a b n xs → Stopped f stop s a b k xs
+pub from_number : {f : Form} {stop : Stop} {s : Schema} {a b : Moment} {n k : ℕ} {xs : List Item} → n ≡ k → StoppedItem f stop s a b n xs → StoppedItem f stop s a b k xs
 from_number {f = f} {stop = stop} {s = s} {b = b} same p = record {
   done = p.done;
   todo = p.todo;
@@ -260,21 +260,21 @@ from_number {f = f} {stop = stop} {s = s} {b = b} same p = record {
   part_is = subst (λ i. IsPart f stop p.last (i + length p.done) p.todo p.part p.between b.counts) same p.part_is;
   stands = λ m is.
       let q = p.stands m is in (
-        subst (λ i. Reported f m i p.done p.reports) same q.0,
+        subst (λ i. ReportedItems f m i p.done p.reports) same q.0,
         subst (λ i. Halts f stop (after f m i p.done) (i + length p.done) p.todo b.content p.part) same q.1,
       );
 }
 
 -- what was made before a stop
-pub length_after : {f : Form} {stop : Stop} {r s : Schema} {a b c : Moment} {n : ℕ} {xs ys : List Item} {rs : List Report} (p : Made f r s a b n xs rs) (q : Stopped f stop s b c (n + length xs) ys)
+pub length_after : {f : Form} {stop : Stop} {r s : Schema} {a b c : Moment} {n : ℕ} {xs ys : List Item} {rs : List Report} (p : MadeReports f r s a b n xs rs) (q : StoppedItem f stop s b c (n + length xs) ys)
     → length (Stopped-after p q).done ≡ length xs + length q.done
 unfolding Stopped-after
 length_after {xs = xs} p q = length-append xs q.done
 
-pub among_done : {f : Form} {stop : Stop} {s : Schema} {a b : Moment} {n : ℕ} {xs ys : List Item} (same : xs ≡ ys) (p : Stopped f stop s a b n xs) → (among_items same p).done ≡ p.done
+pub among_done : {f : Form} {stop : Stop} {s : Schema} {a b : Moment} {n : ℕ} {xs ys : List Item} (same : xs ≡ ys) (p : StoppedItem f stop s a b n xs) → (among_items same p).done ≡ p.done
 unfolding among_items
 among_done same p = refl
 
-pub from_done : {f : Form} {stop : Stop} {s : Schema} {a b : Moment} {n k : ℕ} {xs : List Item} (same : n ≡ k) (p : Stopped f stop s a b n xs) → (from_number same p).done ≡ p.done
+pub from_done : {f : Form} {stop : Stop} {s : Schema} {a b : Moment} {n k : ℕ} {xs : List Item} (same : n ≡ k) (p : StoppedItem f stop s a b n xs) → (from_number same p).done ≡ p.done
 unfolding from_number
 from_done same p = refl

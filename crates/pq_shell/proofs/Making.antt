@@ -12,9 +12,9 @@ use Rattle.pq_store.specs.Counts.{Counts}
 use Rattle.pq_store.specs.declared.damage.Broke.{Broke}
 use Rattle.pq_store.specs.declared.damage.Broke.TheVariants as broke
 use Rattle.pq_text.specs.declared.piece.Piece.{Piece}
-use Rattle.pq_print.specs.Report.{printed}
+use Rattle.pq_print.specs.Report.{printed_report}
 use Rattle.pq_print.specs.declared.report.Report.{Report}
-use Rattle.pq_session.specs.Actions.{asked, schema_after, statement_bound}
+use Rattle.pq_session.specs.Actions.{action_of, schema_after, statement_bound}
 use Rattle.pq_session.specs.Checks.{checked_as, check_step, without_rows}
 use Rattle.pq_session.specs.Matches.{Matches}
 use Rattle.pq_session.specs.Model.{Model}
@@ -23,7 +23,7 @@ use Rattle.pq_session.specs.Stands.{Opens, Stands}
 use Rattle.pq_session.specs.Step.{Step, step}
 use Rattle.pq_session.proofs.Checked.{check_by, is_check_step}
 use Rattle.pq_session.proofs.Promises.{within_none}
-use Rattle.pq_shell.specs.Forms.{HasOpening, StandsIn, OpensAt, item_step, shown}
+use Rattle.pq_shell.specs.Forms.{HasOpening, StandsIn, OpensAt, item_step, shown_report}
 use Rattle.pq_shell.specs.Items.{Cut}
 use Rattle.pq_shell.specs.Making.{BreaksAt, IsRead, Makes, moment}
 use Rattle.pq_shell.specs.Stops.{CutsOff, stop_of}
@@ -35,12 +35,12 @@ use Rattle.pq_shell.proofs.Known.{append_known-none}
 
 -- ---- what is written of a report
 
-pub shown_whole : (f : Form) → IsRead f → (report : Report) (h h' : Option (List ℕ)) → h' ≡ append_known h (printed report) → h' ≡ append_known h (shown f report)
+pub shown_whole : (f : Form) → IsRead f → (report : Report) (h h' : Option (List ℕ)) → h' ≡ append_known h (printed_report report) → h' ≡ append_known h (shown_report f report)
 shown_whole Run read report h h' is = is
 shown_whole Check read report h h' is = is
 shown_whole (Fill n) read report h h' is = absurd read
 
-pub cut_shown : (f : Form) → IsRead f → (stop : Stop) (report : Report) (h h' : Option (List ℕ)) → CutsOff stop (printed report) h h' → CutsOff stop (shown f report) h h'
+pub cut_shown : (f : Form) → IsRead f → (stop : Stop) (report : Report) (h h' : Option (List ℕ)) → CutsOff stop (printed_report report) h h' → CutsOff stop (shown_report f report) h h'
 cut_shown Run read stop report h h' is = is
 cut_shown Check read stop report h h' is = is
 cut_shown (Fill n) read stop report h h' is = absurd read
@@ -94,9 +94,9 @@ module _ (number : ℕ) (piece : Piece) (s : Schema) (content : Option Content) 
   -- its report has the bound of what is asked for, and tells nothing as used
   pub made_checked : (next : Schema) (report : Report) → report ≡ made_step.report → next ≡ made_step.model.schema → Makes Check (Cut piece) number s next content content counts counts report
   made_checked next report report_is next_is =
-      let by = check_by s number piece (asked s piece) refl in
-      let facts = is_check_step s number (asked s piece) in
-      let same : report ≡ (checked_as s number (asked s piece)).report = report_is ∙ ap (λ (x : Step). x.report) by in
+      let by = check_by s number piece (action_of s piece) refl in
+      let facts = is_check_step s number (action_of s piece) in
+      let same : report ≡ (checked_as s number (action_of s piece)).report = report_is ∙ ap (λ (x : Step). x.report) by in
       let used = ap (λ (r : Report). r.used) same ∙ facts.unused in
       let no_ops : report.used.ops ≡ 0 = ap (λ (u : Used). u.ops) used in
       let no_entries : report.used.entries ≡ 0 = ap (λ (u : Used). u.entries) used in

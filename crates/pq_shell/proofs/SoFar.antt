@@ -5,10 +5,10 @@ use Rattle.std.specs.Io.KnownBytes.{prepend_known, IsAtEnd}
 use Rattle.pq_fill.specs.declared.words.Form.{Form}
 use Rattle.pq_schema.specs.Schema.{Schema}
 use Rattle.pq_text.specs.Summaries.{pieces_from}
-use Rattle.pq_shell.specs.Fold.{Moment, Stopped}
+use Rattle.pq_shell.specs.Fold.{Moment, StoppedItem}
 use Rattle.pq_shell.specs.Items.{Cut, cut_items}
-use Rattle.pq_shell.specs.Reading.{Took, script_limit}
-use Rattle.pq_shell.specs.Serving.{Progressed, Consumed, StoppedAmong}
+use Rattle.pq_shell.specs.Reading.{TookBytes, script_limit}
+use Rattle.pq_shell.specs.Serving.{ProgressedRun, ConsumedSource, StoppedAmong}
 use Rattle.pq_shell.specs.declared.reading.Ending.{Ending}
 use Rattle.pq_shell.specs.declared.reading.Ending.TheVariants.{Whole, Faulted}
 use Rattle.pq_shell.specs.declared.serving.Progress.{Progress}
@@ -21,7 +21,7 @@ pub record ReadSoFar (f : Form) (taken : ℕ) (left left_now : Option (List ℕ)
   pub bytes : List ℕ
   pub long : length bytes ≡ taken
   pub read : left ≡ prepend_known bytes left_now
-  pub progressed : Progressed f first last from to bytes old now
+  pub progressed : ProgressedRun f first last from to bytes old now
 
 -- nothing was read
 pub SoFar-start : (f : Form) (left : Option (List ℕ)) (s : Schema) (a : Moment) (p : Progress) → ReadSoFar f 0 left left s s a a p p
@@ -29,7 +29,7 @@ SoFar-start f left s a p = record { bytes = []; long = refl; read = sym (prepend
 
 -- a part more was read, and fed
 pub SoFar-more : {f : Form} {taken : ℕ} {left mid now : Option (List ℕ)} {s t u : Schema} {a b c : Moment} {p q r : Progress} (n : ℕ) (part : List ℕ) → ReadSoFar f taken left mid s t a b p q
-    → mid ≡ prepend_known part now → length part ≡ n → Progressed f t u b c part q r → ReadSoFar f (taken + n) left now s u a c p r
+    → mid ≡ prepend_known part now → length part ≡ n → ProgressedRun f t u b c part q r → ReadSoFar f (taken + n) left now s u a c p r
 SoFar-more {now = now} n part so_far next long more = record {
   bytes = so_far.bytes ++ part;
   long = length-append so_far.bytes part ∙ omega (arith, so_far.long, long);
@@ -44,7 +44,7 @@ SoFar-taken now part limit so_far next short =
     (so_far.bytes ++ part, so_far.read ∙ ap (prepend_known so_far.bytes) next ∙ sym (prepend_known-append so_far.bytes part now), omega (arith, so_far.long, short, length-append so_far.bytes part))
 
 -- the reading ended
-pub SoFar-faulted : {f : Form} {taken : ℕ} {left mid now : Option (List ℕ)} {s t : Schema} {a b : Moment} {p q : Progress} → ReadSoFar f taken left mid s t a b p q → now ≡ mid → taken ≤ script_limit → Consumed f Faulted left now s t a b p q
+pub SoFar-faulted : {f : Form} {taken : ℕ} {left mid now : Option (List ℕ)} {s t : Schema} {a b : Moment} {p q : Progress} → ReadSoFar f taken left mid s t a b p q → now ≡ mid → taken ≤ script_limit → ConsumedSource f Faulted left now s t a b p q
 SoFar-faulted so_far same short = record {
   bytes = so_far.bytes;
   took = (so_far.read ∙ ap (prepend_known so_far.bytes) (sym same), omega (arith, so_far.long, short));
@@ -52,7 +52,7 @@ SoFar-faulted so_far same short = record {
 }
 
 pub SoFar-whole : {f : Form} {taken : ℕ} {left mid now : Option (List ℕ)} {s t : Schema} {a b : Moment} {p q : Progress} (n : ℕ) (room : List ℕ) → ReadSoFar f taken left mid s t a b p q
-    → mid ≡ prepend_known (take n room) now → n ≡ 0 → IsAtEnd now → taken ≤ script_limit → Consumed f Whole left now s t a b p q
+    → mid ≡ prepend_known (take n room) now → n ≡ 0 → IsAtEnd now → taken ≤ script_limit → ConsumedSource f Whole left now s t a b p q
 SoFar-whole {mid = mid} {now = now} n room so_far next none end short =
     let same : mid ≡ now = next ∙ ap (λ k. prepend_known (take k room) now) none ∙ prepend_known-none now in
     record {
@@ -62,7 +62,7 @@ SoFar-whole {mid = mid} {now = now} n room so_far next none end short =
     }
 
 pub SoFar-past : {f : Form} {taken : ℕ} {left mid now : Option (List ℕ)} {s t : Schema} {a b : Moment} {p q : Progress} (ending : Ending) → ReadSoFar f taken left mid s t a b p q → taken ≡ script_limit
-    → ((bytes : List ℕ) → length bytes ≡ script_limit → (l : Option (List ℕ)) → l ≡ prepend_known bytes mid → Took ending l now bytes) → Consumed f ending left now s t a b p q
+    → ((bytes : List ℕ) → length bytes ≡ script_limit → (l : Option (List ℕ)) → l ≡ prepend_known bytes mid → TookBytes ending l now bytes) → ConsumedSource f ending left now s t a b p q
 SoFar-past {left = left} ending so_far full took = record {
   bytes = so_far.bytes;
   took = took so_far.bytes (so_far.long ∙ full) left so_far.read;
@@ -71,7 +71,7 @@ SoFar-past {left = left} ending so_far full took = record {
 
 -- the run stopped in the part that was read last
 pub SoFar-stopped : {f : Form} {taken : ℕ} {left mid now : Option (List ℕ)} {s t : Schema} {a b c : Moment} {p q : Progress} {stop : Stop} (n : ℕ) (part : List ℕ) → ReadSoFar f taken left mid s t a b p q
-    → mid ≡ prepend_known part now → length part ≡ n → n ≤ 4096 → taken + n ≤ script_limit → Stopped f stop t b c (q.tally.count + 1) (cut_items (pieces_from q.splitter part)) → StoppedAmong f stop left now s a c p
+    → mid ≡ prepend_known part now → length part ≡ n → n ≤ 4096 → taken + n ≤ script_limit → StoppedItem f stop t b c (q.tally.count + 1) (cut_items (pieces_from q.splitter part)) → StoppedAmong f stop left now s a c p
 SoFar-stopped {now = now} n part so_far next long small short stopped =
     let later = stopped_later part so_far.progressed stopped in
     record {

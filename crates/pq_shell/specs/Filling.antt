@@ -8,14 +8,15 @@ use Rattle.pq_fill.specs.declared.words.Form.TheVariants.{Fill}
 use Rattle.pq_schema.specs.Schema.{Schema}
 use Rattle.pq_print.specs.Report.{is_refusal}
 use Rattle.pq_print.specs.declared.report.Report.{Report}
-use Rattle.pq_shell.specs.Fold.{Moment, Made}
+use Rattle.pq_shell.specs.Fold.{Moment, MadeReports}
 use Rattle.pq_shell.specs.Forms.{fill_items}
 use Rattle.pq_shell.specs.declared.filling.Filled.{Filled}
 
 -- the first so many statements were made and noted
-pub record FillsSome (n : ℕ) (first last : Schema) (used : Used) (from to : Moment) (made : ℕ) (filled : Filled) : Type 0 where
+pub record FillsSome (n : ℕ) (first last : Schema) (used : Used) (from to : Moment) (made : ℕ) (filled : Filled)
+    : Type 0 where
   pub reports : List Report
-  pub made_are : Made (Fill n) first last from to 1 (take made (fill_items n)) reports
+  pub made_are : MadeReports (Fill n) first last from to 1 (take made (fill_items n)) reports
   pub noted : filled.summary ≡ fold with_report (no_reports used) (zip (take made (fill_kinds n)) reports)
   pub refused_is : filled.refused ≡ list_any is_refusal reports
 
@@ -23,6 +24,6 @@ pub record FillsSome (n : ℕ) (first last : Schema) (used : Used) (from to : Mo
 pub record Fills (n : ℕ) (first : Schema) (used : Used) (from to : Moment) (filled : Filled) : Type 0 where
   pub reports : List Report
   pub last : Schema
-  pub made : Made (Fill n) first last from to 1 (fill_items n) reports
+  pub made : MadeReports (Fill n) first last from to 1 (fill_items n) reports
   pub noted : filled.summary ≡ fold with_report (no_reports used) (zip (fill_kinds n) reports)
   pub refused_is : filled.refused ≡ list_any is_refusal reports

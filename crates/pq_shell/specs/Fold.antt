@@ -13,7 +13,7 @@ use Rattle.pq_session.specs.Actions.{asked_bound, asked_schema}
 use Rattle.pq_session.specs.Model.{Model}
 use Rattle.pq_session.specs.Matches.{Matches}
 use Rattle.pq_session.specs.Promise.{IsBound, IsWithinFixed}
-use Rattle.pq_shell.specs.Forms.{item_step, asked_item, shown, HasOpening, StandsIn, OpensAt}
+use Rattle.pq_shell.specs.Forms.{item_step, asked_item, shown_report, HasOpening, StandsIn, OpensAt}
 use Rattle.pq_shell.specs.Items.{Item}
 use Rattle.pq_shell.specs.Outside.{IsCut}
 use Rattle.pq_shell.specs.declared.stop.Stop.{Stop}
@@ -60,13 +60,17 @@ IsWithinItem schema (item ∷ items) before now = IsWithinFixed (asked_bound sch
 abbrev pub CutsReport : Form → Schema → ℕ → List Item → List ℕ → Counts → Counts → Type 0
 CutsReport form schema number [] part before now = ⊥
 CutsReport form schema number (item ∷ items) part before now =
-    (report : Report) × IsReport schema number item report × IsCut part (shown form report) × RisesBy (report ∷ []) before now
+    (report : Report) × IsReport schema number item report × IsCut part (shown_report form report)
+    × RisesBy (report ∷ []) before now
 
--- what is out behind whole reports where a run stops, and what was used for the item at hand; a check stops for no store
+-- what is out behind whole reports where a run stops, and what was used for the item at hand; a check stops
+-- for no store
 abbrev pub IsPart : Form → Stop → Schema → ℕ → List Item → List ℕ → Counts → Counts → Type 0
-IsPart form stops.StoreFailed schema number todo part before now = HasOpening form × (part ≡ []) × IsWithinItem schema todo before now
+IsPart form stops.StoreFailed schema number todo part before now =
+    HasOpening form × (part ≡ []) × IsWithinItem schema todo before now
 IsPart form stops.NoMem schema number todo part before now = (part ≡ []) × IsWithinItem schema todo before now
-IsPart form (stops.Damaged damage) schema number todo part before now = HasOpening form × (part ≡ []) × IsWithinItem schema todo before now
+IsPart form (stops.Damaged damage) schema number todo part before now =
+    HasOpening form × (part ≡ []) × IsWithinItem schema todo before now
 IsPart form stops.WriteFailed schema number todo part before now = CutsReport form schema number todo part before now
 
 -- ---- over a model
@@ -77,43 +81,50 @@ after form m number [] = m
 after form m number (item ∷ items) = after form (item_step form m number item).model (number + 1) items
 
 -- these reports match the steps of these items, one by one
-abbrev pub Reported : Form → Model → ℕ → List Item → List Report → Type 0
-Reported form m number [] [] = Unit {0}
-Reported form m number [] (report ∷ reports) = ⊥
-Reported form m number (item ∷ items) [] = ⊥
-Reported form m number (item ∷ items) (report ∷ reports) =
-    Matches (item_step form m number item).report report × Reported form (item_step form m number item).model (number + 1) items reports
+abbrev pub ReportedItems : Form → Model → ℕ → List Item → List Report → Type 0
+ReportedItems form m number [] [] = Unit {0}
+ReportedItems form m number [] (report ∷ reports) = ⊥
+ReportedItems form m number (item ∷ items) [] = ⊥
+ReportedItems form m number (item ∷ items) (report ∷ reports) =
+    Matches (item_step form m number item).report report
+    × ReportedItems form (item_step form m number item).model (number + 1) items reports
 
--- what stands where a run stops: the model before the item at hand or after it; behind a report that was cut, the one after it
+-- what stands where a run stops: the model before the item at hand or after it; behind a report that was cut,
+-- the one after it
 abbrev pub Halts : Form → Stop → Model → ℕ → List Item → Option Content → List ℕ → Type 0
 Halts form (stops.Damaged damage) m number todo now part = ⊥
 Halts form stops.WriteFailed m number [] now part = ⊥
 Halts form stops.WriteFailed m number (item ∷ items) now part =
-    (report : Report) × Matches (item_step form m number item).report report × IsCut part (shown form report)
+    (report : Report) × Matches (item_step form m number item).report report × IsCut part (shown_report form report)
     × OpensAt form now (item_step form m number item).model
 Halts form stops.StoreFailed m number [] now part = OpensAt form now m
-Halts form stops.StoreFailed m number (item ∷ items) now part = OpensAt form now m ⊎ OpensAt form now (item_step form m number item).model
+Halts form stops.StoreFailed m number (item ∷ items) now part =
+    OpensAt form now m ⊎ OpensAt form now (item_step form m number item).model
 Halts form stops.NoMem m number [] now part = OpensAt form now m
-Halts form stops.NoMem m number (item ∷ items) now part = OpensAt form now m ⊎ OpensAt form now (item_step form m number item).model
+Halts form stops.NoMem m number (item ∷ items) now part =
+    OpensAt form now m ⊎ OpensAt form now (item_step form m number item).model
 
 -- ---- items that were made
 
 -- these items were made, and these are their reports
-pub record Made (form : Form) (first last : Schema) (from to : Moment) (number : ℕ) (items : List Item) (reports : List Report) : Type 0 where
+pub record MadeReports (form : Form) (first last : Schema) (from to : Moment) (number : ℕ) (items : List Item)
+    (reports : List Report) : Type 0 where
   pub told : Reports first number items reports last
   pub folds : (m : Model) → StandsIn form from.content first m
-      → StandsIn form to.content last (after form m number items) × Reported form m number items reports
-  pub text : to.held ≡ append_known from.held (flat_map (shown form) reports)
+      → StandsIn form to.content last (after form m number items) × ReportedItems form m number items reports
+  pub text : to.held ≡ append_known from.held (flat_map (shown_report form) reports)
   pub rises : RisesBy reports from.counts to.counts
 
 -- the same, and whether one of the reports is a refusal
-pub record Served (form : Form) (first last : Schema) (from to : Moment) (number : ℕ) (items : List Item) (refused refused_now : Bool) : Type 0 where
+pub record Served (form : Form) (first last : Schema) (from to : Moment) (number : ℕ) (items : List Item)
+    (refused refused_now : Bool) : Type 0 where
   pub reports : List Report
-  pub made : Made form first last from to number items reports
+  pub made : MadeReports form first last from to number items reports
   pub refusal : refused_now ≡ (refused || list_any is_refusal reports)
 
 -- some items were made, and then the run stopped
-pub record Stopped (form : Form) (stop : Stop) (first : Schema) (from now : Moment) (number : ℕ) (items : List Item) : Type 0 where
+pub record StoppedItem (form : Form) (stop : Stop) (first : Schema) (from now : Moment) (number : ℕ)
+    (items : List Item) : Type 0 where
   pub done : List Item
   pub todo : List Item
   pub reports : List Report
@@ -122,8 +133,9 @@ pub record Stopped (form : Form) (stop : Stop) (first : Schema) (from now : Mome
   pub between : Counts
   pub among : items ≡ done ++ todo
   pub told : Reports first number done reports last
-  pub text : now.held ≡ append_known from.held (flat_map (shown form) reports ++ part)
+  pub text : now.held ≡ append_known from.held (flat_map (shown_report form) reports ++ part)
   pub rises : RisesBy reports from.counts between
   pub part_is : IsPart form stop last (number + length done) todo part between now.counts
   pub stands : (m : Model) → StandsIn form from.content first m
-      → Reported form m number done reports × Halts form stop (after form m number done) (number + length done) todo now.content part
+      → ReportedItems form m number done reports
+      × Halts form stop (after form m number done) (number + length done) todo now.content part

@@ -1,4 +1,5 @@
--- The three forms of a run: the step of an item, what is written of its report, what a run begins with and what then stands.
+-- The three forms of a run: the step of an item, what is written of its report, what a run begins with and
+-- what then stands.
 use Rattle.std.specs.Prelude.{◌≡◌, ℕ, List, [], map, Option, IfSome, Result, Err}
 use Rattle.pq_base.specs.declared.refusal.Refusal.{Refusal}
 use Rattle.pq_base.specs.declared.refusal.Refusal.TheVariants.{Unfinished}
@@ -6,11 +7,11 @@ use Rattle.pq_fill.specs.Script.{fill_script}
 use Rattle.pq_fill.specs.Summary.{summary_of, summary_text}
 use Rattle.pq_fill.specs.declared.words.Form.{Form}
 use Rattle.pq_fill.specs.declared.words.Form.TheVariants.{Run, Check, Fill}
-use Rattle.pq_print.specs.Report.{printed, opening_line}
+use Rattle.pq_print.specs.Report.{printed_report, opening_line}
 use Rattle.pq_print.specs.declared.report.Opened.{Opened}
 use Rattle.pq_print.specs.declared.report.Report.{Report}
 use Rattle.pq_schema.specs.Schema.{Schema, empty_schema}
-use Rattle.pq_session.specs.Actions.{Action, asked}
+use Rattle.pq_session.specs.Actions.{Action, action_of}
 use Rattle.pq_session.specs.Checks.{check_step, without_rows}
 use Rattle.pq_session.specs.Matches.{IsOpening}
 use Rattle.pq_session.specs.Model.{Model}
@@ -19,7 +20,7 @@ use Rattle.pq_session.specs.Step.{Step, refused_unread, step}
 use Rattle.pq_store.specs.Content.{Content}
 use Rattle.pq_text.specs.declared.piece.Piece.TheVariants as piece
 use Rattle.pq_shell.specs.Items.{Item, Cut, Rest, cut_items, items_of}
-use Rattle.pq_shell.specs.Reading.{Took}
+use Rattle.pq_shell.specs.Reading.{TookBytes}
 use Rattle.pq_shell.specs.declared.reading.Ending.{Ending}
 use Rattle.pq_shell.specs.declared.reading.Ending.TheVariants.{Whole}
 
@@ -42,7 +43,7 @@ item_step (Fill n) m number item = run_step m number item
 
 -- what it asks for, as far as the definitions decide it
 abbrev pub asked_item : Schema → Item → Result Action Refusal
-asked_item schema (Cut piece) = asked schema piece
+asked_item schema (Cut piece) = action_of schema piece
 asked_item schema Rest = Err Unfinished
 
 -- ---- which items there are
@@ -53,8 +54,10 @@ fill_items n = cut_items (map piece.Statement (fill_script n))
 
 -- those of the bytes that the source gave; or those of the generated script, for which nothing is read
 abbrev pub HasItems : Form → Ending → Option (List ℕ) → Option (List ℕ) → List Item → Type 0
-HasItems Run ending left left_now items = (bytes : List ℕ) × Took ending left left_now bytes × (items ≡ items_of ending bytes)
-HasItems Check ending left left_now items = (bytes : List ℕ) × Took ending left left_now bytes × (items ≡ items_of ending bytes)
+HasItems Run ending left left_now items = (bytes : List ℕ) × TookBytes ending left left_now bytes
+    × (items ≡ items_of ending bytes)
+HasItems Check ending left left_now items = (bytes : List ℕ) × TookBytes ending left left_now bytes
+    × (items ≡ items_of ending bytes)
 HasItems (Fill n) ending left left_now items = (ending ≡ Whole) × (left_now ≡ left) × (items ≡ fill_items n)
 
 -- ---- what is written
@@ -66,10 +69,10 @@ front Check opened = []
 front (Fill n) opened = opening_line opened
 
 -- of a report as it is made
-abbrev pub shown : Form → Report → List ℕ
-shown Run report = printed report
-shown Check report = printed report
-shown (Fill n) report = []
+abbrev pub shown_report : Form → Report → List ℕ
+shown_report Run report = printed_report report
+shown_report Check report = printed_report report
+shown_report (Fill n) report = []
 
 -- behind the last report
 abbrev pub close : Form → Opened → List Report → List ℕ

@@ -8,7 +8,7 @@ use Rattle.pq_store.specs.Counts.{Counts}
 use Rattle.pq_print.specs.declared.report.Report.{Report}
 use Rattle.pq_session.specs.Matches.{Matches}
 use Rattle.pq_session.specs.Model.{Model}
-use Rattle.pq_shell.specs.Fold.{Moment, IsReport, RisesBy, Stopped, schema_behind}
+use Rattle.pq_shell.specs.Fold.{Moment, IsReport, RisesBy, StoppedItem, schema_behind}
 use Rattle.pq_shell.specs.Forms.{item_step, StandsIn}
 use Rattle.pq_shell.specs.Items.{Item}
 use Rattle.pq_shell.specs.declared.stop.Stop.{Stop}
@@ -20,7 +20,8 @@ IsRead Check = Unit {0}
 IsRead (Fill n) = ⊥
 
 -- the item was made, and this is its report
-pub record Makes (form : Form) (item : Item) (number : ℕ) (schema next : Schema) (old now : Option Content) (before after : Counts) (report : Report) : Type 0 where
+pub record Makes (form : Form) (item : Item) (number : ℕ) (schema next : Schema) (old now : Option Content)
+    (before after : Counts) (report : Report) : Type 0 where
   pub is : IsReport schema number item report
   pub next_is : next ≡ schema_behind schema item report
   pub matches : (m : Model) → StandsIn form old schema m → Matches (item_step form m number item).report report
@@ -33,4 +34,5 @@ moment content held counts = record { content = content; held = held; counts = c
 -- the run stopped at this item, whatever the sink holds, which was not written to
 abbrev pub BreaksAt : Form → Stop → Item → ℕ → Schema → Option Content → Option Content → Counts → Counts → Type 0
 BreaksAt form stop item number schema old now before after =
-    (held : Option (List ℕ)) → Stopped form stop schema (moment old held before) (moment now held after) number (item ∷ [])
+    (held : Option (List ℕ)) → StoppedItem form stop schema (moment old held before) (moment now held after) number
+    (item ∷ [])

@@ -9,8 +9,8 @@ pub record Calls : Type 0 where
   pub faults : ℕ
 
 -- one more, up to the last number
-abbrev pub raised : ℕ → ℕ
-raised n = min (n + 1) 18446744073709551615
+abbrev pub raised_count : ℕ → ℕ
+raised_count n = min (n + 1) 18446744073709551615
 
 -- the next call is listed
 abbrev pub is_listed : Calls → Bool
@@ -18,22 +18,27 @@ is_listed calls = list_any (λ number. number == calls.made + 1) calls.fails
 
 -- one call more, which failed or not
 abbrev pub called : Bool → Calls → Calls
-called failed calls = record { fails = calls.fails; made = raised calls.made; faults = if failed then raised calls.faults else calls.faults }
+called failed calls = record {
+  fails = calls.fails;
+  made = raised_count calls.made;
+  faults = if failed
+      then raised_count calls.faults else calls.faults;
+}
 
 -- what a source in memory has left
-pub record Given : Type 0 where
+pub record GivenBytes : Type 0 where
   pub left : List ℕ
   pub calls : Calls
 
 -- what a sink in memory holds, and how many bytes it holds at most
-pub record Taken : Type 0 where
+pub record TakenBytes : Type 0 where
   pub held : List ℕ
   pub room : ℕ
   pub calls : Calls
 
-abbrev pub is_full : Taken → Bool
+abbrev pub is_full : TakenBytes → Bool
 is_full sink = sink.room - length sink.held == 0
 
 -- the next write fails
-abbrev pub is_refusing : Taken → Bool
+abbrev pub is_refusing : TakenBytes → Bool
 is_refusing sink = is_listed sink.calls || is_full sink

@@ -19,7 +19,8 @@ use Rattle.pq_shell.specs.declared.stop.Stop.TheVariants as stops
 -- the run was begun with these definitions, and the opening's line is out
 pub record Opening (form : Form) (first : Schema) (from to : Moment) : Type 0 where
   pub opened : Opened
-  pub opens : (m : Model) → Starts form from.content m → IsOpened form from.content m opened × StandsIn form to.content first m
+  pub opens : (m : Model) → Starts form from.content m
+      → IsOpened form from.content m opened × StandsIn form to.content first m
   pub text : to.held ≡ append_known from.held (front form opened)
   pub ops : to.counts.ops ≡ from.counts.ops + opened.used.ops
   pub entries : to.counts.entries ≡ from.counts.entries + opened.used.entries
@@ -40,7 +41,8 @@ IsOpeningPart stops.WriteFailed part = (opened : Opened) × IsCut part (opening_
 abbrev pub HaltsOpening : Option Content → Stop → Model → List ℕ → Type 0
 HaltsOpening content stops.StoreFailed m part = Unit {0}
 HaltsOpening content stops.NoMem m part = Unit {0}
-HaltsOpening content stops.WriteFailed m part = (opened : Opened) × IsOpening content m opened × IsCut part (opening_line opened)
+HaltsOpening content stops.WriteFailed m part =
+    (opened : Opened) × IsOpening content m opened × IsCut part (opening_line opened)
 HaltsOpening content (stops.Damaged damage) m part = ⊥
 
 -- the run stopped at the opening

@@ -9,7 +9,9 @@ abbrev pub script_limit : ℕ
 script_limit = 16777216
 
 -- these bytes of the source were read: to its end, up to a fault or a stop, or up to the limit with one byte besides
-abbrev pub Took : Ending → Option (List ℕ) → Option (List ℕ) → List ℕ → Type 0
-Took Whole left left_now bytes = (left ≡ prepend_known bytes left_now) × IsAtEnd left_now × (length bytes ≤ script_limit)
-Took Faulted left left_now bytes = (left ≡ prepend_known bytes left_now) × (length bytes ≤ script_limit)
-Took TooLong left left_now bytes = (next : ℕ) × (left ≡ prepend_known (bytes ++ next ∷ []) left_now) × (length bytes ≡ script_limit)
+abbrev pub TookBytes : Ending → Option (List ℕ) → Option (List ℕ) → List ℕ → Type 0
+TookBytes Whole left left_now bytes = (left ≡ prepend_known bytes left_now) × IsAtEnd left_now
+    × (length bytes ≤ script_limit)
+TookBytes Faulted left left_now bytes = (left ≡ prepend_known bytes left_now) × (length bytes ≤ script_limit)
+TookBytes TooLong left left_now bytes = (next : ℕ) × (left ≡ prepend_known (bytes ++ next ∷ []) left_now)
+    × (length bytes ≡ script_limit)

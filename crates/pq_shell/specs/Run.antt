@@ -13,7 +13,7 @@ use Rattle.pq_print.specs.Report.{damage_line, is_refusal}
 use Rattle.pq_print.specs.declared.report.Report.{Report}
 use Rattle.pq_session.specs.Model.{Model}
 use Rattle.pq_session.specs.Stands.{Opens}
-use Rattle.pq_shell.specs.Fold.{Moment, Made, Reported, Stopped, after}
+use Rattle.pq_shell.specs.Fold.{Moment, MadeReports, ReportedItems, StoppedItem, after}
 use Rattle.pq_shell.specs.Forms.{HasItems, HasOpening, HoldsAt, OpensAt, Starts, close}
 use Rattle.pq_shell.specs.Items.{Item}
 use Rattle.pq_shell.specs.Openings.{Opening, StoppedOpening}
@@ -33,33 +33,35 @@ pub record World : Type 0 where
   pub moment : Moment
 
 abbrev pub world : Option (List ℕ) → Option Content → Option (List ℕ) → Counts → World
-world left content held counts = record { left = left; moment = record { content = content; held = held; counts = counts } }
+world left content held counts =
+    record { left = left; moment = record { content = content; held = held; counts = counts } }
 
 -- the same with more on the sink
-abbrev pub written : World → Option (List ℕ) → World
-written world held = record world { moment = record world.moment { held = held } }
+abbrev pub written_world : World → Option (List ℕ) → World
+written_world world held = record world { moment = record world.moment { held = held } }
 
 -- the run was begun, these items were made, and their reports are out; for a generated script these are only noted
-pub record Ran (form : Form) (before now : Moment) (items : List Item) : Type 0 where
+pub record RanItems (form : Form) (before now : Moment) (items : List Item) : Type 0 where
   pub reports : List Report
   pub first : Schema
   pub last : Schema
   pub between : Moment
   pub opening : Opening form first before between
-  pub made : Made form first last between now 1 items reports
+  pub made : MadeReports form first last between now 1 items reports
 
 -- a script was read so, or is the generated one, and all that is run of it was made and is reported
-pub record Finished (form : Form) (ending : Ending) (refused : Bool) (before now : World) : Type 0 where
+pub record FinishedRun (form : Form) (ending : Ending) (refused : Bool) (before now : World) : Type 0 where
   pub items : List Item
   pub held : Option (List ℕ)
   pub read : HasItems form ending before.left now.left items
-  pub ran : Ran form before.moment (record now.moment { held = held }) items
+  pub ran : RanItems form before.moment (record now.moment { held = held }) items
   pub text : now.moment.held ≡ append_known held (close form ran.opening.opened ran.reports)
   pub refusal : refused ≡ list_any is_refusal ran.reports
 
 -- ---- a run that stopped
 
--- of the bytes taken all but the last 4,096 at most belong to pieces that are reported, to blank ones or to the one at hand
+-- of the bytes taken all but the last 4,096 at most belong to pieces that are reported, to blank ones or to
+-- the one at hand
 pub record IsReadInParts (left left_now : Option (List ℕ)) (reported : ℕ) : Type 0 where
   pub early : List ℕ
   pub late : List ℕ
@@ -86,7 +88,7 @@ pub record StopsLater (form : Form) (stop : Stop) (before now : World) : Type 0 
   pub between : Moment
   pub read : HasItems form ending before.left now.left items
   pub opening : Opening form first before.moment between
-  pub stopped : Stopped form stop first between now.moment 1 items
+  pub stopped : StoppedItem form stop first between now.moment 1 items
   pub in_parts : HasRead form before.left now.left (length stopped.done)
 
 -- behind the last item: what closes the run is cut, or there is no memory for it
@@ -101,21 +103,21 @@ pub record StopsClosing (form : Form) (stop : Stop) (before now : World) : Type 
   pub held : Option (List ℕ)
   pub part : List ℕ
   pub read : HasItems form Whole before.left now.left items
-  pub ran : Ran form before.moment (record now.moment { held = held }) items
+  pub ran : RanItems form before.moment (record now.moment { held = held }) items
   pub text : now.moment.held ≡ append_known held part
   pub part_is : IsClosingPart stop part (close form ran.opening.opened ran.reports)
 
-pub data Broken (form : Form) (stop : Stop) (before now : World) : Type 0 where
-  AtOpening : StopsOpening form stop before now → Broken form stop before now
-  AtItem : StopsLater form stop before now → Broken form stop before now
-  AtClose : StopsClosing form stop before now → Broken form stop before now
+pub data BrokenRun (form : Form) (stop : Stop) (before now : World) : Type 0 where
+  AtOpening : StopsOpening form stop before now → BrokenRun form stop before now
+  AtItem : StopsLater form stop before now → BrokenRun form stop before now
+  AtClose : StopsClosing form stop before now → BrokenRun form stop before now
 
 -- damage was found, and so much of the line that names its key is out behind whole reports
 pub record NamesDamage (form : Form) (IsTail : List ℕ → List ℕ → Type 0) (before now : World) : Type 0 where
   pub damage : Damage
   pub held : Option (List ℕ)
   pub line : List ℕ
-  pub broken : Broken form (stops.Damaged damage) before (written now held)
+  pub broken : BrokenRun form (stops.Damaged damage) before (written_world now held)
   pub tail : IsTail line (damage_line damage.key)
   pub text : now.moment.held ≡ append_known held line
 
@@ -128,15 +130,16 @@ IsMeant Check = Unit {0}
 IsMeant (Fill n) = (1 ≤ n) × (n ≤ 20000)
 
 abbrev pub Ends : Form → Status → World → World → Type 0
-Ends form status.Good before now = Finished form Whole false before now
-Ends form status.SomeRefused before now = Finished form Whole true before now
+Ends form status.Good before now = FinishedRun form Whole false before now
+Ends form status.SomeRefused before now = FinishedRun form Whole true before now
 Ends form status.Usage before now = ⊥
-Ends form status.ReadFault before now = (refused : Bool) × Finished form Faulted refused before now
-Ends form status.WriteFault before now = Broken form stops.WriteFailed before now ⊎ NamesDamage form IsCut before now
-Ends form status.StoreFault before now = Broken form stops.StoreFailed before now
+Ends form status.ReadFault before now = (refused : Bool) × FinishedRun form Faulted refused before now
+Ends form status.WriteFault before now = BrokenRun form stops.WriteFailed before now ⊎ NamesDamage form IsCut before now
+Ends form status.StoreFault before now = BrokenRun form stops.StoreFailed before now
 Ends form status.Damaged before now = NamesDamage form (λ line whole. line ≡ whole) before now
-Ends form status.NoMem before now = Broken form stops.NoMem before now ⊎ NamesDamage form (λ line whole. line ≡ []) before now
-Ends form status.TooLong before now = (refused : Bool) × Finished form TooLong refused before now
+Ends form status.NoMem before now = BrokenRun form stops.NoMem before now
+    ⊎ NamesDamage form (λ line whole. line ≡ []) before now
+Ends form status.TooLong before now = (refused : Bool) × FinishedRun form TooLong refused before now
 
 -- the status of a script whose items were all made
 abbrev pub status_of : Ending → Bool → Status
@@ -148,7 +151,8 @@ status_of TooLong refused = status.TooLong
 -- how the line that names the damage ends the run
 abbrev pub EndsDamaged : Status → List ℕ → Option (List ℕ) → Option (List ℕ) → Type 0
 EndsDamaged status.Damaged key held held_now = held_now ≡ append_known held (damage_line key)
-EndsDamaged status.WriteFault key held held_now = (part : List ℕ) × IsCut part (damage_line key) × (held_now ≡ append_known held part)
+EndsDamaged status.WriteFault key held held_now =
+    (part : List ℕ) × IsCut part (damage_line key) × (held_now ≡ append_known held part)
 EndsDamaged status.NoMem key held held_now = held_now ≡ held
 EndsDamaged _ key held held_now = ⊥
 

@@ -8,12 +8,12 @@ use Rattle.pq_schema.specs.Schema.{Schema}
 use Rattle.pq_text.specs.Pieces.{pieces_of}
 use Rattle.pq_text.specs.declared.piece.Piece.{Piece}
 use Rattle.pq_text.specs.Summaries.{Summary, pieces_from, unfinished_from}
-use Rattle.pq_print.specs.Report.{printed}
+use Rattle.pq_print.specs.Report.{printed_report}
 use Rattle.pq_print.specs.declared.report.Report.{Report}
 use Rattle.pq_session.specs.Step.{refusal_report}
-use Rattle.pq_shell.specs.Fold.{Moment, Served, Stopped}
+use Rattle.pq_shell.specs.Fold.{Moment, Served, StoppedItem}
 use Rattle.pq_shell.specs.Items.{cut_items}
-use Rattle.pq_shell.specs.Reading.{Took}
+use Rattle.pq_shell.specs.Reading.{TookBytes}
 use Rattle.pq_shell.specs.Stops.{CutsOff}
 use Rattle.pq_shell.specs.declared.reading.Ending.{Ending}
 use Rattle.pq_shell.specs.declared.reading.Ending.TheVariants.{Whole, Faulted, TooLong}
@@ -22,31 +22,35 @@ use Rattle.pq_shell.specs.declared.serving.Progress.{Progress}
 use Rattle.pq_shell.specs.declared.stop.Stop.{Stop}
 
 -- between these states a splitter tells these pieces of these bytes, whatever comes next
-pub record Fed (from : Summary) (bytes : List ℕ) (told : List Piece) (to : Summary) : Type 0 where
+pub record FedPieces (from : Summary) (bytes : List ℕ) (told : List Piece) (to : Summary) : Type 0 where
   pub pieces : (more : List ℕ) → pieces_from from (bytes ++ more) ≡ told ++ pieces_from to more
   pub rest : (more : List ℕ) → unfinished_from from (bytes ++ more) ≡ unfinished_from to more
 
 -- these bytes were fed, and their pieces were made and numbered on
-pub record Progressed (form : Form) (first last : Schema) (from to : Moment) (bytes : List ℕ) (old now : Progress) : Type 0 where
+pub record ProgressedRun (form : Form) (first last : Schema) (from to : Moment) (bytes : List ℕ)
+    (old now : Progress) : Type 0 where
   pub told : List Piece
-  pub fed : Fed old.splitter bytes told now.splitter
+  pub fed : FedPieces old.splitter bytes told now.splitter
   pub served : Served form first last from to (old.tally.count + 1) (cut_items told) old.tally.refused now.tally.refused
   pub counted : now.tally.count ≡ old.tally.count + length told
   pub few : now.tally.count ≤ old.tally.count + length bytes
 
 -- the source was read so far, and all of it was fed
-pub record Consumed (form : Form) (ending : Ending) (left left_now : Option (List ℕ)) (first last : Schema) (from to : Moment) (old now : Progress) : Type 0 where
+pub record ConsumedSource (form : Form) (ending : Ending) (left left_now : Option (List ℕ)) (first last : Schema)
+    (from to : Moment) (old now : Progress) : Type 0 where
   pub bytes : List ℕ
-  pub took : Took ending left left_now bytes
-  pub progressed : Progressed form first last from to bytes old now
+  pub took : TookBytes ending left left_now bytes
+  pub progressed : ProgressedRun form first last from to bytes old now
 
 -- the run stopped among the pieces of the part that was read last
-pub record StoppedAmong (form : Form) (stop : Stop) (left left_now : Option (List ℕ)) (first : Schema) (from now : Moment) (old : Progress) : Type 0 where
+pub record StoppedAmong (form : Form) (stop : Stop) (left left_now : Option (List ℕ)) (first : Schema)
+    (from now : Moment) (old : Progress) : Type 0 where
   pub early : List ℕ
   pub late : List ℕ
-  pub took : Took Faulted left left_now (early ++ late)
+  pub took : TookBytes Faulted left left_now (early ++ late)
   pub few : length late ≤ 4096
-  pub stopped : Stopped form stop first from now (old.tally.count + 1) (cut_items (pieces_from old.splitter (early ++ late)))
+  pub stopped : StoppedItem form stop first from now (old.tally.count + 1)
+      (cut_items (pieces_from old.splitter (early ++ late)))
   pub reported : length (pieces_from old.splitter early) ≤ length stopped.done
 
 -- the rest is unfinished, and the script was read to its end
@@ -61,16 +65,18 @@ rest_report number = refusal_report number Unfinished (bound 0 0)
 
 -- what is written of the rest
 abbrev pub rest_text : Bool → ℕ → List ℕ
-rest_text true number = printed (rest_report number)
+rest_text true number = printed_report (rest_report number)
 rest_text false number = []
 
 -- the rest is reported, where there is one
-pub record ReportsRest (ending : Ending) (progress : Progress) (ended : Ended) (held held_now : Option (List ℕ)) : Type 0 where
+pub record ReportsRest (ending : Ending) (progress : Progress) (ended : Ended) (held held_now : Option (List ℕ))
+    : Type 0 where
   pub ending_is : ended.ending ≡ ending
   pub refused_is : ended.refused ≡ (progress.tally.refused || has_rest ending progress.splitter)
   pub text : held_now ≡ append_known held (rest_text (has_rest ending progress.splitter) (progress.tally.count + 1))
 
 -- the run stopped at the report of the rest
-pub record StoppedAtRest (stop : Stop) (ending : Ending) (progress : Progress) (held held_now : Option (List ℕ)) : Type 0 where
+pub record StoppedAtRest (stop : Stop) (ending : Ending) (progress : Progress) (held held_now : Option (List ℕ))
+    : Type 0 where
   pub some_rest : has_rest ending progress.splitter ≡ true
-  pub cut : CutsOff stop (printed (rest_report (progress.tally.count + 1))) held held_now
+  pub cut : CutsOff stop (printed_report (rest_report (progress.tally.count + 1))) held held_now

@@ -4,7 +4,7 @@ ghost use Rattle.pq_fill.specs.Summary.{with_report};
 ghost use Rattle.pq_print.specs.Report.{is_refusal};
 ghost use Rattle.pq_fill.specs.declared.words.Form.TheVariants as Form;
 ghost use Rattle.pq_shell.specs.Filling.{Fills};
-ghost use Rattle.pq_shell.specs.Fold.{Stopped};
+ghost use Rattle.pq_shell.specs.Fold.{StoppedItem};
 ghost use Rattle.pq_shell.specs.Forms.{fill_items};
 ghost use Rattle.pq_shell.specs.Making.{moment};
 ghost use Rattle.pq_shell.specs.Stops.{Causes};
@@ -49,8 +49,12 @@ pub fn fill_store<S: Store<L>, L: Ledger>(
     meter: &mut Meter<L>,
 ) -> Result<Filled, Stop>
     requires { (1 ≤ n) × (n ≤ 20000) }
-    ensures ok { IfOk result (λ filled. (held : Option (List ℕ)) → Fills n session used (moment (S.content store.old) held meter.old) (moment (S.content store.new) held meter.new) filled) }
-    ensures err { IfErr result (λ stop. (held : Option (List ℕ)) → Stopped (Form.Fill n) stop session (moment (S.content store.old) held meter.old) (moment (S.content store.new) held meter.new) 1 (fill_items n)) }
+    ensures ok { IfOk result (λ filled. (held : Option (List ℕ))
+        → Fills n session used (moment (S.content store.old) held meter.old)
+        (moment (S.content store.new) held meter.new) filled) }
+    ensures err { IfErr result (λ stop. (held : Option (List ℕ))
+        → StoppedItem (Form.Fill n) stop session (moment (S.content store.old) held meter.old)
+        (moment (S.content store.new) held meter.new) 1 (fill_items n)) }
     ensures causes { Causes (S.faults store.old) (S.faults store.new) 0 0 result }
 {
     let count = fill_count(n);

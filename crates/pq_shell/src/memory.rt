@@ -73,9 +73,9 @@ pub struct MemSource {
 
 impl Model for MemSource {
     ghost use Rattle.std.specs.Prelude.{drop, length, ◌≤◌};
-    ghost use Rattle.pq_shell.specs.Memory.{Given};
+    ghost use Rattle.pq_shell.specs.Memory.{GivenBytes};
 
-    ghost Value = { Given };
+    ghost Value = { GivenBytes };
 
     ghost view = { λ s. record { left = drop s.at s.bytes; calls = s.calls } };
 
@@ -148,9 +148,9 @@ pub struct MemSink {
 
 impl Model for MemSink {
     ghost use Rattle.std.specs.Prelude.{take, length, ◌≤◌, vec_len};
-    ghost use Rattle.pq_shell.specs.Memory.{Taken};
+    ghost use Rattle.pq_shell.specs.Memory.{TakenBytes};
 
-    ghost Value = { Taken };
+    ghost Value = { TakenBytes };
 
     ghost view = { λ s. record { held = take s.used s.bytes.items; room = length s.bytes.items; calls = s.calls } };
 

@@ -48,7 +48,8 @@ pub trait Sink {
 /// Writes the whole text, or a first part of it where the sink fails.
 pub fn write_all<O: Sink>(sink: &mut O, text: &[u8]) -> Result<(), Failed>
     ensures ok { OnOk result (O.held sink.new ≡ append_known (O.held sink.old) text.now) }
-    ensures err { OnErr result ((part : List ℕ) × IsCut part text.now × (O.held sink.new ≡ append_known (O.held sink.old) part)) }
+    ensures err { OnErr result ((part : List ℕ) × IsCut part text.now
+        × (O.held sink.new ≡ append_known (O.held sink.old) part)) }
     ensures cause { HasCause (O.faults sink.old) (O.faults sink.new) result }
 {
     let mut at = 0;

@@ -2,7 +2,7 @@
 ghost use Rattle.std.specs.Prelude.{◌≡◌, ◌≤◌, [], ℕ, List, Option, length};
 ghost use Rattle.std.specs.Io.KnownBytes.{prepend_known};
 ghost use Rattle.pq_store.specs.Content.{HasRisen};
-ghost use Rattle.pq_shell.specs.Reading.{Took, script_limit};
+ghost use Rattle.pq_shell.specs.Reading.{TookBytes, script_limit};
 
 use crate::outside::{Failed, Source};
 
@@ -22,8 +22,10 @@ pub enum Ending {
 
 /// How the reading ends where as many bytes were read as a script may have: by one read more.
 pub fn read_past_limit<I: Source>(source: &mut I) -> Ending
-    ensures took { (bytes : List ℕ) → length bytes ≡ script_limit → (left : Option (List ℕ)) → left ≡ prepend_known bytes (I.left source.old) → Took result left (I.left source.new) bytes }
-    ensures taken { (taken : List ℕ) × (I.left source.old ≡ prepend_known taken (I.left source.new)) × (length taken ≤ 1) }
+    ensures took { (bytes : List ℕ) → length bytes ≡ script_limit → (left : Option (List ℕ))
+        → left ≡ prepend_known bytes (I.left source.old) → TookBytes result left (I.left source.new) bytes }
+    ensures taken { (taken : List ℕ) × (I.left source.old ≡ prepend_known taken (I.left source.new))
+        × (length taken ≤ 1) }
     ensures later { I.faults source.old ≤ I.faults source.new }
     ensures cause { result ≡ Ending.Faulted → HasRisen (I.faults source.old) (I.faults source.new) }
 {

@@ -11,8 +11,8 @@ ghost use Rattle.pq_shell.specs.Forms.{HasOpening};
 ghost use Rattle.pq_shell.specs.Making.{IsRead, moment};
 ghost use Rattle.pq_shell.specs.Openings.{OpensWith, StoppedOpening};
 ghost use Rattle.pq_shell.specs.Reading.{script_limit};
-ghost use Rattle.pq_shell.specs.Run.{Broken, Closes, Ends, EndsDamaged, Finished, IsMeant, IsPlain, Suffices, status_of, world};
-ghost use Rattle.pq_shell.specs.Serving.{Consumed, StoppedAmong};
+ghost use Rattle.pq_shell.specs.Run.{BrokenRun, Closes, Ends, EndsDamaged, FinishedRun, IsMeant, IsPlain, Suffices, status_of, world};
+ghost use Rattle.pq_shell.specs.Serving.{ConsumedSource, StoppedAmong};
 ghost use Rattle.pq_shell.specs.Stops.{Causes};
 
 use crate::filling::fill_store;
@@ -47,9 +47,15 @@ fn open<S: Store<L>, O: Sink, L: Ledger>(
     meter: &mut Meter<L>,
     sink: &mut O,
 ) -> Result<Begun, Stop>
-    ensures ok { IfOk result (λ begun. (form : Declared) → HasOpening form → OpensWith form begun (moment (S.content store.old) (O.held sink.old) meter.old) (moment (S.content store.new) (O.held sink.new) meter.new)) }
-    ensures err { IfErr result (λ stop. StoppedOpening stop (moment (S.content store.old) (O.held sink.old) meter.old) (moment (S.content store.new) (O.held sink.new) meter.new)) }
-    ensures flawed { IfSome (S.content store.old) (λ pairs. (key : List ℕ) → IsFlaw pairs key → StopsAtFlaw key result (O.held sink.old) (O.held sink.new)) }
+    ensures ok { IfOk result (λ begun. (form : Declared) → HasOpening form
+        → OpensWith form begun (moment (S.content store.old) (O.held sink.old) meter.old)
+        (moment (S.content store.new) (O.held sink.new) meter.new)) }
+    ensures err { IfErr result (λ stop. StoppedOpening stop
+        (moment (S.content store.old) (O.held sink.old) meter.old)
+        (moment (S.content store.new) (O.held sink.new) meter.new)) }
+    ensures flawed { IfSome (S.content store.old)
+        (λ pairs. (key : List ℕ) → IsFlaw pairs key
+        → StopsAtFlaw key result (O.held sink.old) (O.held sink.new)) }
     ensures causes { Causes (S.faults store.old) (S.faults store.new) (O.faults sink.old) (O.faults sink.new) result }
 {
     let started = match Session::start(alloc, store, meter) {
@@ -76,10 +82,16 @@ fn begin<S: Store<L>, O: Sink, L: Ledger>(
     meter: &mut Meter<L>,
     sink: &mut O,
 ) -> Result<Begun, Stop>
-    ensures ok { IfOk result (λ begun. OpensWith form begun (moment (S.content store.old) (O.held sink.old) meter.old) (moment (S.content store.new) (O.held sink.new) meter.new)) }
-    ensures err { IfErr result (λ stop. HasOpening form × StoppedOpening stop (moment (S.content store.old) (O.held sink.old) meter.old) (moment (S.content store.new) (O.held sink.new) meter.new)) }
+    ensures ok { IfOk result (λ begun. OpensWith form begun
+        (moment (S.content store.old) (O.held sink.old) meter.old)
+        (moment (S.content store.new) (O.held sink.new) meter.new)) }
+    ensures err { IfErr result (λ stop. HasOpening form
+        × StoppedOpening stop (moment (S.content store.old) (O.held sink.old) meter.old)
+        (moment (S.content store.new) (O.held sink.new) meter.new)) }
     ensures unmoved { form ≡ Form.Check → (store.new ≡ store.old) × (meter.new ≡ meter.old) }
-    ensures flawed { HasOpening form → IfSome (S.content store.old) (λ pairs. (key : List ℕ) → IsFlaw pairs key → StopsAtFlaw key result (O.held sink.old) (O.held sink.new)) }
+    ensures flawed { HasOpening form → IfSome (S.content store.old)
+        (λ pairs. (key : List ℕ) → IsFlaw pairs key
+        → StopsAtFlaw key result (O.held sink.old) (O.held sink.new)) }
     ensures causes { Causes (S.faults store.old) (S.faults store.new) (O.faults sink.old) (O.faults sink.new) result }
 {
     match form {
@@ -104,15 +116,20 @@ fn run_source<S: Store<L>, I: Source, O: Sink, L: Ledger>(
 ) -> Result<Ending, Stop>
     requires few { progress.old.tally.count + script_limit < 2 ^ 32 }
     requires read { IsRead form }
-    ensures ok { IfOk result (λ ending. (last : Schema) × Consumed form ending (I.left source.old) (I.left source.new) session last
-        (moment (S.content store.old) (O.held sink.old) meter.old) (moment (S.content store.new) (O.held sink.new) meter.new) progress.old progress.new) }
+    ensures ok { IfOk result (λ ending. (last : Schema)
+        × ConsumedSource form ending (I.left source.old) (I.left source.new) session last
+        (moment (S.content store.old) (O.held sink.old) meter.old)
+        (moment (S.content store.new) (O.held sink.new) meter.new) progress.old progress.new) }
     ensures err { IfErr result (λ stop. StoppedAmong form stop (I.left source.old) (I.left source.new) session
-        (moment (S.content store.old) (O.held sink.old) meter.old) (moment (S.content store.new) (O.held sink.new) meter.new) progress.old) }
+        (moment (S.content store.old) (O.held sink.old) meter.old)
+        (moment (S.content store.new) (O.held sink.new) meter.new) progress.old) }
     ensures unmoved { form ≡ Form.Check → (store.new ≡ store.old) × (meter.new ≡ meter.old) }
     ensures causes { Causes (S.faults store.old) (S.faults store.new) (O.faults sink.old) (O.faults sink.new) result }
-    ensures taken { (taken : List ℕ) × (I.left source.old ≡ prepend_known taken (I.left source.new)) × (length taken ≤ script_limit + 1) }
+    ensures taken { (taken : List ℕ) × (I.left source.old ≡ prepend_known taken (I.left source.new))
+        × (length taken ≤ script_limit + 1) }
     ensures later { I.faults source.old ≤ I.faults source.new }
-    ensures read_fault { IfOk result (λ ending. ending ≡ Ending.Faulted → HasRisen (I.faults source.old) (I.faults source.new)) }
+    ensures read_fault { IfOk result (λ ending. ending ≡ Ending.Faulted
+        → HasRisen (I.faults source.old) (I.faults source.new)) }
 {
     let mut session = session;
     let mut room = [0u8; ROOM];
@@ -151,16 +168,22 @@ fn run_script<S: Store<L>, I: Source, O: Sink, L: Ledger>(
     sink: &mut O,
 ) -> Result<Ended, Stop>
     requires { IsRead form }
-    ensures ok { IfOk result (λ ended. Finished form ended.ending ended.refused
-        (world (I.left source.old) (S.content store.old) (O.held sink.old) meter.old) (world (I.left source.new) (S.content store.new) (O.held sink.new) meter.new)) }
-    ensures err { IfErr result (λ stop. Broken form stop
-        (world (I.left source.old) (S.content store.old) (O.held sink.old) meter.old) (world (I.left source.new) (S.content store.new) (O.held sink.new) meter.new)) }
-    ensures flawed { HasOpening form → IfSome (S.content store.old) (λ pairs. (key : List ℕ) → IsFlaw pairs key → StopsAtFlaw key result (O.held sink.old) (O.held sink.new)) }
+    ensures ok { IfOk result (λ ended. FinishedRun form ended.ending ended.refused
+        (world (I.left source.old) (S.content store.old) (O.held sink.old) meter.old)
+        (world (I.left source.new) (S.content store.new) (O.held sink.new) meter.new)) }
+    ensures err { IfErr result (λ stop. BrokenRun form stop
+        (world (I.left source.old) (S.content store.old) (O.held sink.old) meter.old)
+        (world (I.left source.new) (S.content store.new) (O.held sink.new) meter.new)) }
+    ensures flawed { HasOpening form → IfSome (S.content store.old)
+        (λ pairs. (key : List ℕ) → IsFlaw pairs key
+        → StopsAtFlaw key result (O.held sink.old) (O.held sink.new)) }
     ensures unmoved { form ≡ Form.Check → (store.new ≡ store.old) × (meter.new ≡ meter.old) }
     ensures causes { Causes (S.faults store.old) (S.faults store.new) (O.faults sink.old) (O.faults sink.new) result }
-    ensures taken { (taken : List ℕ) × (I.left source.old ≡ prepend_known taken (I.left source.new)) × (length taken ≤ script_limit + 1) }
+    ensures taken { (taken : List ℕ) × (I.left source.old ≡ prepend_known taken (I.left source.new))
+        × (length taken ≤ script_limit + 1) }
     ensures later { I.faults source.old ≤ I.faults source.new }
-    ensures read_fault { IfOk result (λ ended. ended.ending ≡ Ending.Faulted → HasRisen (I.faults source.old) (I.faults source.new)) }
+    ensures read_fault { IfOk result (λ ended. ended.ending ≡ Ending.Faulted
+        → HasRisen (I.faults source.old) (I.faults source.new)) }
 {
     let begun = begin(alloc, form, store, meter, sink)?;
     let mut progress = Progress::new(alloc);
@@ -186,12 +209,16 @@ fn run_fill<S: Store<L>, O: Sink, L: Ledger>(
     sink: &mut O,
 ) -> Result<Ended, Stop>
     requires { (1 ≤ n) × (n ≤ 20000) }
-    ensures ok { IfOk result (λ ended. (left : Option (List ℕ)) → Finished (Form.Fill n) ended.ending ended.refused
-        (world left (S.content store.old) (O.held sink.old) meter.old) (world left (S.content store.new) (O.held sink.new) meter.new)) }
+    ensures ok { IfOk result (λ ended. (left : Option (List ℕ)) → FinishedRun (Form.Fill n) ended.ending ended.refused
+        (world left (S.content store.old) (O.held sink.old) meter.old)
+        (world left (S.content store.new) (O.held sink.new) meter.new)) }
     ensures whole { IfOk result (λ ended. ended.ending ≡ Ending.Whole) }
-    ensures err { IfErr result (λ stop. (left : Option (List ℕ)) → Broken (Form.Fill n) stop
-        (world left (S.content store.old) (O.held sink.old) meter.old) (world left (S.content store.new) (O.held sink.new) meter.new)) }
-    ensures flawed { IfSome (S.content store.old) (λ pairs. (key : List ℕ) → IsFlaw pairs key → StopsAtFlaw key result (O.held sink.old) (O.held sink.new)) }
+    ensures err { IfErr result (λ stop. (left : Option (List ℕ)) → BrokenRun (Form.Fill n) stop
+        (world left (S.content store.old) (O.held sink.old) meter.old)
+        (world left (S.content store.new) (O.held sink.new) meter.new)) }
+    ensures flawed { IfSome (S.content store.old)
+        (λ pairs. (key : List ℕ) → IsFlaw pairs key
+        → StopsAtFlaw key result (O.held sink.old) (O.held sink.new)) }
     ensures causes { Causes (S.faults store.old) (S.faults store.new) (O.faults sink.old) (O.faults sink.new) result }
 {
     let begun = begin(alloc, Form::Fill(n), store, meter, sink)?;
@@ -213,16 +240,22 @@ fn run_form<S: Store<L>, I: Source, O: Sink, L: Ledger>(
     sink: &mut O,
 ) -> Result<Ended, Stop>
     requires { IsMeant form }
-    ensures ok { IfOk result (λ ended. Finished form ended.ending ended.refused
-        (world (I.left source.old) (S.content store.old) (O.held sink.old) meter.old) (world (I.left source.new) (S.content store.new) (O.held sink.new) meter.new)) }
-    ensures err { IfErr result (λ stop. Broken form stop
-        (world (I.left source.old) (S.content store.old) (O.held sink.old) meter.old) (world (I.left source.new) (S.content store.new) (O.held sink.new) meter.new)) }
-    ensures flawed { HasOpening form → IfSome (S.content store.old) (λ pairs. (key : List ℕ) → IsFlaw pairs key → StopsAtFlaw key result (O.held sink.old) (O.held sink.new)) }
+    ensures ok { IfOk result (λ ended. FinishedRun form ended.ending ended.refused
+        (world (I.left source.old) (S.content store.old) (O.held sink.old) meter.old)
+        (world (I.left source.new) (S.content store.new) (O.held sink.new) meter.new)) }
+    ensures err { IfErr result (λ stop. BrokenRun form stop
+        (world (I.left source.old) (S.content store.old) (O.held sink.old) meter.old)
+        (world (I.left source.new) (S.content store.new) (O.held sink.new) meter.new)) }
+    ensures flawed { HasOpening form → IfSome (S.content store.old)
+        (λ pairs. (key : List ℕ) → IsFlaw pairs key
+        → StopsAtFlaw key result (O.held sink.old) (O.held sink.new)) }
     ensures unmoved { form ≡ Form.Check → (store.new ≡ store.old) × (meter.new ≡ meter.old) }
     ensures unread { (n : ℕ) → form ≡ Form.Fill n → source.new ≡ source.old }
     ensures causes { Causes (S.faults store.old) (S.faults store.new) (O.faults sink.old) (O.faults sink.new) result }
-    ensures taken { (taken : List ℕ) × (I.left source.old ≡ prepend_known taken (I.left source.new)) × (length taken ≤ script_limit + 1) }
-    ensures read_fault { IfOk result (λ ended. ended.ending ≡ Ending.Faulted → HasRisen (I.faults source.old) (I.faults source.new)) }
+    ensures taken { (taken : List ℕ) × (I.left source.old ≡ prepend_known taken (I.left source.new))
+        × (length taken ≤ script_limit + 1) }
+    ensures read_fault { IfOk result (λ ended. ended.ending ≡ Ending.Faulted
+        → HasRisen (I.faults source.old) (I.faults source.new)) }
 {
     match form {
         Form::Run | Form::Check => run_script(alloc, form, source, store, meter, sink),
@@ -263,7 +296,8 @@ fn report_damage<O: Sink>(alloc: Global, key: &[u8], sink: &mut O) -> Status
 fn close<O: Sink>(alloc: Global, outcome: Result<Ended, Stop>, sink: &mut O) -> Status
     ensures closes { Closes outcome result (O.held sink.old) (O.held sink.new) }
     ensures later { O.faults sink.old ≤ O.faults sink.new }
-    ensures cause { result ≡ Status.WriteFault → IsErrOf outcome Stop.WriteFailed ⊎ HasRisen (O.faults sink.old) (O.faults sink.new) }
+    ensures cause { result ≡ Status.WriteFault
+        → IsErrOf outcome Stop.WriteFailed ⊎ HasRisen (O.faults sink.old) (O.faults sink.new) }
 {
     match outcome {
         Ok(ended) => status_of(ended),
@@ -285,14 +319,18 @@ fn run<S: Store<L>, I: Source, O: Sink, L: Ledger>(
 ) -> Status
     requires { IsMeant form }
     ensures ends { Ends form result
-        (world (I.left source.old) (S.content store.old) (O.held sink.old) meter.old) (world (I.left source.new) (S.content store.new) (O.held sink.new) meter.new) }
-    ensures flawed { HasOpening form → IfSome (S.content store.old) (λ pairs. (key : List ℕ) → IsFlaw pairs key → EndsAtFlaw key result (O.held sink.old) (O.held sink.new)) }
+        (world (I.left source.old) (S.content store.old) (O.held sink.old) meter.old)
+        (world (I.left source.new) (S.content store.new) (O.held sink.new) meter.new) }
+    ensures flawed { HasOpening form → IfSome (S.content store.old)
+        (λ pairs. (key : List ℕ) → IsFlaw pairs key
+        → EndsAtFlaw key result (O.held sink.old) (O.held sink.new)) }
     ensures unmoved { form ≡ Form.Check → (store.new ≡ store.old) × (meter.new ≡ meter.old) }
     ensures unread { (n : ℕ) → form ≡ Form.Fill n → source.new ≡ source.old }
     ensures read_fault { result ≡ Status.ReadFault → HasRisen (I.faults source.old) (I.faults source.new) }
     ensures write_fault { result ≡ Status.WriteFault → HasRisen (O.faults sink.old) (O.faults sink.new) }
     ensures store_fault { result ≡ Status.StoreFault → HasRisen (S.faults store.old) (S.faults store.new) }
-    ensures taken { (taken : List ℕ) × (I.left source.old ≡ prepend_known taken (I.left source.new)) × (length taken ≤ script_limit + 1) }
+    ensures taken { (taken : List ℕ) × (I.left source.old ≡ prepend_known taken (I.left source.new))
+        × (length taken ≤ script_limit + 1) }
 {
     let outcome = run_form(alloc, form, source, store, meter, sink);
     close(alloc, outcome, sink)
@@ -314,22 +352,29 @@ pub fn run_piql<S: Store<L>, I: Source, O: Sink, L: Ledger>(
     meter: &mut Meter<L>,
 ) -> Status
     ensures ends { (form : Declared) → IsForm form words.now → Ends form result
-        (world (I.left source.old) (S.content store.old) (O.held sink.old) meter.old) (world (I.left source.new) (S.content store.new) (O.held sink.new) meter.new) }
-    // Where the intent or the catalog of a told content is flawed, the line of the first flaw is all that is written; or a
+        (world (I.left source.old) (S.content store.old) (O.held sink.old) meter.old)
+        (world (I.left source.new) (S.content store.new) (O.held sink.new) meter.new) }
+    // Where the intent or the catalog of a told content is flawed, the line of the first flaw is
+    // all that is written; or a
     // call fails, or there is no memory.
     ensures flawed { (form : Declared) → IsForm form words.now → HasOpening form
-        → IfSome (S.content store.old) (λ pairs. (key : List ℕ) → IsFlaw pairs key → EndsAtFlaw key result (O.held sink.old) (O.held sink.new)) }
+        → IfSome (S.content store.old) (λ pairs. (key : List ℕ) → IsFlaw pairs key
+        → EndsAtFlaw key result (O.held sink.old) (O.held sink.new)) }
     ensures usage { result ≡ Status.Usage ↔ ((form : Declared) → ¬ IsForm form words.now) }
-    ensures untouched { result ≡ Status.Usage → (source.new ≡ source.old) × (store.new ≡ store.old) × (sink.new ≡ sink.old) × (meter.new ≡ meter.old) }
+    ensures untouched { result ≡ Status.Usage
+        → (source.new ≡ source.old) × (store.new ≡ store.old) × (sink.new ≡ sink.old)
+        × (meter.new ≡ meter.old) }
     // A check makes no call of the store, and the generated script none of the source.
     ensures unmoved { IsForm Form.Check words.now → (store.new ≡ store.old) × (meter.new ≡ meter.old) }
     ensures unread { (n : ℕ) → IsForm (Form.Fill n) words.now → source.new ≡ source.old }
     ensures read_fault { result ≡ Status.ReadFault → HasRisen (I.faults source.old) (I.faults source.new) }
     ensures write_fault { result ≡ Status.WriteFault → HasRisen (O.faults sink.old) (O.faults sink.new) }
     ensures store_fault { result ≡ Status.StoreFault → HasRisen (S.faults store.old) (S.faults store.new) }
-    ensures taken { (taken : List ℕ) × (I.left source.old ≡ prepend_known taken (I.left source.new)) × (length taken ≤ script_limit + 1) }
+    ensures taken { (taken : List ℕ) × (I.left source.old ≡ prepend_known taken (I.left source.new))
+        × (length taken ≤ script_limit + 1) }
     ensures complete { (form : Declared) → IsForm form words.now
-        → (IsRead form → ¬ HasRisen (I.faults source.old) (I.faults source.new)) → ¬ HasRisen (O.faults sink.old) (O.faults sink.new)
+        → (IsRead form → ¬ HasRisen (I.faults source.old) (I.faults source.new))
+        → ¬ HasRisen (O.faults sink.old) (O.faults sink.new)
         → (HasOpening form → ¬ HasRisen (S.faults store.old) (S.faults store.new))
         → Suffices form (world (I.left source.old) (S.content store.old) (O.held sink.old) meter.old) → IsPlain result }
 {

@@ -3,12 +3,12 @@ ghost use Rattle.std.specs.Prelude.{◌≡◌, ℕ, ◌+◌, ◌^◌, ◌<◌, �
 ghost use Rattle.std.specs.Io.KnownBytes.{append_known};
 ghost use Rattle.pq_store.specs.Content.{HasRisen};
 ghost use Rattle.pq_text.specs.Summaries.{start, pieces_from};
-ghost use Rattle.pq_print.specs.Report.{printed};
+ghost use Rattle.pq_print.specs.Report.{printed_report};
 ghost use Rattle.pq_fill.specs.declared.words.Form.TheVariants as Form;
-ghost use Rattle.pq_shell.specs.Fold.{Served, Stopped};
+ghost use Rattle.pq_shell.specs.Fold.{Served, StoppedItem};
 ghost use Rattle.pq_shell.specs.Items.{Cut, cut_items};
 ghost use Rattle.pq_shell.specs.Making.{BreaksAt, IsRead, Makes, moment};
-ghost use Rattle.pq_shell.specs.Serving.{Progressed, ReportsRest, StoppedAtRest, has_rest, rest_report};
+ghost use Rattle.pq_shell.specs.Serving.{ProgressedRun, ReportsRest, StoppedAtRest, has_rest, rest_report};
 ghost use Rattle.pq_shell.specs.Stops.{CutsOff, Causes};
 
 use crate::outside::Sink;
@@ -86,8 +86,10 @@ pub fn make<S: Store<L>, L: Ledger>(
     store: &mut S,
     meter: &mut Meter<L>,
 ) -> Result<(Session, Report), Stop>
-    ensures ok { IfOk result (λ p. Makes form (Cut piece.now) number session p.0 (S.content store.old) (S.content store.new) meter.old meter.new p.1) }
-    ensures err { IfErr result (λ stop. BreaksAt form stop (Cut piece.now) number session (S.content store.old) (S.content store.new) meter.old meter.new) }
+    ensures ok { IfOk result (λ p. Makes form (Cut piece.now) number session p.0 (S.content store.old)
+        (S.content store.new) meter.old meter.new p.1) }
+    ensures err { IfErr result (λ stop. BreaksAt form stop (Cut piece.now) number session (S.content store.old)
+        (S.content store.new) meter.old meter.new) }
     ensures unmoved { form ≡ Form.Check → (store.new ≡ store.old) × (meter.new ≡ meter.old) }
     ensures causes { Causes (S.faults store.old) (S.faults store.new) 0 0 result }
 {
@@ -116,10 +118,14 @@ fn serve<S: Store<L>, O: Sink, L: Ledger>(
 ) -> Result<Session, Stop>
     requires few { tally.old.count + 1 < 2 ^ 32 }
     requires read { IsRead form }
-    ensures ok { IfOk result (λ next. Served form session next (moment (S.content store.old) (O.held sink.old) meter.old) (moment (S.content store.new) (O.held sink.new) meter.new)
+    ensures ok { IfOk result (λ next. Served form session next
+        (moment (S.content store.old) (O.held sink.old) meter.old)
+        (moment (S.content store.new) (O.held sink.new) meter.new)
         (tally.old.count + 1) (Cut piece.now ∷ []) tally.old.refused tally.new.refused) }
     ensures count { OnOk result (tally.new.count ≡ tally.old.count + 1) }
-    ensures err { IfErr result (λ stop. Stopped form stop session (moment (S.content store.old) (O.held sink.old) meter.old) (moment (S.content store.new) (O.held sink.new) meter.new)
+    ensures err { IfErr result (λ stop. StoppedItem form stop session
+        (moment (S.content store.old) (O.held sink.old) meter.old)
+        (moment (S.content store.new) (O.held sink.new) meter.new)
         (tally.old.count + 1) (Cut piece.now ∷ [])) }
     ensures unmoved { form ≡ Form.Check → (store.new ≡ store.old) × (meter.new ≡ meter.old) }
     ensures causes { Causes (S.faults store.old) (S.faults store.new) (O.faults sink.old) (O.faults sink.new) result }
@@ -144,9 +150,13 @@ pub fn run_part<S: Store<L>, O: Sink, L: Ledger>(
 ) -> Result<Session, Stop>
     requires few { progress.old.tally.count + length bytes.now < 2 ^ 32 }
     requires read { IsRead form }
-    ensures ok { IfOk result (λ next. Progressed form session next (moment (S.content store.old) (O.held sink.old) meter.old) (moment (S.content store.new) (O.held sink.new) meter.new)
+    ensures ok { IfOk result (λ next. ProgressedRun form session next
+        (moment (S.content store.old) (O.held sink.old) meter.old)
+        (moment (S.content store.new) (O.held sink.new) meter.new)
         bytes.now progress.old progress.new) }
-    ensures err { IfErr result (λ stop. Stopped form stop session (moment (S.content store.old) (O.held sink.old) meter.old) (moment (S.content store.new) (O.held sink.new) meter.new)
+    ensures err { IfErr result (λ stop. StoppedItem form stop session
+        (moment (S.content store.old) (O.held sink.old) meter.old)
+        (moment (S.content store.new) (O.held sink.new) meter.new)
         (progress.old.tally.count + 1) (cut_items (pieces_from progress.old.splitter bytes.now))) }
     ensures unmoved { form ≡ Form.Check → (store.new ≡ store.old) × (meter.new ≡ meter.old) }
     ensures causes { Causes (S.faults store.old) (S.faults store.new) (O.faults sink.old) (O.faults sink.new) result }

@@ -2,7 +2,7 @@
 ghost use Rattle.std.specs.Prelude.{◌≡◌, ◌≤◌, OnOk, IfErr};
 ghost use Rattle.std.specs.Io.KnownBytes.{append_known};
 ghost use Rattle.pq_fill.specs.Summary.{summary_text};
-ghost use Rattle.pq_print.specs.Report.{printed, opening_line, damage_line};
+ghost use Rattle.pq_print.specs.Report.{printed_report, opening_line, damage_line};
 ghost use Rattle.pq_shell.specs.Stops.{CutsOff, Causes};
 
 use crate::outside::{Failed, Sink, write_all};
@@ -25,8 +25,8 @@ fn write_text<O: Sink>(text: &Bytes, sink: &mut O) -> Result<(), Stop>
 
 /// Writes a report.
 pub fn write_report<O: Sink>(alloc: Global, report: &Report, sink: &mut O) -> Result<(), Stop>
-    ensures ok { OnOk result (O.held sink.new ≡ append_known (O.held sink.old) (printed report.now)) }
-    ensures err { IfErr result (λ stop. CutsOff stop (printed report.now) (O.held sink.old) (O.held sink.new)) }
+    ensures ok { OnOk result (O.held sink.new ≡ append_known (O.held sink.old) (printed_report report.now)) }
+    ensures err { IfErr result (λ stop. CutsOff stop (printed_report report.now) (O.held sink.old) (O.held sink.new)) }
     ensures causes { Causes 0 0 (O.faults sink.old) (O.faults sink.new) result }
 {
     let mut text = List::new(alloc);

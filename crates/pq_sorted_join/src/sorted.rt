@@ -38,7 +38,8 @@ pub fn sorted_join<S: Store<L>, L: Ledger>(
     ensures answer { IfOk result (Answers (S.content store.old) catalog.now.tables query.now params.now
         (option_copied after.entry) inputs (stop_scan rel k access)) }
     ensures reads { ReadsNode (world (S.content store.old) (S.faults store.old) allowance.old meter.old)
-        (world (S.content store.new) (S.faults store.new) allowance.new meter.new) (length inputs) (stop_scan rel k access) }
+        (world (S.content store.new) (S.faults store.new) allowance.new meter.new) (length inputs)
+        (stop_scan rel k access) }
     ensures found { IfOk result (AreFound catalog.now.tables query.now rel (length inputs) (stop_scan rel k access)) }
     ensures cause { IfErr result (StopsReading catalog.now.tables (world (S.content store.old)
         (S.faults store.old) allowance.old meter.old)

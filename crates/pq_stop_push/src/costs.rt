@@ -4,7 +4,7 @@ ghost use Rattle.std.specs.Prelude.{◌≡◌, ℕ, suc, ◌+◌, ◌^◌, ◌�
 ghost use Rattle.std.specs.List.{list_all, range_with_len};
 ghost use Rattle.pq_schema.specs.Sound.{IsTable, IsQuery};
 ghost use Rattle.pq_schema.specs.Candidates.{read_cost, bound_at, reached_after, read_next, are_bounded};
-ghost use Rattle.pq_plan.specs.Totals.{reached, IsLow, Below};
+ghost use Rattle.pq_plan.specs.Totals.{reached_total, IsLow, Below};
 
 use pq_base::{Bound, ColSet};
 use pq_plan::{Total, limit_cost, read_each};
@@ -60,8 +60,8 @@ fn read_next(catalog: &Catalog, query: &Query, total: Total, rel: u8) -> Total
     requires one { 1 ≤ rel }
     requires there { rel ≤ length query.now.relations }
     requires low { IsLow total }
-    ensures total { reached result ≡ read_next catalog.now.tables query.now (reached total) rel }
-    ensures below { (k : ℕ) → Below (30000 ^ k) (reached total) → Below (30000 ^ suc k) (reached result) }
+    ensures total { reached_total result ≡ read_next catalog.now.tables query.now (reached_total total) rel }
+    ensures below { (k : ℕ) → Below (30000 ^ k) (reached_total total) → Below (30000 ^ suc k) (reached_total result) }
 {
     let size = size_at(catalog, query, rel);
     let cost = read_cost(table_of(catalog, query, rel), fixed(query, rel));
@@ -87,7 +87,7 @@ pub fn are_bounded(catalog: &Catalog, query: &Query, count: u8) -> bool
 pub fn reached_after(catalog: &Catalog, query: &Query, count: u8) -> Total
     requires query { IsQuery catalog.now.tables query.now }
     requires there { count ≤ length query.now.relations }
-    ensures total { reached result ≡ reached_after catalog.now.tables query.now count }
+    ensures total { reached_total result ≡ reached_after catalog.now.tables query.now count }
     ensures low { IsLow result }
 {
     let mut total = Total {

@@ -3,9 +3,9 @@
 ghost use Rattle.std.specs.Prelude.{◌≡◌, ◌++◌, ◌≤◌, length, map, flat_map, Some, IfOk, OnOk};
 ghost use Rattle.std.specs.List.{range_with_len};
 ghost use Rattle.pq_schema.specs.Sound.{IsQuery};
-ghost use Rattle.pq_schema.specs.Candidates.{stop_at, stop_size, whole};
+ghost use Rattle.pq_schema.specs.Candidates.{stop_at, stop_size, whole_candidates};
 ghost use Rattle.pq_plan.specs.Meaning.{tree_of};
-ghost use Rattle.pq_stop_push.specs.Pushes.{held, planned, planned_candidates, placed_tree};
+ghost use Rattle.pq_stop_push.specs.Pushes.{held_plan, planned_push, planned_candidates, placed_tree};
 
 use crate::costs::{are_bounded, reached_after};
 use crate::rewrites::{build, place_data_stops, push_stop};
@@ -39,7 +39,9 @@ fn push_whole(
     query: &Query,
 ) -> Result<(), NoMem>
     requires { IsQuery catalog.now.tables query.now }
-    ensures { OnOk result (map held list.new ≡ map held list.old ++ map (planned catalog.now.tables query.now) (whole catalog.now.tables query.now)) }
+    ensures { OnOk result (map held_plan list.new
+        ≡ map held_plan list.old ++ map (planned_push catalog.now.tables query.now)
+        (whole_candidates catalog.now.tables query.now)) }
 {
     let count = query.relations.items().len() as u8;
     if are_bounded(catalog, query, count) {
@@ -68,7 +70,9 @@ fn push_stop_at(
     requires k { stop_size query.now.stop ≡ Some k }
     requires one { 1 ≤ p }
     requires there { p ≤ length query.now.relations }
-    ensures { OnOk result (map held list.new ≡ map held list.old ++ map (planned catalog.now.tables query.now) (stop_at catalog.now.tables query.now k p)) }
+    ensures { OnOk result (map held_plan list.new
+        ≡ map held_plan list.old ++ map (planned_push catalog.now.tables query.now)
+        (stop_at catalog.now.tables query.now k p)) }
 {
     let tree = placed(alloc, catalog, query)?;
     if let Some(tree) = push_stop(alloc, catalog, query, tree, p)? {
@@ -93,7 +97,9 @@ fn push_stops(
 ) -> Result<(), NoMem>
     requires query { IsQuery catalog.now.tables query.now }
     requires k { stop_size query.now.stop ≡ Some k }
-    ensures { OnOk result (map held list.new ≡ map held list.old ++ map (planned catalog.now.tables query.now) (flat_map (stop_at catalog.now.tables query.now k) (range_with_len 1 (length query.now.relations)))) }
+    ensures { OnOk result (map held_plan list.new
+        ≡ map held_plan list.old ++ map (planned_push catalog.now.tables query.now)
+        (flat_map (stop_at catalog.now.tables query.now k) (range_with_len 1 (length query.now.relations)))) }
 {
     for p in 1..query.relations.items().len() as u8 + 1 {
         push_stop_at(list, alloc, catalog, query, k, p)?;
@@ -104,7 +110,7 @@ fn push_stops(
 /// The candidates with their costs: whole, and then with the stop at each relation, as far as they exist.
 pub fn candidates(alloc: Global, catalog: &Catalog, query: &Query) -> Result<List<Candidate>, NoMem>
     requires { IsQuery catalog.now.tables query.now }
-    ensures { IfOk result (λ list. map held list ≡ planned_candidates catalog.now.tables query.now) }
+    ensures { IfOk result (λ list. map held_plan list ≡ planned_candidates catalog.now.tables query.now) }
 {
     let mut list = List::new(alloc);
     push_whole(&mut list, alloc, catalog, query)?;

@@ -5,7 +5,7 @@ ghost use Rattle.pq_schema.specs.declared.table.Table.{Table};
 ghost use Rattle.pq_schema.specs.Sound.{IsQuery};
 ghost use Rattle.pq_schema.specs.Candidates.{bound_at};
 ghost use Rattle.pq_plan.specs.Meaning.{tree_of, MeansAnswer};
-ghost use Rattle.pq_plan.specs.Rewrites.{reads_tree, top_of, placed_stops, pushed};
+ghost use Rattle.pq_plan.specs.Rewrites.{reads_tree, top_of, placed_stops, pushed_tree};
 ghost use Rattle.pq_stop_push.specs.Pushes.{IsOver, built_tree, placed_tree, stop_there};
 
 use crate::costs::bound_at;
@@ -20,7 +20,8 @@ use std::alloc::Global;
 pub fn build(alloc: Global, query: &Query) -> Result<Logical, NoMem>
     requires { length query.now.relations ≤ 6 }
     ensures tree { IfOk result (λ t. tree_of t ≡ built_tree query.now) }
-    ensures meaning { (tables : List Table) → IsQuery tables query.now → IfOk result (λ t. MeansAnswer tables query.now (tree_of t)) }
+    ensures meaning { (tables : List Table) → IsQuery tables query.now
+        → IfOk result (λ t. MeansAnswer tables query.now (tree_of t)) }
 {
     tree_with(alloc, query)
 }
@@ -54,7 +55,8 @@ pub fn push_stop(
     requires one { 1 ≤ rel }
     requires there { rel ≤ length query.now.relations }
     requires placed { tree_of tree ≡ placed_tree catalog.now.tables query.now }
-    ensures tree { IfOk result (λ found. option_map tree_of found ≡ option_map (λ k. pushed rel k (tree_of tree)) (stop_there catalog.now.tables query.now rel)) }
+    ensures tree { IfOk result (λ found. option_map tree_of found ≡ option_map
+        (λ k. pushed_tree rel k (tree_of tree)) (stop_there catalog.now.tables query.now rel)) }
     ensures meaning { IfOk result (λ found. IfSome found (λ t. MeansAnswer catalog.now.tables query.now (tree_of t))) }
 {
     match stop_there(catalog, query, rel) {
@@ -126,7 +128,7 @@ fn place(alloc: Global, catalog: &Catalog, query: &Query, tree: Logical) -> Resu
 
 /// The tree with StopRead in place of the Read of a relation, and of a DataStop above it.
 fn push(alloc: Global, tree: Logical, at: u8, stop: u16) -> Result<Logical, NoMem>
-    ensures { IfOk result (λ t. tree_of t ≡ pushed at stop (tree_of tree)) }
+    ensures { IfOk result (λ t. tree_of t ≡ pushed_tree at stop (tree_of tree)) }
 {
     match tree {
         Logical::Unit => Ok(Logical::Unit),

@@ -63,7 +63,8 @@ fn all_total(catalog: &Catalog, query: &Query, from: u8) -> bool
     requires query { IsQuery catalog.now.tables query.now }
     requires one { 1 ≤ from }
     requires there { from ≤ length query.now.relations + 1 }
-    ensures { result ≡ list_all (is_total catalog.now.tables query.now) (range_with_len from (length query.now.relations + 1 - from)) }
+    ensures { result ≡ list_all (is_total catalog.now.tables query.now)
+        (range_with_len from (length query.now.relations + 1 - from)) }
 {
     for rel in from..query.relations.items().len() as u8 + 1 {
         if !is_total(catalog, query, rel) {

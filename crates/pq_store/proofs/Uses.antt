@@ -6,7 +6,7 @@ use Rattle.std.specs.FinMap as map
 use Rattle.std.specs.declared.cmp.Ordering.TheVariants.{Less}
 use Rattle.std.specs.Prelude.{◌&&◌}
 use Rattle.pq_store.specs.declared.store.Guard.{Guard}
-use Rattle.pq_store.specs.Content.{key_cmp, is_rising, Content, is_within, pairs_within, written, admits, after_write}
+use Rattle.pq_store.specs.Content.{key_cmp, is_rising, Content, is_within, pairs_within, written_content, admits, after_write}
 use Rattle.pq_store.proofs.Places.{Pairs, is_other, same_key, itself}
 use Rattle.pq_store.proofs.Views.{seen, seen_entries, seen_others, rising_others, told}
 
@@ -19,7 +19,7 @@ pub of_entries : (content : Content) → seen (map.entries content) ≡ content
 of_entries content = map.same_entries_map _ _ (seen_entries (map.entries content) (rises content))
 
 -- a look-up after a write
-pub get_written : (content : Content) (key : List ℕ) (new : Option (List ℕ)) (q : List ℕ) → map.get (written key new content) q ≡ cond (eq_by_cmp key_cmp q key) new (map.get content q)
+pub get_written : (content : Content) (key : List ℕ) (new : Option (List ℕ)) (q : List ℕ) → map.get (written_content key new content) q ≡ cond (eq_by_cmp key_cmp q key) new (map.get content q)
 get_written content key None q = map.get-remove nat_list_cmp_total content key q
 get_written content key (Some value) q = map.get-insert nat_list_cmp_total content key value q
 
@@ -29,7 +29,7 @@ get_inserted content key value = get_written content key (Some value) key ∙ ap
 -- and after one that may be refused
 pub get_after_write : (guard : Guard) (content : Content) (key : List ℕ) (new : Option (List ℕ)) (q : List ℕ)
     → map.get (after_write guard key new content) q ≡ cond (admits guard (map.get content key) && eq_by_cmp key_cmp q key) new (map.get content q)
-get_after_write guard content key new q = elim (admits guard (map.get content key)) as (λ b. map.get (cond b (written key new content) content) q ≡ cond (b && eq_by_cmp key_cmp q key) new (map.get content q)) [
+get_after_write guard content key new q = elim (admits guard (map.get content key)) as (λ b. map.get (cond b (written_content key new content) content) q ≡ cond (b && eq_by_cmp key_cmp q key) new (map.get content q)) [
   | true ↦ get_written content key new q
   | false ↦ refl
 ]
@@ -63,7 +63,7 @@ within_remove_outside content low high key out =
     ap (filter (is_within low high)) (entries-remove content key)
     ∙ others_outside (λ k. is_within low high (k, [])) key out (map.entries content)
 
-pub within_written_outside : (content : Content) (low high key : List ℕ) (new : Option (List ℕ)) → is_within low high (key, []) ≡ false → pairs_within (written key new content) low high ≡ pairs_within content low high
+pub within_written_outside : (content : Content) (low high key : List ℕ) (new : Option (List ℕ)) → is_within low high (key, []) ≡ false → pairs_within (written_content key new content) low high ≡ pairs_within content low high
 within_written_outside content low high key None out = within_remove_outside content low high key out
 within_written_outside content low high key (Some value) out = within_insert_outside content low high key value out
 

@@ -41,9 +41,9 @@ abbrev pub pairs_within : Content → List ℕ → List ℕ → List (List ℕ �
 pairs_within content low high = filter (is_within low high) (entries content)
 
 -- the content with this value at the key, or with none
-abbrev pub written : List ℕ → Option (List ℕ) → Content → Content
-written key None content = remove content key
-written key (Some value) content = insert content key value
+abbrev pub written_content : List ℕ → Option (List ℕ) → Content → Content
+written_content key None content = remove content key
+written_content key (Some value) content = insert content key value
 
 -- whether a write may be made over what the key has
 abbrev pub admits : Guard → Option (List ℕ) → Bool
@@ -54,7 +54,7 @@ admits (Is value) (Some held) = eq_by_cmp key_cmp held value.now
 
 -- the content after a write: another one only where the guard admits it
 abbrev pub after_write : Guard → List ℕ → Option (List ℕ) → Content → Content
-after_write guard key new content = if admits guard (get content key) then written key new content else content
+after_write guard key new content = if admits guard (get content key) then written_content key new content else content
 
 -- entries that a get, a range and a count answered
 abbrev pub got_entries : Result (Option (List ℕ)) StoreErr → ℕ
@@ -80,14 +80,14 @@ abbrev pub HasRisen : ℕ → ℕ → Type 0
 HasRisen before now = (before < now) ⊎ (now + 1 ≡ 2 ^ 64)
 
 -- the error of a failed call is told only where the count of faults has risen
-pub record Caused {E A : Type 0} (fault : E) (before now : ℕ) (result : Result A E) : Type 0 where
+pub record CausedFault {E A : Type 0} (fault : E) (before now : ℕ) (result : Result A E) : Type 0 where
   pub later : before ≤ now
   pub failed : IsErrOf result fault → HasRisen before now
 
 -- the same of a store's own error
 abbrev pub HasCause : {A : Type 0} → ℕ → ℕ → Result A StoreErr → Type 0
-HasCause before now result = Caused Failed before now result
+HasCause before now result = CausedFault Failed before now result
 
 -- and of the error of a call over a store
 abbrev pub HasBrokeCause : {A : Type 0} → ℕ → ℕ → Result A Broke → Type 0
-HasBrokeCause before now result = Caused broke.Failed before now result
+HasBrokeCause before now result = CausedFault broke.Failed before now result

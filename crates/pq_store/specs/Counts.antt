@@ -11,20 +11,23 @@ abbrev pub no_counts : Counts
 no_counts = record { ops = 0; entries = 0 }
 
 -- one operation more, and so many entries
-abbrev pub charged : Counts → ℕ → Counts
-charged counts n = record { ops = counts.ops + 1; entries = counts.entries + n }
+abbrev pub charged_counts : Counts → ℕ → Counts
+charged_counts counts n = record { ops = counts.ops + 1; entries = counts.entries + n }
 
 -- what is left, and what was granted
-pub record Allowed : Type 0 where
+pub record AllowedCounts : Type 0 where
   pub left : Counts
   pub granted : Counts
 
-abbrev pub granted : ℕ → ℕ → Allowed
-granted ops entries = record { left = record { ops = ops; entries = entries }; granted = record { ops = ops; entries = entries } }
+abbrev pub granted_counts : ℕ → ℕ → AllowedCounts
+granted_counts ops entries = record {
+  left = record { ops = ops; entries = entries };
+  granted = record { ops = ops; entries = entries };
+}
 
 -- one operation and so many entries less are left
-abbrev pub spent : Allowed → ℕ → Allowed
-spent a n = record { left = record { ops = a.left.ops - 1; entries = a.left.entries - n }; granted = a.granted }
+abbrev pub spent_counts : AllowedCounts → ℕ → AllowedCounts
+spent_counts a n = record { left = record { ops = a.left.ops - 1; entries = a.left.entries - n }; granted = a.granted }
 
-abbrev pub used_of : Allowed → Used
+abbrev pub used_of : AllowedCounts → Used
 used_of a = record { ops = a.granted.ops - a.left.ops; entries = a.granted.entries - a.left.entries }

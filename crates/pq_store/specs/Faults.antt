@@ -12,21 +12,24 @@ pub record Failing : Type 0 where
   pub fails : List Fail
 
 abbrev pub fail_code : Coded Fail
-fail_code = code_by (ℕ × Bool) (coded× coded_ℕ coded_bool) (λ f. (f.call, f.done)) (λ p. record { call = p.0; done = p.1 }) (λ _. refl)
+fail_code = code_by (ℕ × Bool) (coded× coded_ℕ coded_bool) (λ f. (f.call, f.done))
+    (λ p. record { call = p.0; done = p.1 }) (λ _. refl)
 
 abbrev pub failing_code : Coded Failing
 failing_code =
-    code_by (Content × (ℕ × (ℕ × List Fail))) (coded× content_code (coded× coded_ℕ (coded× coded_ℕ (coded_list fail_code))))
-    (λ f. (f.held, (f.calls, (f.faults, f.fails)))) (λ p. record { held = p.0; calls = p.1.0; faults = p.1.1.0; fails = p.1.1.1 }) (λ _. refl)
+    code_by (Content × (ℕ × (ℕ × List Fail)))
+    (coded× content_code (coded× coded_ℕ (coded× coded_ℕ (coded_list fail_code))))
+    (λ f. (f.held, (f.calls, (f.faults, f.fails))))
+    (λ p. record { held = p.0; calls = p.1.0; faults = p.1.1.0; fails = p.1.1.1 }) (λ _. refl)
 
 -- what the list says of the call with this number: whether it is done, None where it doesn't fail
-abbrev pub listed : ℕ → List Fail → Option Bool
-listed number [] = None
-listed number (fail ∷ fails) = if eqb fail.call number then Some fail.done else listed number fails
+abbrev pub listed_fail : ℕ → List Fail → Option Bool
+listed_fail number [] = None
+listed_fail number (fail ∷ fails) = if eqb fail.call number then Some fail.done else listed_fail number fails
 
 -- what the list says of the next call; calls are numbered from 1
 abbrev pub fate : Failing → Option Bool
-fate store = listed (store.calls + 1) store.fails
+fate store = listed_fail (store.calls + 1) store.fails
 
 -- the next call is listed
 abbrev pub IsListed : Failing → Type 0

@@ -1,6 +1,6 @@
 //! What a call may still spend of store operations and entries.
 ghost use Rattle.std.specs.Prelude.{◌≡◌, ◌≤◌, ◌<◌, ◌^◌, ◌-◌};
-ghost use Rattle.pq_store.specs.Counts.{granted, spent, used_of};
+ghost use Rattle.pq_store.specs.Counts.{granted_counts, spent_counts, used_of};
 
 use pq_base::{Bound, Used};
 use std::marker::Model;
@@ -16,9 +16,9 @@ pub struct Allowance {
 
 impl Model for Allowance {
     ghost use Rattle.std.specs.Prelude.{◌≤◌};
-    ghost use Rattle.pq_store.specs.Counts.{Allowed};
+    ghost use Rattle.pq_store.specs.Counts.{AllowedCounts};
 
-    ghost Value = { Allowed };
+    ghost Value = { AllowedCounts };
 
     ghost view = { λ a. record {
       left = record { ops = a.ops; entries = a.entries };
@@ -33,7 +33,7 @@ impl Allowance {
     pub fn grant(bound: Bound) -> Allowance
         requires ops { bound.ops < 2 ^ 32 }
         requires entries { bound.entries < 2 ^ 32 }
-        ensures { result ≡ granted bound.ops bound.entries }
+        ensures { result ≡ granted_counts bound.ops bound.entries }
     {
         let (ops, entries) = (bound.ops as u64, bound.entries as u64);
         Allowance {
@@ -48,7 +48,7 @@ impl Allowance {
     pub fn spend(&mut self, entries: u32)
         requires ops { 1 ≤ self.old.left.ops }
         requires entries { entries ≤ self.old.left.entries }
-        ensures { self.new ≡ spent self.old entries }
+        ensures { self.new ≡ spent_counts self.old entries }
     {
         self.ops -= 1;
         self.entries -= entries as u64;

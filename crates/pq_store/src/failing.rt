@@ -2,9 +2,9 @@
 ghost use Rattle.std.specs.Prelude.{◌≡◌, ◌≤◌, ◌<◌, ◌+◌, ◌^◌, ◌⊎◌, ◌↔◌, true, false, Some, IsSome, IfOk, OnOk, IsErrOf, map, take, length, min};
 ghost use Rattle.std.specs.Option.{option_copied};
 ghost use Rattle.std.specs.FinMap.{get as value_at};
-ghost use Rattle.pq_store.specs.Counts.{charged};
+ghost use Rattle.pq_store.specs.Counts.{charged_counts};
 ghost use Rattle.pq_store.specs.Content.{entry, pairs_within, admits, after_write, IsPartOf, got_entries, ranged_entries, counted_entries};
-ghost use Rattle.pq_store.specs.Faults.{fate, called, listed, IsListed};
+ghost use Rattle.pq_store.specs.Faults.{fate, called, listed_fail, IsListed};
 
 use crate::mem::MemStore;
 use crate::meter::Meter;
@@ -83,7 +83,7 @@ impl FailingStore {
 
 // What the list says of the call with this number.
 fn find_call(fails: &[Fail], number: u128) -> Option<bool>
-    ensures value { result ≡ listed number fails.now }
+    ensures value { result ≡ listed_fail number fails.now }
     ensures small { IsSome result → number < 2 ^ 64 }
 {
     for fail in fails {
@@ -110,7 +110,7 @@ impl<L: Ledger> Store<L> for FailingStore {
         ensures answer { IfOk result (λ found. found ≡ value_at self.old.held key.now) }
         ensures called { self.new ≡ called self.old self.old.held }
         ensures listed { IsErrOf result StoreErr.Failed ↔ IsListed self.old }
-        ensures meter { meter.new ≡ charged meter.old (got_entries result) }
+        ensures meter { meter.new ≡ charged_counts meter.old (got_entries result) }
     {
         match self.count_call() {
             Some(_) => {
@@ -130,11 +130,12 @@ impl<L: Ledger> Store<L> for FailingStore {
         meter: &mut Meter<L>,
     ) -> Result<List<Pair>, StoreErr>
         requires { 1 ≤ limit }
-        ensures answer { IfOk result (λ found. map entry found ≡ take limit (pairs_within self.old.held low.now high.now)) }
+        ensures answer { IfOk result (λ found. map entry found
+            ≡ take limit (pairs_within self.old.held low.now high.now)) }
         ensures part { IfOk result (λ found. IsPartOf low.now high.now limit (map entry found)) }
         ensures called { self.new ≡ called self.old self.old.held }
         ensures listed { IsErrOf result StoreErr.Failed ↔ IsListed self.old }
-        ensures meter { meter.new ≡ charged meter.old (ranged_entries result) }
+        ensures meter { meter.new ≡ charged_counts meter.old (ranged_entries result) }
     {
         match self.count_call() {
             Some(_) => {
@@ -156,7 +157,7 @@ impl<L: Ledger> Store<L> for FailingStore {
         ensures answer { IfOk result (λ n. n ≡ min cap (length (pairs_within self.old.held low.now high.now))) }
         ensures called { self.new ≡ called self.old self.old.held }
         ensures listed { IsErrOf result StoreErr.Failed ↔ IsListed self.old }
-        ensures meter { meter.new ≡ charged meter.old (counted_entries result) }
+        ensures meter { meter.new ≡ charged_counts meter.old (counted_entries result) }
     {
         match self.count_call() {
             Some(_) => {
@@ -177,14 +178,16 @@ impl<L: Ledger> Store<L> for FailingStore {
         meter: &mut Meter<L>,
     ) -> Result<bool, StoreErr>
         ensures answer { IfOk result (λ done. done ≡ admits guard.entry (value_at self.old.held key.now)) }
-        ensures content { OnOk result (self.new.held ≡ after_write guard.entry key.now (option_copied new.entry) self.old.held) }
+        ensures content { OnOk result (self.new.held
+            ≡ after_write guard.entry key.now (option_copied new.entry) self.old.held) }
         ensures no_memory { IsErrOf result StoreErr.NoMem → self.new.held ≡ self.old.held }
         ensures called { self.new ≡ called self.old self.new.held }
         ensures listed { IsErrOf result StoreErr.Failed → IsListed self.old }
         ensures undone { fate self.old ≡ Some false → IsErrOf result StoreErr.Failed × self.new.held ≡ self.old.held }
         ensures done { fate self.old ≡ Some true → IsErrOf result StoreErr.NoMem
-            ⊎ (IsErrOf result StoreErr.Failed × self.new.held ≡ after_write guard.entry key.now (option_copied new.entry) self.old.held) }
-        ensures meter { meter.new ≡ charged meter.old 0 }
+            ⊎ (IsErrOf result StoreErr.Failed
+            × self.new.held ≡ after_write guard.entry key.now (option_copied new.entry) self.old.held) }
+        ensures meter { meter.new ≡ charged_counts meter.old 0 }
     {
         match self.count_call() {
             Some(false) => {

@@ -143,7 +143,8 @@ impl MemStore {
 // The bounds of a range from a low key up to a high one. Where that is below the low one, they are both the low one.
 fn bounds_of(alloc: Global, low: &[u8], high: &[u8]) -> Result<Range<Vec<u8>>, NoMem>
     ensures start { IfOk result (λ bounds. bounds.start.items ≡ low.now) }
-    ensures end { IfOk result (λ bounds. bounds.end.items ≡ (if is_lt (key_cmp low.now high.now) then high.now else low.now)) }
+    ensures end { IfOk result (λ bounds. bounds.end.items
+        ≡ (if is_lt (key_cmp low.now high.now) then high.now else low.now)) }
 {
     let start = Vec::from_slice(alloc, low)?;
     let end = if low.cmp(high).is_lt() {

@@ -1,6 +1,6 @@
 //! The meter of store calls. It takes no bytes, and nothing but `charge` changes it.
 ghost use Rattle.std.specs.Prelude.{◌≡◌, ◌+◌, ◌≤◌};
-ghost use Rattle.pq_store.specs.Counts.{no_counts, charged};
+ghost use Rattle.pq_store.specs.Counts.{no_counts, charged_counts};
 
 use std::marker::Model;
 use std::sync::ledger::{Blank, Book, Ledger, Share};
@@ -58,7 +58,7 @@ impl<L: Ledger> Meter<L> {
 
     /// One operation more, and so many entries more. A store charges each of its calls once.
     pub fn charge(&mut self, entries: u32)
-        ensures { self.new ≡ charged self.old entries }
+        ensures { self.new ≡ charged_counts self.old entries }
     {
         self.book.add(&mut self.ops, 1);
         self.book.add(&mut self.entries, entries as u64);

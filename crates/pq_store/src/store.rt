@@ -44,7 +44,7 @@ pub trait Store<L: Ledger> {
     ghost use Rattle.std.specs.Prelude.{◌≡◌, ◌≤◌, ◌⊎◌, ℕ, Option, IfSome, IfOk, OnOk, IsErrOf, map, take, length, min};
     ghost use Rattle.std.specs.Option.{option_map, option_copied};
     ghost use Rattle.std.specs.FinMap.{get as value_at};
-    ghost use Rattle.pq_store.specs.Counts.{charged};
+    ghost use Rattle.pq_store.specs.Counts.{charged_counts};
     ghost use Rattle.pq_store.specs.Content.{Content, entry, pairs_within, after_write, admits, got_entries, ranged_entries, counted_entries, IsPartOf, HasCause};
 
     // What it holds, from keys to values, where it tells.
@@ -63,7 +63,7 @@ pub trait Store<L: Ledger> {
         ensures answer { IfOk result (λ found. IfSome (content self.old) (λ pairs. found ≡ value_at pairs key.now)) }
         ensures same { content self.new ≡ content self.old }
         ensures cause { HasCause (faults self.old) (faults self.new) result }
-        ensures meter { meter.new ≡ charged meter.old (got_entries result) };
+        ensures meter { meter.new ≡ charged_counts meter.old (got_entries result) };
 
     /// The first `limit` pairs with `low <= key < high`, or all where there are fewer; as many
     /// entries. What every store answers are at most `limit` pairs of the range in order.
@@ -81,7 +81,7 @@ pub trait Store<L: Ledger> {
         ensures part { IfOk result (λ found. IsPartOf low.now high.now limit (map entry found)) }
         ensures same { content self.new ≡ content self.old }
         ensures cause { HasCause (faults self.old) (faults self.new) result }
-        ensures meter { meter.new ≡ charged meter.old (ranged_entries result) };
+        ensures meter { meter.new ≡ charged_counts meter.old (ranged_entries result) };
 
     /// The lesser of `cap` and the number of pairs with `low <= key < high`; as many entries.
     fn count(
@@ -97,7 +97,7 @@ pub trait Store<L: Ledger> {
         ensures few { IfOk result (λ n. n ≤ cap) }
         ensures same { content self.new ≡ content self.old }
         ensures cause { HasCause (faults self.old) (faults self.new) result }
-        ensures meter { meter.new ≡ charged meter.old (counted_entries result) };
+        ensures meter { meter.new ≡ charged_counts meter.old (counted_entries result) };
 
     /// Where the guard holds, gives the key this value, or none, and answers true; else changes
     /// nothing and answers false. No entries.
@@ -111,10 +111,12 @@ pub trait Store<L: Ledger> {
     ) -> Result<bool, StoreErr>
         ensures answer { IfOk result (λ done. IfSome (content self.old) (λ pairs.
             done ≡ admits guard.entry (value_at pairs key.now))) }
-        ensures content { OnOk result (content self.new ≡ option_map (after_write guard.entry key.now (option_copied new.entry)) (content self.old)) }
+        ensures content { OnOk result (content self.new
+            ≡ option_map (after_write guard.entry key.now (option_copied new.entry)) (content self.old)) }
         ensures no_memory { IsErrOf result StoreErr.NoMem → content self.new ≡ content self.old }
         ensures failed { IsErrOf result StoreErr.Failed → (content self.new ≡ content self.old)
-            ⊎ (content self.new ≡ option_map (after_write guard.entry key.now (option_copied new.entry)) (content self.old)) }
+            ⊎ (content self.new ≡ option_map (after_write guard.entry key.now (option_copied new.entry))
+            (content self.old)) }
         ensures cause { HasCause (faults self.old) (faults self.new) result }
-        ensures meter { meter.new ≡ charged meter.old 0 };
+        ensures meter { meter.new ≡ charged_counts meter.old 0 };
 }

@@ -1,4 +1,5 @@
-//! Queries over the tables of a small site: their canonical texts, and each refusal alone and with a later one beside it.
+// ! Queries over the tables of a small site: their canonical texts, and each refusal alone and with
+// a later one beside it.
 use crate::asked::{catalog_of, is_read, is_refused};
 use std::test::Fail;
 

@@ -70,7 +70,8 @@ fn is_stop(stop: Stop) -> bool
 }
 
 fn has_relations(count: usize, query: &Query) -> bool
-    ensures there { IsTrue result → All (λ relation. (1 ≤ relation.table) × (relation.table ≤ count)) query.now.relations }
+    ensures there { IsTrue result
+        → All (λ relation. (1 ≤ relation.table) × (relation.table ≤ count)) query.now.relations }
     ensures few { IsTrue result → length query.now.relations ≤ 6 }
 {
     are_relations(count, query.relations.items()) && query.relations.items().len() <= 6
@@ -94,7 +95,8 @@ fn tables_known(catalog: &Catalog)
 
 /// Tells a proof that it is a query over the catalog's tables.
 fn query_known(catalog: &Catalog, query: &Query)
-    requires relations { All (λ relation. (1 ≤ relation.table) × (relation.table ≤ length catalog.now.tables)) query.now.relations }
+    requires relations { All (λ relation. (1 ≤ relation.table)
+        × (relation.table ≤ length catalog.now.tables)) query.now.relations }
     requires few { length query.now.relations ≤ 6 }
     requires refs { AreRefs query.now }
     requires named { All (IsNamedPred (length query.now.relations)) query.now.preds }

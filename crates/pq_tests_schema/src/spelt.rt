@@ -190,7 +190,8 @@ fn push_part(alloc: Global, parts: &mut Parts, word: &[u8]) -> Result<(), Fail> 
     Ok(())
 }
 
-/// A query that selects the first column of its first relation, in words: `rbs` is table b under the alias s, `p10=?` a predicate on relation 1, column 0, `k10{7` one with the
+/// A query that selects the first column of its first relation, in words: `rbs` is table b under
+/// the alias s, `p10=?` a predicate on relation 1, column 0, `k10{7` one with the
 /// number 7 (`{` and `}` are less or equal and greater or equal), `j2011`
 /// the equality of relation 2, column 0, with relation 1, column 1, `o21-` a descending column of the order,
 /// `l0010` is LIMIT 10, and `g0002` is PAGINATE 2.

@@ -2,12 +2,12 @@
 use Rattle.std.proofs.Common.{◌≡◌, ℕ, ◌+◌, ◌≤◌, ◌<◌, Bool, true, false, cond, ◌||◌, List, [], ◌∷◌, ◌++◌, length, take, drop, get_or, Option, Some, None, refl, sym, ap, ◌∙◌, arith, length-drop}
 use Rattle.std.proofs.lemmas.List.{take_more, nil_from_length}
 use Rattle.std.specs.Option.{option_map}
-use Rattle.pq_text.specs.Cutting.{next, cuts, shows, run, is_solid, first_cut}
+use Rattle.pq_text.specs.Cutting.{next, cuts, shows, state_behind, is_solid, first_cut}
 use Rattle.pq_text.specs.declared.state.State.{State}
 use Rattle.pq_text.proofs.Steps.{at_drop, moved}
 
-pub run_append : (s : State) (xs ys : List ℕ) → run s (xs ++ ys) ≡ run (run s xs) ys
-unfolding run
+pub run_append : (s : State) (xs ys : List ℕ) → state_behind s (xs ++ ys) ≡ state_behind (state_behind s xs) ys
+unfolding state_behind
 run_append s [] ys = refl
 run_append s (x ∷ xs) ys = run_append (next s x) xs ys
 
@@ -19,23 +19,23 @@ or_false : (a : Bool) → (a || false) ≡ a
 or_false true = refl
 or_false false = refl
 
-pub solid_append : (s : State) (xs ys : List ℕ) → is_solid s (xs ++ ys) ≡ (is_solid s xs || is_solid (run s xs) ys)
-unfolding run is_solid
+pub solid_append : (s : State) (xs ys : List ℕ) → is_solid s (xs ++ ys) ≡ (is_solid s xs || is_solid (state_behind s xs) ys)
+unfolding state_behind is_solid
 solid_append s [] ys = refl
-solid_append s (x ∷ xs) ys = ap (λ (b : Bool). shows s x || b) (solid_append (next s x) xs ys) ∙ sym (or_assoc (shows s x) (is_solid (next s x) xs) (is_solid (run (next s x) xs) ys))
+solid_append s (x ∷ xs) ys = ap (λ (b : Bool). shows s x || b) (solid_append (next s x) xs ys) ∙ sym (or_assoc (shows s x) (is_solid (next s x) xs) (is_solid (state_behind (next s x) xs) ys))
 
-run_last : (s : State) (xs : List ℕ) (b : ℕ) → run s (xs ++ b ∷ []) ≡ next (run s xs) b
-unfolding run
+run_last : (s : State) (xs : List ℕ) (b : ℕ) → state_behind s (xs ++ b ∷ []) ≡ next (state_behind s xs) b
+unfolding state_behind
 run_last s xs b = run_append s xs (b ∷ [])
 
-solid_last : (s : State) (xs : List ℕ) (b : ℕ) → is_solid s (xs ++ b ∷ []) ≡ (is_solid s xs || shows (run s xs) b)
+solid_last : (s : State) (xs : List ℕ) (b : ℕ) → is_solid s (xs ++ b ∷ []) ≡ (is_solid s xs || shows (state_behind s xs) b)
 unfolding is_solid
-solid_last s xs b = solid_append s xs (b ∷ []) ∙ ap (λ (c : Bool). is_solid s xs || c) (or_false (shows (run s xs) b))
+solid_last s xs b = solid_append s xs (b ∷ []) ∙ ap (λ (c : Bool). is_solid s xs || c) (or_false (shows (state_behind s xs) b))
 
-pub run_step : (s t : State) (bs : List ℕ) (len : ℕ) → len < length bs → t ≡ run s (take len bs) → next t (get_or bs len 0) ≡ run s (take (len + 1) bs)
-run_step s t bs len lt e = ap (λ (u : State). next u (get_or bs len 0)) e ∙ sym (run_last s (take len bs) (get_or bs len 0)) ∙ ap (run s) (sym (take_more bs len 0 lt))
+pub run_step : (s t : State) (bs : List ℕ) (len : ℕ) → len < length bs → t ≡ state_behind s (take len bs) → next t (get_or bs len 0) ≡ state_behind s (take (len + 1) bs)
+run_step s t bs len lt e = ap (λ (u : State). next u (get_or bs len 0)) e ∙ sym (run_last s (take len bs) (get_or bs len 0)) ∙ ap (state_behind s) (sym (take_more bs len 0 lt))
 
-pub solid_step : (s t : State) (bs : List ℕ) (len : ℕ) (solid : Bool) → len < length bs → t ≡ run s (take len bs) → solid ≡ is_solid s (take len bs) → (solid || shows t (get_or bs len 0)) ≡ is_solid s (take (len + 1) bs)
+pub solid_step : (s t : State) (bs : List ℕ) (len : ℕ) (solid : Bool) → len < length bs → t ≡ state_behind s (take len bs) → solid ≡ is_solid s (take len bs) → (solid || shows t (get_or bs len 0)) ≡ is_solid s (take (len + 1) bs)
 solid_step s t bs len solid lt e f = rw (e, f) (sym (solid_last s (take len bs) (get_or bs len 0)) ∙ ap (is_solid s) (sym (take_more bs len 0 lt)))
 
 cut_drop : (s : State) (bs : List ℕ) (i : ℕ) → i < length bs → first_cut s (drop i bs) ≡ cond (cuts s (get_or bs i 0)) (Some 1) (option_map (λ n. n + 1) (first_cut (next s (get_or bs i 0)) (drop (i + 1) bs)))

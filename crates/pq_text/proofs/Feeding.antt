@@ -2,7 +2,7 @@
 use Rattle.std.proofs.Common.{◌≡◌, ℕ, ◌+◌, ◌<◌, List, [], ◌∷◌, ◌++◌, length, take, drop, get_or, Option, refl, sym, ap, ◌∙◌, append_assoc, Bor}
 use Rattle.std.proofs.lemmas.List.{take-append-drop, drop-drop, append-nil, take_more}
 use Rattle.pq_text.specs.Parts.{joined_parts}
-use Rattle.pq_text.specs.Pieces.{listed, pieces_of, rest_of, is_unfinished}
+use Rattle.pq_text.specs.Pieces.{piece_list, pieces_of, rest_of, is_unfinished}
 use Rattle.pq_text.specs.Summaries.{Summary, start, pieces_from, unfinished_from}
 use Rattle.pq_text.specs.declared.piece.Piece.{Piece}
 use Rattle.pq_text.proofs.Cuts.{pieces_from-start, unfinished_from-start}
@@ -13,12 +13,12 @@ rest_split part more taken n =
     ∙ append_assoc (take n (drop taken part)) (drop (taken + n) part) more
 
 -- a call moves what it takes from what follows to what was told
-pub feed_pieces : (s t : Summary) (part bytes : List ℕ) (taken n : ℕ) (told new all : List Piece) (piece : Option Piece) (more : List ℕ) → bytes ≡ drop taken part → ((after : List ℕ) → pieces_from s (take n bytes ++ after) ≡ listed piece ++ pieces_from t after)
-    → told ++ pieces_from s (drop taken part ++ more) ≡ all → new ≡ told ++ listed piece → new ++ pieces_from t (drop (taken + n) part ++ more) ≡ all
+pub feed_pieces : (s t : Summary) (part bytes : List ℕ) (taken n : ℕ) (told new all : List Piece) (piece : Option Piece) (more : List ℕ) → bytes ≡ drop taken part → ((after : List ℕ) → pieces_from s (take n bytes ++ after) ≡ piece_list piece ++ pieces_from t after)
+    → told ++ pieces_from s (drop taken part ++ more) ≡ all → new ≡ told ++ piece_list piece → new ++ pieces_from t (drop (taken + n) part ++ more) ≡ all
 feed_pieces s t part bytes taken n told new all piece more is fed so put =
     let after = drop (taken + n) part ++ more in
     ap (λ (ps : List Piece). ps ++ pieces_from t after) put
-    ∙ append_assoc told (listed piece) (pieces_from t after)
+    ∙ append_assoc told (piece_list piece) (pieces_from t after)
     ∙ ap (λ (ps : List Piece). told ++ ps) (sym (fed after) ∙ ap (λ (v : List ℕ). pieces_from s (take n v ++ after)) is ∙ sym (ap (pieces_from s) (rest_split part more taken n)))
     ∙ so
 

@@ -2,9 +2,9 @@
 use Rattle.std.proofs.Common.{◌≡◌, ℕ, ◌+◌, Bool, true, false, cond, eqb, ltb, not, ◌||◌, ◌&&◌, List, [], ◌∷◌, length, Some, None, refl, sym, ap, subst, ◌∙◌, zero-add}
 use Rattle.std.proofs.lemmas.Bool.{eqb-true}
 use Rattle.pq_text.specs.Bytes.{is_white, next_is}
-use Rattle.pq_text.specs.Cutting.{next_plain, next, cuts, shows, is_dash, run, is_solid}
-use Rattle.pq_text.specs.Pieces.{Place, Plain, Text, Comment, behind, is_cut, is_content, has_content, piece_limit, statement, told}
-use Rattle.pq_text.specs.Summaries.{start, grown, told_of}
+use Rattle.pq_text.specs.Cutting.{next_plain, next, cuts, shows, is_dash, state_behind, is_solid}
+use Rattle.pq_text.specs.Pieces.{Place, Plain, Text, Comment, behind, is_cut, is_content, has_content, piece_limit, statement, told_piece}
+use Rattle.pq_text.specs.Summaries.{start, grown_summary, told_of}
 use Rattle.pq_text.specs.declared.piece.Piece.TheVariants as piece
 use Rattle.pq_text.specs.declared.state.State.{State}
 use Rattle.pq_text.specs.declared.state.State.TheVariants as state
@@ -89,8 +89,8 @@ content_end state.Dash = refl
 content_end state.Text = refl
 content_end state.Comment = refl
 
-content_from : (s : State) (bs : List ℕ) → (is_due s bs || has_content (place_of s bs) bs) ≡ (is_solid s bs || is_dash (run s bs))
-unfolding has_content is_solid run
+content_from : (s : State) (bs : List ℕ) → (is_due s bs || has_content (place_of s bs) bs) ≡ (is_solid s bs || is_dash (state_behind s bs))
+unfolding has_content is_solid state_behind
 content_from s [] = content_end s
 content_from s (b ∷ bs) =
     let later = has_content (place_of (next s b) bs) bs in
@@ -99,9 +99,9 @@ content_from s (b ∷ bs) =
     ∙ ap (λ (v : Bool). v || later) (content_step s b bs)
     ∙ or_assoc (shows s b) (is_due (next s b) bs) later
     ∙ ap (λ (v : Bool). shows s b || v) (content_from (next s b) bs)
-    ∙ sym (or_assoc (shows s b) (is_solid (next s b) bs) (is_dash (run (next s b) bs)))
+    ∙ sym (or_assoc (shows s b) (is_solid (next s b) bs) (is_dash (state_behind (next s b) bs)))
 
-pub content_is : (w : List ℕ) → has_content Plain w ≡ (is_solid state.Plain w || is_dash (run state.Plain w))
+pub content_is : (w : List ℕ) → has_content Plain w ≡ (is_solid state.Plain w || is_dash (state_behind state.Plain w))
 content_is w = content_from state.Plain w
 
 or_none : (a b : Bool) → b ≡ false → (a || b) ≡ a
@@ -112,10 +112,10 @@ told_same : (w : List ℕ) (long solid : Bool) → cond long (Some piece.TooLong
 told_same w true solid = refl
 told_same w false solid = refl
 
-pub told_is : (w : List ℕ) → is_dash (run state.Plain w) ≡ false → told_of (grown start w) ≡ told w
-unfolding grown
+pub told_is : (w : List ℕ) → is_dash (state_behind state.Plain w) ≡ false → told_of (grown_summary start w) ≡ told_piece w
+unfolding grown_summary
 told_is w e =
-    let content : has_content Plain w ≡ is_solid state.Plain w = content_is w ∙ or_none (is_solid state.Plain w) (is_dash (run state.Plain w)) e in
+    let content : has_content Plain w ≡ is_solid state.Plain w = content_is w ∙ or_none (is_solid state.Plain w) (is_dash (state_behind state.Plain w)) e in
     told_same w (ltb piece_limit (0 + length w)) (is_solid state.Plain w)
     ∙ ap (λ (n : ℕ). cond (ltb piece_limit n) (Some piece.TooLong) (cond (is_solid state.Plain w) (Some (statement w)) None)) (zero-add (length w))
     ∙ ap (λ (v : Bool). cond (ltb piece_limit (length w)) (Some piece.TooLong) (cond v (Some (statement w)) None)) (sym content)

@@ -35,9 +35,9 @@ is_dash state.Text = false
 is_dash state.Comment = false
 
 -- the state behind bytes
-unfoldable pub run : State → List ℕ → State
-run s [] = s
-run s (b ∷ bs) = run (next s b) bs
+unfoldable pub state_behind : State → List ℕ → State
+state_behind s [] = s
+state_behind s (b ∷ bs) = state_behind (next s b) bs
 
 -- whether some byte shows one
 unfoldable pub is_solid : State → List ℕ → Bool

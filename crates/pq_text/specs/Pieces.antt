@@ -15,7 +15,8 @@ pub data Place : Type 0 where
 abbrev pub is_two_dashes : ℕ → List ℕ → Bool
 is_two_dashes b rest = b == 45 && next_is (λ c. c == 45) rest
 
--- the place behind a byte, which these follow: a quote begins and ends a text, two dashes begin a comment, a line feed ends it
+-- the place behind a byte, which these follow: a quote begins and ends a text, two dashes begin a comment, a
+-- line feed ends it
 abbrev pub behind : Place → ℕ → List ℕ → Place
 behind Plain b rest = if b == 39 then Text else if is_two_dashes b rest then Comment else Plain
 behind Text b rest = if b == 39 then Plain else Text
@@ -38,13 +39,13 @@ pub record Split : Type 0 where
   pub pieces : List (List ℕ)
   pub rest : List ℕ
 
-abbrev pub joined : List ℕ → List (List ℕ) → List ℕ → Split
-joined front [] rest = record { pieces = []; rest = front ++ rest }
-joined front (w ∷ ws) rest = record { pieces = (front ++ w) ∷ ws; rest = rest }
+abbrev pub joined_split : List ℕ → List (List ℕ) → List ℕ → Split
+joined_split front [] rest = record { pieces = []; rest = front ++ rest }
+joined_split front (w ∷ ws) rest = record { pieces = (front ++ w) ∷ ws; rest = rest }
 
 -- bytes without a cut stand before
 abbrev pub after_front : List ℕ → Split → Split
-after_front front s = joined front s.pieces s.rest
+after_front front s = joined_split front s.pieces s.rest
 
 -- a piece stands before
 abbrev pub after_piece : List ℕ → Split → Split
@@ -70,19 +71,19 @@ abbrev pub statement : List ℕ → Piece
 statement w = if is_utf8 w then piece.Statement w else piece.NotUtf8
 
 -- what is told of a piece: nothing of a blank one
-abbrev pub told : List ℕ → Option Piece
-told w =
+abbrev pub told_piece : List ℕ → Option Piece
+told_piece w =
     if nat_lt piece_limit (length w) then Some piece.TooLong
     else if has_content Plain w then Some (statement w)
     else None
 
-abbrev pub listed : Option Piece → List Piece
-listed None = []
-listed (Some p) = p ∷ []
+abbrev pub piece_list : Option Piece → List Piece
+piece_list None = []
+piece_list (Some p) = p ∷ []
 
 abbrev pub all_told : List (List ℕ) → List Piece
 all_told [] = []
-all_told (w ∷ ws) = listed (told w) ++ all_told ws
+all_told (w ∷ ws) = piece_list (told_piece w) ++ all_told ws
 
 -- the pieces of a script that aren't blank
 unfoldable pub pieces_of : List ℕ → List Piece

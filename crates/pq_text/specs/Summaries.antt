@@ -1,7 +1,7 @@
 -- What a splitter knows of the bytes since the last cut, and what it will tell.
 use Rattle.std.specs.Prelude.{ℕ, ◌+◌, Bool, false, List, [], ◌∷◌, ◌++◌, length, take, Option, Some, None, nat_lt, ◌||◌, if◌then◌else◌}
-use Rattle.pq_text.specs.Cutting.{run, is_solid, first_cut, cuts, is_dash}
-use Rattle.pq_text.specs.Pieces.{piece_limit, statement, listed}
+use Rattle.pq_text.specs.Cutting.{state_behind, is_solid, first_cut, cuts, is_dash}
+use Rattle.pq_text.specs.Pieces.{piece_limit, statement, piece_list}
 use Rattle.pq_text.specs.declared.piece.Piece.{Piece}
 use Rattle.pq_text.specs.declared.piece.Piece.TheVariants as piece
 use Rattle.pq_text.specs.declared.state.State.{State}
@@ -22,9 +22,9 @@ abbrev pub is_long : Summary → ℕ → Bool
 is_long s n = s.long || nat_lt piece_limit (length s.kept + n)
 
 -- of more bytes
-unfoldable pub grown : Summary → List ℕ → Summary
-grown s part = record {
-  state = run s.state part;
+unfoldable pub grown_summary : Summary → List ℕ → Summary
+grown_summary s part = record {
+  state = state_behind s.state part;
   kept = if is_long s (length part) then [] else s.kept ++ part;
   long = is_long s (length part);
   solid = s.solid || is_solid s.state part;
@@ -38,13 +38,13 @@ told_of s = if s.long then Some piece.TooLong else if s.solid then Some (stateme
 unfoldable pub pieces_from : Summary → List ℕ → List Piece
 pieces_from s [] = []
 pieces_from s (b ∷ bs) =
-    if cuts s.state b then listed (told_of (grown s (b ∷ []))) ++ pieces_from start bs
-    else pieces_from (grown s (b ∷ [])) bs
+    if cuts s.state b then piece_list (told_of (grown_summary s (b ∷ []))) ++ pieces_from start bs
+    else pieces_from (grown_summary s (b ∷ [])) bs
 
 -- whether the rest is unfinished, where more bytes follow
 unfoldable pub unfinished_from : Summary → List ℕ → Bool
 unfinished_from s [] = s.solid || is_dash s.state
-unfinished_from s (b ∷ bs) = if cuts s.state b then unfinished_from start bs else unfinished_from (grown s (b ∷ [])) bs
+unfinished_from s (b ∷ bs) = if cuts s.state b then unfinished_from start bs else unfinished_from (grown_summary s (b ∷ [])) bs
 
 abbrev pub upto : Option ℕ → ℕ → ℕ
 upto None len = len
@@ -56,14 +56,14 @@ taken_of s bytes = upto (first_cut s.state bytes) (length bytes)
 
 abbrev pub told_at : Option ℕ → Summary → List ℕ → Option Piece
 told_at None s bytes = None
-told_at (Some n) s bytes = told_of (grown s (take n bytes))
+told_at (Some n) s bytes = told_of (grown_summary s (take n bytes))
 
 -- what is told: of the piece, where there is a cut
 abbrev pub piece_in : Summary → List ℕ → Option Piece
 piece_in s bytes = told_at (first_cut s.state bytes) s bytes
 
 abbrev pub left_at : Option ℕ → Summary → List ℕ → Summary
-left_at None s bytes = grown s bytes
+left_at None s bytes = grown_summary s bytes
 left_at (Some n) s bytes = start
 
 -- what is known behind the taken bytes

@@ -37,7 +37,10 @@ front_of b bs = or_character (min (char_len b) (length bs + 1)) (longest (length
 
 -- so many bytes at an offset stand before these tokens
 abbrev pub put_before : ℕ → Front → List Token → List Token
-put_before at front ts = elim front.form [ LeftOut ↦ ts | Of k ↦ record { kind = k; from = at; to = at + front.len } ∷ ts ]
+put_before at front ts = elim front.form [
+  | LeftOut ↦ ts
+  | Of k ↦ record { kind = k; from = at; to = at + front.len } ∷ ts
+]
 
 -- the tokens of these bytes, of which the first stands at an offset, behind so many that are gone over
 unfoldable pub tokens_from : ℕ → ℕ → List ℕ → List Token

@@ -1,6 +1,6 @@
 //! Cutting a script whose parts are at hand.
 ghost use Rattle.std.specs.Prelude.{◌≡◌, ◌++◌, List as Items, ℕ, drop, length, ◌≤◌, IfOk, OnOk};
-ghost use Rattle.pq_text.specs.Pieces.{listed, pieces_of, rest_of, is_unfinished};
+ghost use Rattle.pq_text.specs.Pieces.{piece_list, pieces_of, rest_of, is_unfinished};
 ghost use Rattle.pq_text.specs.Parts.{joined_parts};
 ghost use Rattle.pq_text.specs.Summaries.{pieces_from, unfinished_from};
 
@@ -19,7 +19,7 @@ pub struct CutScript {
 }
 
 fn put(alloc: Global, pieces: &mut List<Piece>, piece: Option<Piece>) -> Result<(), NoMem>
-    ensures { OnOk result (pieces.new ≡ pieces.old ++ listed piece) }
+    ensures { OnOk result (pieces.new ≡ pieces.old ++ piece_list piece) }
 {
     if let Some(piece) = piece {
         pieces.push(alloc, piece)?;
@@ -41,8 +41,11 @@ fn feed_part(
     part: &[u8],
     pieces: &mut List<Piece>,
 ) -> Result<(), NoMem>
-    ensures pieces { OnOk result ((more : Items ℕ) → pieces.new ++ pieces_from splitter.new more ≡ pieces.old ++ pieces_from splitter.old (part.now ++ more)) }
-    ensures rest { OnOk result ((more : Items ℕ) → unfinished_from splitter.new more ≡ unfinished_from splitter.old (part.now ++ more)) }
+    ensures pieces { OnOk result ((more : Items ℕ)
+        → pieces.new ++ pieces_from splitter.new more
+        ≡ pieces.old ++ pieces_from splitter.old (part.now ++ more)) }
+    ensures rest { OnOk result ((more : Items ℕ)
+        → unfinished_from splitter.new more ≡ unfinished_from splitter.old (part.now ++ more)) }
 {
     let mut taken = 0;
     'part: while taken < part.len() {

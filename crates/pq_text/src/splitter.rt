@@ -1,8 +1,8 @@
 //! Cutting a script that comes in parts.
 ghost use Rattle.std.specs.Prelude.{◌≡◌, ◌+◌, ◌<◌, ◌≤◌, ◌||◌, ◌++◌, length, take, IfOk, OnOk, OnErr, List, ℕ, [], nat_lt, Some, None, true, false};
-ghost use Rattle.pq_text.specs.Cutting.{run, is_solid, first_cut};
-ghost use Rattle.pq_text.specs.Pieces.{piece_limit, statement, listed};
-ghost use Rattle.pq_text.specs.Summaries.{start, grown, told_of, taken_of, piece_in, left_in, pieces_from, unfinished_from};
+ghost use Rattle.pq_text.specs.Cutting.{state_behind, is_solid, first_cut};
+ghost use Rattle.pq_text.specs.Pieces.{piece_limit, statement, piece_list};
+ghost use Rattle.pq_text.specs.Summaries.{start, grown_summary, told_of, taken_of, piece_in, left_in, pieces_from, unfinished_from};
 
 use crate::piece::Piece;
 use crate::state::State;
@@ -24,7 +24,7 @@ fn scan(start: State, bytes: &[u8]) -> Stop
     ensures some { 0 < length bytes.now → 0 < result.len }
     ensures cut { result.cut ≡ true → first_cut start bytes.now ≡ Some result.len }
     ensures uncut { result.cut ≡ false → (first_cut start bytes.now ≡ None) × (result.len ≡ length bytes.now) }
-    ensures state { result.state ≡ run start (take result.len bytes.now) }
+    ensures state { result.state ≡ state_behind start (take result.len bytes.now) }
     ensures solid { result.solid ≡ is_solid start (take result.len bytes.now) }
 {
     let mut state = start;
@@ -133,11 +133,11 @@ impl Splitter {
         }
     }
 
-    #[tactic(auto, unfolding(crate::specs::Summaries::grown))]
+    #[tactic(auto, unfolding(crate::specs::Summaries::grown_summary))]
     fn grow(&mut self, part: &[u8], stop: Stop) -> Result<(), NoMem>
-        requires state { stop.state ≡ run self.old.state part.now }
+        requires state { stop.state ≡ state_behind self.old.state part.now }
         requires solid { stop.solid ≡ is_solid self.old.state part.now }
-        ensures ok { OnOk result (self.new ≡ grown self.old part.now) }
+        ensures ok { OnOk result (self.new ≡ grown_summary self.old part.now) }
         ensures err { OnErr result (self.new ≡ self.old) }
     {
         let long = either(self.long, is_above_limit(self.kept.len(), part.len()));
@@ -152,10 +152,10 @@ impl Splitter {
         Ok(())
     }
 
-    #[tactic(auto, unfolding(crate::specs::Summaries::grown))]
+    #[tactic(auto, unfolding(crate::specs::Summaries::grown_summary))]
     fn close(&mut self, alloc: Global, part: &[u8], solid: bool) -> Result<Option<Piece>, NoMem>
         requires { solid ≡ is_solid self.old.state part.now }
-        ensures told { IfOk result (λ piece. piece ≡ told_of (grown self.old part.now)) }
+        ensures told { IfOk result (λ piece. piece ≡ told_of (grown_summary self.old part.now)) }
         ensures new { OnOk result (self.new ≡ start) }
         ensures err { OnErr result (self.new ≡ self.old) }
     {
@@ -181,8 +181,10 @@ impl Splitter {
         ensures taken { IfOk result (λ fed. fed.0 ≡ taken_of self.old bytes.now) }
         ensures piece { IfOk result (λ fed. fed.1 ≡ piece_in self.old bytes.now) }
         ensures left { OnOk result (self.new ≡ left_in self.old bytes.now) }
-        ensures pieces { IfOk result (λ fed. (more : List ℕ) → pieces_from self.old (take fed.0 bytes.now ++ more) ≡ listed fed.1 ++ pieces_from self.new more) }
-        ensures rest { IfOk result (λ fed. (more : List ℕ) → unfinished_from self.old (take fed.0 bytes.now ++ more) ≡ unfinished_from self.new more) }
+        ensures pieces { IfOk result (λ fed. (more : List ℕ)
+            → pieces_from self.old (take fed.0 bytes.now ++ more) ≡ piece_list fed.1 ++ pieces_from self.new more) }
+        ensures rest { IfOk result (λ fed. (more : List ℕ)
+            → unfinished_from self.old (take fed.0 bytes.now ++ more) ≡ unfinished_from self.new more) }
         ensures err { OnErr result (self.new ≡ self.old) }
     {
         let stop = scan(self.state, bytes);

@@ -8,7 +8,7 @@ use Rattle.pq_base.specs.Values.{IsType}
 use Rattle.pq_key_code.specs.KeyCode.{row_key}
 use Rattle.pq_schema.specs.Rows.{types_of}
 use Rattle.pq_store.specs.Content.{Content}
-use Rattle.pq_calls.specs.Calls.{seen}
+use Rattle.pq_calls.specs.Calls.{seen_world}
 use Rattle.pq_calls.specs.Evidence.{IsRead}
 use Rattle.pq_calls.specs.Keys.{named_key}
 use Rattle.pq_entries.proofs.Fetched.{fetch_explains, missing_shows, fetched}
@@ -18,7 +18,7 @@ pub returns-in_err-stored-clause-cause : goal.returns-in_err-stored-clause-cause
 returns-in_err-stored-clause-cause g c =
     let p = err_from_is_err_and c.from_residual-in_err-stored.result c.from_residual-in_err-stored.ensures.1 in
     rw (p.1, p.2)
-    (fetch_explains c.args.catalog.now.tables c.args.number c.args.index c.args.values.now c.requires.sequence c.requires.values (seen g.S.Store.content g.S.Store.faults c.args.calls.now) (seen g.S.Store.content g.S.Store.faults c.row.new.self) c.in_err-stored.field-0.0
+    (fetch_explains c.args.catalog.now.tables c.args.number c.args.index c.args.values.now c.requires.sequence c.requires.values (seen_world g.S.Store.content g.S.Store.faults c.args.calls.now) (seen_world g.S.Store.content g.S.Store.faults c.row.new.self) c.in_err-stored.field-0.0
     (rw (← c.table_of-table.ensures.table, ← c.in_ok-key.ensures) c.in_err-stored.ensures.cause))
 
 pub returns-in-Some-clause-answer : goal.returns-in-Some-clause-answer

@@ -4,7 +4,7 @@ use Rattle.pq_base.specs.Values.{IsType}
 use Rattle.pq_row_code.specs.RowCode.{row_code}
 use Rattle.pq_schema.specs.Rows.{types_of}
 use Rattle.pq_store.specs.declared.store.Pair.{Pair}
-use Rattle.pq_calls.specs.Calls.{seen}
+use Rattle.pq_calls.specs.Calls.{seen_world}
 use Rattle.pq_entries.proofs.Told.{rows_explained, rows_answered, few_read, fit_as}
 use Rattle.pq_entries.proofs.ranges.range_rows.Goals as goal
 
@@ -13,7 +13,7 @@ returns-clause-cause g c =
     let types = c.items.ensures ∙ c.in_ok-types.ensures ∙ ap types_of c.table_of-table.ensures.table in
     rows_explained c.args.catalog.now.tables c.args.number c.requires.sequence.number c.args.low.now c.args.high.now c.args.limit c.items-2.result.now
     (rw c.items-2.ensures c.in_ok-pairs.ensures.part) (g.S.Store.content c.args.calls.now.store.now) (rw c.items-2.ensures c.in_ok-pairs.ensures.answer)
-    c.items.result.now types c.requires.ends (seen g.S.Store.content g.S.Store.faults c.args.calls.now) (seen g.S.Store.content g.S.Store.faults c.range.new.self) refl c.decoded_rows.result c.decoded_rows.ensures.cause
+    c.items.result.now types c.requires.ends (seen_world g.S.Store.content g.S.Store.faults c.args.calls.now) (seen_world g.S.Store.content g.S.Store.faults c.range.new.self) refl c.decoded_rows.result c.decoded_rows.ensures.cause
 
 pub returns-clause-answer : goal.returns-clause-answer
 returns-clause-answer g c =

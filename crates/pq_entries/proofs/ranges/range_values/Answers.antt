@@ -4,7 +4,7 @@ use Rattle.pq_key_code.specs.KeyCode.{code_of}
 use Rattle.pq_schema.specs.Keys.{dirs_of}
 use Rattle.pq_schema.specs.Sequences.{sequence_of}
 use Rattle.pq_schema.specs.declared.table.Table.{Table}
-use Rattle.pq_calls.specs.Calls.{seen}
+use Rattle.pq_calls.specs.Calls.{seen_world}
 use Rattle.pq_calls.specs.Keys.{sequence_types}
 use Rattle.pq_store.specs.declared.store.Pair.{Pair}
 use Rattle.pq_entries.proofs.Told.{keys_explained, keys_answered, keys_are_there, few_read, fit_as, part_long}
@@ -17,7 +17,7 @@ returns-clause-cause g c =
     keys_explained c.args.catalog.now.tables c.args.number c.requires.sequence.number c.args.low.now c.args.high.now c.args.limit c.items-3.result.now
     (rw c.items-3.ensures c.in_ok-pairs.ensures.part) (g.S.Store.content c.args.calls.now.store.now) (rw c.items-3.ensures c.in_ok-pairs.ensures.answer)
     c.args.access c.requires.sequence.is_access c.items.result.now c.items-2.result.now c.front_len-skipped.result types dirs c.front_len-skipped.ensures c.requires.ends
-    (seen g.S.Store.content g.S.Store.faults c.args.calls.now) (seen g.S.Store.content g.S.Store.faults c.range.new.self) refl c.decoded_keys.result c.decoded_keys.ensures.cause
+    (seen_world g.S.Store.content g.S.Store.faults c.args.calls.now) (seen_world g.S.Store.content g.S.Store.faults c.range.new.self) refl c.decoded_keys.result c.decoded_keys.ensures.cause
 
 pub returns-clause-answer : goal.returns-clause-answer
 returns-clause-answer g c =

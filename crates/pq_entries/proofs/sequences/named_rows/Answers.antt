@@ -7,7 +7,7 @@ use Rattle.pq_base.proofs.Members.{each_in, each_append}
 use Rattle.pq_schema.specs.Rows.{types_of}
 use Rattle.pq_schema.specs.Sequences.{index_sequence, index_numbered}
 use Rattle.pq_schema.specs.Tables.{table_at}
-use Rattle.pq_calls.specs.Calls.{seen}
+use Rattle.pq_calls.specs.Calls.{seen_world}
 use Rattle.pq_content.specs.Tables.{values_of, rows_of}
 use Rattle.pq_entries.proofs.Naming.{uses_then, holds_later, one_named, all_named}
 use Rattle.pq_entries.proofs.sequences.named_rows.Goals as goal
@@ -24,7 +24,7 @@ loop-values-preserved g c =
           c.in_ok-push.ensures.ok
           ∙ one_named (values_of (index_sequence (table_at c.args.catalog.now.tables c.args.number) (index_numbered (table_at c.args.catalog.now.tables c.args.number) c.args.index))) wanted c.loop-values.rows c.args.found.now i c.values-item.result c.in_ok-row.row c.loop-values-test.true c.values-item.is is
           (λ w here same. c.in_ok-row.ensures.answer rows others w
-          (holds_later (seen g.S.Store.content g.S.Store.faults c.args.calls.now) (seen g.S.Store.content g.S.Store.faults c.loop-values.calls) i i c.args.catalog.now.tables rows others so_far.uses.reads holds)
+          (holds_later (seen_world g.S.Store.content g.S.Store.faults c.args.calls.now) (seen_world g.S.Store.content g.S.Store.faults c.loop-values.calls) i i c.args.catalog.now.tables rows others so_far.uses.reads holds)
           (each_in (λ (row : List Value). In row (rows_of c.args.number rows)) wanted all w here) same)
           (so_far.answer rows others wanted holds all is);
     }

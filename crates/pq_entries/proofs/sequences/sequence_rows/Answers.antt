@@ -1,4 +1,4 @@
-use Rattle.pq_calls.specs.Calls.{seen}
+use Rattle.pq_calls.specs.Calls.{seen_world}
 use Rattle.pq_entries.proofs.Naming.{rows_first, named_first}
 use Rattle.pq_entries.proofs.sequences.sequence_rows.Goals as goal
 
@@ -9,6 +9,6 @@ returns-in-Primary-clause-answer g c =
 pub returns-in_ok-found-in-Secondary-clause-answer : goal.returns-in_ok-found-in-Secondary-clause-answer
 returns-in_ok-found-in-Secondary-clause-answer g c =
     named_first c.args.catalog.now.tables c.args.number c.in-Secondary.index c.args.access c.args.low.now c.args.high.now c.args.limit
-    (seen g.S.Store.content g.S.Store.faults c.args.calls.now) (seen g.S.Store.content g.S.Store.faults c.range_values.new.calls) 1 c.args.limit
+    (seen_world g.S.Store.content g.S.Store.faults c.args.calls.now) (seen_world g.S.Store.content g.S.Store.faults c.range_values.new.calls) 1 c.args.limit
     c.in_ok-found-in-Secondary.found c.items.result.now c.in-Secondary.is c.in_ok-found-in-Secondary.ensures.uses.reads c.items.ensures c.in_ok-found-in-Secondary.ensures.answer
     c.named_rows.result c.named_rows.ensures.answer

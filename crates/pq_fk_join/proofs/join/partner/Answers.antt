@@ -2,7 +2,7 @@ use Rattle.std.proofs.Common.{ap, ◌∙◌}
 use Rattle.std.proofs.lemmas.Result.{err_from_is_err_and}
 use Rattle.pq_schema.proofs.Soundness.{valid_query}
 use Rattle.pq_operands.specs.Ties.{cells_tied}
-use Rattle.pq_calls.specs.Calls.{seen}
+use Rattle.pq_calls.specs.Calls.{seen_world}
 use Rattle.pq_fk_join.proofs.Partners.{partner_explains, partner_is}
 use Rattle.pq_fk_join.proofs.join.partner.Goals as goal
 
@@ -16,7 +16,7 @@ returns-in_err-stored-clause-cause g c =
     (partner_explains c.args.catalog.now c.args.query.now c.args.params.now c.args.rel c.args.input.now c.requires.asked c.requires.lookup c.requires.input
     c.table_number.result c.table_of-table.result.now c.in_ok-key.key c.table_number.ensures c.table_of-table.ensures.table
     (c.in_ok-key.ensures ∙ ap (cells_tied c.args.query.now c.args.params.now c.args.rel c.args.input.now) c.items.ensures)
-    (seen g.S.Store.content g.S.Store.faults c.args.calls.now) (seen g.S.Store.content g.S.Store.faults c.row.new.self) c.in_err-stored.field-0.0
+    (seen_world g.S.Store.content g.S.Store.faults c.args.calls.now) (seen_world g.S.Store.content g.S.Store.faults c.row.new.self) c.in_err-stored.field-0.0
     c.in_err-stored.ensures.cause)
 
 pub returns-in-Some-clause-answer : goal.returns-in-Some-clause-answer

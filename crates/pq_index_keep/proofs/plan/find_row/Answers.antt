@@ -1,5 +1,5 @@
 use Rattle.std.specs.Prelude.{option_map}
-use Rattle.pq_calls.specs.Calls.{seen}
+use Rattle.pq_calls.specs.Calls.{seen_world}
 use Rattle.pq_calls.specs.declared.rows.StoredRow.{StoredRow}
 use Rattle.pq_calls.proofs.Shown.{no_row_explains}
 use Rattle.pq_index_keep.proofs.Deleting.{told_row}
@@ -8,7 +8,7 @@ use Rattle.pq_index_keep.proofs.plan.find_row.Goals as goal
 pub returns-in-Err-clause-cause : goal.returns-in-Err-clause-cause
 returns-in-Err-clause-cause g c =
     no_row_explains c.args.catalog.now.tables c.args.number c.args.key.now c.requires.number c.requires.kinds
-    (seen g.S.Store.content g.S.Store.faults c.args.calls.now) (seen g.S.Store.content g.S.Store.faults c.row.new.self) c.in-Err.error
+    (seen_world g.S.Store.content g.S.Store.faults c.args.calls.now) (seen_world g.S.Store.content g.S.Store.faults c.row.new.self) c.in-Err.error
     (rw c.table_of.ensures.table at c.in-Err.ensures.cause)
 
 pub returns-in-Ok-clause-answer : goal.returns-in-Ok-clause-answer

@@ -1,4 +1,4 @@
-use Rattle.pq_calls.specs.Calls.{seen}
+use Rattle.pq_calls.specs.Calls.{seen_world}
 use Rattle.pq_calls.specs.World.{world}
 use Rattle.pq_index_keep.proofs.Deleting.{told_undamaged}
 use Rattle.pq_index_keep.proofs.FromMade.{valid_writable}
@@ -11,4 +11,4 @@ pub returns-clause-undamaged : goal.returns-clause-undamaged
 returns-clause-undamaged g c =
     told_undamaged c.args.catalog.now.tables
     (world (g.S.Store.content c.args.store.now) (g.S.Store.faults c.args.store.now) c.args.allowance.now c.args.meter.now)
-    (seen g.S.Store.content g.S.Store.faults c.plan_by.new.calls) c.plan_by.result c.plan_by.ensures.cause
+    (seen_world g.S.Store.content g.S.Store.faults c.plan_by.new.calls) c.plan_by.result c.plan_by.ensures.cause

@@ -1,7 +1,7 @@
 use Rattle.std.proofs.Common.{List, subst, sym, ◌∙◌}
 use Rattle.std.proofs.lemmas.Result.{IfErr-weaker}
 use Rattle.pq_base.specs.declared.value.Value.{Value}
-use Rattle.pq_calls.specs.Calls.{seen}
+use Rattle.pq_calls.specs.Calls.{seen_world}
 use Rattle.pq_calls.specs.World.{world}
 use Rattle.pq_nodes.specs.Operators.{AreInputs}
 use Rattle.pq_nodes.proofs.Undamaged.{read_undamaged}
@@ -17,4 +17,4 @@ pub returns-clause-undamaged : goal.returns-clause-undamaged
 returns-clause-undamaged g c =
     IfErr-weaker c.scan_inputs.result _ _ (λ error why. read_undamaged c.args.catalog.now.tables
     (world (g.S.Store.content c.args.store.now) (g.S.Store.faults c.args.store.now) c.args.allowance.now c.args.meter.now)
-    (seen g.S.Store.content g.S.Store.faults c.scan_inputs.new.calls) error why) c.scan_inputs.ensures.cause
+    (seen_world g.S.Store.content g.S.Store.faults c.scan_inputs.new.calls) error why) c.scan_inputs.ensures.cause

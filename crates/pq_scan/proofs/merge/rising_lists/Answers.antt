@@ -2,7 +2,7 @@ use Rattle.std.proofs.Common.{◌≡◌, ◌++◌, [], List, sym, subst, arith}
 use Rattle.std.proofs.lemmas.List.{nil_from_length}
 use Rattle.std.specs.List.{AllByRecursion}
 use Rattle.pq_scan.specs.declared.merge.Rising.{Rising}
-use Rattle.pq_scan.specs.Merging.{numbered, listed, waiting, IsRising}
+use Rattle.pq_scan.specs.Merging.{numbered_from, numbered_items, waiting_heads, IsRising}
 use Rattle.pq_scan.proofs.Merging.{alone, first_one, one_more, all_listed}
 use Rattle.pq_scan.proofs.merge.rising_lists.Goals as goal
 
@@ -24,7 +24,7 @@ loop-candidate-preserved c =
     let made = c.in_ok-list.list in (
       c.in_ok-list.ensures.rises,
       c.in_ok-list.ensures.all_rise,
-      one_more (numbered 0 c.args.found.items) c.loop-candidate.found.items front.items c.in-Some-pop.candidate c.len-number.result (listed list ++ waiting lists) (listed made ++ waiting c.put_before.new.lists.items)
+      one_more (numbered_from 0 c.args.found.items) c.loop-candidate.found.items front.items c.in-Some-pop.candidate c.len-number.result (numbered_items list ++ waiting_heads lists) (numbered_items made ++ waiting_heads c.put_before.new.lists.items)
           c.in-Some-pop.ensures.items (omega (arith, c.len-number.ensures, front.ok.0)) i.2 c.in_ok-list.ensures.same,
     )
 
@@ -32,4 +32,4 @@ pub returns-clause-same : goal.returns-clause-same
 returns-clause-same c =
     let found = c.loop-candidate.found in
     let none : found.items ≡ [] = nil_from_length found.items (omega (arith, c.in_default-pop.ensures.cases.0, found.ok.0)) in
-    all_listed (numbered 0 c.args.found.items) found.items c.loop-candidate.list c.loop-candidate.lists.items c.push.new.self.items none c.in_ok-push.ensures.items c.loop-candidate.invariant.2
+    all_listed (numbered_from 0 c.args.found.items) found.items c.loop-candidate.list c.loop-candidate.lists.items c.push.new.self.items none c.in_ok-push.ensures.items c.loop-candidate.invariant.2

@@ -2,7 +2,7 @@ use Rattle.std.proofs.Common.{◌≡◌, true, length, sym, subst}
 use Rattle.std.specs.Prelude.{IfOk, IfErr}
 use Rattle.std.specs.Option.{option_copied}
 use Rattle.pq_schema.specs.Candidates.{can_stop_at}
-use Rattle.pq_schema.specs.Relations.{table_of, fixed, order_rest}
+use Rattle.pq_schema.specs.Relations.{table_of, tied_set, order_rest}
 use Rattle.pq_schema.specs.Sequences.{IsAccess, sequence_of, serves}
 use Rattle.pq_schema.proofs.Soundness.{resolved_is_query}
 use Rattle.pq_calls.specs.Calls.{Uses, Fails}
@@ -26,7 +26,7 @@ run-requires-clause-ready g c =
       asked = subst (λ (s : Subject). IsAsked s.tables s.query s.params) to c.requires.asked;
       relation = subst (λ (s : Subject). IsRelationOf s.query s.rel) to is.relation;
       can = subst (λ (s : Subject). can_stop_at s.tables s.query s.rel ≡ true) to is.can;
-      serves = subst (λ (s : Subject). IsAccess (table_of s.tables s.query s.rel) s.access × (serves (table_of s.tables s.query s.rel) (fixed s.query s.rel) (order_rest s.query s.rel) (sequence_of (table_of s.tables s.query s.rel) s.access) ≡ true)) to c.requires.ready.indexed;
+      serves = subst (λ (s : Subject). IsAccess (table_of s.tables s.query s.rel) s.access × (serves (table_of s.tables s.query s.rel) (tied_set s.query s.rel) (order_rest s.query s.rel) (sequence_of (table_of s.tables s.query s.rel) s.access) ≡ true)) to c.requires.ready.indexed;
     }
 
 pub run-requires-clause-inputs : goal.run-requires-clause-inputs

@@ -1,9 +1,9 @@
 use Rattle.std.proofs.Common.{rules, ◌-◌, ◌<◌, take, drop, length, sym, ap}
 use Rattle.std.proofs.lemmas.Result.{err_from_is_err_and}
 use Rattle.std.proofs.lemmas.List.{take-append-drop}
-use Rattle.pq_text.specs.Pieces.{listed}
+use Rattle.pq_text.specs.Pieces.{piece_list}
 use Rattle.pq_shell.proofs.Ending.{stands_opens}
-use Rattle.pq_shell.specs.Serving.{Fed}
+use Rattle.pq_shell.specs.Serving.{FedPieces}
 use Rattle.pq_shell.proofs.Known.{take_two, length_part}
 use Rattle.pq_shell.proofs.Folding.{Stopped-between}
 use Rattle.pq_shell.proofs.Parts.{Progressed-none, Progressed-more, Progressed-piece, Progressed-at, Stopped-later, Stopped-at_piece, Fed-told, three_parts}
@@ -25,8 +25,8 @@ returns-in_err-session-clause-err g c =
     let at = c.loop-at.at in
     let n = c.in-Ok.fed.0 in
     let part = take n (take (length bytes - at) (drop at bytes)) in
-    let fed : Fed c.loop-at.progress.splitter part (listed c.in-Ok.fed.1) c.feed.new.self = record { pieces = c.in-Ok.ensures.pieces; rest = c.in-Ok.ensures.rest } in
-    rw (p.1, p.2) (Stopped-at_piece part (drop n (drop at bytes)) bytes c.in-Some.piece c.feed.new.self (three_parts bytes at n) c.loop-at.invariant.progressed (Fed-told c.in-Ok.fed.1 _ fed (ap listed c.in-Some.is)) c.in_err-session.ensures.err)
+    let fed : FedPieces c.loop-at.progress.splitter part (piece_list c.in-Ok.fed.1) c.feed.new.self = record { pieces = c.in-Ok.ensures.pieces; rest = c.in-Ok.ensures.rest } in
+    rw (p.1, p.2) (Stopped-at_piece part (drop n (drop at bytes)) bytes c.in-Some.piece c.feed.new.self (three_parts bytes at n) c.loop-at.invariant.progressed (Fed-told c.in-Ok.fed.1 _ fed (ap piece_list c.in-Some.is)) c.in_err-session.ensures.err)
 
 pub loop-at-preserved-in_ok-session : goal.loop-at-preserved-in_ok-session
 loop-at-preserved-in_ok-session g c =
@@ -34,14 +34,14 @@ loop-at-preserved-in_ok-session g c =
     let at = c.loop-at.at in
     let n = c.in-Ok.fed.0 in
     let part = take n (take (length bytes - at) (drop at bytes)) in
-    let fed : Fed c.loop-at.progress.splitter part (listed c.in-Ok.fed.1) c.feed.new.self = record { pieces = c.in-Ok.ensures.pieces; rest = c.in-Ok.ensures.rest } in
+    let fed : FedPieces c.loop-at.progress.splitter part (piece_list c.in-Ok.fed.1) c.feed.new.self = record { pieces = c.in-Ok.ensures.pieces; rest = c.in-Ok.ensures.rest } in
     let some : 0 < length part = length_part n _ c.in-Ok.ensures.some.0 c.in-Ok.ensures.some.1 in
     record {
       within = search rules;
       store_later = search rules;
       sink_later = search rules;
       unmoved = search rules;
-      progressed = Progressed-at (take_two bytes at n) (Progressed-piece part c.in-Some.piece c.loop-at.invariant.progressed (Fed-told c.in-Ok.fed.1 _ fed (ap listed c.in-Some.is)) c.in_ok-session.ensures.ok c.in_ok-session.ensures.count some);
+      progressed = Progressed-at (take_two bytes at n) (Progressed-piece part c.in-Some.piece c.loop-at.invariant.progressed (Fed-told c.in-Ok.fed.1 _ fed (ap piece_list c.in-Some.is)) c.in_ok-session.ensures.ok c.in_ok-session.ensures.count some);
     }
 
 pub loop-at-preserved-in_ok-session-2 : goal.loop-at-preserved-in_ok-session-2
@@ -50,14 +50,14 @@ loop-at-preserved-in_ok-session-2 g c =
     let at = c.loop-at.at in
     let n = c.in-Ok.fed.0 in
     let part = take n (take (length bytes - at) (drop at bytes)) in
-    let fed : Fed c.loop-at.progress.splitter part (listed c.in-Ok.fed.1) c.feed.new.self = record { pieces = c.in-Ok.ensures.pieces; rest = c.in-Ok.ensures.rest } in
+    let fed : FedPieces c.loop-at.progress.splitter part (piece_list c.in-Ok.fed.1) c.feed.new.self = record { pieces = c.in-Ok.ensures.pieces; rest = c.in-Ok.ensures.rest } in
     let some : 0 < length part = length_part n _ c.in-Ok.ensures.some.0 c.in-Ok.ensures.some.1 in
     record {
       within = search rules;
       store_later = search rules;
       sink_later = search rules;
       unmoved = search rules;
-      progressed = Progressed-at (take_two bytes at n) (Progressed-piece part c.in-Some.piece c.loop-at.invariant.progressed (Fed-told c.in-Ok.fed.1 _ fed (ap listed c.in-Some.is)) c.in_ok-session.ensures.ok c.in_ok-session.ensures.count some);
+      progressed = Progressed-at (take_two bytes at n) (Progressed-piece part c.in-Some.piece c.loop-at.invariant.progressed (Fed-told c.in-Ok.fed.1 _ fed (ap piece_list c.in-Some.is)) c.in_ok-session.ensures.ok c.in_ok-session.ensures.count some);
     }
 
 pub loop-at-preserved : goal.loop-at-preserved
@@ -66,11 +66,11 @@ loop-at-preserved g c =
     let at = c.loop-at.at in
     let n = c.in-Ok.fed.0 in
     let part = take n (take (length bytes - at) (drop at bytes)) in
-    let fed : Fed c.loop-at.progress.splitter part (listed c.in-Ok.fed.1) c.feed.new.self = record { pieces = c.in-Ok.ensures.pieces; rest = c.in-Ok.ensures.rest } in
+    let fed : FedPieces c.loop-at.progress.splitter part (piece_list c.in-Ok.fed.1) c.feed.new.self = record { pieces = c.in-Ok.ensures.pieces; rest = c.in-Ok.ensures.rest } in
     record {
       within = search rules;
       store_later = search rules;
       sink_later = search rules;
       unmoved = search rules;
-      progressed = Progressed-at (take_two bytes at n) (Progressed-more part c.feed.new.self c.loop-at.invariant.progressed (Fed-told c.in-Ok.fed.1 _ fed (ap listed c.in_default.is)));
+      progressed = Progressed-at (take_two bytes at n) (Progressed-more part c.feed.new.self c.loop-at.invariant.progressed (Fed-told c.in-Ok.fed.1 _ fed (ap piece_list c.in_default.is)));
     }

@@ -1,7 +1,7 @@
 use Rattle.std.proofs.Common.{◌≡◌, ◌≤◌, ◌+◌, ◌-◌, ◌^◌, suc, subst, sym, ap, ◌∙◌, arith}
 use Rattle.pq_schema.specs.Costs.{start}
 use Rattle.pq_schema.specs.Candidates.{read_next}
-use Rattle.pq_plan.specs.Totals.{reached, Below}
+use Rattle.pq_plan.specs.Totals.{reached_total, Below}
 use Rattle.pq_plan.proofs.Small.{low}
 use Rattle.pq_stop_push.proofs.Ranges.{fold_next}
 use Rattle.pq_stop_push.proofs.costs.reached_after.Goals as goal
@@ -19,7 +19,7 @@ loop-rel-preserved c =
     record {
       total = c.read_next-total.ensures.total ∙ ap (λ r. read_next tables query r c.loop-rel.rel) c.loop-rel.invariant.total
           ∙ sym (fold_next (read_next tables query) start c.loop-rel.rel (omega arith));
-      below = subst (λ k. Below (30000 ^ k) (reached c.read_next-total.result)) n (c.read_next-total.ensures.below (c.loop-rel.rel - 1) c.loop-rel.invariant.below);
+      below = subst (λ k. Below (30000 ^ k) (reached_total c.read_next-total.result)) n (c.read_next-total.ensures.below (c.loop-rel.rel - 1) c.loop-rel.invariant.below);
     }
 
 pub returns-clause-low : goal.returns-clause-low

@@ -1,6 +1,6 @@
 use Rattle.std.proofs.Common.{◌≡◌, drop}
-use Rattle.pq_store.specs.Faults.{listed}
+use Rattle.pq_store.specs.Faults.{listed_fail}
 use Rattle.pq_store.proofs.failing.find_call.Given as goal
 
 abbrev pub invariant-loop-fail : goal.invariant-loop-fail
-invariant-loop-fail l = listed l.number (drop l.fail-index l.fails) ≡ listed l.number l.fails
+invariant-loop-fail l = listed_fail l.number (drop l.fail-index l.fails) ≡ listed_fail l.number l.fails

@@ -1,10 +1,10 @@
 use Rattle.std.proofs.Common.{◌≡◌, true, false, get_or, refl, ◌∙◌, arith}
-use Rattle.pq_text.specs.Cutting.{run, is_solid, cuts}
+use Rattle.pq_text.specs.Cutting.{state_behind, is_solid, cuts}
 use Rattle.pq_text.proofs.CutSteps.{run_step, solid_step, cut_start, cut_found, cut_later, cut_none}
 use Rattle.pq_text.proofs.splitter.scan.Goals as goal
 
 pub bytes-init : goal.bytes-init
-unfolding run is_solid
+unfolding state_behind is_solid
 bytes-init c = record { within = omega arith; cut = cut_start c.args.start c.args.bytes.now; state = refl; solid = refl }
 
 pub bytes-preserved : goal.bytes-preserved

@@ -1,5 +1,5 @@
 use Rattle.std.proofs.Common.{◌≡◌, ap}
-use Rattle.pq_parts.specs.Spans.{joined}
+use Rattle.pq_parts.specs.Spans.{joined_content}
 use Rattle.pq_parts.proofs.Nodes.{placed_set, firsts_set, same_set, cause_set, answer_set}
 use Rattle.pq_parts.proofs.part_store.PartStoreStore.get.Goals as goal
 
@@ -13,7 +13,7 @@ returns-clause-answer g c =
 
 pub returns-clause-same : goal.returns-clause-same
 returns-clause-same g c =
-    rw (← c.self.view_is) (ap joined (same_set c.index_mut.result.now c.get-found.new.node g.S.Store.content c.self.inside.parts.items c.place-at.result c.index_mut.ensures.value c.get-found.ensures.same))
+    rw (← c.self.view_is) (ap joined_content (same_set c.index_mut.result.now c.get-found.new.node g.S.Store.content c.self.inside.parts.items c.place-at.result c.index_mut.ensures.value c.get-found.ensures.same))
 
 pub returns-clause-cause : goal.returns-clause-cause
 returns-clause-cause g c =

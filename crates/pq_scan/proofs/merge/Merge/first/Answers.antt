@@ -1,37 +1,37 @@
 use Rattle.std.proofs.Common.{◌≡◌, ◌+◌, ◌++◌, ◌∷◌, [], List, Option, length, length-append, sym, ap, subst, ◌∙◌, arith}
 use Rattle.std.specs.BinaryHeap.{heap_items}
 use Rattle.pq_scan.specs.declared.candidates.Candidate.{Candidate}
-use Rattle.pq_scan.specs.Merging.{merged, GivesNext}
+use Rattle.pq_scan.specs.Merging.{merged_lists, GivesNext}
 use Rattle.pq_scan.proofs.Merging.{one_taken, fewer_taken, just_taken}
 use Rattle.pq_scan.proofs.merge.Merge.first.Goals as goal
 
 pub loop-init : goal.loop-init
 loop-init c =
-    (c.requires, ap (λ (l : List Candidate). l ++ merged (heap_items c.args.self.heap)) (sym c.new-first.ensures), ap (λ (l : List Candidate). length l) c.new-first.ensures)
+    (c.requires, ap (λ (l : List Candidate). l ++ merged_lists (heap_items c.args.self.heap)) (sym c.new-first.ensures), ap (λ (l : List Candidate). length l) c.new-first.ensures)
 
 pub next-requires : goal.next-requires
 next-requires c = c.loop.invariant.0
 
 pub returns-in_default : goal.returns-in_default
 returns-in_default c =
-    let old = merged (heap_items c.loop.self.heap) in
-    let none : old ≡ [] = subst (λ (o : Option Candidate). GivesNext old (merged (heap_items c.next.new.self.heap)) o) c.in_default.is c.in_ok-candidate.ensures.next in
-    fewer_taken c.args.k (merged (heap_items c.args.self.heap)) c.loop.first old c.loop.invariant.1 none (omega (arith, c.loop.invariant.2, c.loop.auto.counter-end))
+    let old = merged_lists (heap_items c.loop.self.heap) in
+    let none : old ≡ [] = subst (λ (o : Option Candidate). GivesNext old (merged_lists (heap_items c.next.new.self.heap)) o) c.in_default.is c.in_ok-candidate.ensures.next in
+    fewer_taken c.args.k (merged_lists (heap_items c.args.self.heap)) c.loop.first old c.loop.invariant.1 none (omega (arith, c.loop.invariant.2, c.loop.auto.counter-end))
 
 pub loop-preserved : goal.loop-preserved
 loop-preserved c =
-    let old = merged (heap_items c.loop.self.heap) in
-    let left = merged (heap_items c.next.new.self.heap) in
+    let old = merged_lists (heap_items c.loop.self.heap) in
+    let left = merged_lists (heap_items c.next.new.self.heap) in
     let x = c.in-Some.candidate in
     let given : old ≡ x ∷ left = subst (λ (o : Option Candidate). GivesNext old left o) c.in-Some.is c.in_ok-candidate.ensures.next in
     let pushed : c.push.new.self ≡ c.loop.first ++ x ∷ [] = c.in_ok-push.ensures.ok in
     let more : length c.push.new.self ≡ length c.loop.first + 1 = ap (λ (l : List Candidate). length l) pushed ∙ length-append c.loop.first (x ∷ []) in (
       c.in_ok-candidate.ensures.ready,
-      one_taken (merged (heap_items c.args.self.heap)) c.loop.first c.push.new.self x old left c.loop.invariant.1 given pushed,
+      one_taken (merged_lists (heap_items c.args.self.heap)) c.loop.first c.push.new.self x old left c.loop.invariant.1 given pushed,
       omega (arith, more, c.loop.invariant.2),
     )
 
 pub returns : goal.returns
 returns c =
-    just_taken c.args.k (merged (heap_items c.args.self.heap)) c.loop.first (merged (heap_items c.loop.self.heap)) c.loop.invariant.1
+    just_taken c.args.k (merged_lists (heap_items c.args.self.heap)) c.loop.first (merged_lists (heap_items c.loop.self.heap)) c.loop.invariant.1
     (omega (arith, c.loop.invariant.2, c.loop.auto.counter-end, c.loop-test.false))

@@ -2,7 +2,7 @@ use Rattle.std.proofs.Common.{◌≡◌, Result, Ok, ap, ◌∙◌, sym, subst, 
 use Rattle.std.proofs.lemmas.Result.{err_from_is_err_and}
 use Rattle.pq_base.specs.declared.refusal.Refusal.{Refusal}
 use Rattle.pq_pages.specs.Running.{Running}
-use Rattle.pq_session.specs.Actions.{Action, Runs, asking}
+use Rattle.pq_session.specs.Actions.{Action, Runs, action_from}
 use Rattle.pq_session.specs.Requests.{Asks}
 use Rattle.pq_session.specs.declared.requests.Request.{Request}
 use Rattle.pq_session.proofs.Defining.{explained_lines}
@@ -59,7 +59,7 @@ returns-in_ok-report-in-Explain-clause-step g c asked asks =
 pub returns-in-Run-clause-step : goal.returns-in-Run-clause-step
 returns-in-Run-clause-step g c asked asks =
     let a = subst (λ (r : Request). Asks c.args.self r asked) c.in-Run.is asks in
-    rw (a.2 ∙ ap (asking Runs) a.1.is, ← c.as_ref.ensures.value) c.run_query.ensures.step
+    rw (a.2 ∙ ap (action_from Runs) a.1.is, ← c.as_ref.ensures.value) c.run_query.ensures.step
 
 pub returns-in_err-show-in-Show-clause-step : goal.returns-in_err-show-in-Show-clause-step
 returns-in_err-show-in-Show-clause-step g c asked asks =

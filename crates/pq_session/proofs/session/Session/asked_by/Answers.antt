@@ -1,12 +1,12 @@
 use Rattle.std.proofs.Common.{◌≡◌, ℕ, List, Option, Result, Err, Ok, ap, ◌∙◌, sym, subst, refl, inl, inr, option_copied}
 use Rattle.std.proofs.lemmas.Result.{err_from_is_err_and}
 use Rattle.pq_base.specs.Answers.{Refuses}
-use Rattle.pq_index_keep.specs.Checking.{IsWriting, checked}
+use Rattle.pq_index_keep.specs.Checking.{IsWriting, checked_write}
 use Rattle.pq_pages.specs.Running.{Running, running_of}
-use Rattle.pq_session.specs.Actions.{Creates, Explains, Prepares, Runs, Writes, asking}
+use Rattle.pq_session.specs.Actions.{Creates, Explains, Prepares, Runs, Writes, action_from}
 use Rattle.pq_session.specs.Names.{IsNamed}
 use Rattle.pq_session.specs.Planned.{IsPlanned}
-use Rattle.pq_session.specs.Planning.{Planned, explained_name, plan_from}
+use Rattle.pq_session.specs.Planning.{PlannedDefinition, explained_name, plan_from}
 use Rattle.pq_session.specs.Requests.{RunsAs}
 use Rattle.pq_session.proofs.Asked.{answer_refused, asking_refused, explains, may_be_defined, prepares, stopped_explained, writes_asked}
 use Rattle.pq_session.proofs.session.Session.asked_by.Goals as goal
@@ -31,7 +31,7 @@ returns-in_ok-plan-in-Prepare-clause-asks c =
 pub returns-in_err-plan-in-Explain-clause-refused : goal.returns-in_err-plan-in-Explain-clause-refused
 returns-in_err-plan-in-Explain-clause-refused c =
     let p = err_from_is_err_and c.from_residual-in_err-plan-in-Explain.result c.from_residual-in_err-plan-in-Explain.ensures.1 in
-    let refused : Refuses {A = Planned} c.in_err-plan-in-Explain.field-0.0 (plan_from c.args.self.now explained_name c.args.text.now c.args.tokens.now c.in-Explain.from) =
+    let refused : Refuses {A = PlannedDefinition} c.in_err-plan-in-Explain.field-0.0 (plan_from c.args.self.now explained_name c.args.text.now c.args.tokens.now c.in-Explain.from) =
     rw (← c.self.view_is, ← c.in_ok-name-in-Explain.ensures) c.in_err-plan-in-Explain.ensures.refused in
     rw (p.1, p.2, c.in-Explain.is) (asking_refused Explains _ _ (stopped_explained c.args.self.now c.args.text.now c.args.tokens.now c.in-Explain.from _ refused))
 
@@ -73,11 +73,11 @@ returns-in_err-write-in-Insert-clause-refused c =
     ] in
     let p = err_from_is_err_and c.from_residual-in_err-write-in-Insert.result c.from_residual-in_err-write-in-Insert.ensures.1 in
     rw (p.1, p.2, writes_asked c.args.self.now c.args.text.now c.args.tokens.now c.args.statement writing)
-    (asking_refused Writes _ _ (answer_refused _ (checked c.args.self.now c.args.statement) (rw (← c.self.view_is) c.in_err-write-in-Insert.ensures.answer)))
+    (asking_refused Writes _ _ (answer_refused _ (checked_write c.args.self.now c.args.statement) (rw (← c.self.view_is) c.in_err-write-in-Insert.ensures.answer)))
 
 pub returns-in_ok-write-in-Insert-clause-asks : goal.returns-in_ok-write-in-Insert-clause-asks
 returns-in_ok-write-in-Insert-clause-asks c =
-    let answered : checked c.args.self.now c.args.statement ≡ Ok c.in_ok-write-in-Insert.write = rw (← c.self.view_is) c.in_ok-write-in-Insert.ensures.answer in
+    let answered : checked_write c.args.self.now c.args.statement ≡ Ok c.in_ok-write-in-Insert.write = rw (← c.self.view_is) c.in_ok-write-in-Insert.ensures.answer in
     let writing : IsWriting c.args.statement = elim c.in-Insert.is [
       | inl i ↦ subst IsWriting (sym i.3) tt
       | inr rest ↦ elim rest [
@@ -87,5 +87,5 @@ returns-in_ok-write-in-Insert-clause-asks c =
     ] in
     rw (writes_asked c.args.self.now c.args.text.now c.args.tokens.now c.args.statement writing) (
       rw (← c.self.view_is) c.in_ok-write-in-Insert.ensures.write,
-      ap (asking Writes) answered,
+      ap (action_from Writes) answered,
     )

@@ -4,7 +4,7 @@ use Rattle.pq_base.specs.Answers.{Refuses}
 use Rattle.pq_base.specs.declared.refusal.Refusal.{Refusal}
 use Rattle.pq_base.specs.declared.refusal.Stopped.{Stopped}
 use Rattle.pq_schema.specs.Schema.{Schema}
-use Rattle.pq_session.specs.Actions.{Action, asked}
+use Rattle.pq_session.specs.Actions.{Action, action_of}
 use Rattle.pq_session.specs.Requests.{Asks}
 use Rattle.pq_session.proofs.Promises.{broken_same, unread_done}
 use Rattle.pq_session.proofs.session.Session.piece.Goals as goal
