@@ -26,7 +26,7 @@ use Rattle.pq_calls.specs.Keys.{sequence_key}
 use Rattle.pq_index_keep.specs.Groups.{access_of, first_values, group_key}
 use Rattle.pq_index_keep.specs.Promises.{HoldsRows}
 use Rattle.pq_index_keep.specs.Sound.{is_among, AreDifferent}
-use Rattle.pq_index_keep.specs.Tested.{given}
+use Rattle.pq_index_keep.specs.Tested.{given_value}
 use Rattle.pq_base.proofs.Sets.{set_members, members_set}
 
 -- a code takes no more directions than there are values
@@ -48,10 +48,10 @@ agree_in {Y} f g (c ∷ cols) h =
     let rest = agree_in f g cols (λ d i. h d (inr i)) in
     ap (λ (y : Y). y ∷ map f cols) first ∙ ap (λ (ys : List Y). g c ∷ ys) rest
 
-given_of : (f : ℕ → Value) (cols : List ℕ) (d : ℕ) → In d cols → given cols (map f cols) d ≡ f d
+given_of : (f : ℕ → Value) (cols : List ℕ) (d : ℕ) → In d cols → given_value cols (map f cols) d ≡ f d
 given_of f [] d i = absurd i
 given_of f (c ∷ cols) d i =
-    elim (c == d) as (λ b. (c == d) ≡ b → cond b (f c) (given cols (map f cols) d) ≡ f d) [
+    elim (c == d) as (λ b. (c == d) ≡ b → cond b (f c) (given_value cols (map f cols) d) ≡ f d) [
       | true ↦ λ is. ap f (eqb-true c d is)
       | false ↦ λ is. elim i [
         | inl same ↦ absurd (false≢true (sym is ∙ eq-eqb c d same))
@@ -60,8 +60,8 @@ given_of f (c ∷ cols) d i =
     ] refl
 
 -- columns are given the values that a row has there
-pub given_at : (cols : List ℕ) (row : List Value) → map (given cols (cells cols row)) cols ≡ cells cols row
-given_at cols row = agree_in (given cols (cells cols row)) (value_of row) cols (given_of (value_of row) cols)
+pub given_at : (cols : List ℕ) (row : List Value) → map (given_value cols (cells cols row)) cols ≡ cells cols row
+given_at cols row = agree_in (given_value cols (cells cols row)) (value_of row) cols (given_of (value_of row) cols)
 
 not_among : (c d : ℕ) (cols : List ℕ) → is_among cols c ≡ false → In d cols → (c == d) ≡ false
 not_among c d [] none i = absurd i
@@ -81,23 +81,23 @@ not_among c d (e ∷ cols) none (inr there) = not_among c d cols (rest (e == c) 
     rest false b h = h
 
 -- different columns are given just these values
-pub given_all : (types : List ColType) (cols : List ℕ) (values : List Value) → AreDifferent cols → AllOfKinds types values → length types ≡ length cols → map (given cols values) cols ≡ values
+pub given_all : (types : List ColType) (cols : List ℕ) (values : List Value) → AreDifferent cols → AllOfKinds types values → length types ≡ length cols → map (given_value cols values) cols ≡ values
 given_all types [] [] apart kinds long = refl
 given_all [] [] (x ∷ values) apart kinds long = absurd kinds
 given_all (t ∷ ts) [] (x ∷ values) apart kinds long = absurd (omega arith)
 given_all [] (c ∷ cols) values apart kinds long = absurd (omega arith)
 given_all (t ∷ ts) (c ∷ cols) [] apart kinds long = absurd kinds
 given_all (t ∷ ts) (c ∷ cols) (x ∷ values) apart kinds long =
-    let here : cond (c == c) x (given cols values c) ≡ x = ap (λ b. cond b x (given cols values c)) (eq-eqb c c refl) in
-    let others : map (given (c ∷ cols) (x ∷ values)) cols ≡ map (given cols values) cols = agree_in (given (c ∷ cols) (x ∷ values)) (given cols values) cols (λ d i. ap (λ b. cond b x (given cols values d)) (not_among c d cols apart.0 i)) in
-    let rest : map (given cols values) cols ≡ values = given_all ts cols values apart.1 kinds.1 (omega arith) in
-    ap (λ (y : Value). y ∷ map (given (c ∷ cols) (x ∷ values)) cols) here ∙ ap (λ (ys : List Value). x ∷ ys) (others ∙ rest)
+    let here : cond (c == c) x (given_value cols values c) ≡ x = ap (λ b. cond b x (given_value cols values c)) (eq-eqb c c refl) in
+    let others : map (given_value (c ∷ cols) (x ∷ values)) cols ≡ map (given_value cols values) cols = agree_in (given_value (c ∷ cols) (x ∷ values)) (given_value cols values) cols (λ d i. ap (λ b. cond b x (given_value cols values d)) (not_among c d cols apart.0 i)) in
+    let rest : map (given_value cols values) cols ≡ values = given_all ts cols values apart.1 kinds.1 (omega arith) in
+    ap (λ (y : Value). y ∷ map (given_value (c ∷ cols) (x ∷ values)) cols) here ∙ ap (λ (ys : List Value). x ∷ ys) (others ∙ rest)
 
-kind_given : (table : Table) (cols : List ℕ) (values : List Value) (d : ℕ) → AllOfKinds (types_at table cols) values → In d cols → IsOfKind (type_of table d) (given cols values d)
+kind_given : (table : Table) (cols : List ℕ) (values : List Value) (d : ℕ) → AllOfKinds (types_at table cols) values → In d cols → IsOfKind (type_of table d) (given_value cols values d)
 kind_given table [] values d kinds i = absurd i
 kind_given table (c ∷ cols) [] d kinds i = absurd kinds
 kind_given table (c ∷ cols) (x ∷ values) d kinds i =
-    elim (c == d) as (λ b. (c == d) ≡ b → IsOfKind (type_of table d) (cond b x (given cols values d))) [
+    elim (c == d) as (λ b. (c == d) ≡ b → IsOfKind (type_of table d) (cond b x (given_value cols values d))) [
       | true ↦ λ is. subst (λ (n : ℕ). IsOfKind (type_of table n) x) (eqb-true c d is) kinds.0
       | false ↦ λ is. elim i [
         | inl same ↦ absurd (false≢true (sym is ∙ eq-eqb c d same))
@@ -113,9 +113,9 @@ kinds_taken ty f (c ∷ cols) (suc n) h = (h c (inl refl), kinds_taken ty f cols
 
 -- the first columns of a sequence that begins with these columns are given values of their kinds
 first_kinds : (table : Table) (cols all : List ℕ) (values : List Value) (n : ℕ) → set_of (take n all) ≡ set_of cols → AllOfKinds (types_at table cols) values
-    → AllOfKinds (take (length (map (given cols values) (take n all))) (types_at table all)) (map (given cols values) (take n all))
+    → AllOfKinds (take (length (map (given_value cols values) (take n all))) (types_at table all)) (map (given_value cols values) (take n all))
 first_kinds table cols all values n same kinds =
-    kinds_taken (type_of table) (given cols values) all n
+    kinds_taken (type_of table) (given_value cols values) all n
     (λ c i. kind_given table cols values c kinds (set_members cols c (subst (λ (set : ℕ). has_col set c ≡ true) same (members_set (take n all) c i))))
 
 first_short : (f : ℕ → Value) (cols : List ℕ) (n : ℕ) → length (map f (take n cols)) ≤ length cols
@@ -163,21 +163,21 @@ module _ (tables : List Table) (rows : Rows) (others : List Pair) (told : Option
   abbrev within : List ℕ → ℕ
   within key = length (pairs_within (content_pairs tables rows others) key (past_code key))
 
-  module _ (cols : List ℕ) (values : List Value) (kinds : AllOfKinds (types_at table cols) values) (own : map (given cols values) cols ≡ values) where
+  module _ (cols : List ℕ) (values : List Value) (kinds : AllOfKinds (types_at table cols) values) (own : map (given_value cols values) cols ≡ values) where
     abbrev n : ℕ
     n = count_ones (set_of cols)
 
     under_primary : begins_with (primary_sequence table) (set_of cols) ≡ true → within (sequence_key t table Primary (first_values table Primary cols values)) ≡ length (group_of t cols values rows)
     under_primary begins =
         let all = columns_of (primary_sequence table) in
-        let ps = map (given cols values) (take n all) in
+        let ps = map (given_value cols values) (take n all) in
         let key : all ≡ table.key = columns_of-primary table.key in
         let same : set_of (take n all) ≡ set_of cols = eqb-true _ _ begins in
         let of_kinds : AllOfKinds (take (length ps) (types_at table table.key)) ps = subst (λ (cs : List ℕ). AllOfKinds (take (length ps) (types_at table cs)) ps) key (first_kinds table cols all values n same kinds) in
-        let short : length ps ≤ length table.key = subst (λ (cs : List ℕ). length ps ≤ length cs) key (first_short (given cols values) all n) in
+        let short : length ps ≤ length table.key = subst (λ (cs : List ℕ). length ps ≤ length cs) key (first_short (given_value cols values) all n) in
         rows_counted tables rows others s.keeps.fit s.keeps.apart s.beside t ps of_kinds short
         ∙ ap (λ (cs : List ℕ). length (group_of t (take (length ps) cs) ps rows)) (sym key)
-        ∙ ap (λ (rs : List (List Value)). length rs) (group_by_first (primary_sequence table) cols (given cols values) t rows begins)
+        ∙ ap (λ (rs : List (List Value)). length rs) (group_by_first (primary_sequence table) cols (given_value cols values) t rows begins)
         ∙ ap (λ (vs : List Value). length (group_of t cols vs rows)) own
 
     under_index : (place : ℕ) → slice_get table.indexes place ≡ Some (index_numbered table (place + 1)) → begins_with (index_sequence table (index_numbered table (place + 1))) (set_of cols) ≡ true
@@ -185,12 +185,12 @@ module _ (tables : List Table) (rows : Rows) (others : List Pair) (told : Option
     under_index place has begins =
         let sequence = index_sequence table (index_numbered table (place + 1)) in
         let all = columns_of sequence in
-        let ps = map (given cols values) (take n all) in
+        let ps = map (given_value cols values) (take n all) in
         let same : set_of (take n all) ≡ set_of cols = eqb-true _ _ begins in
         let columns : length all ≡ length sequence = length-map sequence (λ (part : KeyPart). part.col) in
-        let fits : length ps ≤ length all = first_short (given cols values) all n in
+        let fits : length ps ≤ length all = first_short (given_value cols values) all n in
         entries_counted tables rows others s.keeps.fit s.keeps.apart s.beside t place (index_numbered table (place + 1)) has (place + 1) (omega arith) ps (first_kinds table cols all values n same kinds) (omega (arith, columns, fits))
-        ∙ ap (λ (rs : List (List Value)). length rs) (group_by_first sequence cols (given cols values) t rows begins)
+        ∙ ap (λ (rs : List (List Value)). length rs) (group_by_first sequence cols (given_value cols values) t rows begins)
         ∙ ap (λ (vs : List Value). length (group_of t cols vs rows)) own
 
     by_access : (access : Access) → IsAccess table cols access → within (sequence_key t table access (first_values table access cols values)) ≡ length (group_of t cols values rows)

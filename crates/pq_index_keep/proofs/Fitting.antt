@@ -27,7 +27,7 @@ use Rattle.pq_base.specs.declared.refusal.Stopped.TheVariants.{Refused, NoMem}
 use Rattle.pq_def_read.specs.declared.statement.Assign.{Assign}
 use Rattle.std.proofs.lemmas.List.Quantifiers.{position-Some}
 use Rattle.pq_index_keep.proofs.Inserting.{each_by}
-use Rattle.pq_index_keep.specs.Tested.{given}
+use Rattle.pq_index_keep.specs.Tested.{given_value}
 use Rattle.std.proofs.lemmas.List.{length-map}
 
 fits_exact : (t : ColType) (x : Value) → IsValue x → fits_type t x ≡ true → FitsType t x
@@ -42,14 +42,14 @@ fits_exact (type.Text n) (value.Bool b) known fits = absurd (false≢true fits)
 fits_exact (type.Text n) (value.Text t) known fits = (known, leb-true (length t) n fits)
 
 -- where no value is a misfit, a column among those named is given one that fits
-pub given_fits : (table : Table) (names : List (List ℕ)) (cols : List ℕ) (values : List Value) (c : ℕ) → misfit_refusal table names cols values ≡ None → length names ≡ length cols → length values ≡ length cols → AllByRecursion IsValue values → is_among cols c ≡ true → FitsType (type_of table c) (given cols values c)
+pub given_fits : (table : Table) (names : List (List ℕ)) (cols : List ℕ) (values : List Value) (c : ℕ) → misfit_refusal table names cols values ≡ None → length names ≡ length cols → length values ≡ length cols → AllByRecursion IsValue values → is_among cols c ≡ true → FitsType (type_of table c) (given_value cols values c)
 given_fits table names [] values c none named long known among = absurd (false≢true among)
 given_fits table [] (d ∷ cols) values c none named long known among = absurd (omega arith)
 given_fits table (n ∷ names) (d ∷ cols) [] c none named long known among = absurd (omega arith)
 given_fits table (n ∷ names) (d ∷ cols) (x ∷ values) c none named long known among =
-    elim (fits_type (type_of table d) x) as (λ b. fits_type (type_of table d) x ≡ b → cond b (misfit_refusal table names cols values) (Some (refusal.ValueKind table.name n)) ≡ None → FitsType (type_of table c) (cond (d == c) x (given cols values c))) [
+    elim (fits_type (type_of table d) x) as (λ b. fits_type (type_of table d) x ≡ b → cond b (misfit_refusal table names cols values) (Some (refusal.ValueKind table.name n)) ≡ None → FitsType (type_of table c) (cond (d == c) x (given_value cols values c))) [
       | true ↦ λ fits rest.
-          elim (d == c) as (λ b. (d == c) ≡ b → (b || is_among cols c) ≡ true → FitsType (type_of table c) (cond b x (given cols values c))) [
+          elim (d == c) as (λ b. (d == c) ≡ b → (b || is_among cols c) ≡ true → FitsType (type_of table c) (cond b x (given_value cols values c))) [
             | true ↦ λ is _. subst (λ (k : ℕ). FitsType (type_of table k) x) (eqb-true d c is) (fits_exact (type_of table d) x known.0 fits)
             | false ↦ λ is there. given_fits table names cols values c rest (omega arith) (omega arith) known.1 there
           ] refl among
@@ -80,12 +80,12 @@ row_of (t ∷ ts) f k h = (
 pub insert_fits : (table : Table) (names : List (List ℕ)) (places : List ℕ) (values : List Value) → are_among (all_columns table) places ≡ true → length values ≡ length places → length names ≡ length places → misfit_refusal table names places values ≡ None → AllByRecursion IsValue values → AllFit (types_of table) (insert_row table places values)
 insert_fits table names places values all long named none known =
     let types : length (types_of table) ≡ length table.columns = length-map table.columns (λ (column : Column). column.ty) in
-    subst (λ (n : ℕ). AllFit (types_of table) (map (given places values) (range_with_len 0 n))) types
-    (row_of (types_of table) (given places values) 0 (λ c less. subst (λ (j : ℕ). FitsType (type_of table c) (given places values j)) (omega arith)
+    subst (λ (n : ℕ). AllFit (types_of table) (map (given_value places values) (range_with_len 0 n))) types
+    (row_of (types_of table) (given_value places values) 0 (λ c less. subst (λ (j : ℕ). FitsType (type_of table c) (given_value places values j)) (omega arith)
     (given_fits table names places values c none named long known (subst (λ (j : ℕ). is_among places j ≡ true) (omega arith) (each_column (is_among places) 0 (length table.columns) all c (omega arith))))))
 
 -- the key of an UPDATE or DELETE fits its columns
-pub key_fits : (table : Table) (names : List (List ℕ)) (places : List ℕ) (values : List Value) (key : List ℕ) → are_among key places ≡ true → length values ≡ length places → length names ≡ length places → misfit_refusal table names places values ≡ None → AllByRecursion IsValue values → AllFit (types_at table key) (map (given places values) key)
+pub key_fits : (table : Table) (names : List (List ℕ)) (places : List ℕ) (values : List Value) (key : List ℕ) → are_among key places ≡ true → length values ≡ length places → length names ≡ length places → misfit_refusal table names places values ≡ None → AllByRecursion IsValue values → AllFit (types_at table key) (map (given_value places values) key)
 key_fits table names places values [] all long named none known = tt
 key_fits table names places values (c ∷ key) all long named none known = (
   given_fits table names places values c none named long known (first (is_among places c) (are_among key places) all),

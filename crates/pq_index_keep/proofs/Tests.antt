@@ -22,7 +22,7 @@ use Rattle.pq_index_keep.specs.Effects.{is_missing, is_full, names_key}
 use Rattle.pq_index_keep.specs.Groups.{group_key}
 use Rattle.pq_index_keep.specs.Promises.{HoldsRows}
 use Rattle.pq_index_keep.specs.Sound.{MayName}
-use Rattle.pq_index_keep.specs.Tested.{given}
+use Rattle.pq_index_keep.specs.Tested.{given_value}
 use Rattle.pq_index_keep.proofs.Counted.{given_at, given_all, counted}
 
 -- the value at a row's key
@@ -68,7 +68,7 @@ capped_one k = grind arith
 
 -- what a count up to n tells of a group
 told_count : (tables : List Table) (rows : Rows) (others : List Pair) (told : Option Content) (t : ℕ) (table : Table) (cols : List ℕ) (values : List Value) (most k : ℕ) → HoldsRows told tables rows others → table ≡ table_at tables t → IsSome (group_access table (set_of cols))
-    → AllOfKinds (types_at table cols) values → map (given cols values) cols ≡ values
+    → AllOfKinds (types_at table cols) values → map (given_value cols values) cols ≡ values
     → IfSome told (λ c. k ≡ min most (length (pairs_within c (group_key t table cols values) (past_code (group_key t table cols values))))) → k ≡ min most (length (group_of t cols values rows))
 told_count tables rows others told t table cols values most k s is access kinds own counts =
     let at : (tb : Table) → tb ≡ table_at tables t → IsSome (group_access tb (set_of cols)) → AllOfKinds (types_at tb cols) values

@@ -16,7 +16,7 @@ use Rattle.pq_def_read.specs.declared.statement.Assign.{Assign}
 use Rattle.pq_def_read.specs.declared.statement.Statement.{Statement}
 use Rattle.pq_def_read.specs.declared.statement.Statement.TheVariants as statement
 use Rattle.pq_index_keep.specs.Sound.{is_among}
-use Rattle.pq_index_keep.specs.Tested.{given}
+use Rattle.pq_index_keep.specs.Tested.{given_value}
 use Rattle.pq_index_keep.specs.declared.write.SetCol.{SetCol}
 use Rattle.pq_index_keep.specs.declared.write.Write.{Write}
 use Rattle.pq_index_keep.specs.declared.write.Write.TheVariants as write
@@ -97,7 +97,7 @@ abbrev pub is_insert_wrong : Table → List ℕ → List Value → Bool
 is_insert_wrong table places values = not (are_among (all_columns table) places) || not (length values == length places)
 
 abbrev pub insert_row : Table → List ℕ → List Value → List Value
-insert_row table places values = map (given places values) (all_columns table)
+insert_row table places values = map (given_value places values) (all_columns table)
 
 abbrev pub long_refusal : Table → List Value → Option Refusal
 long_refusal table row = refused_if (nat_lt 4096 (length (stored_code table row)))
@@ -148,7 +148,7 @@ set_of_assign table assign = record { col = place_of table assign.col; value = a
 
 -- the values of the key in its order
 abbrev pub key_given : Table → List Assign → List Value
-key_given table key = map (given (places_of table (names_in key)) (values_in key)) table.key
+key_given table key = map (given_value (places_of table (names_in key)) (values_in key)) table.key
 
 abbrev pub update_checked : Table → ℕ → List Assign → List Assign → Result Write Refusal
 update_checked table t sets key =

@@ -1,7 +1,7 @@
 //! Values of rows at columns.
 ghost use Rattle.std.specs.Prelude.{◌≡◌, map, IfOk};
 ghost use Rattle.pq_content.specs.Tables.{value_of, cells, values_of, key_of, same_value, same_values};
-ghost use Rattle.pq_index_keep.specs.Tested.{given};
+ghost use Rattle.pq_index_keep.specs.Tested.{given_value};
 
 use pq_base::{List, NoMem, Row, Value};
 use pq_schema::{KeyPart, Table};
@@ -47,7 +47,7 @@ pub(crate) fn key_of(alloc: Global, table: &Table, row: &Row) -> Result<Row, NoM
 
 /// The value that a column is given, where these columns are given these values.
 fn given(alloc: Global, cols: &[u8], values: &[Value], col: u8) -> Result<Value, NoMem>
-    ensures { IfOk result (λ value. value ≡ given cols.now values.now col) }
+    ensures { IfOk result (λ value. value ≡ given_value cols.now values.now col) }
 {
     match (cols.split_first(), values.split_first()) {
         (Some((other, cols)), Some((value, values))) => {
@@ -68,7 +68,7 @@ pub(crate) fn all_given(
     values: &[Value],
     wanted: &[u8],
 ) -> Result<Row, NoMem>
-    ensures { IfOk result (λ row. row ≡ map (given cols.now values.now) wanted.now) }
+    ensures { IfOk result (λ row. row ≡ map (given_value cols.now values.now) wanted.now) }
 {
     let mut row = List::new(alloc);
     for col in wanted {
