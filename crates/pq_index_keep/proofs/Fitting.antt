@@ -1,10 +1,11 @@
 -- What the checks of a statement say of its write.
 use Rattle.std.proofs.Common.{◌≡◌, ℕ, zero, suc, ◌+◌, ◌≤◌, ◌<◌, Bool, true, false, cond, not, ◌||◌, ◌&&◌, List, [], ◌∷◌, ◌++◌, length, map, Option, Some, None, Ok, Err, refl, sym, ap, subst, ◌∙◌, arith}
-use Rattle.std.specs.Prelude.{All, slice_index_or, ◌==◌, find, option_map, unwrap_or, is_none, nat_lt, position}
+use Rattle.std.specs.Prelude.{All, slice_index_or, ◌==◌, find, option_map, nat_lt, position}
 use Rattle.std.specs.List.{AllByRecursion, list_all, list_any, range_with_len}
 use Rattle.std.proofs.lemmas.Bool.{eqb-true, leb-true, ltb-false, false≢true}
 use Rattle.std.proofs.lemmas.Option.{same_Some, none-some}
 use Rattle.pq_schema.specs.Tables.{no_table}
+use Rattle.pq_schema.proofs.Counts.{place_within}
 use Rattle.pq_base.specs.declared.refusal.Refusal.{Refusal}
 use Rattle.pq_base.specs.declared.refusal.Refusal.TheVariants as refusal
 use Rattle.pq_base.specs.declared.value.ColType.{ColType}
@@ -15,10 +16,11 @@ use Rattle.pq_base.specs.Values.{IsValue, FitsType, AllFit, fits_type}
 use Rattle.pq_schema.specs.declared.table.Column.{Column}
 use Rattle.pq_schema.specs.declared.table.Table.{Table}
 use Rattle.pq_content.specs.Tables.{types_of, type_of, types_at, key_types, IsTableNumber}
-use Rattle.pq_index_keep.specs.Checking.{misfit_refusal, are_among, all_columns, insert_row, insert_names, insert_places, insert_names_refusal, insert_values_refusal, insert_checked, delete_checked, is_insert_wrong, assign_name, names_in, values_in, is_unknown, place_of, places_of, unknown_refusal, assigned_misfit, keyed_refusal, set_of_assign, key_given}
+use Rattle.pq_index_keep.specs.Checking.{misfit_refusal, are_among, all_columns, insert_row, insert_names, insert_places, insert_names_refusal, insert_values_refusal, insert_checked, delete_checked, is_insert_wrong, assign_name, names_in, values_in, assigned_misfit, keyed_refusal, set_of_assign, key_given}
 use Rattle.pq_index_keep.specs.Sound.{is_among, IsSet}
-use Rattle.pq_schema.specs.Definitions.{refused_if, no_column, or_ok}
-use Rattle.pq_schema.specs.Schema.{Schema, find_column, has_name, find_table, is_table, number_of}
+use Rattle.pq_schema.specs.ColumnNames.{is_unknown, place_of, places_of, no_column, unknown_refusal}
+use Rattle.pq_schema.specs.Definitions.{refused_if, or_ok}
+use Rattle.pq_schema.specs.Schema.{Schema, find_table, is_table, number_of}
 use Rattle.pq_base.specs.Answers.{Answers, Passes, or_else}
 use Rattle.pq_index_keep.specs.declared.write.Write.{Write}
 use Rattle.pq_index_keep.specs.declared.write.Write.TheVariants.{Insert, Delete}
@@ -121,10 +123,6 @@ or_none : (a b : Option Refusal) → or_else a b ≡ None → (a ≡ None) × (b
 or_none None b h = (refl, h)
 or_none (Some r) b h = absurd (cc)
 
-place_known : (table : Table) (name : List ℕ) (o : Option ℕ) → find_column table.columns name ≡ o → is_none o ≡ false → unwrap_or o 0 < length table.columns
-place_known table name None is known = absurd (cc)
-place_known table name (Some place) is known = (position-Some (has_name name) table.columns place (record { name = []; ty = type.Int }) is).0
-
 unknown_none : {X : Type 0} (p : X → Bool) (f : X → Refusal) (x : X) (xs : List X) → option_map f (find p (x ∷ xs)) ≡ None → (p x ≡ false) × (option_map f (find p xs) ≡ None)
 unknown_none p f x xs h =
     elim (p x) as (λ b. option_map f (cond b (Some x) (find p xs)) ≡ None → (b ≡ false) × (option_map f (find p xs) ≡ None)) [
@@ -136,16 +134,16 @@ either_none : (a b : Bool) → (a || b) ≡ false → (a ≡ false) × (b ≡ fa
 either_none true b h = absurd (cc)
 either_none false b h = (refl, h)
 
-sets_ok : (table : Table) (sets : List Assign) → unknown_refusal table (names_in sets) ≡ None → list_any (is_among table.key) (places_of table (names_in sets)) ≡ false → assigned_misfit table sets ≡ None → AllByRecursion (λ (a : Assign). IsValue a.value) sets → AllByRecursion (IsSet table) (map (set_of_assign table) sets)
+sets_ok : (table : Table) (sets : List Assign) → unknown_refusal table.columns (names_in sets) ≡ None → list_any (is_among table.key) (places_of table.columns (names_in sets)) ≡ false → assigned_misfit table sets ≡ None → AllByRecursion (λ (a : Assign). IsValue a.value) sets → AllByRecursion (IsSet table) (map (set_of_assign table) sets)
 sets_ok table [] known other none values = tt
 sets_ok table (a ∷ sets) known other none values =
-    let here = unknown_none (is_unknown table) no_column a.col (names_in sets) known in
-    let apart = either_none (is_among table.key (place_of table a.col)) (list_any (is_among table.key) (places_of table (names_in sets))) other in
-    elim (fits_type (type_of table (place_of table a.col)) a.value) as (λ b. fits_type (type_of table (place_of table a.col)) a.value ≡ b → cond b (assigned_misfit table sets) (Some (refusal.ValueKind table.name a.col)) ≡ None → AllByRecursion (IsSet table) (map (set_of_assign table) (a ∷ sets))) [
+    let here = unknown_none (is_unknown table.columns) no_column a.col (names_in sets) known in
+    let apart = either_none (is_among table.key (place_of table.columns a.col)) (list_any (is_among table.key) (places_of table.columns (names_in sets))) other in
+    elim (fits_type (type_of table (place_of table.columns a.col)) a.value) as (λ b. fits_type (type_of table (place_of table.columns a.col)) a.value ≡ b → cond b (assigned_misfit table sets) (Some (refusal.ValueKind table.name a.col)) ≡ None → AllByRecursion (IsSet table) (map (set_of_assign table) (a ∷ sets))) [
       | true ↦ λ fits rest. (
         record {
-          inside = place_known table a.col (find_column table.columns a.col) refl here.0;
-          fits = fits_exact (type_of table (place_of table a.col)) a.value values.0 fits;
+          inside = place_within table.columns a.col here.0;
+          fits = fits_exact (type_of table (place_of table.columns a.col)) a.value values.0 fits;
           other = apart.0;
         },
         sets_ok table sets here.1 apart.1 rest values.1,
@@ -166,11 +164,11 @@ keyed_ok table sets key none known_sets known_key =
     let values = or_none _ _ names.1 in
     let fits = or_none _ _ values.1 in
     let wrong = passed _ _ values.0 in
-    let first = either_none (list_any (is_among table.key) (places_of table (names_in sets)) || not (are_among table.key (places_of table (names_in key)))) (not (are_among (places_of table (names_in key)) table.key)) wrong in
-    let second = either_none (list_any (is_among table.key) (places_of table (names_in sets))) (not (are_among table.key (places_of table (names_in key)))) first.0 in
-    let long : length (values_in key) ≡ length (places_of table (names_in key)) = length-map key (λ (a : Assign). a.value) ∙ sym (length-map key assign_name) ∙ sym (length-map (names_in key) (place_of table)) in (
+    let first = either_none (list_any (is_among table.key) (places_of table.columns (names_in sets)) || not (are_among table.key (places_of table.columns (names_in key)))) (not (are_among (places_of table.columns (names_in key)) table.key)) wrong in
+    let second = either_none (list_any (is_among table.key) (places_of table.columns (names_in sets))) (not (are_among table.key (places_of table.columns (names_in key)))) first.0 in
+    let long : length (values_in key) ≡ length (places_of table.columns (names_in key)) = length-map key (λ (a : Assign). a.value) ∙ sym (length-map key assign_name) ∙ sym (length-map (names_in key) (place_of table.columns)) in (
       sets_ok table sets unknown.0 second.0 fits.0 (each_by (λ (a : Assign). IsValue a.value) sets known_sets),
-      key_fits table (names_in key) (places_of table (names_in key)) (values_in key) table.key (yes (are_among table.key (places_of table (names_in key))) second.1) long (sym (length-map (names_in key) (place_of table))) fits.1 (known_values_in key (each_by (λ (a : Assign). IsValue a.value) key known_key)),
+      key_fits table (names_in key) (places_of table.columns (names_in key)) (values_in key) table.key (yes (are_among table.key (places_of table.columns (names_in key))) second.1) long (sym (length-map (names_in key) (place_of table.columns))) fits.1 (known_values_in key (each_by (λ (a : Assign). IsValue a.value) key known_key)),
     )
   where
     yes : (b : Bool) → not b ≡ false → b ≡ true
@@ -186,7 +184,7 @@ as_many_names table None = length-map table.columns (λ (column : Column). colum
     range_length : (k n : ℕ) → length (range_with_len k n) ≡ n
     range_length k zero = refl
     range_length k (suc n) = ap suc (range_length (k + 1) n)
-as_many_names table (Some names) = sym (length-map names (place_of table))
+as_many_names table (Some names) = sym (length-map names (place_of table.columns))
 
 pub range_more : (k n : ℕ) → range_with_len k n ++ (k + n) ∷ [] ≡ range_with_len k (n + 1)
 range_more k zero = ap (λ (j : ℕ). j ∷ []) (let e : k + 0 ≡ k = omega arith in e)

@@ -1,15 +1,15 @@
 -- The write of a statement, or the first refusal that is found by reading.
-use Rattle.std.specs.Prelude.{ℕ, Bool, not, ◌||◌, ◌==◌, nat_lt, List, [], ◌∷◌, map, length, find, Option, Some, None, unwrap_or, option_map, is_none, if◌then◌else◌, Result, Err}
+use Rattle.std.specs.Prelude.{ℕ, Bool, not, ◌||◌, ◌==◌, nat_lt, List, [], ◌∷◌, map, length, Option, Some, None, if◌then◌else◌, Result, Err}
 use Rattle.std.specs.List.{list_all, list_any, range_with_len}
 use Rattle.pq_base.specs.Answers.{or_else}
 use Rattle.pq_base.specs.Values.{fits_type}
 use Rattle.pq_base.specs.declared.refusal.Refusal.{Refusal}
 use Rattle.pq_base.specs.declared.refusal.Refusal.TheVariants as refusal
 use Rattle.pq_base.specs.declared.value.Value.{Value}
-use Rattle.pq_schema.specs.Definitions.{first_repeated, no_column, repeated_name, refused_if, or_ok}
-use Rattle.pq_schema.specs.Schema.{Schema, find_column, find_table}
+use Rattle.pq_schema.specs.ColumnNames.{names_of, place_of, places_of, unknown_refusal, repeated_refusal, names_refusal}
+use Rattle.pq_schema.specs.Definitions.{refused_if, or_ok}
+use Rattle.pq_schema.specs.Schema.{Schema, find_table}
 use Rattle.pq_schema.specs.Tables.{table_at}
-use Rattle.pq_schema.specs.declared.table.Column.{Column}
 use Rattle.pq_schema.specs.declared.table.Table.{Table}
 use Rattle.pq_content.specs.Tables.{type_of, stored_code}
 use Rattle.pq_def_read.specs.declared.statement.Assign.{Assign}
@@ -41,23 +41,6 @@ names_in assigns = map assign_name assigns
 abbrev pub values_in : List Assign → List Value
 values_in assigns = map (λ assign. assign.value) assigns
 
--- ---- names of columns
-
-abbrev pub is_unknown : Table → List ℕ → Bool
-is_unknown table name = is_none (find_column table.columns name)
-
-abbrev pub place_of : Table → List ℕ → ℕ
-place_of table name = unwrap_or (find_column table.columns name) 0
-
-abbrev pub places_of : Table → List (List ℕ) → List ℕ
-places_of table names = map (place_of table) names
-
-abbrev pub unknown_refusal : Table → List (List ℕ) → Option Refusal
-unknown_refusal table names = option_map no_column (find (is_unknown table) names)
-
-abbrev pub repeated_refusal : List (List ℕ) → Option Refusal
-repeated_refusal names = option_map repeated_name (first_repeated names)
-
 -- ---- values at columns
 
 -- each of some columns is among others
@@ -79,18 +62,15 @@ all_columns table = range_with_len 0 (length table.columns)
 -- the columns of the values: those of the list, or all of them in order
 abbrev pub insert_places : Table → Option (List (List ℕ)) → List ℕ
 insert_places table None = all_columns table
-insert_places table (Some names) = places_of table names
-
-abbrev pub column_names : Table → List (List ℕ)
-column_names table = map (λ (column : Column). column.name) table.columns
+insert_places table (Some names) = places_of table.columns names
 
 abbrev pub insert_names : Table → Option (List (List ℕ)) → List (List ℕ)
-insert_names table None = column_names table
+insert_names table None = names_of table.columns
 insert_names table (Some names) = names
 
 abbrev pub insert_names_refusal : Table → Option (List (List ℕ)) → Option Refusal
 insert_names_refusal table None = None
-insert_names_refusal table (Some names) = or_else (unknown_refusal table names) (repeated_refusal names)
+insert_names_refusal table (Some names) = names_refusal table.columns names
 
 -- a column is not given, or the number of values is another
 abbrev pub is_insert_wrong : Table → List ℕ → List Value → Bool
@@ -120,7 +100,7 @@ insert_checked table t names values =
 -- all unknown columns first, SET before WHERE, and then the repeated ones of SET and those of WHERE
 abbrev pub keyed_names_refusal : Table → List (List ℕ) → List (List ℕ) → Option Refusal
 keyed_names_refusal table sets key =
-    or_else (unknown_refusal table sets) (or_else (unknown_refusal table key)
+    or_else (unknown_refusal table.columns sets) (or_else (unknown_refusal table.columns key)
     (or_else (repeated_refusal sets) (repeated_refusal key)))
 
 -- a set column is of the key, or the WHERE columns aren't exactly the key
@@ -129,13 +109,13 @@ is_keyed_wrong table sets key =
     list_any (is_among table.key) sets || not (are_among table.key key) || not (are_among key table.key)
 
 abbrev pub assigned_misfit : Table → List Assign → Option Refusal
-assigned_misfit table assigns = misfit_refusal table (names_in assigns) (places_of table (names_in assigns))
+assigned_misfit table assigns = misfit_refusal table (names_in assigns) (places_of table.columns (names_in assigns))
     (values_in assigns)
 
 abbrev pub keyed_values_refusal : Table → List Assign → List Assign → Option Refusal
 keyed_values_refusal table sets key =
-    or_else (refused_if (is_keyed_wrong table (places_of table (names_in sets))
-    (places_of table (names_in key))) (refusal.WrongColumns table.name))
+    or_else (refused_if (is_keyed_wrong table (places_of table.columns (names_in sets))
+    (places_of table.columns (names_in key))) (refusal.WrongColumns table.name))
     (or_else (assigned_misfit table sets) (assigned_misfit table key))
 
 abbrev pub keyed_refusal : Table → List Assign → List Assign → Option Refusal
@@ -144,11 +124,11 @@ keyed_refusal table sets key =
     (keyed_values_refusal table sets key)
 
 abbrev pub set_of_assign : Table → Assign → SetCol
-set_of_assign table assign = record { col = place_of table assign.col; value = assign.value }
+set_of_assign table assign = record { col = place_of table.columns assign.col; value = assign.value }
 
 -- the values of the key in its order
 abbrev pub key_given : Table → List Assign → List Value
-key_given table key = map (given_value (places_of table (names_in key)) (values_in key)) table.key
+key_given table key = map (given_value (places_of table.columns (names_in key)) (values_in key)) table.key
 
 abbrev pub update_checked : Table → ℕ → List Assign → List Assign → Result Write Refusal
 update_checked table t sets key =

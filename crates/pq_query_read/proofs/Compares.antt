@@ -13,7 +13,8 @@ use Rattle.pq_base.specs.declared.value.ColType.TheVariants as type
 use Rattle.pq_base.specs.declared.value.Value.{Value}
 use Rattle.pq_base.specs.declared.value.Value.TheVariants as value
 use Rattle.pq_schema.specs.Candidates.{stop_size as size_of}
-use Rattle.pq_schema.specs.Definitions.{refused_if, repeated_name}
+use Rattle.pq_schema.specs.ColumnNames.{repeated_name}
+use Rattle.pq_schema.specs.Definitions.{refused_if}
 use Rattle.pq_schema.specs.Resolved.{same_ref, param_type}
 use Rattle.pq_base.specs.Values.{same_kind}
 use Rattle.pq_schema.specs.declared.query.ColRef.{ColRef}

@@ -10,7 +10,8 @@ use Rattle.pq_base.specs.declared.refusal.Stopped.{Stopped}
 use Rattle.pq_base.specs.Answers.{Answers}
 use Rattle.pq_base.specs.declared.refusal.Refusal.TheVariants as refusal
 use Rattle.pq_base.specs.declared.value.ColType.TheVariants as type
-use Rattle.pq_schema.specs.Definitions.{refused_if, no_column}
+use Rattle.pq_schema.specs.ColumnNames.{no_column}
+use Rattle.pq_schema.specs.Definitions.{refused_if}
 use Rattle.pq_schema.specs.Relations.{no_relation}
 use Rattle.pq_schema.specs.Resolved.{IsRelation}
 use Rattle.pq_schema.specs.Schema.{Schema, find_table, find_column, has_name}

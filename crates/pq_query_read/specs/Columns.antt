@@ -5,7 +5,7 @@ use Rattle.std.specs.Str.{bytes_eq}
 use Rattle.pq_base.specs.declared.refusal.Refusal.{Refusal}
 use Rattle.pq_base.specs.declared.refusal.Refusal.TheVariants as refusal
 use Rattle.pq_base.specs.declared.value.ColType.{ColType}
-use Rattle.pq_schema.specs.Definitions.{no_column}
+use Rattle.pq_schema.specs.ColumnNames.{no_column}
 use Rattle.pq_schema.specs.Relations.{no_relation}
 use Rattle.pq_schema.specs.Schema.{find_column}
 use Rattle.pq_schema.specs.Tables.{table_at, type_at}

@@ -18,7 +18,8 @@ use Rattle.pq_schema.specs.declared.query.Relation.{Relation}
 use Rattle.pq_schema.specs.declared.query.Stop.{Stop}
 use Rattle.pq_schema.specs.declared.query.Stop.TheVariants as stop
 use Rattle.pq_schema.specs.declared.table.Table.{Table}
-use Rattle.pq_schema.specs.Definitions.{is_outside, refused_if, repeated_name}
+use Rattle.pq_schema.specs.ColumnNames.{repeated_name}
+use Rattle.pq_schema.specs.Definitions.{is_outside, refused_if}
 use Rattle.pq_schema.specs.Resolved.{same_ref, param_type}
 use Rattle.pq_schema.specs.Schema.{Schema, find_table}
 use Rattle.pq_base.specs.Values.{same_kind}

@@ -1,14 +1,12 @@
 -- The table that a definition makes says what the definition says.
-use Rattle.std.proofs.Common.{◌≡◌, ℕ, ℤ, pos, negsuc, suc, ◌+◌, ◌-◌, ◌^◌, ◌<◌, Bool, true, false, cond, not, ◌||◌, ◌&&◌, List, [], ◌∷◌, ◌++◌, length, map, get_or, Option, Some, None, Ok, refl, sym, ap, subst, ◌∙◌, arith}
-use Rattle.std.specs.Prelude.{nat_lt, nat_le, position, find, slice_index_or, unwrap_or, is_some, fold, All}
+use Rattle.std.proofs.Common.{◌≡◌, ℕ, ℤ, pos, negsuc, suc, ◌+◌, ◌-◌, ◌^◌, ◌<◌, Bool, true, false, cond, not, ◌&&◌, List, [], ◌∷◌, ◌++◌, length, map, get_or, Option, Some, None, Ok, refl, sym, ap, subst, ◌∙◌, arith}
+use Rattle.std.specs.Prelude.{nat_le, position, find, slice_index_or, unwrap_or, is_some, fold, All}
 use Rattle.std.specs.Option.{option_map}
-use Rattle.std.specs.List.{list_any, list_all, position_or_len}
+use Rattle.std.specs.List.{list_all}
 use Rattle.std.proofs.Math.ListN.{get_or-append}
-use Rattle.std.proofs.lemmas.Bool.{lt-ltb}
 use Rattle.std.proofs.lemmas.Bool.Decides.{nat_tests}
-use Rattle.std.proofs.lemmas.List.{get_or-map, length-map}
+use Rattle.std.proofs.lemmas.List.{length-map}
 use Rattle.std.proofs.lemmas.List.Quantifiers.{position-Some}
-use Rattle.std.proofs.lemmas.List.Sums.{passes_at_first}
 use Rattle.std.proofs.lemmas.Slice.Eq.{bytes_eq-Decides}
 use Rattle.pq_base.specs.Answers.{or_else}
 use Rattle.pq_base.specs.declared.refusal.Refusal.{Refusal}
@@ -16,9 +14,11 @@ use Rattle.pq_schema.specs.declared.definition.ColumnDef.{ColumnDef}
 use Rattle.pq_schema.specs.declared.definition.TableDef.{TableDef}
 use Rattle.pq_schema.specs.declared.table.Column.{Column}
 use Rattle.pq_schema.specs.declared.table.Table.{Table}
-use Rattle.pq_schema.specs.Definitions.{has_type, column_of, is_column, is_unknown, place_of, places_of, no_column, refused_if, is_outside, cardinality, or_ok, name_refusal, counts_refusal, columns_refusal, names_refusal, key_refusal, limit_refusal, limits_refusal, has_shape, reference_refusal, foreign_refusal, foreigns_refusal, groups_refusal, table_refusal, limit_of_def, foreign_of_def, bare_table, table_of_def, new_table}
+use Rattle.pq_schema.specs.ColumnNames.{is_unknown, place_of, places_of, no_column, unknown_refusal, names_refusal}
+use Rattle.pq_schema.specs.Definitions.{has_type, column_of, refused_if, is_outside, cardinality, or_ok, name_refusal, counts_refusal, columns_refusal, key_refusal, limit_refusal, limits_refusal, has_shape, reference_refusal, foreign_refusal, foreigns_refusal, groups_refusal, table_refusal, limit_of_def, foreign_of_def, bare_table, table_of_def, new_table}
 use Rattle.pq_schema.specs.Sequences.{ascending_part, group_access, with_group}
 use Rattle.pq_base.specs.Values.{same_kind}
+use Rattle.pq_schema.proofs.Counts.{name_there}
 use Rattle.pq_schema.specs.Tables.{no_table, table_at, type_at, types_at, same_kinds}
 use Rattle.pq_schema.specs.Schema.{Schema, is_table, number_of, find_table}
 use Rattle.pq_base.specs.Columns.{set_of}
@@ -27,7 +27,6 @@ use Rattle.pq_schema.specs.declared.definition.LimitDef.{LimitDef}
 use Rattle.pq_schema.specs.declared.definition.ForeignDef.{ForeignDef}
 use Rattle.pq_reread.proofs.Cut.{both}
 use Rattle.pq_print.specs.Canonical.{column_name}
-use Rattle.pq_print.specs.Canonical.{no_column as no_printed}
 use Rattle.pq_schema.specs.Names.{IsTableDef}
 use Rattle.pq_text.specs.Tokens.{tokens_of}
 use Rattle.pq_def_read.specs.Reading.{statement_of}
@@ -67,36 +66,11 @@ pub none_passes : {X : Type 0} (p : X → Bool) (x : X) (xs : List X) (b : Bool)
 none_passes p x xs true e = absurd cc
 none_passes p x xs false e = (refl, e)
 
-within_by : {X : Type 0} (p : X → Bool) (xs : List X) (b : Bool) → (list_any p xs ≡ true → position_or_len p xs < length xs) → (b || list_any p xs) ≡ true → cond (not b) (1 + position_or_len p xs) 0 < 1 + length xs
-within_by p xs true later e = omega arith
-within_by p xs false later e = omega (arith, later e)
-
-pub within : {X : Type 0} (p : X → Bool) (xs : List X) → list_any p xs ≡ true → position_or_len p xs < length xs
-within p [] e = absurd cc
-within p (x ∷ xs) e = let h = within_by p xs (p x) (within p xs) e in omega (arith, h)
-
--- the place of a name that some column has
-pub place_is : (cs : List ColumnDef) (name : List ℕ) → list_any (is_column name) cs ≡ true → place_of cs name ≡ position_or_len (is_column name) cs
-place_is cs name e =
-    let lt : nat_lt (position_or_len (is_column name) cs) (length cs) ≡ true = lt-ltb _ _ (within (is_column name) cs e) in
-    rw lt refl
-
-named_there : (cs : List ColumnDef) (name : List ℕ) → list_any (is_column name) cs ≡ true → column_name (map column_of cs) (place_of cs name) ≡ name
-named_there [] name e = absurd cc
-named_there (c ∷ cs) name e =
-    let all = c ∷ cs in
-    let i = position_or_len (is_column name) all in
-    let lt : i < length all = within (is_column name) all e in
-    let passes : is_column name (get_or all i c) ≡ true = passes_at_first (is_column name) all c lt in
-    ap (λ (k : ℕ). column_name (map column_of all) k) (place_is all name e)
-    ∙ ap (λ (x : Column). x.name) (get_or-map column_of all i c no_printed lt)
-    ∙ (bytes_eq-Decides (get_or all i c).name name).0 passes
-
-names_there : (cs : List ColumnDef) (names : List (List ℕ)) → find (is_unknown cs) names ≡ None → Pairwise (λ name col. column_name (map column_of cs) col ≡ name) names (map (place_of cs) names)
+names_there : (cs : List Column) (names : List (List ℕ)) → find (is_unknown cs) names ≡ None → Pairwise (λ name col. column_name cs col ≡ name) names (places_of cs names)
 names_there cs [] e = tt
 names_there cs (n ∷ ns) e =
     let parts = none_passes (is_unknown cs) n ns (is_unknown cs n) e in
-    (named_there cs n (not_false (list_any (is_column n) cs) parts.0), names_there cs ns parts.1)
+    (name_there cs n parts.0, names_there cs ns parts.1)
 
 columns_by : (c : ColumnDef) (cs : List ColumnDef) (b : Bool) → has_type c ≡ b → (list_all has_type cs ≡ true → Pairwise SaysColumn cs (map column_of cs)) → (b && list_all has_type cs) ≡ true
     → SaysColumn c (column_of c) × Pairwise SaysColumn cs (map column_of cs)
@@ -118,15 +92,15 @@ number_is : (z : ℤ) → is_some (cardinality z) ≡ true → (z ≡ pos (unwra
 number_is (negsuc n) e = absurd cc
 number_is (pos n) e = number_by n (nat_le 1 n) (nat_le n 10000) refl e
 
-limit_says : (cs : List ColumnDef) (l : LimitDef) → limit_refusal cs l ≡ None → SaysLimit (map column_of cs) l (limit_of_def cs l)
+limit_says : (cs : List Column) (l : LimitDef) → limit_refusal cs l ≡ None → SaysLimit cs l (limit_of_def cs l)
 limit_says cs l e =
     let known = neither_refuses (names_refusal cs l.cols) _ e in
-    let names = neither_refuses (option_map no_column (find (is_unknown cs) l.cols)) _ known.0 in
+    let names = neither_refuses (unknown_refusal cs l.cols) _ known.0 in
     let count = neither_refuses (refused_if (is_outside (length l.cols) 4) _) _ known.1 in
     let n = number_is l.n (not_false (is_some (cardinality l.n)) (not_refused _ _ count.1)) in
     record { n = n.0; small = n.1; cols = record { some = inside_some (length l.cols) 4 (not_refused _ _ count.0); names = names_there cs l.cols (none_mapped no_column _ names.0) } }
 
-limits_say : (cs : List ColumnDef) (ls : List LimitDef) → limits_refusal cs ls ≡ None → Pairwise (SaysLimit (map column_of cs)) ls (map (limit_of_def cs) ls)
+limits_say : (cs : List Column) (ls : List LimitDef) → limits_refusal cs ls ≡ None → Pairwise (SaysLimit cs) ls (map (limit_of_def cs) ls)
 limits_say cs [] e = tt
 limits_say cs (l ∷ ls) e = let parts = neither_refuses (limit_refusal cs l) (limits_refusal cs ls) e in (limit_says cs l parts.0, limits_say cs ls parts.1)
 
@@ -161,32 +135,32 @@ same_lengths (t ∷ ts) [] e = absurd cc
 same_lengths (t ∷ ts) (u ∷ us) e = ap suc (same_lengths ts us (both (same_kind t u) (same_kinds ts us) e).1)
 
 -- as many columns as the key has
-pub reference_length : (schema : Schema) (cs : List ColumnDef) (number : ℕ) (f : ForeignDef) (t : ℕ) → reference_refusal schema cs number f (Some t) ≡ None → length f.cols ≡ length (table_at schema.tables t).key
+pub reference_length : (schema : Schema) (cs : List Column) (number : ℕ) (f : ForeignDef) (t : ℕ) → reference_refusal schema cs number f (Some t) ≡ None → length f.cols ≡ length (table_at schema.tables t).key
 reference_length schema cs number f t e =
     let other = table_at schema.tables t in
     let kinds = not_false (has_shape cs f.cols other) (not_refused _ _ e) in
-    let lengths = same_lengths (types_at (map column_of cs) (places_of cs f.cols)) (types_at other.columns other.key) kinds in
-    let left : length (types_at (map column_of cs) (places_of cs f.cols)) ≡ length f.cols = length-map (places_of cs f.cols) (type_at (map column_of cs)) ∙ length-map f.cols (place_of cs) in
+    let lengths = same_lengths (types_at cs (places_of cs f.cols)) (types_at other.columns other.key) kinds in
+    let left : length (types_at cs (places_of cs f.cols)) ≡ length f.cols = length-map (places_of cs f.cols) (type_at cs) ∙ length-map f.cols (place_of cs) in
     let right : length (types_at other.columns other.key) ≡ length other.key = length-map other.key (type_at other.columns) in
     sym left ∙ lengths ∙ right
 
-foreign_by : (schema : Schema) (table : Table) (cs : List ColumnDef) (number : ℕ) (f : ForeignDef) (o : Option ℕ) → All (λ (x : Table). 0 < length x.key) schema.tables → find_table schema f.table ≡ o
+foreign_by : (schema : Schema) (table : Table) (cs : List Column) (number : ℕ) (f : ForeignDef) (o : Option ℕ) → All (λ (x : Table). 0 < length x.key) schema.tables → find_table schema f.table ≡ o
     → reference_refusal schema cs number f o ≡ None → (0 < length f.cols) × ((table_at (schema.tables ++ table ∷ []) (unwrap_or o 0)).name ≡ f.table)
 foreign_by schema table cs number f None keys found e = absurd cc
 foreign_by schema table cs number f (Some t) keys found e =
     let some = found_has (λ (x : Table). 0 < length x.key) schema f.table t keys found in
     (omega (arith, reference_length schema cs number f t e, some), found_named schema table f.table t found)
 
-foreign_says : (schema : Schema) (table : Table) (cs : List ColumnDef) (number : ℕ) (f : ForeignDef) → All (λ (x : Table). 0 < length x.key) schema.tables
-    → foreign_refusal schema cs number f ≡ None → SaysForeign (schema.tables ++ table ∷ []) (map column_of cs) f (foreign_of_def schema cs f)
+foreign_says : (schema : Schema) (table : Table) (cs : List Column) (number : ℕ) (f : ForeignDef) → All (λ (x : Table). 0 < length x.key) schema.tables
+    → foreign_refusal schema cs number f ≡ None → SaysForeign (schema.tables ++ table ∷ []) cs f (foreign_of_def schema cs f)
 foreign_says schema table cs number f keys e =
     let parts = neither_refuses (names_refusal cs f.cols) _ e in
-    let names = neither_refuses (option_map no_column (find (is_unknown cs) f.cols)) _ parts.0 in
+    let names = neither_refuses (unknown_refusal cs f.cols) _ parts.0 in
     let reference = foreign_by schema table cs number f (find_table schema f.table) keys refl parts.1 in
     record { cols = record { some = reference.0; names = names_there cs f.cols (none_mapped no_column _ names.0) }; table = reference.1 }
 
-foreigns_say : (schema : Schema) (table : Table) (cs : List ColumnDef) (number : ℕ) (fs : List ForeignDef) → All (λ (x : Table). 0 < length x.key) schema.tables
-    → foreigns_refusal schema cs number fs ≡ None → Pairwise (SaysForeign (schema.tables ++ table ∷ []) (map column_of cs)) fs (map (foreign_of_def schema cs) fs)
+foreigns_say : (schema : Schema) (table : Table) (cs : List Column) (number : ℕ) (fs : List ForeignDef) → All (λ (x : Table). 0 < length x.key) schema.tables
+    → foreigns_refusal schema cs number fs ≡ None → Pairwise (SaysForeign (schema.tables ++ table ∷ []) cs) fs (map (foreign_of_def schema cs) fs)
 foreigns_say schema table cs number [] keys e = tt
 foreigns_say schema table cs number (f ∷ fs) keys e =
     let parts = neither_refuses (foreign_refusal schema cs number f) (foreigns_refusal schema cs (number + 1) fs) e in
@@ -208,19 +182,20 @@ bare_says schema def table keys e =
     let later = (neither_refuses (name_refusal schema def.name) _ e).1 in
     let counts = neither_refuses (counts_refusal def) _ later in
     let count = (neither_refuses (refused_if (is_outside (length def.columns) 32) _) _ counts.0).0 in
-    let columns = neither_refuses (columns_refusal def.columns) (groups_refusal schema def) counts.1 in
+    let made = map column_of def.columns in
+    let columns = neither_refuses (columns_refusal def.columns) (groups_refusal schema made def) counts.1 in
     let typed = (neither_refuses (refused_if (not (list_all has_type def.columns)) _) _ columns.0).0 in
-    let groups = neither_refuses (key_refusal def.columns def.key) _ columns.1 in
-    let more = neither_refuses (limits_refusal def.columns def.limits) (foreigns_refusal schema def.columns 1 def.foreign) groups.1 in
-    let key = neither_refuses (names_refusal def.columns def.key) _ groups.0 in
-    let known = (neither_refuses (option_map no_column (find (is_unknown def.columns) def.key)) _ key.0).0 in
+    let groups = neither_refuses (key_refusal made def.key) _ columns.1 in
+    let more = neither_refuses (limits_refusal made def.limits) (foreigns_refusal schema made 1 def.foreign) groups.1 in
+    let key = neither_refuses (names_refusal made def.key) _ groups.0 in
+    let known = (neither_refuses (unknown_refusal made def.key) _ key.0).0 in
     record {
       name = refl;
       some = inside_some (length def.columns) 32 (not_refused _ _ count);
       columns = columns_say def.columns (not_false (list_all has_type def.columns) (not_refused _ _ typed));
-      key = record { some = inside_some (length def.key) 4 (not_refused _ _ key.1); names = names_there def.columns def.key (none_mapped no_column _ known) };
-      limits = limits_say def.columns def.limits more.0;
-      foreign = foreigns_say schema table def.columns 1 def.foreign keys more.1;
+      key = record { some = inside_some (length def.key) 4 (not_refused _ _ key.1); names = names_there made def.key (none_mapped no_column _ known) };
+      limits = limits_say made def.limits more.0;
+      foreign = foreigns_say schema table made 1 def.foreign keys more.1;
     }
 
 pub defined_says : (schema : Schema) (def : TableDef) (table : Table) → All (λ (x : Table). 0 < length x.key) schema.tables → new_table schema def ≡ Ok table → Says (schema.tables ++ table ∷ []) def table

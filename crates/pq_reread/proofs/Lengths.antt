@@ -1,5 +1,5 @@
 -- Canonical texts have at most a mebibyte.
-use Rattle.std.proofs.Common.{◌≡◌, ℕ, ℤ, suc, ◌+◌, ◌*◌, ◌^◌, ◌<◌, ◌≤◌, true, false, List, [], ◌∷◌, ◌++◌, length, Option, Some, None, Ok, refl, sym, ap, subst, arith, length-append, inl, inr}
+use Rattle.std.proofs.Common.{◌≡◌, ℕ, ℤ, suc, ◌+◌, ◌*◌, ◌^◌, ◌<◌, ◌≤◌, true, false, List, [], ◌∷◌, ◌++◌, length, map, Option, Some, None, Ok, refl, sym, ap, subst, arith, length-append, inl, inr}
 use Rattle.std.specs.Prelude.{codes, nat_lt, All, unwrap_or}
 use Rattle.std.specs.Fmt.{decimal}
 use Rattle.std.specs.Option.{option_map}
@@ -16,7 +16,8 @@ use Rattle.pq_schema.specs.declared.table.Column.{Column}
 use Rattle.pq_schema.specs.declared.table.Foreign.{Foreign}
 use Rattle.pq_schema.specs.declared.table.Limit.{Limit}
 use Rattle.pq_schema.specs.declared.table.Table.{Table}
-use Rattle.pq_schema.specs.Definitions.{type_of, has_type, column_of, refused_if, is_outside, name_refusal, counts_refusal, columns_refusal, names_refusal, key_refusal, limit_refusal, limits_refusal, reference_refusal, foreign_refusal, foreigns_refusal, groups_refusal, table_refusal, table_of_def, new_table}
+use Rattle.pq_schema.specs.ColumnNames.{names_refusal}
+use Rattle.pq_schema.specs.Definitions.{type_of, has_type, column_of, refused_if, is_outside, name_refusal, counts_refusal, columns_refusal, key_refusal, limit_refusal, limits_refusal, reference_refusal, foreign_refusal, foreigns_refusal, groups_refusal, table_refusal, table_of_def, new_table}
 use Rattle.pq_schema.specs.Names.{IsName, IsKind, IsColumnDef, IsLimitDef, IsForeignDef, IsTableDef}
 use Rattle.pq_schema.specs.Schema.{Schema, find_table}
 use Rattle.pq_schema.specs.Tables.{table_at}
@@ -209,21 +210,21 @@ inside_most n most e = grind (arith, nat_tests)
 not_more : (n most : ℕ) → nat_lt most n ≡ false → n ≤ most
 not_more n most e = grind (arith, nat_tests)
 
-limits_few : (cs : List ColumnDef) (ls : List LimitDef) → limits_refusal cs ls ≡ None → AllByRecursion (λ (l : LimitDef). length l.cols ≤ 4) ls
+limits_few : (cs : List Column) (ls : List LimitDef) → limits_refusal cs ls ≡ None → AllByRecursion (λ (l : LimitDef). length l.cols ≤ 4) ls
 limits_few cs [] e = tt
 limits_few cs (l ∷ ls) e =
     let parts = neither_refuses (limit_refusal cs l) (limits_refusal cs ls) e in
     let count = (neither_refuses (refused_if (is_outside (length l.cols) 4) _) _ (neither_refuses (names_refusal cs l.cols) _ parts.0).1).0 in
     (inside_most (length l.cols) 4 (not_refused _ _ count), limits_few cs ls parts.1)
 
-foreign_few : (schema : Schema) (cs : List ColumnDef) (number : ℕ) (f : ForeignDef) (o : Option ℕ) → AreOrderly schema.tables → find_table schema f.table ≡ o → reference_refusal schema cs number f o ≡ None → length f.cols ≤ 4
+foreign_few : (schema : Schema) (cs : List Column) (number : ℕ) (f : ForeignDef) (o : Option ℕ) → AreOrderly schema.tables → find_table schema f.table ≡ o → reference_refusal schema cs number f o ≡ None → length f.cols ≤ 4
 foreign_few schema cs number f None are found e = absurd cc
 foreign_few schema cs number f (Some t) are found e =
     let other = found_has IsOrderly schema f.table t are.each found in
     let short = other.short_key in
     omega (arith, reference_length schema cs number f t e, short)
 
-foreigns_few : (schema : Schema) (cs : List ColumnDef) (number : ℕ) (fs : List ForeignDef) → AreOrderly schema.tables → foreigns_refusal schema cs number fs ≡ None → AllByRecursion (λ (f : ForeignDef). length f.cols ≤ 4) fs
+foreigns_few : (schema : Schema) (cs : List Column) (number : ℕ) (fs : List ForeignDef) → AreOrderly schema.tables → foreigns_refusal schema cs number fs ≡ None → AllByRecursion (λ (f : ForeignDef). length f.cols ≤ 4) fs
 foreigns_few schema cs number [] are e = tt
 foreigns_few schema cs number (f ∷ fs) are e =
     let parts = neither_refuses (foreign_refusal schema cs number f) (foreigns_refusal schema cs (number + 1) fs) e in
@@ -235,16 +236,17 @@ few_of schema def are e =
     let counts = neither_refuses (counts_refusal def) _ later in
     let count = neither_refuses (refused_if (is_outside (length def.columns) 32) _) _ counts.0 in
     let others = neither_refuses (refused_if (nat_lt 4 (length def.limits)) _) (refused_if (nat_lt 4 (length def.foreign)) _) count.1 in
-    let groups = neither_refuses (key_refusal def.columns def.key) _ (neither_refuses (columns_refusal def.columns) (groups_refusal schema def) counts.1).1 in
-    let more = neither_refuses (limits_refusal def.columns def.limits) (foreigns_refusal schema def.columns 1 def.foreign) groups.1 in
-    let key = (neither_refuses (names_refusal def.columns def.key) _ groups.0).1 in
+    let made = map column_of def.columns in
+    let groups = neither_refuses (key_refusal made def.key) _ (neither_refuses (columns_refusal def.columns) (groups_refusal schema made def) counts.1).1 in
+    let more = neither_refuses (limits_refusal made def.limits) (foreigns_refusal schema made 1 def.foreign) groups.1 in
+    let key = (neither_refuses (names_refusal made def.key) _ groups.0).1 in
     record {
       columns = inside_most (length def.columns) 32 (not_refused _ _ count.0);
       key = inside_most (length def.key) 4 (not_refused _ _ key);
       limits = not_more (length def.limits) 4 (not_refused _ _ others.0);
-      limit_cols = limits_few def.columns def.limits more.0;
+      limit_cols = limits_few made def.limits more.0;
       foreign = not_more (length def.foreign) 4 (not_refused _ _ others.1);
-      foreign_cols = foreigns_few schema def.columns 1 def.foreign are more.1;
+      foreign_cols = foreigns_few schema made 1 def.foreign are more.1;
     }
 
 pub table_short : (schema : Schema) (def : TableDef) (table : Table) → AreOrderly schema.tables → IsTableDef def → new_table schema def ≡ Ok table → length (table_text (schema.tables ++ table ∷ []) table) ≤ 1048576

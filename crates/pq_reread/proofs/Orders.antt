@@ -18,19 +18,21 @@ use Rattle.pq_schema.specs.declared.definition.ColumnDef.{ColumnDef}
 use Rattle.pq_schema.specs.declared.definition.TableDef.{TableDef}
 use Rattle.pq_schema.specs.declared.table.Column.{Column}
 use Rattle.pq_schema.specs.declared.table.Table.{Table}
-use Rattle.pq_schema.specs.Definitions.{column_of, is_column, is_unknown, place_of, no_column, repeated_name, repeated_after, refused_if, is_outside, first_repeated, definition_refusal, name_refusal, counts_refusal, columns_refusal, names_refusal, key_refusal, groups_refusal, table_refusal, bare_table, table_of_def, new_table}
+use Rattle.pq_schema.specs.ColumnNames.{names_of, is_unknown, place_of, places_of, no_column, repeated_name, repeated_after, unknown_refusal, repeated_refusal, names_refusal}
+use Rattle.pq_schema.specs.Definitions.{column_of, refused_if, is_outside, definition_refusal, name_refusal, counts_refusal, columns_refusal, key_refusal, groups_refusal, table_refusal, bare_table, table_of_def, new_table}
 use Rattle.pq_schema.specs.Names.{IsName, IsColumnDef, IsTableDef}
 use Rattle.pq_schema.specs.declared.table.NewIndex.{NewIndex}
 use Rattle.pq_schema.specs.Schema.{Schema, is_table, is_taken, number_of, find_query, with_wanted, with_new_index}
 use Rattle.pq_schema.specs.Tables.{no_table, table_at}
 use Rattle.pq_schema.specs.Valid.{IsValid}
 use Rattle.pq_schema.specs.Valid.IsValid.{empty, then_table, then_query}
+use Rattle.pq_schema.proofs.Counts.{place_within}
 use Rattle.pq_schema.proofs.Valid.{wanted_there}
 use Rattle.pq_schema.specs.Sequences.{ascending_part, group_access, with_group}
 use Rattle.pq_reread.specs.Orderly.{AreNamedApart, IsOrderly, AreOrderly}
 use Rattle.pq_reread.proofs.Alls.{one_by_one}
 use Rattle.pq_query_read.proofs.Names.{turned}
-use Rattle.pq_reread.proofs.Defined.{ok_is, neither_refuses, not_refused, none_mapped, not_false, inside_some, none_passes, within, place_is}
+use Rattle.pq_reread.proofs.Defined.{ok_is, neither_refuses, not_refused, none_mapped, inside_some, none_passes}
 
 -- ---- elements with different names
 
@@ -89,28 +91,27 @@ unrepeated : (before names : List (List ℕ)) (n : List ℕ) (b : Bool) → cond
 unrepeated before names n true e = absurd cc
 unrepeated before names n false e = (refl, e)
 
-columns_apart : (before : List Column) (cs : List ColumnDef) → AreNamedApart column_names before → repeated_after (map column_names before) (map (λ (c : ColumnDef). c.name) cs) ≡ None → AreNamedApart column_names (before ++ map column_of cs)
+columns_apart : (before columns : List Column) → AreNamedApart column_names before → repeated_after (map column_names before) (map column_names columns) ≡ None → AreNamedApart column_names (before ++ columns)
 columns_apart before [] apart e = subst (AreNamedApart column_names) (sym (nothing_behind before)) apart
   where
     nothing_behind : {X : Type 0} (xs : List X) → xs ++ [] ≡ xs
     nothing_behind [] = refl
     nothing_behind (x ∷ xs) = ap (λ v. x ∷ v) (nothing_behind xs)
 columns_apart before (c ∷ cs) apart e =
-    let parts = unrepeated (map column_names before) (map (λ (d : ColumnDef). d.name) cs) c.name (list_any (bytes_eq c.name) (map column_names before)) e in
-    let more = push column_names before (column_of c) apart (absent column_names c.name before parts.0) in
-    subst (AreNamedApart column_names) (append_assoc before (column_of c ∷ []) (map column_of cs))
-    (columns_apart (before ++ column_of c ∷ []) cs more (ap (λ (v : List (List ℕ)). repeated_after v (map (λ (d : ColumnDef). d.name) cs)) (map-append column_names before (column_of c ∷ [])) ∙ parts.1))
+    let parts = unrepeated (map column_names before) (map column_names cs) c.name (list_any (bytes_eq c.name) (map column_names before)) e in
+    let more = push column_names before c apart (absent column_names c.name before parts.0) in
+    subst (AreNamedApart column_names) (append_assoc before (c ∷ []) cs)
+    (columns_apart (before ++ c ∷ []) cs more (ap (λ (v : List (List ℕ)). repeated_after v (map column_names cs)) (map-append column_names before (c ∷ [])) ∙ parts.1))
 
 named_columns : (cs : List ColumnDef) → AllByRecursion IsColumnDef cs → AllByRecursion (λ (column : Column). IsName column.name) (map column_of cs)
 named_columns [] all = tt
 named_columns (c ∷ cs) all = (all.0.name, named_columns cs all.1)
 
-places_within : (cs : List ColumnDef) (names : List (List ℕ)) → find (is_unknown cs) names ≡ None → AllByRecursion (λ col. col < length (map column_of cs)) (map (place_of cs) names)
-places_within cs [] e = tt
-places_within cs (n ∷ ns) e =
+places_inside : (cs : List Column) (names : List (List ℕ)) → find (is_unknown cs) names ≡ None → AllByRecursion (λ col. col < length cs) (places_of cs names)
+places_inside cs [] e = tt
+places_inside cs (n ∷ ns) e =
     let parts = none_passes (is_unknown cs) n ns (is_unknown cs n) e in
-    let known = not_false (list_any (is_column n) cs) parts.0 in
-    (omega (arith, place_is cs n known, within (is_column n) cs known, length-map cs column_of), places_within cs ns parts.1)
+    (place_within cs n parts.0, places_inside cs ns parts.1)
 
 -- ---- tables
 
@@ -118,19 +119,20 @@ bare_orderly : (schema : Schema) (def : TableDef) → IsTableDef def → table_r
 bare_orderly schema def is e =
     let later = (neither_refuses (name_refusal schema def.name) _ e).1 in
     let counts = neither_refuses (counts_refusal def) _ later in
-    let columns = neither_refuses (columns_refusal def.columns) (groups_refusal schema def) counts.1 in
-    let apart = (neither_refuses (refused_if _ _) (option_map repeated_name (first_repeated (map (λ (c : ColumnDef). c.name) def.columns))) columns.0).1 in
-    let groups = neither_refuses (key_refusal def.columns def.key) _ columns.1 in
-    let key = neither_refuses (names_refusal def.columns def.key) _ groups.0 in
-    let known = (neither_refuses (option_map no_column (find (is_unknown def.columns) def.key)) _ key.0).0 in
+    let made = map column_of def.columns in
+    let columns = neither_refuses (columns_refusal def.columns) (groups_refusal schema made def) counts.1 in
+    let apart = (neither_refuses (refused_if _ _) (repeated_refusal (names_of made)) columns.0).1 in
+    let groups = neither_refuses (key_refusal made def.key) _ columns.1 in
+    let key = neither_refuses (names_refusal made def.key) _ groups.0 in
+    let known = (neither_refuses (unknown_refusal made def.key) _ key.0).0 in
     let count = not_refused (is_outside (length def.key) 4) _ key.1 in
     record {
       name = is.name;
       columns = named_columns def.columns (one_by_one IsColumnDef def.columns is.columns);
-      apart = columns_apart [] def.columns (nil_apart column_names) (none_mapped repeated_name _ apart);
-      some_key = omega (arith, inside_some (length def.key) 4 count, length-map def.key (place_of def.columns));
-      short_key = omega (arith, inside_most (length def.key) 4 count, length-map def.key (place_of def.columns));
-      key = places_within def.columns def.key (none_mapped no_column _ known);
+      apart = columns_apart [] made (nil_apart column_names) (none_mapped repeated_name _ apart);
+      some_key = omega (arith, inside_some (length def.key) 4 count, length-map def.key (place_of made));
+      short_key = omega (arith, inside_most (length def.key) 4 count, length-map def.key (place_of made));
+      key = places_inside made def.key (none_mapped no_column _ known);
     }
   where
     inside_most : (n most : ℕ) → is_outside n most ≡ false → n ≤ most

@@ -15,8 +15,9 @@ use Rattle.pq_base.specs.declared.value.Dir.{Dir}
 use Rattle.pq_base.specs.declared.value.Value.{Value}
 use Rattle.pq_base.specs.declared.value.Value.TheVariants as value
 use Rattle.pq_schema.specs.Candidates.{stop_size}
-use Rattle.pq_schema.specs.Definitions.{is_outside, refused_if, repeated_name}
-use Rattle.pq_schema.specs.Definitions.{no_column as unknown}
+use Rattle.pq_schema.specs.ColumnNames.{repeated_name}
+use Rattle.pq_schema.specs.Definitions.{is_outside, refused_if}
+use Rattle.pq_schema.specs.ColumnNames.{no_column as unknown}
 use Rattle.pq_schema.specs.Relations.{no_relation, table_of}
 use Rattle.pq_schema.specs.Relations.{relation_at as relation_of_query}
 use Rattle.pq_schema.specs.Resolved.{IsRelation, IsColumnOf, IsOperand, IsPredicate, IsResolved, same_ref, ref_type, param_type}

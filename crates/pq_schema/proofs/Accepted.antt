@@ -1,10 +1,10 @@
 -- What an accepted definition makes.
 use Rattle.std.proofs.Common.{◌≡◌, ℕ, ℤ, pos, negsuc, ◌+◌, ◌<◌, ◌≤◌, Bool, true, false, not, cond, ◌&&◌, List, [], ◌∷◌, ◌++◌, length, map, fold, take, get_or, length-take, find, codes, is_some, option_map, Option, Some, None, Result, Ok, Err, refl, sym, ap, ◌∙◌, subst, arith, length-append}
-use Rattle.std.specs.Prelude.{All, IsSome, nat_lt, nat_le, unwrap_or, position, slice_get, if◌then◌else◌}
+use Rattle.std.specs.Prelude.{All, IsSome, nat_lt, nat_le, unwrap_or, position, if◌then◌else◌}
 use Rattle.std.specs.Str.{bytes_eq}
-use Rattle.std.specs.List.{AllByRecursion, list_any, list_all}
+use Rattle.std.specs.List.{AllByRecursion, list_all}
 use Rattle.std.proofs.lemmas.Bool.{or_parts, and_parts, not-false, ltb-false, leb-true, leb-false, false≢true}
-use Rattle.std.proofs.lemmas.Option.{none-some, slice_get-map, slice_get-get_or, get_or_from_slice_get}
+use Rattle.std.proofs.lemmas.Option.{none-some}
 use Rattle.std.proofs.lemmas.List.{length-map}
 use Rattle.std.proofs.lemmas.List.Elements.{All-nil, All-cons, All-append, All-map, All-take, All-get_or, All-weaker, All-from_recursion, recursion_from_All}
 use Rattle.std.proofs.lemmas.List.Quantifiers.{position-Some}
@@ -24,11 +24,12 @@ use Rattle.pq_schema.specs.declared.table.Limit.{Limit}
 use Rattle.pq_schema.specs.declared.table.Foreign.{Foreign}
 use Rattle.pq_schema.specs.declared.table.Index.{Index}
 use Rattle.pq_schema.specs.declared.table.Table.{Table}
-use Rattle.pq_schema.specs.Definitions.{text_size, cardinality, has_type, column_of, is_column, is_unknown, place_of, places_of, no_column, repeated_name, refused_if, is_outside, first_repeated, definition_refusal, name_refusal, counts_refusal, columns_refusal, names_refusal, key_refusal, limit_refusal, limits_refusal, has_shape, reference_refusal, foreign_refusal, foreigns_refusal, groups_refusal, table_refusal, limit_of_def, foreign_of_def, bare_table, table_of_def, or_ok, new_table}
+use Rattle.pq_schema.specs.ColumnNames.{names_of, is_unknown, place_of, places_of, no_column, repeated_name, first_repeated, unknown_refusal, repeated_refusal, names_refusal}
+use Rattle.pq_schema.specs.Definitions.{text_size, cardinality, has_type, column_of, refused_if, is_outside, definition_refusal, name_refusal, counts_refusal, columns_refusal, key_refusal, limit_refusal, limits_refusal, has_shape, reference_refusal, foreign_refusal, foreigns_refusal, groups_refusal, table_refusal, limit_of_def, foreign_of_def, bare_table, table_of_def, or_ok, new_table}
 use Rattle.pq_schema.specs.Schema.{Schema, find_table, is_table, is_taken, number_of}
 use Rattle.pq_schema.specs.Sequences.{groups, group_access, with_group}
 use Rattle.pq_schema.specs.Sound.{IsTable, IsBare, AreColumns, IsSized, AreKeyColumns, IsMadeLimit, IsMadeForeign, IsMade}
-use Rattle.pq_schema.specs.Tables.{table_at, type_at}
+use Rattle.pq_schema.specs.Tables.{table_at}
 use Rattle.pq_schema.proofs.Counts.{AreKnown, places_within, different_places}
 use Rattle.pq_schema.proofs.Groups.{IsDifferent, IsAsBefore, AreInside, groups_have, groups_as_before, groups_inside, sound_groups}
 
@@ -93,19 +94,19 @@ sized_columns (column ∷ columns) all =
 
 -- ---- names
 
-known_names : (columns : List ColumnDef) (names : List (List ℕ)) → find (is_unknown columns) names ≡ None → AreKnown columns names
+known_names : (columns : List Column) (names : List (List ℕ)) → find (is_unknown columns) names ≡ None → AreKnown columns names
 known_names columns [] none = tt
 known_names columns (name ∷ names) none =
     elim (is_unknown columns name) as (λ b. is_unknown columns name ≡ b → cond b (Some name) (find (is_unknown columns) names) ≡ None → AreKnown columns (name ∷ names)) [
       | true ↦ λ _ none. absurd (none-some name (sym none))
-      | false ↦ λ known none. (not-false (list_any (is_column name) columns) known, known_names columns names none)
+      | false ↦ λ known none. (known, known_names columns names none)
     ] refl none
 
-module _ (columns : List ColumnDef) where
+module _ (columns : List Column) where
   -- names that are not refused have different places among the columns
   names_made : (names : List (List ℕ)) → names_refusal columns names ≡ None → All (λ col. col < length columns) (places_of columns names) × IsDifferent (places_of columns names)
   names_made names none =
-      let parts = neither (option_map no_column (find (is_unknown columns) names)) (option_map repeated_name (first_repeated names)) none in
+      let parts = neither (unknown_refusal columns names) (repeated_refusal names) none in
       let known = known_names columns names (none_mapped no_column (find (is_unknown columns) names) parts.0) in
       (places_within columns names known, different_places columns names known (none_mapped repeated_name (first_repeated names) parts.1))
 
@@ -162,31 +163,30 @@ module _ (columns : List ColumnDef) where
           let within = (position-Some (is_table name) schema.tables place (table_at [] 0) at).0 in
           (omega (arith, here), omega (arith, here, within))
 
-  foreign_made : (schema : Schema) (number : ℕ) (foreign : ForeignDef) → foreign_refusal schema columns number foreign ≡ None → IsMadeForeign schema.tables (length schema.tables + 1) (map column_of columns) (foreign_of_def schema columns foreign)
+  foreign_made : (schema : Schema) (number : ℕ) (foreign : ForeignDef) → foreign_refusal schema columns number foreign ≡ None → IsMadeForeign schema.tables (length schema.tables + 1) columns (foreign_of_def schema columns foreign)
   foreign_made schema number foreign none = by_table (find_table schema foreign.table) refl parts.1
     where
       parts : (names_refusal columns foreign.cols ≡ None) × (reference_refusal schema columns number foreign (find_table schema foreign.table) ≡ None)
       parts = neither (names_refusal columns foreign.cols) (reference_refusal schema columns number foreign (find_table schema foreign.table)) none
 
-      by_table : (o : Option ℕ) → find_table schema foreign.table ≡ o → reference_refusal schema columns number foreign o ≡ None → IsMadeForeign schema.tables (length schema.tables + 1) (map column_of columns) (record { cols = places_of columns foreign.cols; table = unwrap_or o 0 })
+      by_table : (o : Option ℕ) → find_table schema foreign.table ≡ o → reference_refusal schema columns number foreign o ≡ None → IsMadeForeign schema.tables (length schema.tables + 1) columns (record { cols = places_of columns foreign.cols; table = unwrap_or o 0 })
       by_table None _ none = absurd (none-some (refusal.NoTable foreign.table) (sym none))
       by_table (Some table) is none =
           let made = names_made foreign.cols parts.0 in
           let at = found_table schema foreign.table table is in
-          let wide : length (map column_of columns) ≡ length columns = length-map columns column_of in
           record {
-            inside = subst (λ n. All (λ col. col < n) (places_of columns foreign.cols)) (sym wide) made.0;
+            inside = made.0;
             different = made.1;
             from_one = at.0;
             earlier = at.1;
             shape = not-false (has_shape columns foreign.cols (table_at schema.tables table)) (not_refused (not (has_shape columns foreign.cols (table_at schema.tables table))) (refusal.ForeignShape number) none);
           }
 
-  foreigns_made : (schema : Schema) (number : ℕ) (foreign : List ForeignDef) → foreigns_refusal schema columns number foreign ≡ None → All (IsMadeForeign schema.tables (length schema.tables + 1) (map column_of columns)) (map (foreign_of_def schema columns) foreign)
-  foreigns_made schema number [] none = All-nil (IsMadeForeign schema.tables (length schema.tables + 1) (map column_of columns))
+  foreigns_made : (schema : Schema) (number : ℕ) (foreign : List ForeignDef) → foreigns_refusal schema columns number foreign ≡ None → All (IsMadeForeign schema.tables (length schema.tables + 1) columns) (map (foreign_of_def schema columns) foreign)
+  foreigns_made schema number [] none = All-nil (IsMadeForeign schema.tables (length schema.tables + 1) columns)
   foreigns_made schema number (foreign ∷ rest) none =
       let parts = neither (foreign_refusal schema columns number foreign) (foreigns_refusal schema columns (number + 1) rest) none in
-      All-cons (IsMadeForeign schema.tables (length schema.tables + 1) (map column_of columns)) (foreign_of_def schema columns foreign) (map (foreign_of_def schema columns) rest)
+      All-cons (IsMadeForeign schema.tables (length schema.tables + 1) columns) (foreign_of_def schema columns foreign) (map (foreign_of_def schema columns) rest)
       (foreign_made schema number foreign parts.0) (foreigns_made schema (number + 1) rest parts.1)
 
 -- ---- facts by recursion
@@ -233,14 +233,14 @@ definition_free schema name none =
     not_refused (is_taken schema name) (refusal.NameTaken name) (neither (refused_if (nat_le 256 (length schema.definitions)) (refusal.Count count_word.DEFINITIONS)) (refused_if (is_taken schema name) (refusal.NameTaken name)) none).1
 
 module _ (schema : Schema) (def : TableDef) (none : table_refusal schema def ≡ None) where
-  first : (name_refusal schema def.name ≡ None) × (or_else (counts_refusal def) (or_else (columns_refusal def.columns) (groups_refusal schema def)) ≡ None)
-  first = neither (name_refusal schema def.name) (or_else (counts_refusal def) (or_else (columns_refusal def.columns) (groups_refusal schema def))) none
+  first : (name_refusal schema def.name ≡ None) × (or_else (counts_refusal def) (or_else (columns_refusal def.columns) (groups_refusal schema (map column_of def.columns) def)) ≡ None)
+  first = neither (name_refusal schema def.name) (or_else (counts_refusal def) (or_else (columns_refusal def.columns) (groups_refusal schema (map column_of def.columns) def))) none
 
-  second : (counts_refusal def ≡ None) × (or_else (columns_refusal def.columns) (groups_refusal schema def) ≡ None)
-  second = neither (counts_refusal def) (or_else (columns_refusal def.columns) (groups_refusal schema def)) first.1
+  second : (counts_refusal def ≡ None) × (or_else (columns_refusal def.columns) (groups_refusal schema (map column_of def.columns) def) ≡ None)
+  second = neither (counts_refusal def) (or_else (columns_refusal def.columns) (groups_refusal schema (map column_of def.columns) def)) first.1
 
-  third : (columns_refusal def.columns ≡ None) × (groups_refusal schema def ≡ None)
-  third = neither (columns_refusal def.columns) (groups_refusal schema def) second.1
+  third : (columns_refusal def.columns ≡ None) × (groups_refusal schema (map column_of def.columns) def ≡ None)
+  third = neither (columns_refusal def.columns) (groups_refusal schema (map column_of def.columns) def) second.1
 
   name_parts : (definition_refusal schema def.name ≡ None) × (refused_if (nat_le 64 (length schema.tables)) (refusal.Count count_word.TABLES) ≡ None)
   name_parts = neither (definition_refusal schema def.name) (refused_if (nat_le 64 (length schema.tables)) (refusal.Count count_word.TABLES)) first.0
@@ -272,27 +272,28 @@ module _ (schema : Schema) (def : TableDef) (none : table_refusal schema def ≡
 
   types : list_all has_type def.columns ≡ true
   types =
-      let names = option_map repeated_name (first_repeated (map (λ (column : ColumnDef). column.name) def.columns)) in
-      let one = neither (refused_if (not (list_all has_type def.columns)) (refusal.Count count_word.TEXT)) names third.0 in
+      let names = names_of (map column_of def.columns) in
+      let one = neither (refused_if (not (list_all has_type def.columns)) (refusal.Count count_word.TEXT)) (repeated_refusal names) third.0 in
       not-false (list_all has_type def.columns) (not_refused (not (list_all has_type def.columns)) (refusal.Count count_word.TEXT) one.0)
 
-  groups_parts : (key_refusal def.columns def.key ≡ None) × ((limits_refusal def.columns def.limits ≡ None) × (foreigns_refusal schema def.columns 1 def.foreign ≡ None))
+  groups_parts : (key_refusal (map column_of def.columns) def.key ≡ None) × ((limits_refusal (map column_of def.columns) def.limits ≡ None) × (foreigns_refusal schema (map column_of def.columns) 1 def.foreign ≡ None))
   groups_parts =
-      let one = neither (key_refusal def.columns def.key) (or_else (limits_refusal def.columns def.limits) (foreigns_refusal schema def.columns 1 def.foreign)) third.1 in
-      let two = neither (limits_refusal def.columns def.limits) (foreigns_refusal schema def.columns 1 def.foreign) one.1 in
+      let columns = map column_of def.columns in
+      let one = neither (key_refusal columns def.key) (or_else (limits_refusal columns def.limits) (foreigns_refusal schema columns 1 def.foreign)) third.1 in
+      let two = neither (limits_refusal columns def.limits) (foreigns_refusal schema columns 1 def.foreign) one.1 in
       (one.0, (two.0, two.1))
 
   wide : length (bare_table schema def).columns ≡ length def.columns
   wide = length-map def.columns column_of
 
   bare_key : AreKeyColumns (length def.columns) (bare_table schema def).key
-  bare_key = key_made def.columns def.key groups_parts.0
+  bare_key = subst (λ n. AreKeyColumns n (bare_table schema def).key) wide (key_made (map column_of def.columns) def.key groups_parts.0)
 
   bare_limits : All (IsMadeLimit (length def.columns)) (bare_table schema def).limits
-  bare_limits = limits_made def.columns def.limits groups_parts.1.0
+  bare_limits = subst (λ n. All (IsMadeLimit n) (bare_table schema def).limits) wide (limits_made (map column_of def.columns) def.limits groups_parts.1.0)
 
   bare_foreign : All (IsMadeForeign schema.tables (length schema.tables + 1) (bare_table schema def).columns) (bare_table schema def).foreign
-  bare_foreign = foreigns_made def.columns schema 1 def.foreign groups_parts.1.1
+  bare_foreign = foreigns_made (map column_of def.columns) schema 1 def.foreign groups_parts.1.1
 
   below : (cols : List ℕ) → All (λ col. col < length def.columns) cols → AreColumns cols
   below cols inside = All-weaker (λ col. col < length def.columns) (λ col. col < 32) (λ col lt. let few = few_columns.1 in omega arith) cols inside
@@ -308,14 +309,14 @@ module _ (schema : Schema) (def : TableDef) (none : table_refusal schema def ≡
     short = bare_key.few;
     limits = All-weaker (IsMadeLimit (length def.columns)) (λ (l : Limit). AreColumns l.cols) (λ l made. below l.cols made.cols.inside) (bare_table schema def).limits bare_limits;
     sizes = All-weaker (IsMadeLimit (length def.columns)) (λ (l : Limit). l.n ≤ 10000) (λ l made. made.most) (bare_table schema def).limits bare_limits;
-    few = let few = few_limits in let long = length-map def.limits (limit_of_def def.columns) in omega (arith, few, long);
+    few = let few = few_limits in let long = length-map def.limits (limit_of_def (map column_of def.columns)) in omega (arith, few, long);
     indexes = All-nil (λ (i : Index). All (λ part. part.col < 32) i.cols);
     few_indexes = omega arith;
     few_columns = let few = few_columns.1 in let same = wide in omega (arith, few, same);
   }
 
   foreign_count : length (bare_table schema def).foreign ≤ 4
-  foreign_count = let few = few_foreign in let long = length-map def.foreign (foreign_of_def schema def.columns) in omega (arith, few, long)
+  foreign_count = let few = few_foreign in let long = length-map def.foreign (foreign_of_def schema (map column_of def.columns)) in omega (arith, few, long)
 
   pub is_bare : IsBare (bare_table schema def)
   is_bare = record {
@@ -403,14 +404,6 @@ pub made_free : (schema : Schema) (def : TableDef) (table : Table) → new_table
 made_free schema def table made =
     subst (λ (t : Table). is_taken schema t.name ≡ false) (made_is schema def table made)
     (ap (is_taken schema) (groups_as_before (groups (bare_table schema def)) (bare_table schema def)).name ∙ definition_free schema def.name (name_parts schema def (made_none schema def table made)).0)
-
--- the type of a column as it is defined
-pub type_named : (columns : List ColumnDef) (col : ℕ) (def : ColumnDef) → col < length columns → def ≡ get_or columns col def → type_at (map column_of columns) col ≡ (column_of def).ty
-type_named columns col def there is =
-    let Ty : Column → ColType = λ column. column.ty in
-    let at : slice_get columns col ≡ Some def = slice_get-get_or columns col def there ∙ ap (λ (d : ColumnDef). Some d) (sym is) in
-    get_or_from_slice_get (map Ty (map column_of columns)) col (column_of def).ty type.Bool
-    (slice_get-map Ty (map column_of columns) col ∙ ap (option_map Ty) (slice_get-map column_of columns col ∙ ap (option_map column_of) at))
 
 -- ---- the loop over the groups
 

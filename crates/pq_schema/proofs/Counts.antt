@@ -1,7 +1,7 @@
 -- Sets of different columns have as many columns as are named.
-use Rattle.std.proofs.Common.{◌≡◌, ℕ, pos, ◌+◌, ◌*◌, ◌/◌, ◌%◌, ◌^◌, ◌<◌, Bool, true, false, not, cond, ◌||◌, ◌⊎◌, inl, inr, List, [], ◌∷◌, ◌++◌, fold, length, get_or, count_ones, bit_and, Option, Some, None, refl, sym, ap, ◌∙◌, subst, arith, add-zero}
+use Rattle.std.proofs.Common.{◌≡◌, ℕ, ◌+◌, ◌*◌, ◌/◌, ◌%◌, ◌^◌, ◌<◌, Bool, true, false, not, cond, ◌||◌, ◌⊎◌, inl, inr, List, [], ◌∷◌, ◌++◌, fold, length, get_or, count_ones, bit_and, Option, Some, None, refl, sym, ap, ◌∙◌, subst, arith, add-zero}
 use lib.Count.{ones, ones_cat, ones_step}
-use Rattle.std.specs.Prelude.{All, position, unwrap_or}
+use Rattle.std.specs.Prelude.{All, position, unwrap_or, is_none}
 use Rattle.std.specs.List.{list_any, position_or_len}
 use Rattle.std.specs.Int.{bit_at}
 use Rattle.std.specs.Str.{bytes_eq}
@@ -16,8 +16,10 @@ use Rattle.std.proofs.lemmas.List.Quantifiers.{position-Some}
 use Rattle.std.proofs.lemmas.Option.{none-some}
 use Rattle.std.proofs.lemmas.Slice.Eq.{bytes_eq-Decides}
 use Rattle.pq_base.specs.Columns.{with_col, set_of}
-use Rattle.pq_schema.specs.declared.definition.ColumnDef.{ColumnDef}
-use Rattle.pq_schema.specs.Definitions.{is_column, place_of, places_of, repeated_after, first_repeated}
+use Rattle.pq_base.specs.declared.value.ColType.TheVariants as type
+use Rattle.pq_schema.specs.declared.table.Column.{Column}
+use Rattle.pq_schema.specs.ColumnNames.{is_unknown, place_of, places_of, repeated_after, first_repeated}
+use Rattle.pq_schema.specs.Schema.{has_name, find_column}
 
 -- ---- one more column
 
@@ -63,13 +65,13 @@ bit_with s c k h = elim (cases_eq k c) [
 
 -- ---- the places of different names
 
-abbrev no_def : ColumnDef
-no_def = record { name = []; kind = []; size = pos 0 }
+abbrev none_there : Column
+none_there = record { name = []; ty = type.Int }
 
-abbrev pub IsKnown : List ColumnDef → List ℕ → Type 0
-IsKnown columns name = list_any (is_column name) columns ≡ true
+abbrev pub IsKnown : List Column → List ℕ → Type 0
+IsKnown columns name = is_unknown columns name ≡ false
 
-abbrev pub AreKnown : List ColumnDef → List (List ℕ) → Type 0
+abbrev pub AreKnown : List Column → List (List ℕ) → Type 0
 AreKnown columns [] = Unit {0}
 AreKnown columns (name ∷ names) = IsKnown columns name × AreKnown columns names
 
@@ -97,15 +99,22 @@ same_bytes xs ys h = (bytes_eq-Decides xs ys).0 h
 pub bytes_same : (xs ys : List ℕ) → xs ≡ ys → bytes_eq xs ys ≡ true
 bytes_same xs ys h = (bytes_eq-Decides xs ys).1 h
 
-module _ (columns : List ColumnDef) where
-  pub place_within : (name : List ℕ) → IsKnown columns name → place_of columns name < length columns
-  place_within name known = (found_place (is_column name) columns no_def known).0
+-- the column at a place that is found
+place_there : (columns : List Column) (name : List ℕ) (o : Option ℕ) → find_column columns name ≡ o → is_none o ≡ false
+    → (unwrap_or o 0 < length columns) × ((get_or columns (unwrap_or o 0) none_there).name ≡ name)
+place_there columns name None is known = absurd (false≢true (sym known))
+place_there columns name (Some place) is known =
+    let found = position-Some (has_name name) columns place none_there is in (found.0, same_bytes _ name found.1)
 
-  name_there : (name : List ℕ) → IsKnown columns name → (get_or columns (place_of columns name) no_def).name ≡ name
-  name_there name known = same_bytes _ name (found_place (is_column name) columns no_def known).1
+module _ (columns : List Column) where
+  pub place_within : (name : List ℕ) → IsKnown columns name → place_of columns name < length columns
+  place_within name known = (place_there columns name (find_column columns name) refl known).0
+
+  pub name_there : (name : List ℕ) → IsKnown columns name → (get_or columns (place_of columns name) none_there).name ≡ name
+  name_there name known = (place_there columns name (find_column columns name) refl known).1
 
   same_place : (a b : List ℕ) → IsKnown columns a → IsKnown columns b → place_of columns a ≡ place_of columns b → a ≡ b
-  same_place a b ka kb same = sym (name_there a ka) ∙ ap (λ n. (get_or columns n no_def).name) same ∙ name_there b kb
+  same_place a b ka kb same = sym (name_there a ka) ∙ ap (λ n. (get_or columns n none_there).name) same ∙ name_there b kb
 
   pub places_within : (names : List (List ℕ)) → AreKnown columns names → All (λ col. col < length columns) (places_of columns names)
   places_within [] known = All-nil (λ col. col < length columns)

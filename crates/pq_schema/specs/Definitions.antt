@@ -1,7 +1,7 @@
 -- What a CREATE TABLE defines, or the first refusal in the written order.
-use Rattle.std.specs.Prelude.{◌≡◌, ℕ, ℤ, pos, negsuc, ◌+◌, Bool, true, false, not, ◌||◌, ◌&&◌, nat_lt, nat_le, List, [], ◌∷◌, ◌++◌, length, map, position, find, codes, unwrap_or, is_some, option_map, Option, Some, None, Result, Ok, Err, if◌then◌else◌}
+use Rattle.std.specs.Prelude.{◌≡◌, ℕ, ℤ, pos, negsuc, ◌+◌, Bool, true, false, not, ◌||◌, ◌&&◌, nat_lt, nat_le, List, [], ◌∷◌, length, map, codes, unwrap_or, is_some, option_map, Option, Some, None, Result, Ok, Err, if◌then◌else◌}
 use Rattle.std.specs.Str.{bytes_eq}
-use Rattle.std.specs.List.{list_any, list_all}
+use Rattle.std.specs.List.{list_all}
 use Rattle.pq_base.specs.Answers.{or_else}
 use Rattle.pq_base.specs.declared.count_word.TheConstants as count_word
 use Rattle.pq_base.specs.declared.refusal.Refusal.{Refusal}
@@ -18,18 +18,10 @@ use Rattle.pq_schema.specs.declared.table.Limit.{Limit}
 use Rattle.pq_schema.specs.declared.table.Foreign.{Foreign}
 use Rattle.pq_schema.specs.declared.table.NewIndex.{NewIndex}
 use Rattle.pq_schema.specs.declared.table.Table.{Table}
+use Rattle.pq_schema.specs.ColumnNames.{names_of, places_of, repeated_refusal, names_refusal}
 use Rattle.pq_schema.specs.Sequences.{with_groups}
 use Rattle.pq_schema.specs.Tables.{table_at, same_kinds, types_at}
 use Rattle.pq_schema.specs.Schema.{Schema, find_table, is_taken, with_table, with_query}
-
--- the name is the first of those that stand among the ones before them
-abbrev pub repeated_after : List (List ℕ) → List (List ℕ) → Option (List ℕ)
-repeated_after before [] = None
-repeated_after before (name ∷ names) =
-    if list_any (bytes_eq name) before then Some name else repeated_after (before ++ name ∷ []) names
-
-abbrev pub first_repeated : List (List ℕ) → Option (List ℕ)
-first_repeated names = repeated_after [] names
 
 -- n of TEXT(n), from 1 to 1,000
 abbrev pub text_size : ℤ → Option ℕ
@@ -53,26 +45,6 @@ has_type column = is_some (type_of column)
 
 abbrev pub column_of : ColumnDef → Column
 column_of column = record { name = column.name; ty = unwrap_or (type_of column) type.Int }
-
-abbrev pub is_column : List ℕ → ColumnDef → Bool
-is_column name column = bytes_eq column.name name
-
--- no column has the name
-abbrev pub is_unknown : List ColumnDef → List ℕ → Bool
-is_unknown columns name = not (list_any (is_column name) columns)
-
--- the place of the column of this name
-abbrev pub place_of : List ColumnDef → List ℕ → ℕ
-place_of columns name = unwrap_or (position (is_column name) columns) 0
-
-abbrev pub places_of : List ColumnDef → List (List ℕ) → List ℕ
-places_of columns names = map (place_of columns) names
-
-abbrev pub no_column : List ℕ → Refusal
-no_column name = refusal.NoColumn name
-
-abbrev pub repeated_name : List ℕ → Refusal
-repeated_name name = refusal.Repeated name
 
 -- refused where the test holds
 abbrev pub refused_if : Bool → Refusal → Option Refusal
@@ -106,83 +78,82 @@ counts_refusal def =
 abbrev pub columns_refusal : List ColumnDef → Option Refusal
 columns_refusal columns =
     or_else (refused_if (not (list_all has_type columns)) (refusal.Count count_word.TEXT))
-    (option_map repeated_name (first_repeated (map (λ column. column.name) columns)))
-
--- an unknown name, and a repeated one
-abbrev pub names_refusal : List ColumnDef → List (List ℕ) → Option Refusal
-names_refusal columns names =
-    or_else (option_map no_column (find (is_unknown columns) names)) (option_map repeated_name (first_repeated names))
+    (repeated_refusal (names_of (map column_of columns)))
 
 -- the key's names, and their number
-abbrev pub key_refusal : List ColumnDef → List (List ℕ) → Option Refusal
+abbrev pub key_refusal : List Column → List (List ℕ) → Option Refusal
 key_refusal columns key = or_else (names_refusal columns key)
     (refused_if (is_outside (length key) 4) (refusal.Count count_word.KEY))
 
 -- the names of a limit, their number, and its n
-abbrev pub limit_refusal : List ColumnDef → LimitDef → Option Refusal
+abbrev pub limit_refusal : List Column → LimitDef → Option Refusal
 limit_refusal columns limit =
     or_else (names_refusal columns limit.cols)
     (or_else (refused_if (is_outside (length limit.cols) 4) (refusal.Count count_word.LIMIT_COLUMNS))
     (refused_if (not (is_some (cardinality limit.n))) (refusal.Count count_word.CARDINALITY)))
 
-abbrev pub limits_refusal : List ColumnDef → List LimitDef → Option Refusal
+abbrev pub limits_refusal : List Column → List LimitDef → Option Refusal
 limits_refusal columns [] = None
 limits_refusal columns (limit ∷ limits) = or_else (limit_refusal columns limit) (limits_refusal columns limits)
 
 -- the columns are of the number and kinds of the key of the table
-abbrev pub has_shape : List ColumnDef → List (List ℕ) → Table → Bool
-has_shape columns names table = same_kinds (types_at (map column_of columns) (places_of columns names))
-    (types_at table.columns table.key)
+abbrev pub has_shape : List Column → List (List ℕ) → Table → Bool
+has_shape columns names table =
+    same_kinds (types_at columns (places_of columns names)) (types_at table.columns table.key)
 
 -- the table that a foreign key names is unknown, or its key is of another shape
-abbrev pub reference_refusal : Schema → List ColumnDef → ℕ → ForeignDef → Option ℕ → Option Refusal
+abbrev pub reference_refusal : Schema → List Column → ℕ → ForeignDef → Option ℕ → Option Refusal
 reference_refusal schema columns number foreign None = Some (refusal.NoTable foreign.table)
 reference_refusal schema columns number foreign (Some table) =
     refused_if (not (has_shape columns foreign.cols (table_at schema.tables table))) (refusal.ForeignShape number)
 
 -- the names of a foreign key, its table, and its shape
-abbrev pub foreign_refusal : Schema → List ColumnDef → ℕ → ForeignDef → Option Refusal
+abbrev pub foreign_refusal : Schema → List Column → ℕ → ForeignDef → Option Refusal
 foreign_refusal schema columns number foreign =
     or_else (names_refusal columns foreign.cols)
     (reference_refusal schema columns number foreign (find_table schema foreign.table))
 
 -- the foreign keys from this number on
-abbrev pub foreigns_refusal : Schema → List ColumnDef → ℕ → List ForeignDef → Option Refusal
+abbrev pub foreigns_refusal : Schema → List Column → ℕ → List ForeignDef → Option Refusal
 foreigns_refusal schema columns number [] = None
 foreigns_refusal schema columns number (foreign ∷ rest) =
     or_else (foreign_refusal schema columns number foreign) (foreigns_refusal schema columns (number + 1) rest)
 
 -- the key, then the limits, then the foreign keys
-abbrev pub groups_refusal : Schema → TableDef → Option Refusal
-groups_refusal schema def =
-    or_else (key_refusal def.columns def.key)
-    (or_else (limits_refusal def.columns def.limits)
-    (foreigns_refusal schema def.columns 1 def.foreign))
+abbrev pub groups_refusal : Schema → List Column → TableDef → Option Refusal
+groups_refusal schema columns def =
+    or_else (key_refusal columns def.key)
+    (or_else (limits_refusal columns def.limits)
+    (foreigns_refusal schema columns 1 def.foreign))
 
 abbrev pub table_refusal : Schema → TableDef → Option Refusal
 table_refusal schema def =
     or_else (name_refusal schema def.name)
     (or_else (counts_refusal def)
     (or_else (columns_refusal def.columns)
-    (groups_refusal schema def)))
+    (groups_refusal schema (map column_of def.columns) def)))
 
-abbrev pub limit_of_def : List ColumnDef → LimitDef → Limit
+abbrev pub limit_of_def : List Column → LimitDef → Limit
 limit_of_def columns limit = record { n = unwrap_or (cardinality limit.n) 0; cols = places_of columns limit.cols }
 
-abbrev pub foreign_of_def : Schema → List ColumnDef → ForeignDef → Foreign
+abbrev pub foreign_of_def : Schema → List Column → ForeignDef → Foreign
 foreign_of_def schema columns foreign =
     record { cols = places_of columns foreign.cols; table = unwrap_or (find_table schema foreign.table) 0 }
 
--- the table without its indexes
-abbrev pub bare_table : Schema → TableDef → Table
-bare_table schema def = record {
+-- the table of these columns without its indexes
+abbrev pub table_with : Schema → List Column → TableDef → Table
+table_with schema columns def = record {
   name = def.name;
-  columns = map column_of def.columns;
-  key = places_of def.columns def.key;
-  limits = map (limit_of_def def.columns) def.limits;
-  foreign = map (foreign_of_def schema def.columns) def.foreign;
+  columns = columns;
+  key = places_of columns def.key;
+  limits = map (limit_of_def columns) def.limits;
+  foreign = map (foreign_of_def schema columns) def.foreign;
   indexes = [];
 }
+
+-- the table without its indexes
+abbrev pub bare_table : Schema → TableDef → Table
+bare_table schema def = table_with schema (map column_of def.columns) def
 
 -- the table that is defined where nothing refuses it
 abbrev pub table_of_def : Schema → TableDef → Table

@@ -1,4 +1,5 @@
 pub mod Candidates
+pub mod ColumnNames
 pub mod Costs
 pub mod Definitions
 pub mod Keys

@@ -2,6 +2,7 @@
 #![tactic(auto)]
 
 mod catalog;
+mod column_names;
 mod definition;
 pub mod laws;
 mod made;
@@ -10,12 +11,13 @@ mod new_table;
 mod query;
 mod sequences;
 mod table;
+mod table_checks;
 
 pub use catalog::Catalog;
+pub use column_names::{check_known, check_names, check_repeated, names_of, place_of, places_of};
 pub use definition::{ColumnDef, ForeignDef, LimitDef, TableDef};
 pub use made::{Def, Definition, Made};
 pub use names::{NAME_BYTES, is_name};
-pub use new_table::{DEFINITIONS, TABLES};
 pub use query::{ColRef, Op, Operand, OrderItem, Pred, Query, Relation, Stop};
 pub use sequences::{
     begins, columns_in, group_access, index_begins, part_at, primary_begins, sequence,
@@ -24,3 +26,4 @@ pub use table::{
     Access, Column, Foreign, Index, KeyPart, KeyParts, Limit, NewIndex, Referring, Table,
     find_column, same_kind, type_at,
 };
+pub use table_checks::{DEFINITIONS, TABLES};

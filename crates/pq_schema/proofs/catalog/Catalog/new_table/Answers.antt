@@ -1,7 +1,13 @@
-use Rattle.std.proofs.Common.{sym, subst}
+use Rattle.std.proofs.Common.{◌≡◌, List, ap, ◌∙◌, sym, subst}
+use Rattle.pq_schema.specs.declared.table.Column.{Column}
+use Rattle.pq_schema.specs.Definitions.{table_with, bare_table}
 use Rattle.pq_schema.specs.Sound.{IsBare}
 use Rattle.pq_schema.proofs.Accepted.{is_bare}
 use Rattle.pq_schema.proofs.catalog.Catalog.new_table.Goals as goal
 
 pub with_groups-requires : goal.with_groups-requires
-with_groups-requires c = subst IsBare (sym c.in_ok-table.ensures) (is_bare c.args.self.now c.args.def.now c.in_ok-check_table.ensures)
+with_groups-requires c =
+    let schema = c.args.self.now in
+    let def = c.args.def.now in
+    let made : c.in_ok-table.table ≡ bare_table schema def = c.in_ok-table.ensures ∙ ap (λ (columns : List Column). table_with schema columns def) c.in_ok-columns.ensures.columns in
+    subst IsBare (sym made) (is_bare schema def c.in_ok-columns.ensures.passes)

@@ -1,6 +1,0 @@
-use Rattle.std.proofs.Common.{◌≡◌, take}
-use Rattle.pq_index_keep.specs.Checking.{values_in}
-use Rattle.pq_index_keep.proofs.check.values_in.Given as goal
-
-abbrev pub invariant-loop-assign : goal.invariant-loop-assign
-invariant-loop-assign l = l.values ≡ values_in (take l.assign-index l.assigns)

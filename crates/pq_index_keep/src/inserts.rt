@@ -1,0 +1,161 @@
+//! The write of an INSERT, or the first refusal that is found by reading.
+ghost use Rattle.std.specs.Prelude.{◌≡◌, ◌≤◌, All, length, IfOk};
+ghost use Rattle.pq_base.specs.Answers.{Answers, Passes};
+ghost use Rattle.pq_base.specs.Values.{AllFit};
+ghost use Rattle.pq_schema.specs.Definitions.{or_ok};
+ghost use Rattle.pq_schema.specs.Tables.{table_at};
+ghost use Rattle.pq_content.specs.Tables.{IsTableNumber, types_of, stored_code};
+ghost use Rattle.pq_row_code.specs.RowCode.{IsShort};
+ghost use Rattle.pq_index_keep.specs.Checking.{all_columns, insert_names, insert_places, insert_names_refusal, is_insert_wrong, insert_row, long_refusal, insert_values_refusal, insert_checked};
+ghost use Rattle.pq_index_keep.specs.Sound.{IsShortType, AreWritable, IsWrite};
+
+use crate::column_values::{are_among, check_fit, refuse_columns};
+use crate::rows::all_given;
+use crate::write::Write;
+use pq_base::{List, NoMem, PText, Refusal, Row, Stopped, Value, known_values};
+use pq_row_code::row_code_len;
+use pq_schema::{Catalog, Table, check_names, names_of, places_of};
+use std::alloc::Global;
+
+fn all_columns(alloc: Global, table: &Table) -> Result<List<u8>, NoMem>
+    requires { length table.now.columns ≤ 32 }
+    ensures { IfOk result (λ cols. cols ≡ all_columns table.now) }
+{
+    let mut cols = List::new(alloc);
+    for col in 0..table.columns.items().len() {
+        cols.push(alloc, col as u8)?;
+    }
+    Ok(cols)
+}
+
+fn copy_names(alloc: Global, names: &[PText]) -> Result<List<PText>, NoMem>
+    ensures { IfOk result (λ copy. copy ≡ names.now) }
+{
+    let mut copy = List::new(alloc);
+    for name in names {
+        copy.push(alloc, name.copy(alloc)?)?;
+    }
+    Ok(copy)
+}
+
+fn check_insert_names(
+    alloc: Global,
+    table: &Table,
+    cols: &Option<List<PText>>,
+) -> Result<(), Stopped>
+    ensures { Passes result (insert_names_refusal table.now cols.now) }
+{
+    match cols {
+        None => Ok(()),
+        Some(names) => check_names(alloc, table.columns.items(), names.items()),
+    }
+}
+
+fn insert_names(
+    alloc: Global,
+    table: &Table,
+    cols: &Option<List<PText>>,
+) -> Result<List<PText>, NoMem>
+    ensures { IfOk result (λ names. names ≡ insert_names table.now cols.now) }
+{
+    match cols {
+        None => names_of(alloc, table.columns.items()),
+        Some(names) => copy_names(alloc, names.items()),
+    }
+}
+
+fn insert_places(
+    alloc: Global,
+    table: &Table,
+    cols: &Option<List<PText>>,
+) -> Result<List<u8>, NoMem>
+    requires { length table.now.columns ≤ 32 }
+    ensures { IfOk result (λ places. places ≡ insert_places table.now cols.now) }
+{
+    match cols {
+        None => all_columns(alloc, table),
+        Some(names) => places_of(alloc, table.columns.items(), names.items()),
+    }
+}
+
+fn is_insert_wrong(
+    alloc: Global,
+    table: &Table,
+    places: &[u8],
+    values: &[Value],
+) -> Result<bool, NoMem>
+    requires { length table.now.columns ≤ 32 }
+    ensures { IfOk result (λ wrong. wrong ≡ is_insert_wrong table.now places.now values.now) }
+{
+    let all = all_columns(alloc, table)?;
+    Ok(!are_among(all.items(), places) || values.len() != places.len())
+}
+
+fn insert_row(alloc: Global, table: &Table, places: &[u8], values: &[Value]) -> Result<Row, NoMem>
+    requires { length table.now.columns ≤ 32 }
+    ensures { IfOk result (λ row. row ≡ insert_row table.now places.now values.now) }
+{
+    let all = all_columns(alloc, table)?;
+    all_given(alloc, places, values, all.items())
+}
+
+/// Refuses a row whose code is too long.
+fn check_length(alloc: Global, table: &Table, row: &Row) -> Result<(), Stopped>
+    requires columns { length row.now ≤ 32 }
+    requires texts { All IsShort row.now }
+    ensures { Passes result (long_refusal table.now row.now) }
+{
+    let length = row_code_len(row);
+    if 4096 < length {
+        let table = table.name.copy(alloc)?;
+        return Err(Stopped::Refused(Refusal::RowLong { table, length }));
+    }
+    Ok(())
+}
+
+/// The row that an INSERT of these values into these columns gives.
+fn check_insert_values(
+    alloc: Global,
+    table: &Table,
+    names: &[PText],
+    places: &[u8],
+    values: &[Value],
+) -> Result<Row, Stopped>
+    requires few { length table.now.columns ≤ 32 }
+    requires sized { All (λ column. IsShortType column.ty) table.now.columns }
+    requires named { length names.now ≡ length places.now }
+    ensures answer { Answers result (or_ok (insert_values_refusal table.now names.now places.now values.now)
+        (insert_row table.now places.now values.now)) }
+    ensures fits { IfOk result (AllFit (types_of table.now)) }
+    ensures short { IfOk result (λ row. length (stored_code table.now row) ≤ 4096) }
+{
+    known_values(values);
+    let wrong = is_insert_wrong(alloc, table, places, values)?;
+    refuse_columns(alloc, table, wrong)?;
+    check_fit(alloc, table, names, places, values)?;
+    let row = insert_row(alloc, table, places, values)?;
+    check_length(alloc, table, &row)?;
+    Ok(row)
+}
+
+pub(crate) fn check_insert(
+    alloc: Global,
+    catalog: &Catalog,
+    number: u8,
+    cols: &Option<List<PText>>,
+    values: &[Value],
+) -> Result<Write, Stopped>
+    requires sound { AreWritable catalog.now.tables }
+    requires number { IsTableNumber catalog.now.tables number }
+    ensures answer { Answers result (insert_checked (table_at catalog.now.tables number) number cols.now values.now) }
+    ensures write { IfOk result (IsWrite catalog.now.tables) }
+{
+    let table = catalog.table(number);
+    check_insert_names(alloc, table, cols)?;
+    let names = insert_names(alloc, table, cols)?;
+    let places = insert_places(alloc, table, cols)?;
+    match check_insert_values(alloc, table, names.items(), places.items(), values) {
+        Err(stopped) => Err(stopped),
+        Ok(row) => Ok(Write::Insert { table: number, row }),
+    }
+}

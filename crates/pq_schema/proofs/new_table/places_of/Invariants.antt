@@ -1,6 +1,0 @@
-use Rattle.std.proofs.Common.{◌≡◌, take, map}
-use Rattle.pq_schema.specs.Definitions.{place_of}
-use Rattle.pq_schema.proofs.new_table.places_of.Given as goal
-
-abbrev pub invariant-loop-name : goal.invariant-loop-name
-invariant-loop-name l = l.places ≡ map (place_of l.columns) (take l.name-index l.names)

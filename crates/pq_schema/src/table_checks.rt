@@ -1,0 +1,282 @@
+//! What refuses a CREATE TABLE, in the written order.
+ghost use Rattle.std.specs.Prelude.{◌≡◌, ◌≤◌, ◌||◌, length, map, IfOk};
+ghost use Rattle.std.specs.List.{list_all};
+ghost use Rattle.pq_base.specs.Answers.{Passes};
+ghost use Rattle.pq_schema.specs.ColumnNames.{place_of, places_of};
+ghost use Rattle.pq_schema.specs.Definitions.{text_size, cardinality, type_of, has_type, column_of, is_outside, definition_refusal, name_refusal, counts_refusal, columns_refusal, key_refusal, limit_refusal, limits_refusal, reference_refusal, foreign_refusal, foreigns_refusal, groups_refusal, table_refusal};
+ghost use Rattle.pq_schema.specs.Schema.{find_table};
+ghost use Rattle.pq_schema.specs.Tables.{type_at, types_at, same_kinds};
+
+use crate::catalog::Catalog;
+use crate::column_names::{check_names, check_repeated, names_of, place_of};
+use crate::definition::{ColumnDef, ForeignDef, LimitDef, TableDef};
+use crate::table::{Column, same_kind, type_at};
+use pq_base::{ColType, List, NoMem, PText, Refusal, Stopped, count_word};
+use std::alloc::Global;
+
+/// The greatest number of tables.
+pub const TABLES: usize = 64;
+
+/// The greatest number of definitions, tables and queries together.
+pub const DEFINITIONS: usize = 256;
+
+fn counted(word: u8) -> Stopped
+    ensures { result ≡ Stopped.Refused (Refusal.Count word) }
+{
+    Stopped::Refused(Refusal::Count { word })
+}
+
+/// n of TEXT(n), where it is from 1 to 1,000.
+fn text_size(size: i64) -> Option<u16>
+    ensures { result ≡ text_size size }
+{
+    if 1 <= size && size <= 1000 {
+        Some(size as u16)
+    } else {
+        None
+    }
+}
+
+/// n of a limit, where it is from 1 to 10,000.
+pub(crate) fn cardinality(n: i64) -> Option<u32>
+    ensures { result ≡ cardinality n }
+{
+    if 1 <= n && n <= 10000 {
+        Some(n as u32)
+    } else {
+        None
+    }
+}
+
+impl ColumnDef {
+    /// The type, None where a text's length is outside its limit.
+    fn ty(&self) -> Option<ColType>
+        ensures { result ≡ type_of self.now }
+    {
+        if self.kind.bytes() == b"INT".as_slice() {
+            Some(ColType::Int)
+        } else if self.kind.bytes() == b"BOOL".as_slice() {
+            Some(ColType::Bool)
+        } else {
+            match text_size(self.size) {
+                Some(size) => Some(ColType::Text(size)),
+                None => None,
+            }
+        }
+    }
+}
+
+fn have_types(columns: &[ColumnDef]) -> bool
+    ensures { result ≡ list_all has_type columns.now }
+{
+    columns.iter().all(|column| column.ty().is_some())
+}
+
+/// The columns, with their types.
+fn columns_of(alloc: Global, defs: &[ColumnDef]) -> Result<List<Column>, NoMem>
+    ensures { IfOk result (λ columns. columns ≡ map column_of defs.now) }
+{
+    let mut columns = List::new(alloc);
+    for def in defs {
+        let name = def.name.copy(alloc)?;
+        let ty = def.ty().unwrap_or(ColType::Int);
+        columns.push(alloc, Column { name, ty })?;
+    }
+    Ok(columns)
+}
+
+fn is_outside(count: usize, most: usize) -> bool
+    ensures { result ≡ is_outside count most }
+{
+    count < 1 || most < count
+}
+
+/// The type of the column of this name.
+fn named_type(columns: &[Column], name: &PText) -> ColType
+    ensures { result ≡ type_at columns.now (place_of columns.now name.now) }
+{
+    match columns.get(place_of(columns, name)) {
+        None => ColType::Bool,
+        Some(column) => column.ty,
+    }
+}
+
+/// Whether the columns are of the number and kinds of the key.
+fn has_shape(columns: &[Column], names: &[PText], parent: &[Column], key: &[u8]) -> bool
+    ensures { result ≡ same_kinds (types_at columns.now (places_of columns.now names.now))
+        (types_at parent.now key.now) }
+{
+    match (names.split_first(), key.split_first()) {
+        (None, None) => true,
+        (Some((name, names)), Some((col, key))) => {
+            same_kind(named_type(columns, name), type_at(parent, *col))
+                && has_shape(columns, names, parent, key)
+        }
+        _ => false,
+    }
+}
+
+impl Catalog {
+    /// Refuses a definition too many, and a name that is taken.
+    pub(crate) fn check_definition(&self, alloc: Global, name: &PText) -> Result<(), Stopped>
+        ensures { Passes result (definition_refusal self.now name.now) }
+    {
+        if usize::from(self.defs()) >= DEFINITIONS {
+            return Err(counted(count_word::DEFINITIONS));
+        }
+        if self.is_taken(name) {
+            let name = name.copy(alloc)?;
+            return Err(Stopped::Refused(Refusal::NameTaken { name }));
+        }
+        Ok(())
+    }
+
+    /// Refuses a definition or a table too many, and a name that is taken.
+    fn check_name(&self, alloc: Global, name: &PText) -> Result<(), Stopped>
+        ensures { Passes result (name_refusal self.now name.now) }
+    {
+        self.check_definition(alloc, name)?;
+        if self.tables().len() >= TABLES {
+            return Err(counted(count_word::TABLES));
+        }
+        Ok(())
+    }
+}
+
+/// Refuses no column, and a column, a limit or a foreign key too many.
+fn check_counts(def: &TableDef) -> Result<(), Stopped>
+    ensures { Passes result (counts_refusal def.now) }
+{
+    if is_outside(def.columns.items().len(), 32) {
+        return Err(counted(count_word::COLUMNS));
+    }
+    if 4 < def.limits.items().len() {
+        return Err(counted(count_word::LIMITS));
+    }
+    if 4 < def.foreign.items().len() {
+        return Err(counted(count_word::FOREIGN));
+    }
+    Ok(())
+}
+
+/// The columns, unless a text's length is outside its limit or a name is repeated.
+fn checked_columns(alloc: Global, defs: &[ColumnDef]) -> Result<List<Column>, Stopped>
+    ensures passes { Passes result (columns_refusal defs.now) }
+    ensures columns { IfOk result (λ columns. columns ≡ map column_of defs.now) }
+{
+    if !have_types(defs) {
+        return Err(counted(count_word::TEXT));
+    }
+    let columns = columns_of(alloc, defs)?;
+    let names = names_of(alloc, columns.items())?;
+    check_repeated(alloc, names.items())?;
+    Ok(columns)
+}
+
+fn check_key(alloc: Global, columns: &[Column], key: &[PText]) -> Result<(), Stopped>
+    ensures { Passes result (key_refusal columns.now key.now) }
+{
+    check_names(alloc, columns, key)?;
+    if is_outside(key.len(), 4) {
+        return Err(counted(count_word::KEY));
+    }
+    Ok(())
+}
+
+fn check_limit(alloc: Global, columns: &[Column], limit: &LimitDef) -> Result<(), Stopped>
+    ensures { Passes result (limit_refusal columns.now limit.now) }
+{
+    check_names(alloc, columns, limit.cols.items())?;
+    if is_outside(limit.cols.items().len(), 4) {
+        return Err(counted(count_word::LIMIT_COLUMNS));
+    }
+    if cardinality(limit.n).is_none() {
+        return Err(counted(count_word::CARDINALITY));
+    }
+    Ok(())
+}
+
+fn check_limits(alloc: Global, columns: &[Column], limits: &[LimitDef]) -> Result<(), Stopped>
+    ensures { Passes result (limits_refusal columns.now limits.now) }
+{
+    for limit in limits {
+        check_limit(alloc, columns, limit)?;
+    }
+    Ok(())
+}
+
+impl Catalog {
+    /// Refuses a table that is not there, and a key of another number or other kinds of columns.
+    fn check_reference(
+        &self,
+        alloc: Global,
+        columns: &[Column],
+        number: u8,
+        foreign: &ForeignDef,
+    ) -> Result<(), Stopped>
+        ensures { Passes result (reference_refusal self.now columns.now number foreign.now
+            (find_table self.now foreign.now.table)) }
+    {
+        let Some(found) = self.find_table(&foreign.table) else {
+            let name = foreign.table.copy(alloc)?;
+            return Err(Stopped::Refused(Refusal::NoTable { name }));
+        };
+        let parent = self.table(found);
+        let cols = foreign.cols.items();
+        if has_shape(columns, cols, parent.columns.items(), parent.key.items()) {
+            Ok(())
+        } else {
+            Err(Stopped::Refused(Refusal::ForeignShape { number }))
+        }
+    }
+
+    fn check_foreign(
+        &self,
+        alloc: Global,
+        columns: &[Column],
+        number: u8,
+        foreign: &ForeignDef,
+    ) -> Result<(), Stopped>
+        ensures { Passes result (foreign_refusal self.now columns.now number foreign.now) }
+    {
+        check_names(alloc, columns, foreign.cols.items())?;
+        self.check_reference(alloc, columns, number, foreign)
+    }
+
+    fn check_foreigns(
+        &self,
+        alloc: Global,
+        columns: &[Column],
+        foreign: &[ForeignDef],
+    ) -> Result<(), Stopped>
+        requires { length foreign.now ≤ 4 }
+        ensures { Passes result (foreigns_refusal self.now columns.now 1 foreign.now) }
+    {
+        for (place, item) in foreign.iter().enumerate() {
+            self.check_foreign(alloc, columns, place as u8 + 1, item)?;
+        }
+        Ok(())
+    }
+
+    /// Refuses the key, then the limits, then the foreign keys.
+    fn check_groups(&self, alloc: Global, columns: &[Column], def: &TableDef) -> Result<(), Stopped>
+        requires { length def.now.foreign ≤ 4 }
+        ensures { Passes result (groups_refusal self.now columns.now def.now) }
+    {
+        check_key(alloc, columns, def.key.items())?;
+        check_limits(alloc, columns, def.limits.items())?;
+        self.check_foreigns(alloc, columns, def.foreign.items())
+    }
+
+    /// The columns of a definition that nothing refuses.
+    pub(crate) fn check_table(&self, alloc: Global, def: &TableDef) -> Result<List<Column>, Stopped>
+        ensures passes { Passes result (table_refusal self.now def.now) }
+        ensures columns { IfOk result (λ columns. columns ≡ map column_of def.now.columns) }
+    {
+        self.check_name(alloc, &def.name)?;
+        check_counts(def)?;
+        let columns = checked_columns(alloc, def.columns.items())?;
+        self.check_groups(alloc, columns.items(), def)?;
+        Ok(columns)
+    }
+}
