@@ -28,10 +28,6 @@ bit_apart true true h = absurd (false≢true (sym h))
 bit_apart true false h = omega arith
 bit_apart false b h = elim b as (λ b. 0 + cond b 1 0 ≤ cond b 1 0) [ true ↦ omega arith | false ↦ omega arith ]
 
-pub bit_one : (a : Bool) → cond a 1 0 ≤ 1
-bit_one true = omega arith
-bit_one false = omega arith
-
 module _ {X : Type 0} where
   abbrev pub total : (X → ℕ) → List X → ℕ
   total f [] = 0

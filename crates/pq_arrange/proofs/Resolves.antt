@@ -1,12 +1,12 @@
 -- A resolved query is resolved in any order of its relations.
-use Rattle.std.proofs.Common.{◌≡◌, ℕ, zero, suc, ◌+◌, ◌-◌, ◌<◌, ◌≤◌, Bool, true, false, cond, ◌&&◌, ◌==◌, nat_lt, inl, inr, List, [], ◌∷◌, length, get_or, map, All, IsPermutation, refl, sym, ap, ◌∙◌, subst, arith}
+use Rattle.std.proofs.Common.{◌≡◌, ℕ, zero, suc, ◌+◌, ◌-◌, ◌<◌, ◌≤◌, Bool, true, false, cond, ◌&&◌, ◌==◌, nat_lt, inl, inr, List, [], ◌∷◌, length, get_or, map, IsPermutation, refl, sym, ap, ◌∙◌, subst, arith}
 use Rattle.std.specs.List.{range_with_len, IsDistinct, AllByRecursion}
 use Rattle.std.specs.Str.{bytes_eq}
 use Rattle.std.specs.Cmp.{eq_by_cmp_equiv}
 use Rattle.std.specs.Cmp.Lexicographic.{nat_list_cmp_total}
 use Rattle.std.proofs.lemmas.Bool.{cases_eq, cases_order, false≢true, ne_eqb, eq-eqb, lt-ltb, le-ltb}
 use Rattle.std.proofs.lemmas.List.{length-map, get_or-map}
-use Rattle.std.proofs.lemmas.List.Elements.{All-from_recursion, All-map, All-weaker}
+use Rattle.std.proofs.lemmas.List.Elements.{All-map, All-weaker}
 use Rattle.std.proofs.lemmas.List.FromFn.{length-range_with_len}
 use Rattle.std.proofs.lemmas.List.Sorted.{length_permutation, IsPermutation-map, All-permutation}
 use Rattle.std.proofs.lemmas.Map.Keys.{IsDistinct-IsPermutation}
@@ -27,7 +27,7 @@ use Rattle.pq_base.specs.Values.{same_kind}
 use Rattle.pq_schema.specs.Tables.{table_at, type_at}
 use Rattle.pq_schema.specs.Relations.{relation_at, no_relation, table_of, is_equality}
 use Rattle.pq_schema.specs.Resolved.{IsResolved, IsRelation, IsPredicate, IsOperand, IsColumnOf, IsParam, ref_type, param_type, same_ref, is_param}
-use Rattle.pq_base.proofs.Members.{each_by_in, range_in, all_member, any_at, any_from, map_in, in_map}
+use Rattle.pq_base.proofs.Members.{range_in, all_member, any_at, any_from, map_in, in_map}
 use Rattle.pq_arrange.specs.Moves.{place_of, move, move_operand, move_item, swap_sides, later_left_with, move_pred, reordered_query}
 use Rattle.pq_arrange.specs.Laws.{ResolvedInAnyOrder}
 use Rattle.pq_arrange.proofs.Moved.{place_is}
@@ -60,9 +60,6 @@ distinct_map e e' f (x ∷ xs) h d = (one xs d.0 (λ y there. h x y (inl refl) (
     one : (ys : List _) → AllByRecursion (λ y. e x y ≡ false) ys → ((y : _) → In y ys → e x y ≡ false → e' (f x) (f y) ≡ false) → AllByRecursion (λ y. e' (f x) y ≡ false) (map f ys)
     one [] a h = tt
     one (y ∷ ys) a h = (h y (inl refl) a.0, one ys a.1 (λ z i. h z (inr i)))
-
-all_in : {X : Type 0} (P : X → Type 0) (xs : List X) → ((x : X) → In x xs → P x) → All P xs
-all_in P xs h = All-from_recursion P xs (each_by_in P xs h)
 
 kind_flip : (a b : ColType) → same_kind a b ≡ same_kind b a
 kind_flip type.Int type.Int = refl

@@ -50,10 +50,6 @@ enters_then target ps qs old mid now a b =
     some_same : (x y : Content) → Some x ≡ Some y → x ≡ y
     some_same x y e = cc
 
--- what is told at the end of a first part
-pub told_mid : (target : Target) (ps : List Pair) (old : Content) (mid : Option Content) → Enters target ps old mid → (c : Content) × (mid ≡ Some c)
-told_mid target ps old mid a = (entered_rows target a.rows old, a.is)
-
 -- ---- on contents that may not be told
 
 pub enters_more : (target : Target) (ps qs : List Pair) (old mid now : Option Content) → IfSome old (λ c. Enters target ps c mid) → IfSome mid (λ c. Enters target qs c now) → IfSome old (λ c. Enters target (ps ++ qs) c now)

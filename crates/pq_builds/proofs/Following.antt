@@ -1,10 +1,9 @@
 -- One range of rows after the other.
-use Rattle.std.proofs.Common.{◌≡◌, ◌≢◌, ℕ, zero, suc, ◌+◌, ◌-◌, ◌*◌, ◌/◌, ◌%◌, ◌≤◌, ◌<◌, true, min, List, [], ◌∷◌, ◌++◌, length, map, take, drop, get_or, Contains, Option, Some, None, refl, sym, ap, ◌∙◌, subst, arith, ◌⊎◌, inl, inr}
+use Rattle.std.proofs.Common.{◌≡◌, ℕ, zero, suc, ◌+◌, ◌-◌, ◌*◌, ◌/◌, ◌%◌, ◌≤◌, ◌<◌, true, min, List, [], ◌∷◌, ◌++◌, length, map, take, drop, get_or, Contains, Option, Some, None, refl, sym, ap, ◌∙◌, subst, arith, ◌⊎◌, inl, inr}
 use Rattle.std.specs.Prelude.{IfSome, All}
 use Rattle.std.proofs.lemmas.List.{length-take, length-drop, length-append, take_min, take_all, take-take, take-append-drop, drop-drop, drop-take, get_or-drop, length-map, take_more, get_or-map}
 use Rattle.pq_store.specs.declared.damage.Broke.{Broke}
 use Rattle.pq_store.specs.declared.damage.Broke.TheVariants.{Failed, NoMem, Damaged}
-use Rattle.pq_store.specs.declared.damage.Damage.{Damage}
 use Rattle.pq_store.specs.Breaks.{IfDamaged}
 use Rattle.pq_store.specs.declared.store.Pair.{Pair as Stored}
 use Rattle.pq_store.specs.Content.{entry, Content, is_within, pairs_within}
@@ -13,7 +12,7 @@ use Rattle.pq_content.specs.Pairs.{Pair, is_in_space}
 use Rattle.pq_builds.specs.declared.target.Target.{Target}
 use Rattle.pq_builds.specs.Filling.{entered_rows, first_key, past_key, row_pairs_in, Enters, EntersSome, IsPast, Follows, IsNoRowAmong, IsMiscounted, ShowsRange}
 use Rattle.pq_builds.proofs.Ranges.{after_some, range_space}
-use Rattle.pq_builds.proofs.Entering.{enters_none, enters_more, enters_then, some_front, some_back, some_more, range_entered}
+use Rattle.pq_builds.proofs.Entering.{enters_more, enters_then, some_front, some_back, some_more, range_entered}
 
 -- ---- the first pairs of a list
 
@@ -118,18 +117,7 @@ no_row_from types number t low (Some c) found NoMem answer shows = tt
 no_row_from types number t low (Some c) found (Damaged damage) answer shows =
     inr (record { pair = shows.pair; there = contains_front 256 (pairs_within c low (past_key t)) shows.pair (subst (λ (l : List Pair). Contains l shows.pair) answer shows.there); no_row = shows.no_row })
 
-pub miscounted_from : (types : List ColType) (number t : ℕ) (low : List ℕ) (old : Option Content) (found : List Pair) (damage : Damage)
-    → IfSome old (λ c. found ≡ take 256 (pairs_within c low (past_key t))) → length found ≢ number → damage.value ≡ None
-    → IfSome old (λ c. ShowsRange types number (pairs_within c low (past_key t)) (Damaged damage))
-miscounted_from types number t low None found damage answer other none = tt
-miscounted_from types number t low (Some c) found damage answer other none =
-    inl (record { has = none; other = λ same. other (ap (λ (l : List Pair). length l) answer ∙ same) })
-
 -- ---- one range after others
-
-pub follows_none : (target : Target) (old : Option Content) → IfSome old (λ c. Follows target (first_key target.table) 0 c old (first_key target.table))
-follows_none target None = tt
-follows_none target (Some c) = record { many = omega arith; enters = enters_none target c; rest = refl }
 
 pub follows_more : (target : Target) (low : List ℕ) (m n : ℕ) (old mid now : Option Content) (next last : List ℕ) → is_in_space 2 next ≡ true → is_in_space 2 last ≡ true
     → IfSome old (λ c. Follows target low m c mid next) → IfSome mid (λ c. Follows target next n c now last) → IfSome old (λ c. Follows target low (m + n) c now last)

@@ -1,12 +1,12 @@
 -- A build's calls, one after the other, over contents that may not be told.
-use Rattle.std.proofs.Common.{◌≡◌, ℕ, ◌≤◌, ◌<◌, Bool, true, false, cond, List, length, take, Option, Some, None, refl, sym, ap, ◌∙◌, subst, arith, lit≤, min, ◌⊎◌, inl, inr}
+use Rattle.std.proofs.Common.{◌≡◌, ℕ, ◌≤◌, ◌<◌, Bool, false, List, length, take, Option, Some, None, refl, sym, ap, ◌∙◌, subst, arith, lit≤, min, ◌⊎◌, inl, inr}
 use Rattle.std.specs.Prelude.{IfSome, is_none}
 use Rattle.std.specs.Option.{option_map}
 use Rattle.std.specs.FinMap.{get, insert}
 use Rattle.std.proofs.lemmas.Bool.{false≢true}
 use Rattle.std.proofs.lemmas.Option.{none-some}
 use Rattle.std.proofs.lemmas.List.{take_all}
-use Rattle.pq_store.specs.Content.{admits, after_write, Content, written_content, pairs_within}
+use Rattle.pq_store.specs.Content.{admits, Content, written_content, pairs_within}
 use Rattle.pq_store.specs.declared.store.Guard.TheVariants.{Absent}
 use Rattle.pq_store.specs.declared.damage.Broke.{Broke}
 use Rattle.pq_store.specs.declared.damage.Broke.TheVariants.{Failed, NoMem, Damaged}
@@ -17,7 +17,7 @@ use Rattle.pq_intent.specs.Changing.{MayChange}
 use Rattle.pq_builds.specs.declared.target.NewQuery.{NewQuery}
 use Rattle.pq_builds.specs.declared.target.Target.{Target}
 use Rattle.pq_builds.specs.Filling.{first_key, past_key, row_pairs_in, Enters, EntersSome, IsNoRowAmong}
-use Rattle.pq_builds.specs.Stages.{ready_value, building_value, marked_content, IsReady, StopsFilling, IsMarked, IsBuilt, StopsBuilding, ShowsBuild, IsCounted, Takes, IsWithin, build_ops, left_ops}
+use Rattle.pq_builds.specs.Stages.{ready_value, building_value, marked_content, IsReady, StopsFilling, IsMarked, IsBuilt, StopsBuilding, ShowsBuild, IsCounted, Takes, IsWithin, left_ops}
 use Rattle.pq_builds.proofs.Entering.{some_none}
 use Rattle.pq_builds.proofs.Ranges.{range_insert, no_row_key}
 
@@ -25,31 +25,7 @@ use Rattle.pq_builds.proofs.Ranges.{range_insert, no_row_key}
 pub rows_marked : (t : ℕ) (query : NewQuery) (c : Content) → is_of_rows query.key ≡ false → row_pairs_in t (marked_content query c) ≡ row_pairs_in t c
 rows_marked t query c key = range_insert 2 c (first_key t) (past_key t) query.key (building_value query) refl refl (no_row_key query.key key)
 
-none_is : (o : Option (List ℕ)) → is_none o ≡ true → o ≡ None
-none_is None h = refl
-none_is (Some v) h = cc
-
 -- ---- the mark
-
-pub marks : (query : NewQuery) (key value : List ℕ) (old now : Option Content) → key ≡ query.key → value ≡ building_value query → IfSome old (λ c. true ≡ admits Absent (get c key)) → now ≡ option_map (after_write Absent key (Some value)) old
-    → IfSome old (λ c. IsMarked query c now)
-marks query key value None now key_is value_is answer made = tt
-marks query key value (Some c) now key_is value_is answer made =
-    let none : get c key ≡ None = none_is (get c key) (sym answer) in
-    record {
-      absent = ap (get c) (sym key_is) ∙ none;
-      is = made ∙ ap (λ b. Some (cond b (insert c key value) c)) (sym answer) ∙ (λ i. Some (insert c (key_is i) (value_is i)));
-    }
-
-pub may_mark : (query : NewQuery) (key value : List ℕ) (old now : Option Content) → key ≡ query.key → value ≡ building_value query → (now ≡ old) ⊎ (now ≡ option_map (after_write Absent key (Some value)) old)
-    → IfSome old (λ c. (now ≡ Some c) ⊎ IsMarked query c now)
-may_mark query key value None now key_is value_is made = tt
-may_mark query key value (Some c) now key_is value_is (inl same) = inl same
-may_mark query key value (Some c) now key_is value_is (inr made) =
-    elim (is_none (get c key)) as (λ b. is_none (get c key) ≡ b → (now ≡ Some c) ⊎ IsMarked query c now) [
-      | true ↦ λ is. inr (marks query key value (Some c) now key_is value_is (sym is) made)
-      | false ↦ λ is. inl (made ∙ ap (λ b. Some (cond b (insert c key value) c)) is)
-    ] refl
 
 pub taken : (query : NewQuery) (key at : List ℕ) (done : Bool) (old : Option Content) → key ≡ query.key → at ≡ key → done ≡ false → IfSome old (λ c. done ≡ admits Absent (get c at)) → IfSome old (λ c. IfDamaged (IsPresent query.key c) (Damaged (record { key = key; value = None })))
 taken query key at done None key_is at_is fails answer = tt
@@ -60,14 +36,6 @@ taken query key at done (Some c) key_is at_is fails answer =
     ] refl (sym fails ∙ answer)
 
 -- ---- from the mark on
-
-pub stops_same : (target : Target) (query : NewQuery) (n : ℕ) (old now : Option Content) → now ≡ old → IfSome old (λ c. length (row_pairs_in target.table c) ≡ n → StopsFilling target query c now)
-stops_same target query n None now same = tt
-stops_same target query n (Some c) now same = λ _. inl (some_none target (row_pairs_in target.table c) (Some c) now same)
-
-pub stops_some : (target : Target) (query : NewQuery) (n : ℕ) (old now : Option Content) → IfSome old (λ c. EntersSome target (row_pairs_in target.table c) c now) → IfSome old (λ c. length (row_pairs_in target.table c) ≡ n → StopsFilling target query c now)
-stops_some target query n None now some = tt
-stops_some target query n (Some c) now some = λ _. inl some
 
 all_some : (target : Target) (ps : List Pair) (c : Content) (now : Option Content) → Enters target ps c now → EntersSome target ps c now
 all_some target ps c now e =
@@ -144,13 +112,7 @@ counted_some t n low high (Some c) low_is high_is few answer =
     let same : length (pairs_within c low high) ≡ length (row_pairs_in t c) = (λ i. length (pairs_within c (low_is i) (high_is i))) in
     omega arith
 
--- the count alone is within a build, and within its completion
-pub within_build : (before after : Counts) → Takes 1 1000001 before after → IsWithin build_ops before after
-within_build before after t =
-    let ops = t.ops_are in
-    let entries = t.entries_are in
-    record { count = 1000000; few = lit≤ tt; ops = omega arith; entries = omega arith }
-
+-- the count alone is within a completion
 pub within_left : (before after : Counts) → Takes 1 1000001 before after → IsWithin left_ops before after
 within_left before after t =
     let ops = t.ops_are in

@@ -62,11 +62,6 @@ each_take P zero xs h = tt
 each_take P (suc n) [] h = tt
 each_take P (suc n) (x ∷ xs) h = (h.0, each_take P n xs h.1)
 
-in_take : {X : Type 0} (n : ℕ) (xs : List X) (x : X) → In x (take n xs) → In x xs
-in_take zero xs x h = absurd h
-in_take (suc n) [] x h = h
-in_take (suc n) (y ∷ xs) x h = elim h [ inl e ↦ inl e | inr r ↦ inr (in_take n xs x r) ]
-
 -- a row of a table is among all rows
 in_rows_of : (t : ℕ) (rows : Rows) (row : List Value) → In row (rows_of t rows) → In (t, row) rows
 in_rows_of t [] row h = h

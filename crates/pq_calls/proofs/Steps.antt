@@ -8,7 +8,7 @@ use Rattle.pq_store.specs.declared.damage.Broke.{Broke}
 use Rattle.pq_store.specs.declared.damage.Broke.TheVariants.{Failed, NoMem, Damaged}
 use Rattle.pq_store.specs.declared.damage.Damage.{Damage}
 use Rattle.pq_calls.specs.Calls.{Uses, seen_world}
-use Rattle.pq_calls.specs.World.{World, Affords, Reads, Explains, no_damage}
+use Rattle.pq_calls.specs.World.{World, Affords, Reads, Explains}
 use Rattle.pq_calls.specs.declared.calls.Calls.{Calls}
 
 pub reads_then : (a b c : World) (o e p q o' e' : ℕ) → Reads a b o e → Reads b c p q → o + p ≤ o' → e + q ≤ e' → Reads a c o' e'
@@ -42,12 +42,6 @@ pub rest_left : (a b : World) (o e p q o' e' : ℕ) → Reads a b o e → Afford
 rest_left a b o e p q o' e' r left ops entries = record { ops_left = omega arith; entries_left = omega arith }
 
 -- ---- why a call gives up
-
--- an error of a later call
-pub explained_later : (shows : Option Content → Damage → Type 0) (a b c : World) (o e : ℕ) (error : Broke) → Reads a b o e → Explains shows b c error → Explains shows a c error
-explained_later shows a b c o e Failed r h = grind (arith, r.later, h)
-explained_later shows a b c o e NoMem r h = h
-explained_later shows a b c o e (Damaged damage) r h = rw (← r.same) h
 
 -- what shows less shows more
 pub explained_as : (P Q : Option Content → Damage → Type 0) → ((told : Option Content) (damage : Damage) → P told damage → Q told damage) → (a b : World) (error : Broke) → Explains P a b error → Explains Q a b error

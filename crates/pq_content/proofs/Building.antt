@@ -40,10 +40,6 @@ alike f q x e = ap f (sym (bytes_apart q x e))
 get-retained : (p : Content) (keep : List ℕ → Bool) (q : List ℕ) → get (retain_keys p keep) q ≡ cond (keep q) (get p q) None
 get-retained p keep q = get-retain_keys p keep q (alike keep q)
 
--- nothing is missing
-pub all_of : (may_miss : List ℕ → Bool) (p : Content) → IsFilledPartOf may_miss p p
-all_of may_miss p = (λ _. true, λ k h. refl, same_content p (retain_keys p (λ _. true)) (λ q. sym (get-retained p (λ _. true) q)))
-
 -- a pair of the whole is written
 pub part_written : (may_miss : List ℕ → Bool) (p c : Content) (k v : List ℕ) → get p k ≡ Some v → IsFilledPartOf may_miss p c → IsFilledPartOf may_miss p (insert c k v)
 part_written may_miss p c k v has part =

@@ -157,8 +157,3 @@ keeps_insert tables rows t row keeps number fits short none room parents =
       };
       short = (short, keeps.short);
     }
-
--- into a table with no limits and no foreign keys
-pub keeps_plain_insert : (tables : List Table) (rows : Rows) (t : ℕ) (row : List Value) → Keeps tables rows → IsTableNumber tables t → AllFit (types_of (table_at tables t)) row → length (stored_code (table_at tables t) row) ≤ 4096 → row_at tables rows t (key_of (table_at tables t) row) ≡ None → (table_at tables t).limits ≡ [] → (table_at tables t).foreign ≡ [] → Keeps tables ((t, row) ∷ rows)
-keeps_plain_insert tables rows t row keeps number fits short none limits foreign =
-    keeps_insert tables rows t row keeps number fits short none (subst (AllByRecursion (HasRoom t rows row)) (sym limits) tt) (subst (AllByRecursion (HasParent tables rows row)) (sym foreign) tt)

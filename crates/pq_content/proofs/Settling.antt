@@ -120,10 +120,6 @@ pub settles_to_itself : (c : Content) → get c intent_key ≡ None → SettlesT
 unfolding SettlesTo
 settles_to_itself c none = subst (λ (o : Option (List ℕ)). MatchOption o (c ≡ c) (IsIntent c c)) (sym none) refl
 
-pub settled_is_itself : (c p : Content) → get c intent_key ≡ None → SettlesTo c p → p ≡ c
-unfolding SettlesTo
-settled_is_itself c p none h = subst (λ (o : Option (List ℕ)). MatchOption o (p ≡ c) (IsIntent c p)) none h
-
 -- where an intent is found, it is of this content
 pub intent_found : (c p : Content) (v : List ℕ) → get c intent_key ≡ Some v → SettlesTo c p → IsIntent c p v
 unfolding SettlesTo

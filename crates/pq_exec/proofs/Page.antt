@@ -1,26 +1,22 @@
 -- What running a plan gives is the answer of its query.
-use Rattle.std.proofs.Common.{◌≡◌, ℕ, suc, ◌-◌, ◌<◌, ◌≤◌, List, [], ◌∷◌, length, get_or, map, Option, None, Some, option_map, refl, sym, ap, ◌∙◌, subst, arith}
+use Rattle.std.proofs.Common.{◌≡◌, suc, ◌-◌, ◌<◌, ◌≤◌, List, [], ◌∷◌, length, get_or, map, Option, None, Some, option_map, refl, sym, ap, ◌∙◌, subst, arith}
 use Rattle.std.specs.Prelude.{IfSome}
 use Rattle.std.specs.List.{AllByRecursion}
 use Rattle.std.proofs.lemmas.List.{length-map}
 use Rattle.std.proofs.lemmas.Option.{none-some}
 use Rattle.pq_base.specs.Values.{AllFit}
-use Rattle.pq_base.specs.declared.number.Bound.{Bound}
-use Rattle.pq_base.specs.declared.number.Used.{Used}
 use Rattle.pq_base.specs.declared.value.Value.{Value}
 use Rattle.pq_schema.specs.declared.query.Query.{Query}
 use Rattle.pq_schema.specs.declared.table.Table.{Table}
 use Rattle.pq_schema.specs.Sound.{IsQuery}
 use Rattle.pq_schema.proofs.Soundness.{resolved_is_query}
 use Rattle.pq_store.specs.Content.{Content}
-use Rattle.pq_store.specs.Counts.{Counts, AllowedCounts, granted_counts, used_of}
 use Rattle.pq_plan.specs.declared.physical.Physical.{Physical}
 use Rattle.pq_plan.specs.Answer.{Question, answered, position, selected_values}
 use Rattle.pq_plan.specs.Executing.{Gives}
 use Rattle.pq_plan.specs.Nodes.{nodes, run_of}
 use Rattle.pq_plan.proofs.Choices.{choice_has}
 use Rattle.pq_plan.proofs.Executing.{run_answers}
-use Rattle.pq_calls.specs.World.{World, Reads, Affords}
 use Rattle.pq_nodes.specs.Combos.{FitsTables, position_types, selected_types}
 use Rattle.pq_nodes.specs.Operators.{IsAsked}
 use Rattle.pq_nodes.specs.Ordered.{after_nodes}
@@ -28,7 +24,7 @@ use Rattle.pq_nodes.proofs.Fitting.{selected_fits}
 use Rattle.pq_nodes.proofs.InOrder.{plan_runs}
 use Rattle.pq_runnable.specs.Runnable.{IsRunnablePlan}
 use Rattle.pq_exec.proofs.Few.{few_given}
-use Rattle.pq_exec.specs.Execution.{last_of, AreRun, RunAnswers, IsLastPosition, AnswersQuery, IsPage, RisesBy, RisesWithin}
+use Rattle.pq_exec.specs.Execution.{last_of, AreRun, RunAnswers, IsLastPosition, AnswersQuery, IsPage}
 use Rattle.pq_exec.specs.declared.executing.Answer.{Answer}
 
 -- ---- lists
@@ -108,32 +104,3 @@ module _ (tables : List Table) (query : Query) (params : List Value) (cursor : O
       with_last (Some p) at all long =
           let some = some_last (position (record { tables = tables; query = query; rows = []; params = params })) combos p (sym at) in
           (all, omega arith)
-
--- ---- what was used
-
-pub rises_within : (a b : World) (bound : Bound) → Reads a b bound.ops bound.entries → RisesWithin bound a.used b.used
-rises_within a b bound reads = record { ops_rise = reads.rise_ops; entries_rise = reads.rise_entries; few_ops = reads.few_ops; few_entries = reads.few_entries }
-
--- of an allowance that was granted for the plan
-pub rises_by : (a b : World) (o e : ℕ) (used : Used) → Reads a b o e → a.allowed ≡ granted_counts o e → used ≡ used_of b.allowed → RisesBy used a.used b.used
-rises_by a b o e used reads given is =
-    let left_ops = ap (λ (x : AllowedCounts). x.left.ops) given in
-    let left_entries = ap (λ (x : AllowedCounts). x.left.entries) given in
-    let of_ops = ap (λ (x : AllowedCounts). x.granted.ops) given in
-    let of_entries = ap (λ (x : AllowedCounts). x.granted.entries) given in
-    let same_ops = ap (λ (x : Counts). x.ops) reads.granted in
-    let same_entries = ap (λ (x : Counts). x.entries) reads.granted in
-    let used_ops = ap (λ (u : Used). u.ops) is in
-    let used_entries = ap (λ (u : Used). u.entries) is in
-    let spent_ops = reads.spent_ops in
-    let spent_entries = reads.spent_entries in
-    let rise_ops = reads.rise_ops in
-    let rise_entries = reads.rise_entries in
-    record { ops = omega arith; entries = omega arith }
-
--- what was granted suffices
-pub grant_suffices : (allowed : AllowedCounts) (o e : ℕ) → allowed ≡ granted_counts o e → Affords allowed o e
-grant_suffices allowed o e given =
-    let ops = ap (λ (x : AllowedCounts). x.left.ops) given in
-    let entries = ap (λ (x : AllowedCounts). x.left.entries) given in
-    record { ops_left = omega arith; entries_left = omega arith }

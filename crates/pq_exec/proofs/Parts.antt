@@ -10,9 +10,6 @@ use Rattle.pq_nodes.specs.Paid.{node_size}
 use Rattle.pq_local_ops.specs.Lists.{ArePart}
 use Rattle.pq_exec.specs.Execution.{rows_before, rows_behind, AreGiven}
 
-pub part_itself : (combos : List (List (List Value))) → ArePart combos combos
-part_itself combos = record { few = omega arith; fit = λ tables query count all. all }
-
 pub part_then : (a b c : List (List (List Value))) → ArePart a b → ArePart b c → ArePart a c
 part_then a b c first second =
     let fewer = first.few in

@@ -8,7 +8,6 @@ use Rattle.pq_schema.specs.Costs.{ReachedCost, start, plus}
 use Rattle.pq_schema.specs.declared.query.Query.{Query}
 use Rattle.pq_schema.specs.declared.table.Table.{Table}
 use Rattle.pq_store.specs.Counts.{AllowedCounts}
-use Rattle.pq_store.specs.declared.damage.Broke.{Broke}
 use Rattle.pq_content.specs.Pairs.{HoldsRows}
 use Rattle.pq_plan.specs.Answer.{Question}
 use Rattle.pq_plan.specs.Cost.{cost}
@@ -19,7 +18,7 @@ use Rattle.pq_plan.proofs.PlanRows.{reach_nodes}
 use Rattle.pq_calls.specs.World.{World, Affords, Reads}
 use Rattle.pq_calls.proofs.Steps.{reads_then, reads_within, rest_left}
 use Rattle.pq_nodes.specs.Combos.{FitsTables}
-use Rattle.pq_nodes.specs.Operators.{IsReady, AffordsNode, ReadsNode, Answers, IsSoundOverRows}
+use Rattle.pq_nodes.specs.Operators.{IsReady, AffordsNode, ReadsNode, Answers}
 use Rattle.pq_nodes.specs.Ordered.{after_node, after_nodes, StandsAt}
 use Rattle.pq_nodes.specs.Paid.{node_cost, node_size, IsAtMost}
 use Rattle.pq_nodes.proofs.Paying.{at_most_itself, step_size, step_more}
@@ -177,7 +176,3 @@ module _ (tables : List Table) (query : Query) (tree input : Physical) (over : n
       subst (λ list. Gives q cursor ([] ∷ []) list found) (sym over)
       (gives_then q cursor (nodes input) node ([] ∷ []) inputs found (first rows others holds)
       (answers rows others (subst (λ told. HoldsRows told tables rows others) (sym reads.same) holds)))
-
--- no damage over what is still there
-pub sound_later : (tables : List Table) (a b : World) (o e : ℕ) (error : Broke) → Reads a b o e → IsSoundOverRows b.told tables error → IsSoundOverRows a.told tables error
-sound_later tables a b o e error reads sound rows others holds = sound rows others (subst (λ told. HoldsRows told tables rows others) (sym reads.same) holds)

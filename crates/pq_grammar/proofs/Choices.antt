@@ -21,9 +21,6 @@ pub begins_with : {T : Type 0} (p : T → Bool) (t : T) (w rest : List T) → fi
 begins_with p t [] rest e = absurd cc
 begins_with {T} p t (u ∷ w) rest e = let same : u ≡ t = cc in ap p same
 
-pub first_of_one : {T : Type 0} (t : T) (w : List T) → one t w → first_of_list w ≡ Some t
-first_of_one t w h = ap first_of_list h
-
 pub first_of_then : {T : Type 0} (t : T) (B : List T → Type 0) (w : List T) → (one t ⋅ B) w → first_of_list w ≡ Some t
 first_of_then {T} t B w h = ap first_of_list (h.parts ∙ ap (λ (v : List T). v ++ h.back) h.fits_front)
 

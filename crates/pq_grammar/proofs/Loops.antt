@@ -73,10 +73,3 @@ pub loop_ends : {T X : Type 0} (p : T → Bool) (r : Reader T X) (e : ReadError)
     → with_front front (many_at p r ts) ≡ total → begins p ts ≡ true → Fails e (r ts) → Fails e total
 loop_ends p r errors.NoMem front ts total so_far is h = tt
 loop_ends p r (errors.Stuck n) front ts total so_far is h = loop_fails p r front ts total n so_far is h
-
-pub loop_empty : {T X : Type 0} (p : T → Bool) (r : Reader T X) (ts : List T) → with_front [] (many_at p r ts) ≡ many_at p r ts
-loop_empty p r ts = by_result (many_at p r ts)
-  where
-    by_result : {T X : Type 0} (y : Result (List X × List T) ℕ) → with_front [] y ≡ y
-    by_result (Ok y) = refl
-    by_result (Err n) = refl

@@ -57,11 +57,6 @@ many_goes_at : {T X : Type 0} (p : T → Bool) (r : Reader T X) (k : ℕ) (w res
 many_goes_at p r zero w rest x y e le is then = let none = is_above p (w ++ rest) zero (begins-append p w rest e) le in absurd (omega (arith, none.1))
 many_goes_at p r (suc k) w rest x y e le is then = many_goes p r k (w ++ rest) (begins-append p w rest e) ∙ rw is (then k (is_longer p w rest k e le))
 
--- the list that is left where nothing is
-is_nil : {T : Type 0} (ts : List T) → length ts ≤ 0 → ts ≡ []
-is_nil [] le = refl
-is_nil (t ∷ ts) le = absurd (omega arith)
-
 none_found : {T X : Type 0} (S : X → List T → Type 0) (p : T → Bool) (r : Reader T X) (ts : List T) (xs : List X) (rest : List T) → begins p ts ≡ false → read [] ts ≡ read xs rest → ManyFound S p r ts xs rest
 none_found {T} {X} S p r ts xs rest is e =
     subst (λ (z : List X × List T). ManyFound S p r ts z.0 z.1) (ok_is ([], ts) (xs, rest) e)

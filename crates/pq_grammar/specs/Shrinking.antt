@@ -1,6 +1,6 @@
 -- Readers that take a token at least, and readers that give none back.
-use Rattle.std.proofs.Common.{◌≡◌, ℕ, zero, suc, ◌<◌, ◌≤◌, Bool, true, false, cond, List, [], ◌∷◌, length, Option, Some, None, Result, Ok, Err, ◌⊎◌, inl, inr, refl, ap, arith}
-use Rattle.pq_grammar.specs.Reader.{◌>>=◌, Reader, begins, token_at, picked_token, pair_at, skip_at, close_at, map_at, either_at, choice_at, option_at, nothing_at, many_within, many_at, separated_at}
+use Rattle.std.proofs.Common.{◌≡◌, ℕ, zero, suc, ◌<◌, ◌≤◌, Bool, true, false, cond, List, [], ◌∷◌, length, Option, Some, None, Result, Ok, Err, refl, ap, arith}
+use Rattle.pq_grammar.specs.Reader.{◌>>=◌, Reader, begins, token_at, picked_token, pair_at, skip_at, close_at, map_at, choice_at, option_at, nothing_at, many_within, many_at, separated_at}
 
 abbrev pub Shrinks : {T X : Type 0} → Reader T X → Type 0
 Shrinks {T} {X} r = (ts : List T) (x : X) (rest : List T) → r ts ≡ Ok (x, rest) → length rest < length ts
@@ -82,23 +82,6 @@ option_keeps_by {T} {A} false r h ts x rest e = omega (arith, ap length (rest_is
 pub option_keeps : {T A : Type 0} (p : T → Bool) (r : Reader T A) → Keeps r → Keeps (option_at p r)
 option_keeps p r h ts x rest e = option_keeps_by (begins p ts) r h ts x rest e
 
-either_keeps_by : {T A B : Type 0} (b : Bool) (r : Reader T A) (s : Reader T B) → Keeps r → Keeps s
-    → (ts : List T) (x : A ⊎ B) (rest : List T)
-    → cond b (r ts >>= λ a. read {X = A ⊎ B} (inl a.0) a.1) (s ts >>= λ a. read {X = A ⊎ B} (inr a.0) a.1)
-    ≡ Ok (x, rest) → length rest ≤ length ts
-either_keeps_by {T} {A} {B} true r s h k ts x rest e =
-    let a = bound (r ts) (λ a. read {X = A ⊎ B} (inl a.0) a.1) (x, rest) e in
-    let made : A ⊎ B = inl a.0.0 in
-    omega (arith, h ts a.0.0 a.0.1 a.1, ap length (rest_is made x a.0.1 rest a.2))
-either_keeps_by {T} {A} {B} false r s h k ts x rest e =
-    let a = bound (s ts) (λ a. read {X = A ⊎ B} (inr a.0) a.1) (x, rest) e in
-    let made : A ⊎ B = inr a.0.0 in
-    omega (arith, k ts a.0.0 a.0.1 a.1, ap length (rest_is made x a.0.1 rest a.2))
-
-pub either_keeps : {T A B : Type 0} (p : T → Bool) (r : Reader T A) (s : Reader T B) → Keeps r → Keeps s
-    → Keeps (either_at p r s)
-either_keeps p r s h k ts x rest e = either_keeps_by (begins p ts) r s h k ts x rest e
-
 choice_keeps_by : {T A : Type 0} (b : Bool) (r s : Reader T A) → Keeps r → Keeps s
     → (ts : List T) (x : A) (rest : List T) → cond b (r ts) (s ts) ≡ Ok (x, rest) → length rest ≤ length ts
 choice_keeps_by true r s h k ts x rest e = h ts x rest e
@@ -118,12 +101,6 @@ choice_shrinks_by false r s h k ts x rest e = k ts x rest e
 pub choice_shrinks : {T A : Type 0} (p : T → Bool) (r s : Reader T A) → Shrinks r → Shrinks s
     → Shrinks (choice_at p r s)
 choice_shrinks p r s h k ts x rest e = choice_shrinks_by (begins p ts) r s h k ts x rest e
-
-pub close_keeps : {T A : Type 0} (r : Reader T A) (s : Reader T (Unit {0})) → Keeps r → Keeps s → Keeps (close_at r s)
-close_keeps r s h k ts x rest e =
-    let a = bound (r ts) (λ a. s a.1 >>= λ b. Ok (a.0, b.1)) (x, rest) e in
-    let b = bound (s a.0.1) (λ b. Ok (a.0.0, b.1)) (x, rest) a.2 in
-    omega (arith, h ts a.0.0 a.0.1 a.1, k a.0.1 b.0.0 b.0.1 b.1, ap length (rest_is a.0.0 x b.0.1 rest b.2))
 
 many_keeps_by : {T A : Type 0} (n : ℕ) (p : T → Bool) (r : Reader T A) → Keeps r → Keeps (many_within n p r)
     → (b : Bool) (ts : List T) (xs : List A) (rest : List T)

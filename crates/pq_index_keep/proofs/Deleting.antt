@@ -133,16 +133,6 @@ foreign_columns tables table w k f lt j col less =
     let few = w.is_table.few_columns in
     omega arith
 
-same_at : (tables : List Table) (i : ℕ) (d e : Table) → i < length tables → get_or tables i d ≡ get_or tables i e
-same_at [] i d e less = absurd (omega arith)
-same_at (x ∷ xs) zero d e less = refl
-same_at (x ∷ xs) (suc i) d e less = same_at xs i d e (omega arith)
-
-pub at_number : (tables : List Table) (i : ℕ) (table : Table) → i < length tables → table ≡ get_or tables i table → table ≡ table_at tables (i + 1)
-at_number tables i table less at =
-    let number : i + 1 - 1 ≡ i = omega arith in
-    at ∙ same_at tables i table no_table less ∙ ap (λ (k : ℕ). get_or tables k no_table) (sym number)
-
 pub drop_here : (tables : List Table) (i : ℕ) (table : Table) → i < length tables → table ≡ get_or tables i table → drop i tables ≡ table ∷ drop (i + 1) tables
 drop_here [] i table less at = absurd (omega arith)
 drop_here (x ∷ xs) zero table less at = ap (λ (y : Table). y ∷ xs) (sym at)

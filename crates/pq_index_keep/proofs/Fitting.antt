@@ -194,17 +194,6 @@ range_more k (suc n) =
     let more : suc n + 1 ≡ suc (suc n) = omega arith in
     ap (λ (j : ℕ). k ∷ (range_with_len (k + 1) n ++ j ∷ [])) e ∙ ap (λ (l : List ℕ). k ∷ l) (range_more (k + 1) n ∙ ap (range_with_len (k + 1)) m) ∙ ap (range_with_len k) (sym more)
 
--- a table that is found has a number
-pub found_number : (schema : Schema) (name : List ℕ) (t : ℕ) → find_table schema name ≡ Some t → IsTableNumber schema.tables t
-found_number schema name t found =
-    elim (position (is_table name) schema.tables) as (λ o. position (is_table name) schema.tables ≡ o → option_map number_of o ≡ Some t → IsTableNumber schema.tables t) [
-      | None ↦ λ is some. absurd (none-some t some)
-      | Some place ↦ λ is some.
-          let within = (position-Some (is_table name) schema.tables place no_table is).0 in
-          let same : place + 1 ≡ t = same_Some _ _ some in
-          (omega arith, omega arith)
-    ] refl found
-
 pub range_from : (n : ℕ) → range_with_len 0 n ++ n ∷ [] ≡ range_with_len 0 (n + 1)
 range_from n = let e : n ≡ 0 + n = omega arith in ap (λ (j : ℕ). range_with_len 0 n ++ j ∷ []) e ∙ range_more 0 n
 

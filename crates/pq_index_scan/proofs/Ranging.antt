@@ -42,7 +42,7 @@ use Rattle.pq_nodes.specs.Tied.{tied_cells, range_prefix, HasRange}
 use Rattle.pq_nodes.proofs.Ranges.{has_range}
 use Rattle.pq_nodes.proofs.Tied.{matching_group, within_tied}
 use Rattle.pq_operands.specs.Ties.{cells_tied}
-use Rattle.pq_entries.specs.Entries.{IsSequence, AreEnds, pair_of}
+use Rattle.pq_entries.specs.Entries.{AreEnds, pair_of}
 use Rattle.pq_entries.proofs.Naming.{FindsFirst}
 use Rattle.pq_index_scan.specs.declared.limit.LimitRange.{LimitRange}
 use Rattle.pq_index_scan.specs.Ranged.{own_limit, start_of, IsRangeOf, question, AreMatching}
@@ -56,26 +56,9 @@ module _ (tables : List Table) (query : Query) (resolved : IsResolved tables que
   pub relation_number : IsTableNumber tables (relation_at query rel).table
   relation_number = (own_relation.from_one, own_relation.there)
 
-pub range_sequence_there : (tables : List Table) (query : Query) (range : LimitRange) → IsResolved tables query → IsRangeOf tables query range → IsSequence tables range.number range.access
-range_sequence_there tables query range resolved is =
-    subst (λ (t : ℕ). IsSequence tables t range.access) (sym is.number)
-    (record { number = relation_number tables query resolved range.rel is.ready.is.relation; is_access = is.ready.indexed.0 })
-
 -- its table is the relation's
 pub range_table : (tables : List Table) (query : Query) (range : LimitRange) → IsRangeOf tables query range → table_of tables query range.rel ≡ table_at tables range.number
 range_table tables query range is = ap (table_at tables) (sym is.number)
-
--- a limit has at least one row
-pub range_from_one : (tables : List Table) (query : Query) (params : List Value) (range : LimitRange) → IsAsked tables query params → IsRangeOf tables query range → 1 ≤ range.n
-range_from_one tables query params range given is =
-    let number = relation_number tables query given.resolved range.rel is.ready.is.relation in
-    let table = table_of tables query range.rel in
-    let low = is.ready.is.from_one in
-    let high = is.ready.is.there in
-    let made = (given.made (relation_at query range.rel).table number.0 number.1).limits (range.limit - 1) no_limit (omega arith) in
-    let one = made.from_one in
-    let n = is.n in
-    omega (arith, one, n)
 
 -- the values that begin the keys of a range are at most as many as the sequence has
 pub start_short : (tables : List Table) (query : Query) (params : List Value) (range : LimitRange) (input : List (List Value)) → IsRangeOf tables query range → length (cells_tied query params range.rel input range.first) ≤ length (sequence_of (table_of tables query range.rel) range.access)

@@ -31,6 +31,3 @@ not_intended cs value coded code fails ds intent =
 
 pub is_intent_of : (cs : List Coded) (value : List ℕ) → AreChanges cs → changes_code cs ≡ value → all_intended cs ≡ true → IsIntentOf cs value
 is_intent_of cs value coded code all = record { code = code; coded = coded; intended = intended cs all }
-
-pub no_code : (value : List ℕ) → ((cs : List Coded) → AreChanges cs → changes_code cs ≡ value → ⊥) → IsNoIntent value
-no_code value never ds intent = never ds intent.coded intent.code

@@ -14,7 +14,7 @@ use Rattle.pq_content.specs.Pairs.{Change, changed_content}
 use Rattle.pq_content.specs.Standing.{change_of, AreIntended, IsIntent, SettlesTo}
 use Rattle.pq_key_code.specs.KeyCode.{intent_key}
 use Rattle.pq_content.proofs.Keys.{key_itself}
-use Rattle.pq_content.proofs.Settling.{settles_partway, settled_at_last, settles_again, settles_once, settles_to_itself, settled_is_itself, intent_found, no_intent_after}
+use Rattle.pq_content.proofs.Settling.{settles_partway, settled_at_last, settles_again, settles_once, settles_to_itself, intent_found, no_intent_after}
 use Rattle.pq_intent.specs.Changing.{after, IsPartway, MayChange}
 use Rattle.pq_intent.specs.Settling.{IsIntentOf, IsNoIntent, IsSettled, Settles, LeavesSettled}
 use Rattle.pq_intent.proofs.Steps.{after-append, take_split}
@@ -30,11 +30,6 @@ steps_are xs ys k e h = λ i. map change_of (e i) ++ (h i, None) ∷ []
 
 pub settles_itself : (new : Option Content) (c : Content) → new ≡ Some c → get c intent_key ≡ None → Settles new c
 settles_itself new c told none = record { pairs = c; told = told; settles = settles_to_itself c none }
-
-pub is_settled : (old : Option Content) (c settled : Content) → IsSettled old c → Settles old settled → settled ≡ c
-is_settled old c settled s p =
-    let same : p.pairs ≡ c = same_Some _ _ (sym p.told ∙ s.told) in
-    settled_is_itself c settled s.no_intent (subst (λ (d : Content). SettlesTo d settled) same p.settles)
 
 -- ---- from the intent on
 

@@ -4,7 +4,6 @@ use Rattle.std.specs.Int.{w64, to_be_bytes}
 use Rattle.std.specs.declared.cmp.Ordering.{Ordering}
 use Rattle.std.specs.declared.cmp.Ordering.TheVariants.{Less, Equal, Greater}
 use Rattle.std.specs.Ordering.{nat_cmp, ordering_then, ordering_reverse}
-use Rattle.std.specs.Cmp.{nat_cmp_is}
 use Rattle.std.specs.Cmp.Lexicographic.{slice_cmp}
 use Rattle.std.proofs.lemmas.Cmp.{ranked}
 use Rattle.std.proofs.lemmas.Bool.Decides.{nat_tests}
@@ -22,9 +21,6 @@ Apart (x ∷ p) (y ∷ q) = x ≡ y → Apart p q
 pub nat_cmp_equal : (x y : ℕ) → nat_cmp x y ≡ Equal → x ≡ y
 nat_cmp_equal x y e = ranked x y Equal (sym e)
 
-pub nat_cmp_same : (x : ℕ) → nat_cmp x x ≡ Equal
-nat_cmp_same x = sym (nat_cmp_is x x Equal refl)
-
 pub then_assoc : (o a b c : Ordering) → (o ≡ Equal → a ≡ ordering_then b c) → ordering_then o a ≡ ordering_then (ordering_then o b) c
 then_assoc Less a b c h = refl
 then_assoc Equal a b c h = h refl
@@ -41,11 +37,6 @@ cmp_apart [] [] r s a = refl
 cmp_apart [] (y ∷ q) r s a = absurd a
 cmp_apart (x ∷ p) [] r s a = absurd a
 cmp_apart (x ∷ p) (y ∷ q) r s a = then_assoc (nat_cmp x y) (slice_cmp nat_cmp (p ++ r) (q ++ s)) (slice_cmp nat_cmp p q) (slice_cmp nat_cmp r s) (λ e. cmp_apart p q r s (a (nat_cmp_equal x y e)))
-
--- a common front plays no part
-pub same_front_cmp : (front p q : List ℕ) → slice_cmp nat_cmp (front ++ p) (front ++ q) ≡ slice_cmp nat_cmp p q
-same_front_cmp [] p q = refl
-same_front_cmp (b ∷ front) p q = ap (λ (o : Ordering). ordering_then o (slice_cmp nat_cmp (front ++ p) (front ++ q))) (nat_cmp_same b) ∙ same_front_cmp front p q
 
 pub Apart_from_length : (p q : List ℕ) → length p ≡ length q → Apart p q
 Apart_from_length [] [] e = tt

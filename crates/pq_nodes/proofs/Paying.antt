@@ -97,13 +97,6 @@ step_more a b node h =
 
 -- ---- some nodes
 
-pub up_to_itself : (r : ReachedCost) → IsUpTo r r
-up_to_itself r = record { inputs = omega arith; cost = at_most_itself r.cost }
-
-pub run_more : (list : List Node) (a b : ReachedCost) → IsUpTo a b → IsUpTo (fold step a list) (fold step b list)
-run_more [] a b h = h
-run_more (node ∷ list) a b h = run_more list (step a node) (step b node) (step_more a b node h)
-
 grows : (r : ReachedCost) (node : Node) → IsAtMost r.cost (step r node).cost
 grows r node =
     let more : IsAtMost r.cost (plus r.cost (node_cost r.inputs node)) = record { ops = omega arith; entries = omega arith } in

@@ -1,6 +1,5 @@
 -- The page of an answer, and the bound of a plan.
-use Rattle.std.proofs.Common.{◌≡◌, ℕ, ◌≤◌, ◌==◌, cond, List, length, Option, Some, None, option_map, refl, sym, ap, ◌∙◌, subst}
-use Rattle.std.specs.Prelude.{IfSome}
+use Rattle.std.proofs.Common.{◌≡◌, ℕ, ◌==◌, cond, List, length, Option, Some, None, option_map, refl, sym, ap, ◌∙◌, subst}
 use Rattle.std.proofs.lemmas.List.{length-map}
 use Rattle.pq_base.specs.Values.{AllFit}
 use Rattle.pq_base.specs.declared.number.Bound.{Bound}
@@ -16,7 +15,6 @@ use Rattle.pq_store.specs.Counts.{Counts}
 use Rattle.pq_plan.specs.Answer.{Question, position, selected_values}
 use Rattle.pq_plan.specs.Cost.{cost}
 use Rattle.pq_plan.specs.declared.physical.Physical.{Physical}
-use Rattle.pq_nodes.specs.Combos.{position_types}
 use Rattle.pq_nodes.specs.Operators.{IsAsked}
 use Rattle.pq_runnable.specs.Runnable.{IsRunnablePlan}
 use Rattle.pq_runnable.proofs.Staying.{query_resolved}
@@ -51,11 +49,6 @@ module _ (s : Schema) (number : ℕ) (valid : IsValid s) (defined : IsQueryDefin
 map_twice : {A B C : Type 0} (f : B → C) (g : A → B) (found : Option A) → option_map f (option_map g found) ≡ option_map (λ x. f (g x)) found
 map_twice f g None = refl
 map_twice f g (Some x) = refl
-
--- the last position fits, where there is one
-pub last_fits : (tables : List Table) (query : Query) (rows : ℕ) (last : Option (List Value)) → IfSome last (λ at. AllFit (position_types tables query) at × (1 ≤ rows)) → IfSome last (AllFit (position_types tables query))
-last_fits tables query rows None fits = tt
-last_fits tables query rows (Some at) fits = fits.0
 
 module _ (tables : List Table) (number : ℕ) (query : Query) (params : List Value) (after : Option (List Value)) (rows : Rows) where
   abbrev run : Running

@@ -44,10 +44,6 @@ pub few_ranged : (low high : List ℕ) (limit : ℕ) (result : Result (List Pair
 few_ranged low high limit (Ok pairs) part = let few = part.few in omega (arith, length-map pairs entry)
 few_ranged low high limit (Err e) part = omega arith
 
--- before the first call
-pub none_called : (before : TalliedCalls) (most : ℕ) → HasCalled before before most 0
-none_called before most = record { calls = 0; few = omega arith; counts = none_counted before }
-
 -- some calls, and then some more
 pub called_more : (before mid now : TalliedCalls) (most more first found : ℕ) → HasCalled before mid most first → HasCalled mid now more found → HasCalled before now (most + more) (first + found)
 called_more before mid now most more first found done then = record {

@@ -23,9 +23,6 @@ lt_is_le a b lt = grind (arith, lt)
 pub not_lt : (a b : List ℕ) → is_lt (key_cmp a b) ≡ false → is_le (key_cmp b a) ≡ true
 not_lt a b above = grind (arith, above, turned b a)
 
-pub not_both : (a b : List ℕ) → is_lt (key_cmp a b) ≡ true → is_le (key_cmp b a) ≡ false
-not_both a b lt = grind (arith, lt, turned b a)
-
 later_le : (low from key : List ℕ) → is_le (key_cmp from key) ≡ true → is_le (key_cmp (later low from) key) ≡ is_le (key_cmp low key)
 later_le low from key le =
     elim (is_lt (key_cmp low from)) as (λ b. is_lt (key_cmp low from) ≡ b → is_le (key_cmp (cond b from low) key) ≡ is_le (key_cmp low key)) [

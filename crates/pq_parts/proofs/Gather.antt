@@ -18,7 +18,7 @@ use Rattle.pq_parts.specs.Spans.{Span, is_of, span_of, spans, first_from, meets,
 use Rattle.pq_parts.specs.Tally.{TalliedCalls, HasAsked}
 use Rattle.pq_parts.specs.Gathered.{begin_of, LinkedSpans, HasCome, LeavesRange, IsGathered, IsPieceAt, LeavesCount, IsCounted, IsCountAt}
 use Rattle.pq_parts.proofs.Clips.{lt_le, lt_is_le, second_of_two, first_of_two}
-use Rattle.pq_parts.proofs.Asked.{not_asked, none_called, called_more, called_fewer}
+use Rattle.pq_parts.proofs.Asked.{not_asked, called_more, called_fewer}
 use Rattle.pq_parts.proofs.Pairs.{rising_both}
 use Rattle.pq_parts.specs.Gathered.LinkedSpans.{none, link}
 use Rattle.pq_parts.proofs.Joined.{linked, both, all_rise}
@@ -34,9 +34,6 @@ ahead_of : (span : Span) (list : List Span) → LinkedSpans (span ∷ list) → 
 ahead_of span list (link _ _ until ahead links) = (until, ahead)
 
 -- ---- the nodes that were called
-come_none : (list : List Span) (before : TalliedCalls) (low high : List ℕ) → HasCome list before before 0 low high 0
-come_none list before low high = record { met = 0; left = omega arith; called = none_called before 0 }
-
 zero_more : (a b : ℕ) → a + b ≡ 0 + a + b
 zero_more a b = omega arith
 
@@ -78,17 +75,6 @@ take_more (suc n) [] ys = let e : suc n - 0 ≡ suc n = omega arith in rw e refl
 take_more (suc n) (x ∷ xs) ys =
     let same : suc n - suc (length (take n xs)) ≡ n - length (take n xs) = omega arith in
     rw same (ap (λ rest. x ∷ rest) (take_more n xs ys))
-
-pub gather_none : (list : List Span) (before : TalliedCalls) (low high : List ℕ) (limit : ℕ) → IsGathered list before before 0 low high limit []
-gather_none list before low high limit = record {
-  come = come_none list before low high;
-  part = record { few = omega arith; within = λ k d lt. absurd (omega arith); rising = refl };
-  passed = refl;
-  answer = λ pairs is. record { rest = pairs; behind = is; whole = none_taken pairs };
-}
-  where
-    none_taken : (pairs : Pairs) → take (limit - 0) (filter (is_within low high) pairs) ≡ take limit (filter (is_within low high) pairs)
-    none_taken pairs = let e : limit - 0 ≡ limit = omega arith in rw e refl
 
 -- what is found stands before what the part at the place has
 passed_apart : (span : Span) (found piece : Pairs) → list_all (λ pair. is_lt (key_cmp pair.0 span.from)) found ≡ true → All (λ pair. is_of span pair.0 ≡ true) piece
@@ -188,13 +174,6 @@ gather_all list links before now low high limit found gathered = go (concatenati
         append-nil (x ∷ xs) = ap (λ rest. x ∷ rest) (append-nil xs)
 
 -- ---- the number of a range
-pub count_none : (list : List Span) (before : TalliedCalls) (low high : List ℕ) (cap : ℕ) → IsCounted list before before 0 low high cap 0
-count_none list before low high cap = record {
-  come = come_none list before low high;
-  few = omega arith;
-  answer = λ pairs is. record { rest = pairs; behind = is; whole = omega arith };
-}
-
 pub count_more : (list : List Span) → (before mid now : TalliedCalls) (at : ℕ) (low high : List ℕ) (cap n more : ℕ) (span : Span) {A : Type 0} (x : A)
     → drop at list ≡ span ∷ drop (at + 1) list → IsCounted list before mid at low high cap n
     → HasAsked {A = A} mid now (number_met low high (span ∷ [])) (cap - n) more (Ok x) → more ≤ cap - n
@@ -230,16 +209,6 @@ count_all list links before now low high cap n counted = go (concatenation list)
       where
         none_behind : (rest : Pairs) → concatenation (drop (length list) list) ≡ Some rest → rest ≡ []
         none_behind rest is = let e = rw drop-length at is in cc
-
--- what was asked, at the end
-pub come_all : (list : List Span) (before now : TalliedCalls) (low high : List ℕ) (n limit : ℕ) → HasCome list before now (length list) low high n → n ≤ limit
-    → {A : Type 0} (x : A) → HasAsked {A = A} before now (number_met low high list) limit n (Ok x)
-come_all list before now low high n limit come few x = record {
-  found = n;
-  called = called_fewer before now come.met (number_met low high list) n (let left = come.left in omega (arith, left)) come.called;
-  within = few;
-  whole = λ _. refl;
-}
 
 -- the spans from the place on begin with that of the part there
 pub span_cut : {S : Type 0} (content : S → Option Content) (parts : List (Part S)) (at : ℕ) (part : Part S) → at < length parts → part ≡ get_or parts at part

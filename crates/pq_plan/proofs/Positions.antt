@@ -16,10 +16,6 @@ reversed_then Less b = refl
 reversed_then Equal b = refl
 reversed_then Greater b = refl
 
-turned_reverse : (d : Dir) (a : Ordering) → directed_order d (ordering_reverse a) ≡ ordering_reverse (directed_order d a)
-turned_reverse Asc a = refl
-turned_reverse Desc a = refl
-
 then_less : (a b : Ordering) → ordering_then a b ≡ Less → a ≡ Greater → ⊥
 then_less a b h e = let f : ordering_then Greater b ≡ Less = ap (λ r. ordering_then r b) (sym e) ∙ h in cc
 

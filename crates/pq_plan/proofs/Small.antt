@@ -3,7 +3,7 @@ use Rattle.std.proofs.Common.{◌≡◌, pow-suc, mul_comm, lit≤, lit<, ℕ, z
 use Rattle.pq_base.specs.declared.number.Bound.{Bound}
 use Rattle.pq_schema.specs.declared.table.Access.{Access}
 use Rattle.pq_schema.specs.declared.table.Access.TheVariants.{Primary, Secondary}
-use Rattle.pq_schema.specs.Costs.{ReachedCost, start, bound, limit_cost, read_each, read_stop}
+use Rattle.pq_schema.specs.Costs.{ReachedCost, bound, limit_cost, read_each, read_stop}
 use Rattle.pq_plan.specs.declared.physical.Physical.{Physical}
 use Rattle.pq_plan.specs.declared.physical.Physical.TheVariants as node
 use Rattle.pq_plan.specs.declared.cost.Total.{Total}
@@ -71,9 +71,6 @@ within t total is small few =
 -- one more read of so few rows keeps the total small
 pub next_below : (size : ℕ) (c : Bound) (k : ℕ) (r : ReachedCost) → size ≤ 10000 → c.ops ≤ 10001 → c.entries ≤ 20000 → Below (30000 ^ k) r → Below (30000 ^ suc k) (read_each size c r)
 next_below size c k r s o e below = more k (read_each size c r) (each_below size c.ops c.entries (30000 ^ k) r s o e below)
-
-pub start_below : Below (30000 ^ 0) start
-start_below = record { inputs = lit≤ tt; ops = lit≤ tt; entries = lit≤ tt }
 
 pub low : (k : ℕ) (total : Total) → Below (30000 ^ k) (reached_total total) → k ≤ 6 → IsLow total
 low k total below few =

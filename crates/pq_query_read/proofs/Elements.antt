@@ -50,9 +50,6 @@ pub ref_opens : (r : RefDef) (w : List Shape) → ref r w → begins is_name w �
 unfolding is_name
 ref_opens r w h = then_opens is_name (shape.Name r.first) _ refl w h
 
-pub ref_shuts : (p : Shape → Bool) → ((n : List ℕ) → p (shape.Name n) ≡ false) → (r : RefDef) (w rest : List Shape) → ref r w → begins p (w ++ rest) ≡ false
-ref_shuts p e r w rest h = then_shuts p (shape.Name r.first) _ (e r.first) w rest h
-
 alias_opens : (n : List ℕ) (w : List Shape) → alias n w → begins is_alias w ≡ true
 unfolding is_word is_name
 alias_opens n w (inl h) = then_opens is_alias (shape.Keyword AS) (name n) refl w h

@@ -95,10 +95,6 @@ quoted_utf8 t is = IsUtf8-append ((39 ∷ []) ++ flat_map doubled_quotes t) (39 
 
 -- ---- parts
 
-pub none_follows : (rest : List ℕ) → MayFollow joins_none rest
-none_follows [] = refl
-none_follows (b ∷ rest) = refl
-
 -- one part behind the other
 pub join : {S U : List Shape → Type 0} {t u v : ℕ → Bool} {a b : List ℕ} → Prints S t a u → Prints U u b v → Prints (S ⋅ U) t (a ++ b) v
 join {S} {U} {t} {u} {v} {a} {b} p q = record {

@@ -157,13 +157,6 @@ row_again ts xs w fits =
 
 -- ---- what callers build on
 
--- a row code has at least the byte of its number of columns
-pub row_code_some : (xs : List Value) → 1 ≤ length (row_code xs)
-row_code_some xs = omega arith
-
-pub row_code_not_nil : (xs : List Value) → row_code xs ≡ [] → ⊥
-row_code_not_nil xs e = let none : length (row_code xs) ≡ 0 = ap (λ (c : List ℕ). length c) e in absurd (omega (arith, none, row_code_some xs))
-
 -- the row code tells the row among the rows that fit
 pub row_code_injective : (ts : List ColType) (xs ys : List Value) → All IsType ts → AllFit ts xs → AllFit ts ys → row_code xs ≡ row_code ys → xs ≡ ys
 row_code_injective ts xs ys w f g e = same_Some xs ys (sym (row_again ts xs w f) ∙ ap (row_of ts) e ∙ row_again ts ys w g)

@@ -1,5 +1,5 @@
 -- The candidates of a query look at its tables' keys, limits and foreign keys alone, and so stay where tables grow.
-use Rattle.std.proofs.Common.{◌≡◌, ℕ, ◌+◌, ◌-◌, ◌*◌, Bool, not, nat_le, ◌&&◌, ◌==◌, if◌then◌else◌, List, [], ◌∷◌, ◌++◌, flat_map, fold, length, zip, is_some, Option, refl, ap}
+use Rattle.std.proofs.Common.{◌≡◌, ℕ, ◌+◌, ◌-◌, ◌*◌, Bool, not, nat_le, ◌&&◌, ◌==◌, if◌then◌else◌, List, [], ◌∷◌, ◌++◌, flat_map, fold, length, zip, is_some, Option, ap}
 use Rattle.std.specs.Prelude.{unwrap_or}
 use Rattle.std.specs.List.{list_all, list_any, range_with_len}
 use Rattle.std.specs.Option.{option_map_or}
@@ -65,14 +65,6 @@ module _ (table : ℕ → Table) (query : Query) where
 
 abbrev bare : Table → Table
 bare table = record table { indexes = [] }
-
--- they are those of the query's tables
-of_tables : (tables : List Table) (query : Query) → candidates_on (table_of tables query) query ≡ candidates tables query
-of_tables tables query = refl
-
--- and need no indexes
-of_bare : (table : ℕ → Table) (query : Query) → candidates_on (λ rel. bare (table rel)) query ≡ candidates_on table query
-of_bare table query = refl
 
 module _ (before now : List Table) (query : Query) (grown : HaveGrown before now) (resolved : IsResolved before query) where
   same_bare : (rel : ℕ) → bare (table_of now query rel) ≡ bare (table_of before query rel)

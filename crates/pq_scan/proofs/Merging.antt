@@ -53,11 +53,6 @@ apart_by_less Less = refl
 apart_by_less Equal = refl
 apart_by_less Greater = refl
 
-not_above : (r : Ordering) → is_lt (ordering_reverse r) ≡ false → is_gt r ≡ false
-not_above Less h = refl
-not_above Equal h = refl
-not_above Greater h = absurd cc
-
 -- ---- numbers
 abbrev NotBefore : ℕ → Numbered → Type 0
 NotBefore n item = n ≤ item.number
@@ -176,13 +171,6 @@ put_back_made list made before now e keeps p = record {
   same = IsPermutation-trans (list ++ waiting_heads before) (numbered_items made ++ waiting_heads before) (waiting_heads now)
       (IsPermutation-append_left (waiting_heads before) list (numbered_items made) (subst (λ l. IsPermutation l (numbered_items made)) (sym e) (IsPermutation-to_front made.behind.items made.head)))
       (IsPermutation-flat_map numbered_items (made ∷ before) now p);
-}
-
-pub put_back_none : (list : List Numbered) (lists : List Rising) → list ≡ [] → PutsBack list lists lists
-put_back_none list lists e = record {
-  heap = λ h. h;
-  rise = λ f all. all;
-  same = subst (λ l. IsPermutation (l ++ waiting_heads lists) (waiting_heads lists)) (sym e) (IsPermutation-refl (waiting_heads lists));
 }
 
 pub next_made : (old popped now : List Rising) (r : Rising) → IsMerge old → IsPermutation old (r ∷ popped) → PopsGreatest head_cmp old r popped → PutsBack r.behind.items popped now → IsMerge now × (merged_lists old ≡ r.head.candidate ∷ merged_lists now)

@@ -1,36 +1,16 @@
 -- The whole of a scan: its share, its candidates, and what is first.
-use Rattle.std.proofs.Common.{◌≡◌, ℕ, ◌+◌, ◌*◌, ◌≤◌, List, length, take, sym, ap, subst, arith, length-take, refl}
+use Rattle.std.proofs.Common.{◌≡◌, ℕ, ◌+◌, ◌*◌, ◌≤◌, List, length, take, sym, ap, subst, arith, length-take}
 use Rattle.std.specs.List.{AllByRecursion}
 use Rattle.pq_base.specs.Sorting.{sort_by}
 use Rattle.pq_base.proofs.Sorts.{each-sort_by}
 use Rattle.pq_schema.specs.declared.table.Access.{Access}
 use Rattle.pq_schema.specs.declared.table.Access.TheVariants.{Primary, Secondary}
 use Rattle.pq_store.specs.Content.{key_cmp}
-use Rattle.pq_store.specs.Counts.{AllowedCounts}
-use Rattle.pq_calls.specs.World.{Affords}
 use Rattle.pq_plan.specs.Nodes.{stop_scan}
-use Rattle.pq_nodes.specs.Operators.{AffordsNode}
 use Rattle.pq_nodes.specs.Paid.{node_cost}
 use Rattle.pq_scan.specs.declared.candidates.Candidate.{Candidate}
 use Rattle.pq_scan.specs.Candidates.{fetches, place_of_candidate}
 use Rattle.pq_scan.proofs.Merged.{each_take}
-
-pub cost_ops : (access : Access) (rel n k : ℕ) → (node_cost n (stop_scan rel k access)).ops ≡ n + fetches access k
-cost_ops Primary rel n k = refl
-cost_ops (Secondary index) rel n k = refl
-
-pub cost_entries : (access : Access) (rel n k : ℕ) → (node_cost n (stop_scan rel k access)).entries ≡ n * k + fetches access k
-cost_entries Primary rel n k = refl
-cost_entries (Secondary index) rel n k = refl
-
--- the ranges are a part of the share
-pub ranges_share : (access : Access) (rel n k : ℕ) (allowed : AllowedCounts) → AffordsNode allowed n (stop_scan rel k access) → Affords allowed n (n * k)
-ranges_share access rel n k allowed left =
-    let o = cost_ops access rel n k in
-    let e = cost_entries access rel n k in
-    let ops = left.ops_left in
-    let entries = left.entries_left in
-    record { ops_left = omega arith; entries_left = omega arith }
 
 pub first_kept : (P : Candidate → Type 0) (k : ℕ) (found first : List Candidate) → first ≡ take k (sort_by key_cmp place_of_candidate found) → AllByRecursion P found → AllByRecursion P first
 first_kept P k found first is all = subst (AllByRecursion P) (sym is) (each_take P k (sort_by key_cmp place_of_candidate found) (each-sort_by key_cmp place_of_candidate P found all))
@@ -40,11 +20,6 @@ first_length k found first is =
     let l = length-take k (sort_by key_cmp place_of_candidate found) in
     let e : length first ≡ length (take k (sort_by key_cmp place_of_candidate found)) = ap length is in
     omega (arith, l, e)
-
--- the ranges, and the fetch of at most k rows behind them, are within the cost
-pub ranges_within : (access : Access) (rel n k : ℕ) → (n ≤ (node_cost n (stop_scan rel k access)).ops) × (n * k ≤ (node_cost n (stop_scan rel k access)).entries)
-ranges_within Primary rel n k = (omega arith, omega arith)
-ranges_within (Secondary index) rel n k = (omega arith, omega arith)
 
 pub fetch_within : (access : Access) (rel n k m : ℕ) → m ≤ k → (n + fetches access m ≤ (node_cost n (stop_scan rel k access)).ops) × (n * k + fetches access m ≤ (node_cost n (stop_scan rel k access)).entries)
 fetch_within Primary rel n k m h = (omega arith, omega arith)

@@ -43,10 +43,6 @@ pub fetches_more : (access : Access) (n : ℕ) → fetches access n + fetches ac
 fetches_more Primary n = omega arith
 fetches_more (Secondary index) n = omega arith
 
-pub fetches_up : (access : Access) (m n : ℕ) → m ≤ n → fetches access m ≤ fetches access n
-fetches_up Primary m n h = omega arith
-fetches_up (Secondary index) m n h = h
-
 -- of one after m of n
 pub fetches_next : (access : Access) (m n : ℕ) → m < n → fetches access m + fetches access 1 ≤ fetches access n
 fetches_next Primary m n h = omega arith

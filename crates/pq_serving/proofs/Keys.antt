@@ -119,9 +119,6 @@ le_not_gt Less = refl
 le_not_gt Equal = refl
 le_not_gt Greater = refl
 
-not_twice : (b : Bool) → b ≡ true → not (not b) ≡ true
-not_twice b h = ap (λ x. not (not x)) h
-
 from_le : (a b : List ℕ) → is_le (key_cmp a b) ≡ true → is_gt (key_cmp a b) ≡ false
 from_le a b h = each (key_cmp a b) h
   where

@@ -111,19 +111,6 @@ start_law ds gs at xs long same h =
     let a = length-filled gs xs (omega arith) in
     ap is_lt (position_cmp-same_length ds at (filled_values gs xs) (same ∙ sym a) (omega arith)) ∙ common_start ds gs at xs (omega arith)
 
--- the start's prefix is no longer than the rest
-pub length-start : (ds : List Dir) (gs : List (Option Value)) (at : List Value) → length (start_of ds gs at).values ≤ own_count gs
-length-start [] gs at = omega arith
-length-start (d ∷ ds) [] at = omega arith
-length-start (d ∷ ds) (Some v ∷ gs) [] = omega arith
-length-start (d ∷ ds) (None ∷ gs) [] = omega arith
-length-start (d ∷ ds) (Some v ∷ gs) (a ∷ at) = elim (directed_order d (value_cmp a v)) as (λ r. length (by_case r (record { past = false; values = [] }) (start_of ds gs at) (record { past = true; values = [] })).values ≤ own_count gs) [
-  | Less ↦ omega arith
-  | Equal ↦ length-start ds gs at
-  | Greater ↦ omega arith
-]
-length-start (d ∷ ds) (None ∷ gs) (a ∷ at) = let h = length-start ds gs at in omega arith
-
 -- ---- a front that is equal
 equal_first : (a b : Ordering) → ordering_then a b ≡ Equal → (a ≡ Equal) × (b ≡ Equal)
 equal_first Less b h = absurd cc

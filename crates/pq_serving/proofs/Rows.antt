@@ -13,8 +13,6 @@ use Rattle.pq_key_code.specs.KeyOrder.{common_cmp}
 use Rattle.pq_schema.specs.Keys.{dirs_of}
 use Rattle.pq_schema.specs.declared.table.KeyPart.{KeyPart}
 use Rattle.pq_schema.specs.declared.query.Op.{Op}
-use Rattle.pq_schema.specs.declared.query.Operand.{Operand}
-use Rattle.pq_schema.specs.declared.query.Operand.TheVariants as operand
 use Rattle.pq_schema.specs.declared.query.Pred.{Pred}
 use Rattle.pq_schema.specs.Sequences.{columns_of}
 use Rattle.pq_schema.specs.Relations.{belongs_to, tied_set, position_columns}
@@ -31,15 +29,10 @@ use Rattle.pq_serving.specs.Scanning.{first_direction, is_after, own_preds, is_o
 use Rattle.pq_serving.proofs.Columns.{same_test_from}
 use Rattle.pq_serving.proofs.Places.{reaches-under, front_equal, common_cmp-prefix}
 use Rattle.pq_serving.proofs.RangePreds.{range_law}
-use Rattle.pq_serving.proofs.Served.{HasColumns, IsServed, IsFree, fixed_in_front, kept_front}
+use Rattle.pq_serving.proofs.Served.{HasColumns, IsServed, fixed_in_front, kept_front}
 use Rattle.pq_serving.proofs.Constants.{dirs_are, cells_are, front_long, start_is}
 
 -- ---- tests of lists of bounds
--- a constant or a parameter is the same whatever the rows are
-free_side : (params : List Value) (c d : List (List Value)) (o : Operand) → IsFree o → side params c o ≡ side params d o
-free_side params c d (operand.Const value) h = refl
-free_side params c d (operand.Param number) h = refl
-free_side params c d (operand.Col col) h = absurd h
 
 -- both sides of a comparison that holds are there
 sides : (o : Op) (a b : Option Value) → compares o a b ≡ true → (x : Value) × (y : Value) × (a ≡ Some x) × (b ≡ Some y)

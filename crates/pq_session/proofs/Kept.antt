@@ -124,13 +124,6 @@ query_kept s plans query plan wanted valid kept defined is =
     one_more s plans valid kept (with_wanted s.tables wanted) (grown_defined s query wanted defined)
     (OfQuery query (option_map made_of wanted)) (Some plan) (λ _. kept_wanting s query plan wanted valid defined is)
 
--- the plan of a query is there
-pub plan_there : (found : Option Physical) (P : Physical → Type 0) (plan : Physical) → MatchOption found ⊥ P → found ≡ Some plan → P plan
-plan_there found P plan is same = subst (λ (o : Option Physical). MatchOption o ⊥ P) same is
-
-pub none_absurd : (found : Option Physical) (P : Physical → Type 0) → MatchOption found ⊥ P → found ≡ None → ⊥
-none_absurd found P is same = subst (λ (o : Option Physical). MatchOption o ⊥ P) same is
-
 -- ---- a query with its plan
 
 pub computed_wanting : (tables : List Table) (computed : PlannedQuery) (wanted : Option NewIndex) → computed.compiled.wanted ≡ wanted → IsComputed tables computed → IsPlanWanting tables computed.query computed.compiled.plan wanted

@@ -13,7 +13,6 @@ use Rattle.pq_content.specs.Tables.{Keeps}
 use Rattle.pq_store.specs.Content.{Content}
 use Rattle.pq_key_code.specs.KeyCode.{intent_key}
 use Rattle.pq_builds.specs.Bounds.{bound}
-use Rattle.pq_builds.specs.Filling.{row_pairs_in}
 use Rattle.pq_builds.specs.Stages.{ShowsLeft}
 use Rattle.pq_builds.specs.declared.target.NewQuery.{NewQuery}
 use Rattle.pq_builds.specs.declared.target.Target.{Target}
@@ -30,8 +29,8 @@ use Rattle.pq_session.specs.declared.format.Mark.TheVariants.{Ready, Building}
 use Rattle.pq_session.specs.declared.session.Started.{Started}
 use Rattle.pq_session.specs.Matches.{IsOpening}
 use Rattle.pq_session.specs.Model.{Model}
-use Rattle.pq_session.specs.Opening.{SchemaAndMark, none_added, opening_of, started_of, completion_bound, added_from, catalog_in, IsStarted, IsLeft, IsAsMarked, rows_of_made, rows_left, rows_of_mark, TellsSchema, NamesPair, NamesFlaw, HasFewRows, HasFewLeft, ShowsMarked, intent_ops, HasBuild, IsOpeningBound}
-use Rattle.pq_session.specs.Stands.{HoldsModel, Stands, Opens, Holds, IsFillingLast, content_of, last_made}
+use Rattle.pq_session.specs.Opening.{SchemaAndMark, none_added, opening_of, started_of, completion_bound, added_from, catalog_in, IsStarted, IsLeft, IsAsMarked, rows_of_made, rows_left, rows_of_mark, TellsSchema, NamesPair, NamesFlaw, HasFewLeft, ShowsMarked, intent_ops, HasBuild, IsOpeningBound}
+use Rattle.pq_session.specs.Stands.{HoldsModel, Stands, Opens, Holds, IsFillingLast, content_of}
 use Rattle.pq_session.proofs.Lefts.{filling_in_opens}
 use Rattle.pq_session.proofs.Reopening.{schema_in, mark_in, mark_held, held_tells}
 use Rattle.pq_session.proofs.Standing.{settled_opens}
@@ -176,25 +175,6 @@ tells_schema (Some c) mid now schema session mark at are read few same = record 
 }
 
 -- few enough rows, where so many were completed
-
-pub few_completed : (t : ℕ) (Q : Content → Type 0) (old : Option Content) (r : Result ℕ Broke) → IfOk r (λ count. IfSome old (λ c. (length (row_pairs_in t c) ≡ count) × Q c)) → IfOk r (λ count. count ≤ 1000000)
-    → OnOk r (IfSome old (λ c. length (row_pairs_in t c) ≤ 1000000))
-few_completed t Q old (Err e) ready few = tt
-few_completed t Q None (Ok count) ready few = tt
-few_completed t Q (Some c) (Ok count) ready few = let many = ready.0 in omega (arith, many, few)
-
-pub few_left : (schema : Schema) (target : Target) (query : NewQuery) (old : Option Content) → IsLeft schema target query → IfSome old (λ c. length (row_pairs_in target.table c) ≤ 1000000) → IfSome old (HasFewRows (last_made schema))
-few_left schema target query None left few = tt
-few_left schema target query (Some c) left few =
-    subst (λ (o : Option Made). HasFewRows o c) (sym left.last) (subst (λ (t : Target). length (row_pairs_in t.table c) ≤ 1000000) left.target_is few)
-
-pub few_marked : (schema session : Schema) (mark : Mark) (old : Option Content) → mark ≡ Building → session ≡ schema → IfSome old (HasFewRows (last_made session)) → IfSome old (HasFewLeft schema mark)
-few_marked schema session mark old is same few =
-    subst (λ (k : Mark). IfSome old (HasFewLeft schema k)) (sym is) (subst (λ (x : Schema). IfSome old (HasFewRows (last_made x))) same few)
-
-pub few_ready : (schema : Schema) (mark : Mark) (old : Option Content) → mark ≡ Ready → IfSome old (HasFewLeft schema mark)
-few_ready schema mark None is = tt
-few_ready schema mark (Some c) is = subst (λ (k : Mark). HasFewLeft schema k c) (sym is) tt
 
 -- ---- flaws
 

@@ -1,11 +1,11 @@
 -- The spans of tokens: in order, within the text, and with the form of their kind.
-use Rattle.std.proofs.Common.{◌≡◌, ℕ, zero, suc, ◌+◌, ◌-◌, ◌≤◌, ◌<◌, Bool, true, false, cond, ◌⊎◌, inl, inr, List, [], ◌∷◌, ◌++◌, length, take, get_or, Option, Some, None, refl, sym, ap, subst, ◌∙◌, arith, min, append_assoc, length-append}
+use Rattle.std.proofs.Common.{◌≡◌, ℕ, zero, suc, ◌+◌, ◌-◌, ◌≤◌, ◌<◌, Bool, true, false, cond, ◌⊎◌, inl, inr, List, [], ◌∷◌, ◌++◌, length, take, Option, Some, None, refl, sym, ap, subst, ◌∙◌, arith, min, append_assoc, length-append}
 use Rattle.std.specs.Bool.{IsTrue}
 use Rattle.std.specs.List.{slice_range}
 use Rattle.std.proofs.lemmas.List.{drop_at}
 use Rattle.std.proofs.lemmas.Bool.Decides.{nat_tests}
 use Rattle.pq_text.specs.Forms.{Form, LeftOut, Of, form_of, form_at, is_word, is_number, is_text, is_whole_mark}
-use Rattle.pq_text.specs.Tokens.{Front, or_shorter, longest, char_len, or_character, front_of, put_before, tokens_from, tokens_of, InOrder, slice_of, has_form, HaveForms}
+use Rattle.pq_text.specs.Tokens.{Front, or_shorter, longest, char_len, or_character, front_of, put_before, tokens_from, tokens_of, InOrder, has_form, HaveForms}
 use Rattle.pq_text.specs.declared.token.Kind.{Kind}
 use Rattle.pq_text.specs.declared.token.Kind.TheVariants as kind
 use Rattle.pq_text.specs.declared.token.Token.{Token}
@@ -58,12 +58,6 @@ from_order zero at low (b ∷ bs) end le is =
 pub tokens_in_order : (text : List ℕ) → InOrder 0 (length text) (tokens_of text)
 tokens_in_order text = from_order 0 0 0 text (length text) (omega arith) (omega arith)
 
--- a token in order has a span that isn't empty and lies within
-pub span_within : (at end : ℕ) (ts : List Token) (k : ℕ) (d : Token) → InOrder at end ts → k < length ts → (at ≤ (get_or ts k d).from) × ((get_or ts k d).from < (get_or ts k d).to) × ((get_or ts k d).to ≤ end)
-span_within at end [] k d order lt = absurd (omega arith)
-span_within at end (t ∷ ts) zero d order lt = (order.0, order.1, order.2)
-span_within at end (t ∷ ts) (suc k) d order lt = let s = span_within t.to end ts k d order.3 (omega arith) in (omega (arith, order.0, order.1, s.0), s.1, s.2)
-
 -- which kind the form of a token is, by its tests
 pick : (gap word number text mark other : Bool) (w : List ℕ) (k : Kind) → is_word w ≡ word → is_number w ≡ number → is_text w ≡ text → is_whole_mark w ≡ mark
     → cond gap (Some LeftOut) (cond word (Some (Of kind.Word)) (cond number (Some (Of kind.Number)) (cond text (Some (Of kind.Text)) (cond mark (Some (Of kind.Mark)) (cond other (Some (Of kind.Other)) None))))) ≡ Some (Of k) → IsTrue (has_form k w)
@@ -103,8 +97,3 @@ from_forms pre zero at (b ∷ bs) len =
 -- each token of a text is of its kind's form
 pub tokens_have_forms : (text : List ℕ) → HaveForms text (tokens_of text)
 tokens_have_forms text = from_forms [] 0 0 text refl
-
-pub form_within : (text : List ℕ) (ts : List Token) (k : ℕ) (d : Token) → HaveForms text ts → k < length ts → IsTrue (has_form (get_or ts k d).kind (slice_of text (get_or ts k d)))
-form_within text [] k d have lt = absurd (omega arith)
-form_within text (t ∷ ts) zero d have lt = have.0
-form_within text (t ∷ ts) (suc k) d have lt = form_within text ts k d have.1 (omega arith)
