@@ -1,5 +1,5 @@
 -- Values: their ranges, their kinds, and when a value fits a type.
-use Rattle.std.specs.Prelude.{T, ℕ, ◌≤◌, ◌<◌, ◌^◌, Bool, true, false, ◌&&◌, nat_le, List, [], ◌∷◌, length, IsUtf8, FitsSigned}
+use Rattle.std.specs.Prelude.{T, ◌≤◌, ◌<◌, ◌^◌, Bool, true, false, ◌&&◌, nat_le, List, [], ◌∷◌, length, IsUtf8, FitsSigned}
 use Rattle.std.specs.Int.{w64}
 use Rattle.pq_base.specs.declared.value.Value.{Value}
 use Rattle.pq_base.specs.declared.value.Value.TheVariants as value
@@ -54,10 +54,6 @@ SameKind x y = T (is_kind (kind_of x) (kind_of y))
 -- the same of types, whatever the lengths of texts
 abbrev pub same_kind : ColType → ColType → Bool
 same_kind t u = is_kind (kind_of_type t) (kind_of_type u)
-
--- a value of the type's kind
-abbrev pub is_of_kind : ColType → Value → Bool
-is_of_kind t x = is_kind (kind_of_type t) (kind_of x)
 
 -- the kinds are equal at each place that both have
 abbrev pub SameKinds : List Value → List Value → Type 0

@@ -1,10 +1,10 @@
 -- What shows that a content is damaged: a key, and the value that a call answered for it.
-use Rattle.std.specs.Prelude.{◌≡◌, ◌≢◌, ℕ, ◌<◌, List, [], ◌++◌, length, Option, Some, None, IfSome}
+use Rattle.std.specs.Prelude.{◌≡◌, ◌≢◌, ℕ, List, [], ◌++◌, Option, Some, None, IfSome}
 use Rattle.std.specs.FinMap.{get}
 use Rattle.pq_base.specs.declared.value.ColType.{ColType}
 use Rattle.pq_base.specs.declared.value.Value.{Value}
 use Rattle.pq_base.specs.Values.{AllFit}
-use Rattle.pq_key_code.specs.KeyCode.{row_key, catalog_key, intent_key, past_code}
+use Rattle.pq_key_code.specs.KeyCode.{row_key}
 use Rattle.pq_row_code.specs.RowCode.{row_code}
 use Rattle.pq_schema.specs.declared.table.Access.{Access}
 use Rattle.pq_schema.specs.declared.table.Access.TheVariants.{Secondary}
@@ -13,8 +13,7 @@ use Rattle.pq_schema.specs.Keys.{AllOfKinds, key_types}
 use Rattle.pq_schema.specs.Rows.{IsTableNumber, types_of}
 use Rattle.pq_schema.specs.Sequences.{IsAccess}
 use Rattle.pq_schema.specs.Tables.{table_at}
-use Rattle.pq_store.specs.Breaks.{IsPresent}
-use Rattle.pq_store.specs.Content.{Content, pairs_within}
+use Rattle.pq_store.specs.Content.{Content}
 use Rattle.pq_store.specs.declared.damage.Damage.{Damage}
 use Rattle.pq_calls.specs.Keys.{sequence_key, sequence_types, named_key}
 
@@ -68,20 +67,3 @@ pub record IsNoKey (tables : List Table) (content : Content) (damage : Damage) :
   pub there : get content damage.key ≡ Some value
   pub no_values : (values : List Value) → AllFit (sequence_types (table_at tables table) access) values
       → sequence_key table (table_at tables table) access values ≢ damage.key
-
--- the key of a definition whose index is being filled, for a table of too many rows
-pub record IsTooMany (tables : List Table) (definition : ℕ) (content : Content) (damage : Damage) : Type 0 where
-  pub table : ℕ
-  pub number : IsTableNumber tables table
-  pub at : damage.key ≡ catalog_key definition
-  pub has : damage.value ≡ None
-  pub many : 1000000 < length (pairs_within content (row_key table []) (past_code (row_key table [])))
-
--- all that shows damage in a content of these tables, while the definition of a number is made
-pub data Shows (tables : List Table) (definition : ℕ) (content : Content) (damage : Damage) : Type 0 where
-  no_row : IsNoRow tables content damage → Shows tables definition content damage
-  missing_row : IsMissingRow tables content damage → Shows tables definition content damage
-  no_key : IsNoKey tables content damage → Shows tables definition content damage
-  intent_there : IsPresent intent_key content damage → Shows tables definition content damage
-  definition_there : IsPresent (catalog_key definition) content damage → Shows tables definition content damage
-  too_many : IsTooMany tables definition content damage → Shows tables definition content damage

@@ -1,12 +1,12 @@
 -- The readers of the parts of a table's definition read what the grammar says.
 use Rattle.std.proofs.Common.{◌≡◌, ℕ, ℤ, false, List, ◌++◌, inl, inr, refl, sym, subst}
-use Rattle.pq_grammar.specs.Language.{◌⋅◌, each, separated_by, made_from, one_or_other}
+use Rattle.pq_grammar.specs.Language.{◌⋅◌, each, separated_by, made_from}
 use Rattle.pq_grammar.specs.Reader.{begins, pair_at, skip_at, close_at, map_at, many_at}
 use Rattle.pq_grammar.proofs.Steps.{Reads, never, begins-never}
 use Rattle.pq_grammar.proofs.Readers.{close_reads, map_reads}
 use Rattle.pq_grammar.proofs.Repeats.{many_reads}
 use Rattle.pq_grammar.proofs.Lists.{one_opens, then_opens, one_shuts, then_shuts, pair_free, skip_free, close_free, same_set, ended_reads}
-use Rattle.pq_grammar.proofs.Choices.{made_reads, choice_reads}
+use Rattle.pq_grammar.proofs.Choices.{made_reads, choice_reads, one_or_other}
 use Rattle.pq_shape.specs.Front.{is_word, is_mark, is_name, word_at, mark_at, name_at, number_at}
 use Rattle.pq_shape.specs.Parts.{word, mark, comma, name, number}
 use Rattle.pq_shape.proofs.Tokens.{word_reads, mark_reads, name_reads, number_reads, comma_separated}

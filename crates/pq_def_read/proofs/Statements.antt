@@ -1,13 +1,13 @@
 -- The reader of statements reads what the grammar says.
 use Rattle.std.proofs.Common.{◌≡◌, ℕ, true, false, List, [], ◌∷◌, ◌++◌, Option, Some, None, inl, inr, refl, sym, ap, subst, ◌∙◌}
 use Rattle.pq_base.specs.declared.value.Value.{Value}
-use Rattle.pq_grammar.specs.Language.{◌⋅◌, anything, optional, separated_by, listed_by, made_from, one_or_other}
+use Rattle.pq_grammar.specs.Language.{◌⋅◌, anything, optional, separated_by, listed_by, made_from}
 use Rattle.pq_grammar.specs.Reader.{Reader, begins, pair_at, skip_at, close_at, map_at, option_at, items_of, rest_at}
 use Rattle.pq_grammar.proofs.Steps.{Reads, never, first_of_list, begins-never, wider_reads}
 use Rattle.pq_grammar.proofs.Readers.{pair_reads, close_reads, map_reads}
 use Rattle.pq_grammar.proofs.Options.{always, option_reads, rest_reads}
 use Rattle.pq_grammar.proofs.Lists.{one_opens, then_opens, one_shuts, then_shuts, pair_free, skip_free, close_free, same_set, separated_reads}
-use Rattle.pq_grammar.proofs.Choices.{made_reads, choice_reads, listed_reads, begins_with, first_of_then, any_of, not_first, not_second}
+use Rattle.pq_grammar.proofs.Choices.{made_reads, choice_reads, listed_reads, begins_with, first_of_then, any_of, not_first, not_second, one_or_other}
 use Rattle.pq_shape.specs.Front.{is_word, is_mark, is_value, word_at, mark_at, name_at, text_at, value_at}
 use Rattle.pq_shape.specs.Parts.{word, mark, comma, name, text, a_value}
 use Rattle.pq_shape.proofs.Tokens.{word_reads, mark_reads, name_reads, text_reads, value_reads, value_opens, comma_separated}

@@ -1,10 +1,14 @@
 -- Readers of one set or another, of lists that may be empty, and of what a function makes.
 use Rattle.std.proofs.Common.{◌≡◌, ℕ, Bool, true, false, cond, List, [], ◌∷◌, ◌++◌, Option, Some, None, Result, Ok, Err, ◌⊎◌, inl, inr, refl, ap, ◌∙◌}
-use Rattle.pq_grammar.specs.Language.{◌⋅◌, one, optional, separated_by, listed_by, made_from, one_or_other}
-use Rattle.pq_grammar.specs.Reader.{◌>>=◌, Reader, begins, test_of, test_at, map_at, either_at, choice_at, option_at, separated_at, items_of, listed_at}
+use Rattle.pq_grammar.specs.Language.{◌⋅◌, one, optional, separated_by, listed_by, made_from}
+use Rattle.pq_grammar.specs.Reader.{◌>>=◌, Reader, begins, test_of, test_at, map_at, choice_at, option_at, separated_at, items_of, listed_at}
 use Rattle.pq_grammar.proofs.Steps.{Reads, never, first_of_list, begins-append}
 use Rattle.pq_grammar.proofs.Readers.{read, one_reads, same_reads, map_reads}
-use Rattle.pq_grammar.proofs.Options.{either_reads, option_reads, Either}
+use Rattle.pq_grammar.proofs.Options.{either_reads, option_reads, Either, either_at}
+
+-- spelled by one set or by the other
+abbrev pub one_or_other : {T X : Type 0} → (X → List T → Type 0) → (X → List T → Type 0) → X → List T → Type 0
+one_or_other S U x w = S x w ⊎ U x w
 
 -- ---- one token
 

@@ -1,13 +1,17 @@
 -- Loops over repeated parts.
 use Rattle.std.proofs.Common.{◌≡◌, ℕ, zero, suc, ◌≤◌, Bool, true, false, List, [], ◌∷◌, ◌++◌, length, Result, Ok, Err, refl, sym, ap, ◌∙◌, append_assoc, arith}
 use Rattle.std.proofs.lemmas.List.{append-nil}
-use Rattle.pq_grammar.specs.Reader.{◌>>=◌, Reader, begins, pair_at, map_at, many_within, many_at, with_front}
+use Rattle.pq_grammar.specs.Reader.{◌>>=◌, Reader, begins, pair_at, map_at, many_within, many_at}
 use Rattle.pq_grammar.specs.Answers.{Fails}
 use Rattle.pq_grammar.specs.Shrinking.{Shrinks}
 use Rattle.pq_grammar.specs.declared.fault.ReadError.{ReadError}
 use Rattle.pq_grammar.specs.declared.fault.ReadError.TheVariants as errors
 use Rattle.pq_grammar.proofs.Readers.{read}
 use Rattle.pq_grammar.proofs.Repeats.{many_goes, many_stops, cons}
+
+-- the items before
+abbrev pub with_front : {T A : Type 0} → List A → Result (List A × List T) ℕ → Result (List A × List T) ℕ
+with_front front read = read >>= λ x. Ok (front ++ x.0, x.1)
 
 pub front_more : {T X : Type 0} (front : List X) (x : X) (read : Result (List X × List T) ℕ) → with_front front (read >>= cons x) ≡ with_front (front ++ x ∷ []) read
 unfolding cons

@@ -1,10 +1,14 @@
 -- A choice by the first token, nothing, whatever is left, and an option.
-use Rattle.std.proofs.Common.{◌≡◌, ℕ, Bool, true, false, cond, List, [], ◌∷◌, ◌++◌, Option, Some, None, Result, Ok, Err, ◌⊎◌, inl, inr, refl, sym, ap, subst, ◌∙◌}
+use Rattle.std.proofs.Common.{◌≡◌, ℕ, Bool, true, false, cond, List, [], ◌∷◌, ◌++◌, Option, Some, None, Result, Ok, Err, ◌⊎◌, inl, inr, refl, sym, ap, subst, ◌∙◌, if◌then◌else◌}
 use Rattle.std.proofs.lemmas.List.{append-nil}
 use Rattle.pq_grammar.specs.Language.{nothing, anything, optional}
-use Rattle.pq_grammar.specs.Reader.{◌>>=◌, Reader, begins, map_at, either_at, nothing_at, rest_at, option_at}
+use Rattle.pq_grammar.specs.Reader.{◌>>=◌, Reader, begins, map_at, nothing_at, rest_at, option_at}
 use Rattle.pq_grammar.proofs.Steps.{bind_ok, bind_err, ok_is, first_of_list, begins-append, begins-same, first-append, Found, Stuck, Reads}
 use Rattle.pq_grammar.proofs.Readers.{same_reads, map_reads, read}
+
+-- the first where one of its tokens comes, else the second
+abbrev pub either_at : {T A B : Type 0} → (T → Bool) → Reader T A → Reader T B → Reader T (A ⊎ B)
+either_at p r s ts = if begins p ts then (r ts >>= λ a. Ok (inl a.0, a.1)) else (s ts >>= λ b. Ok (inr b.0, b.1))
 
 -- ---- a choice by the first token
 

@@ -1,5 +1,5 @@
 -- Sets of token lists: how something may be spelled. T is the type of the tokens.
-use Rattle.std.specs.Prelude.{◌≡◌, ℕ, ◌+◌, ◌≤◌, ◌<◌, List, [], ◌∷◌, ◌++◌, length, take, Option, Some, None, ◌⊎◌}
+use Rattle.std.specs.Prelude.{◌≡◌, ℕ, ◌+◌, ◌≤◌, ◌<◌, List, [], ◌∷◌, ◌++◌, length, take, Option, Some, None}
 
 -- a list of the first set, and then one of the second
 pub record Then {T : Type 0} (A B : List T → Type 0) (w : List T) : Type 0 where
@@ -48,10 +48,6 @@ listed_by B S (x ∷ xs) = separated_by B S (x ∷ xs)
 -- what f makes of what a set spells
 abbrev pub made_from : {T A B : Type 0} → (A → B) → (A → List T → Type 0) → B → List T → Type 0
 made_from {T} {A} f S y w = (x : A) × (f x ≡ y) × S x w
-
--- spelled by one set or by the other
-abbrev pub one_or_other : {T X : Type 0} → (X → List T → Type 0) → (X → List T → Type 0) → X → List T → Type 0
-one_or_other S U x w = S x w ⊎ U x w
 
 -- something begins with these tokens
 abbrev pub IsViable : {T X : Type 0} → (X → List T → Type 0) → List T → Type 0

@@ -1,6 +1,5 @@
 -- Reading from left to right. An error is the number of tokens that are left where reading stopped.
-use Rattle.std.specs.Prelude.{ℕ, zero, suc, Bool, false, List, [], ◌∷◌, ◌++◌, length, Option, Some, None, Result, Ok, Err, if◌then◌else◌, ◌⊎◌}
-use Rattle.std.proofs.Common.{inl, inr}
+use Rattle.std.specs.Prelude.{ℕ, zero, suc, Bool, false, List, [], ◌∷◌, length, Option, Some, None, Result, Ok, Err, if◌then◌else◌}
 
 infixl 10 ◌>>=◌
 abbrev pub ◌>>=◌ : {A B : Type 0} → Result A ℕ → (A → Result B ℕ) → Result B ℕ
@@ -50,10 +49,6 @@ close_at r s ts = r ts >>= λ a. s a.1 >>= λ b. Ok (a.0, b.1)
 abbrev pub map_at : {T A B : Type 0} → (A → B) → Reader T A → Reader T B
 map_at f r ts = r ts >>= λ a. Ok (f a.0, a.1)
 
--- the first where one of its tokens comes, else the second
-abbrev pub either_at : {T A B : Type 0} → (T → Bool) → Reader T A → Reader T B → Reader T (A ⊎ B)
-either_at p r s ts = if begins p ts then (r ts >>= λ a. Ok (inl a.0, a.1)) else (s ts >>= λ b. Ok (inr b.0, b.1))
-
 -- the first where one of its tokens comes, else the second, which give the same kind of value
 abbrev pub choice_at : {T A : Type 0} → (T → Bool) → Reader T A → Reader T A → Reader T A
 choice_at p r s ts = if begins p ts then r ts else s ts
@@ -90,10 +85,6 @@ items_of (Some xs) = xs
 -- token of the second
 abbrev pub listed_at : {T A : Type 0} → (T → Bool) → (T → Bool) → Reader T (Unit {0}) → Reader T A → Reader T (List A)
 listed_at o p s r = map_at items_of (option_at o (separated_at p s r))
-
--- the items before
-abbrev pub with_front : {T A : Type 0} → List A → Result (List A × List T) ℕ → Result (List A × List T) ℕ
-with_front front read = read >>= λ x. Ok (front ++ x.0, x.1)
 
 -- what was read, if no token is left
 abbrev pub ended_read : {T X : Type 0} → X → List T → Result X ℕ

@@ -25,8 +25,7 @@ use Rattle.pq_store.specs.Content.{key_cmp}
 use Rattle.pq_plan.specs.Answer.{values_at, position, by_position, in_order, past}
 use Rattle.pq_nodes.specs.Combos.{FitsTables, position_types}
 use Rattle.pq_nodes.proofs.Fitting.{position_fits}
-use Rattle.pq_serving.specs.Keys.{Fits}
-use Rattle.pq_serving.proofs.Keys.{fits_values, fits_kinds}
+use Rattle.pq_serving.proofs.Keys.{Fits, fits_values, fits_kinds}
 use Rattle.pq_serving.proofs.Scans.{sort_alike, sort_by-map}
 use Rattle.pq_serving.proofs.Typed.{kind_from_fit}
 use Rattle.pq_local_ops.specs.Codes.{code_at, is_above, coded_combo}

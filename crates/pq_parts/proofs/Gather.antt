@@ -16,7 +16,7 @@ use Rattle.pq_parts.specs.declared.part.Part.{Part}
 use Rattle.pq_parts.specs.Clips.{is_before}
 use Rattle.pq_parts.specs.Spans.{Span, is_of, span_of, spans, first_from, meets, own, concatenation, joined_content, number_met, IsPieceOf, IsPlacement}
 use Rattle.pq_parts.specs.Tally.{TalliedCalls, HasAsked}
-use Rattle.pq_parts.specs.Gathered.{begin_of, LinkedSpans, HasCome, LeavesRange, IsGathered, IsPieceAt, LeavesCount, IsCounted, IsCountAt}
+use Rattle.pq_parts.specs.Gathered.{begin_of, LinkedSpans, HasCome, LeavesRange, IsGathered, IsPieceAt, IsCountAt}
 use Rattle.pq_parts.proofs.Clips.{lt_le, lt_is_le, second_of_two, first_of_two}
 use Rattle.pq_parts.proofs.Asked.{not_asked, called_more, called_fewer}
 use Rattle.pq_parts.proofs.Pairs.{rising_both}
@@ -172,6 +172,21 @@ gather_all list links before now low high limit found gathered = go (concatenati
         append-nil : (xs : Pairs) → xs ++ [] ≡ xs
         append-nil [] = refl
         append-nil (x ∷ xs) = ap (λ rest. x ∷ rest) (append-nil xs)
+
+-- the parts from the place on have the rest of the number
+pub record LeavesCount (spans : List Span) (at : ℕ) (low high : List ℕ) (cap n : ℕ)
+    (pairs : List (List ℕ × List ℕ)) : Type 0 where
+  pub rest : List (List ℕ × List ℕ)
+  pub behind : concatenation (drop at spans) ≡ Some rest
+  pub whole : n + min (cap - n) (length (filter (is_within low high) rest))
+      ≡ min cap (length (filter (is_within low high) pairs))
+
+-- the number of the parts before the place
+pub record IsCounted (spans : List Span) (before now : TalliedCalls) (at : ℕ) (low high : List ℕ) (cap n : ℕ) : Type 0 where
+  pub come : HasCome spans before now at low high n
+  pub few : n ≤ cap
+  pub answer : (pairs : List (List ℕ × List ℕ)) → concatenation spans ≡ Some pairs
+      → LeavesCount spans at low high cap n pairs
 
 -- ---- the number of a range
 pub count_more : (list : List Span) → (before mid now : TalliedCalls) (at : ℕ) (low high : List ℕ) (cap n more : ℕ) (span : Span) {A : Type 0} (x : A)

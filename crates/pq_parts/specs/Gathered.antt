@@ -61,18 +61,3 @@ pub record IsGathered (spans : List Span) (before now : TalliedCalls) (at : ℕ)
   pub passed : list_all (λ pair. is_before pair.0 (begin_of (drop at spans))) found ≡ true
   pub answer : (pairs : List (List ℕ × List ℕ)) → concatenation spans ≡ Some pairs
       → LeavesRange spans at low high limit found pairs
-
--- the parts from the place on have the rest of the number
-pub record LeavesCount (spans : List Span) (at : ℕ) (low high : List ℕ) (cap n : ℕ)
-    (pairs : List (List ℕ × List ℕ)) : Type 0 where
-  pub rest : List (List ℕ × List ℕ)
-  pub behind : concatenation (drop at spans) ≡ Some rest
-  pub whole : n + min (cap - n) (length (filter (is_within low high) rest))
-      ≡ min cap (length (filter (is_within low high) pairs))
-
--- the number of the parts before the place
-pub record IsCounted (spans : List Span) (before now : TalliedCalls) (at : ℕ) (low high : List ℕ) (cap n : ℕ) : Type 0 where
-  pub come : HasCome spans before now at low high n
-  pub few : n ≤ cap
-  pub answer : (pairs : List (List ℕ × List ℕ)) → concatenation spans ≡ Some pairs
-      → LeavesCount spans at low high cap n pairs

@@ -34,7 +34,7 @@ use Rattle.pq_query_read.specs.declared.select.OperandDef.TheVariants as operand
 use Rattle.pq_query_read.specs.declared.select.PredDef.{PredDef}
 use Rattle.pq_query_read.specs.declared.select.StopDef.{StopDef}
 use Rattle.pq_query_read.specs.declared.select.StopDef.TheVariants as stop_def
-use Rattle.pq_query_read.specs.Spelled.{IsOperandDef, IsPredDef}
+use Rattle.pq_query_read.proofs.Spelled.{IsOperandDef, IsPredDef}
 use Rattle.pq_query_read.specs.Trying.{◌>>=◌, or_refused, passed_unless, each_after}
 use Rattle.pq_query_read.proofs.Trying.{SameOk, both, there, not_so, same_answer, each_keeps}
 use Rattle.pq_query_read.specs.Columns.{IsIn, ref_of, type_of}

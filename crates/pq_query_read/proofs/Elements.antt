@@ -2,13 +2,13 @@
 use Rattle.std.proofs.Common.{◌≡◌, ℕ, ℤ, Bool, true, false, cond, List, [], ◌∷◌, ◌++◌, Option, Some, None, inl, inr, refl, ap, subst, ◌∙◌}
 use Rattle.pq_base.specs.declared.value.Dir.{Dir}
 use Rattle.pq_base.specs.declared.value.Dir.TheVariants as dir
-use Rattle.pq_grammar.specs.Language.{◌⋅◌, nothing, optional, made_from, one_or_other}
+use Rattle.pq_grammar.specs.Language.{◌⋅◌, nothing, optional, made_from}
 use Rattle.pq_grammar.specs.Reader.{Reader, begins, picked_token, pair_at, skip_at, choice_at}
 use Rattle.pq_grammar.proofs.Steps.{Reads, never, begins-never, wider_reads}
 use Rattle.pq_grammar.proofs.Readers.{pair_reads, map_reads}
 use Rattle.pq_grammar.proofs.Options.{option_reads}
 use Rattle.pq_grammar.proofs.Lists.{one_opens, then_opens, one_shuts, then_shuts, pair_free, skip_free, same_set}
-use Rattle.pq_grammar.proofs.Choices.{made_reads, choice_reads, any_of, not_first, not_second}
+use Rattle.pq_grammar.proofs.Choices.{made_reads, choice_reads, any_of, not_first, not_second, one_or_other}
 use Rattle.pq_shape.specs.Front.{is_word, is_mark, is_name, word_at, mark_at, name_at, number_at}
 use Rattle.pq_shape.specs.Parts.{word, mark, comma, name, number}
 use Rattle.pq_shape.proofs.Tokens.{word_reads, mark_reads, name_reads, number_reads}

@@ -13,6 +13,7 @@ pub mod ResolvedQuery
 pub mod Names
 pub mod Named
 pub mod Within
+pub mod Spelled
 pub mod SpelledQueries
 pub mod QueryAnswers
 pub mod ResolvedRows

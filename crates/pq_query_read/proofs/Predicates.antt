@@ -1,13 +1,13 @@
 -- The readers of predicates read what the grammar says.
 use Rattle.std.proofs.Common.{◌≡◌, ℕ, ℤ, true, false, List, [], ◌∷◌, ◌++◌, Option, inl, inr, refl, ap, subst, ◌∙◌, append_assoc}
 use Rattle.pq_base.specs.declared.value.Value.{Value}
-use Rattle.pq_grammar.specs.Language.{◌⋅◌, optional, made_from, one_or_other}
+use Rattle.pq_grammar.specs.Language.{◌⋅◌, optional, made_from}
 use Rattle.pq_grammar.specs.Reader.{begins, pair_at, skip_at, map_at}
 use Rattle.pq_grammar.proofs.Steps.{Reads, never}
 use Rattle.pq_grammar.proofs.Readers.{pair_reads, close_reads, map_reads}
 use Rattle.pq_grammar.proofs.Options.{option_reads}
 use Rattle.pq_grammar.proofs.Lists.{one_opens, then_opens, one_shuts, then_shuts, pair_free, skip_free, same_set}
-use Rattle.pq_grammar.proofs.Choices.{made_reads, choice_reads}
+use Rattle.pq_grammar.proofs.Choices.{made_reads, choice_reads, one_or_other}
 use Rattle.pq_shape.specs.Front.{is_mark, is_name, is_value, mark_at, name_at, number_at, value_at}
 use Rattle.pq_shape.specs.Parts.{mark, name, number, a_value}
 use Rattle.pq_shape.proofs.Tokens.{mark_reads, name_reads, number_reads, value_reads, value_opens}

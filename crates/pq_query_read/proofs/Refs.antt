@@ -23,7 +23,7 @@ use Rattle.pq_base.specs.Members.{In}
 use Rattle.pq_base.proofs.Members.{in_range}
 use Rattle.pq_query_read.specs.declared.select.RefDef.{RefDef}
 use Rattle.pq_query_read.specs.declared.select.RelationDef.{RelationDef}
-use Rattle.pq_query_read.specs.Spelled.{IsRelationDef}
+use Rattle.pq_query_read.proofs.Spelled.{IsRelationDef}
 use Rattle.pq_query_read.specs.Trying.{◌>>=◌, or_refused, passed_unless, each_after}
 use Rattle.pq_query_read.proofs.Parameters.{in_found}
 use Rattle.pq_query_read.proofs.Trying.{SameOk, both, there, not_so, same_answer, each_keeps}

@@ -36,7 +36,7 @@ use Rattle.pq_query_read.specs.declared.select.Selected.TheVariants as selected
 use Rattle.pq_query_read.specs.Columns.{columns_at, numbers, ref_of, type_of, all_of, selected_of, IsIn}
 use Rattle.pq_query_read.specs.Parameters.{use_in, uses, params_of}
 use Rattle.pq_query_read.specs.Resolving.{counts_refusal, is_outside_selected, relation_of, pred_of, item_of, stop_of, resolved_select}
-use Rattle.pq_query_read.specs.Spelled.{IsSelectDef}
+use Rattle.pq_query_read.proofs.Spelled.{IsSelectDef}
 use Rattle.pq_query_read.specs.Trying.{◌>>=◌, passed_unless, each_after}
 use Rattle.pq_query_read.proofs.Trying.{both, no_refusal, same_answer, each_long}
 use Rattle.pq_query_read.proofs.Refs.{relations_made, refs_found}

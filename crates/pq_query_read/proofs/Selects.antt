@@ -1,13 +1,13 @@
 -- The reader of queries reads what the grammar says.
 use Rattle.std.proofs.Common.{◌≡◌, ℕ, Bool, true, false, List, [], ◌∷◌, ◌++◌, Option, Some, None, ◌⊎◌, inl, inr, refl, sym, ap, subst, ◌∙◌}
 use Rattle.std.proofs.lemmas.Bool.{eqb-true}
-use Rattle.pq_grammar.specs.Language.{◌⋅◌, nothing, one, optional, separated_by, made_from, one_or_other}
+use Rattle.pq_grammar.specs.Language.{◌⋅◌, nothing, one, optional, separated_by, made_from}
 use Rattle.pq_grammar.specs.Reader.{begins, pair_at, skip_at, close_at, option_at, items_of}
 use Rattle.pq_grammar.proofs.Steps.{Reads, never, first_of_list, begins-never, wider_reads}
 use Rattle.pq_grammar.proofs.Readers.{pair_reads, close_reads, map_reads}
 use Rattle.pq_grammar.proofs.Options.{option_reads}
 use Rattle.pq_grammar.proofs.Lists.{one_opens, then_opens, one_shuts, then_shuts, skip_free, same_set, separated_reads}
-use Rattle.pq_grammar.proofs.Choices.{made_reads, choice_reads, begins_with, any_of, not_first, not_second}
+use Rattle.pq_grammar.proofs.Choices.{made_reads, choice_reads, begins_with, any_of, not_first, not_second, one_or_other}
 use Rattle.pq_shape.specs.Front.{is_word, is_mark, is_name, word_at, mark_at}
 use Rattle.pq_shape.specs.Parts.{word, mark, comma}
 use Rattle.pq_shape.proofs.Tokens.{word_reads, mark_reads}

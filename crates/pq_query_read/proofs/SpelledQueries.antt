@@ -37,7 +37,7 @@ use Rattle.pq_query_read.specs.declared.select.OperandDef.{OperandDef}
 use Rattle.pq_query_read.specs.declared.select.OperandDef.TheVariants as operand
 use Rattle.pq_query_read.specs.declared.select.SelectDef.{SelectDef}
 use Rattle.pq_query_read.proofs.Selects.{select_reads}
-use Rattle.pq_query_read.specs.Spelled.{IsRelationDef, IsOperandDef, IsPredDef, IsSelectDef}
+use Rattle.pq_query_read.proofs.Spelled.{IsRelationDef, IsOperandDef, IsPredDef, IsSelectDef}
 
 -- ---- shapes
 

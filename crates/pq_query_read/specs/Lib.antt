@@ -6,5 +6,4 @@ pub mod Columns
 pub mod Compared
 pub mod Parameters
 pub mod Resolving
-pub mod Spelled
 pub mod Queries

@@ -24,7 +24,7 @@ use Rattle.pq_query_read.specs.declared.select.SelectDef.{SelectDef}
 use Rattle.pq_query_read.proofs.Selects.{select_reads}
 use Rattle.pq_reread.specs.Orderly.{AreOrderly}
 use Rattle.pq_reread.specs.Printed.{joins_none}
-use Rattle.pq_reread.specs.SaidQuery.{said_query}
+use Rattle.pq_reread.proofs.SaidQuery.{said_query}
 use Rattle.pq_reread.proofs.Heads.{head_and_rest}
 use Rattle.pq_reread.proofs.Named.{statement_spelled}
 use Rattle.pq_reread.proofs.Prints.{whole, whole_utf8}

@@ -10,6 +10,7 @@ pub mod Defined
 pub mod Orders
 pub mod Parameters
 pub mod Pairs
+pub mod SaidQuery
 pub mod SelectPrints
 pub mod Resolves
 pub mod Again

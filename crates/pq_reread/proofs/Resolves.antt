@@ -39,7 +39,7 @@ use Rattle.pq_query_read.specs.Resolving.{counts_refusal, relation_of, relations
 use Rattle.pq_query_read.specs.Resolving.{stop_size as size_of}
 use Rattle.pq_query_read.specs.Trying.{◌>>=◌, or_refused, passed_unless, each_after}
 use Rattle.pq_reread.specs.Orderly.{AreOrderly}
-use Rattle.pq_reread.specs.SaidQuery.{said_relation, said_stop, said_ref, said_operand, said_pred, said_item, said_query}
+use Rattle.pq_reread.proofs.SaidQuery.{said_relation, said_stop, said_ref, said_operand, said_pred, said_item, said_query}
 use Rattle.pq_reread.proofs.Alls.{one_by_one}
 use Rattle.pq_reread.proofs.Orders.{found_at, column_found, table_found}
 use Rattle.pq_reread.proofs.Parameters.{few_params, params_again}

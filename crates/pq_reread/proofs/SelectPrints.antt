@@ -43,7 +43,7 @@ use Rattle.pq_query_read.specs.declared.select.OperandDef.TheVariants as operand
 use Rattle.pq_reread.specs.Orderly.{IsOrderly, AreOrderly}
 use Rattle.pq_reread.specs.Printed.{joins_none, is_quote}
 use Rattle.pq_reread.specs.Said.{Pairwise}
-use Rattle.pq_reread.specs.SaidQuery.{said_relation, said_stop, said_ref, said_operand, said_pred, said_item, said_query}
+use Rattle.pq_reread.proofs.SaidQuery.{said_relation, said_stop, said_ref, said_operand, said_pred, said_item, said_query}
 use Rattle.pq_reread.proofs.Alls.{each_place, one_by_one}
 use Rattle.pq_reread.proofs.Keywords.{false_prints, keyword_prints, true_prints}
 use Rattle.pq_reread.proofs.Pairs.{pairs_of}

@@ -21,10 +21,10 @@ use Rattle.pq_plan.specs.Meaning.{keeps}
 use Rattle.pq_plan.specs.Running.{tied_value}
 use Rattle.pq_base.proofs.Sets.{set_members}
 use Rattle.pq_plan.proofs.Fixed.{last, earlier_row, tied_one}
-use Rattle.pq_serving.specs.Starts.{filled_values, own_count, own, reaches, start_of}
+use Rattle.pq_serving.specs.Starts.{filled_values, reaches, start_of}
 use Rattle.pq_serving.specs.Scanning.{constant_value, constant, constants, position_directions, front, rest, cells_of}
 use Rattle.pq_serving.proofs.Columns.{map_twice, map-append}
-use Rattle.pq_serving.proofs.Places.{fill, own_is, count_is, order_law, start_law, front_law}
+use Rattle.pq_serving.proofs.Places.{fill, own_is, count_is, order_law, start_law, front_law, own_count, own}
 use Rattle.pq_serving.proofs.Served.{IsServed, kept_front}
 
 -- the values of a row at the rest's columns

@@ -33,12 +33,11 @@ use Rattle.pq_base.proofs.Members.{in_take, in_filter, get_at}
 use Rattle.pq_plan.proofs.Orders.{in_permuted}
 use Rattle.std.proofs.lemmas.List.Sorted.{IsPermutation-sym}
 use Rattle.pq_serving.specs.Starts.{filled_values}
-use Rattle.pq_serving.specs.Scanning.{is_after, position_directions, constants, passes, lies_within, rest, cells_of, found}
-use Rattle.pq_serving.specs.Keys.{Fits}
-use Rattle.pq_serving.proofs.Keys.{fits_values, fits_kinds}
+use Rattle.pq_serving.specs.Scanning.{position_directions, constants, passes, lies_within, rest, cells_of, found}
+use Rattle.pq_serving.proofs.Keys.{Fits, fits_values, fits_kinds}
 use Rattle.pq_serving.proofs.Served.{HasColumns, IsServed}
 use Rattle.pq_serving.proofs.Constants.{position_is}
-use Rattle.pq_serving.proofs.Rows.{row_after}
+use Rattle.pq_serving.proofs.Rows.{row_after, is_after}
 use Rattle.pq_serving.proofs.Scans.{sort_alike}
 
 module _ (q : Question) (p : ℕ) (sequence : List KeyPart) (after : Option (List Value)) (k : ℕ) (c : List (List Value)) where

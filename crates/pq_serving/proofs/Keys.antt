@@ -5,7 +5,7 @@ use Rattle.std.specs.declared.cmp.Ordering.TheVariants.{Less, Equal, Greater}
 use Rattle.std.specs.Ordering.{nat_cmp, is_lt, is_le, is_gt, is_eq, ordering_then, ordering_reverse}
 use Rattle.std.specs.Cmp.{upto}
 use Rattle.std.specs.Cmp.Lexicographic.{nat_list_cmp_total}
-use Rattle.std.specs.List.{list_all}
+use Rattle.std.specs.List.{list_all, AllByRecursion}
 use Rattle.std.proofs.lemmas.Bool.{false≢true}
 use Rattle.std.proofs.lemmas.Bool.Decides.{nat_tests}
 use Rattle.pq_base.specs.declared.value.Dir.{Dir}
@@ -25,7 +25,17 @@ use Rattle.pq_content.proofs.Ranges.{in_range}
 use Rattle.pq_plan.specs.Answer.{Question}
 use Rattle.pq_serving.specs.Starts.{Bound, reaches, under}
 use Rattle.pq_serving.specs.Scanning.{ties, lows, highs, lies_within}
-use Rattle.pq_serving.specs.Keys.{bound_key, higher, lesser, highest, lowest, Fits, AreFit, range_low, range_high}
+use Rattle.pq_serving.specs.Keys.{bound_key, higher, lesser, highest, lowest, range_low, range_high}
+
+-- values of these types' kinds, place by place, as far as they go
+abbrev pub Fits : List ColType → List Value → Type 0
+Fits [] [] = Unit {0}
+Fits (t ∷ ts) [] = Unit {0}
+Fits [] (x ∷ xs) = ⊥
+Fits (t ∷ ts) (x ∷ xs) = IsOfKind t x × Fits ts xs
+
+abbrev pub AreFit : List ColType → List Bound → Type 0
+AreFit ts bs = AllByRecursion (λ b. Fits ts b.values) bs
 
 -- ---- kinds
 kind_value : (t : ColType) (x : Value) → IsOfKind t x → IsValue x

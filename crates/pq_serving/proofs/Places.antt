@@ -1,5 +1,5 @@
 -- Positions of one input: places that are constant, and the sequence's rest between them.
-use Rattle.std.proofs.Common.{◌≡◌, suc, ◌≤◌, Bool, true, false, cond, List, [], ◌∷◌, ◌++◌, length, map, filter, Option, Some, None, inl, inr, refl, sym, ap, ◌∙◌, arith}
+use Rattle.std.proofs.Common.{◌≡◌, suc, ◌≤◌, Bool, true, false, cond, List, [], ◌∷◌, ◌++◌, length, map, filter, Option, Some, None, inl, inr, refl, sym, ap, ◌∙◌, arith, ℕ}
 use Rattle.std.specs.declared.cmp.Ordering.{Ordering}
 use Rattle.std.specs.declared.cmp.Ordering.TheVariants.{Less, Equal, Greater}
 use Rattle.std.specs.Ordering.{is_lt, is_le, ordering_then, ordering_reverse}
@@ -12,7 +12,19 @@ use Rattle.pq_base.specs.Members.{In}
 use Rattle.pq_key_code.specs.KeyOrder.{common_cmp}
 use Rattle.pq_key_code.proofs.Order.{position_cmp-same_length}
 use Rattle.pq_plan.proofs.ValueOrder.{value_cmp_total, value_cmp_only}
-use Rattle.pq_serving.specs.Starts.{Bound, filled_values, own_count, own, by_case, reaches, start_of, under}
+use Rattle.pq_serving.specs.Starts.{Bound, filled_values, by_case, reaches, start_of, under}
+
+-- how many places are not constant
+abbrev pub own_count : {A : Type 0} → List (Option A) → ℕ
+own_count [] = 0
+own_count (Some v ∷ gs) = own_count gs
+own_count (None ∷ gs) = suc (own_count gs)
+
+-- what stands beside the places that are not constant
+abbrev pub own : {A B : Type 0} → List A → List (Option B) → List A
+own (d ∷ ds) (Some v ∷ gs) = own ds gs
+own (d ∷ ds) (None ∷ gs) = d ∷ own ds gs
+own _ _ = []
 
 same_directed : (d : Dir) (x : Value) → directed_order d (value_cmp x x) ≡ Equal
 same_directed Asc x = tied_itself value_cmp_total x

@@ -2,7 +2,7 @@
 use Rattle.std.proofs.Common.{◌≡◌, ℕ, zero, suc, ◌<◌, Bool, true, false, cond, not, ◌&&◌, ◌==◌, inl, inr, List, [], ◌∷◌, ◌++◌, length, get_or, map, flat_map, drop, take, count_ones, Option, Some, None, slice_get, unwrap_or, refl, sym, ap, ◌∙◌, subst}
 use Rattle.std.specs.declared.cmp.Ordering.{Ordering}
 use Rattle.std.specs.declared.cmp.Ordering.TheVariants.{Less, Equal, Greater}
-use Rattle.std.specs.Ordering.{is_eq}
+use Rattle.std.specs.Ordering.{is_eq, is_lt}
 use Rattle.std.specs.List.{list_all}
 use Rattle.std.proofs.lemmas.Bool.{and_parts, and_from, eqb-true, false≢true}
 use Rattle.std.proofs.lemmas.List.{length-map}
@@ -16,7 +16,7 @@ use Rattle.pq_schema.specs.declared.query.Op.{Op}
 use Rattle.pq_schema.specs.declared.query.Pred.{Pred}
 use Rattle.pq_schema.specs.Sequences.{columns_of}
 use Rattle.pq_schema.specs.Relations.{belongs_to, tied_set, position_columns}
-use Rattle.pq_plan.specs.Answer.{Question, row_of, cell, side, compares, holds, no_value}
+use Rattle.pq_plan.specs.Answer.{Question, row_of, cell, side, compares, holds, no_value, position, by_position}
 use Rattle.pq_plan.specs.Kept.{cells}
 use Rattle.pq_plan.specs.Meaning.{keeps}
 use Rattle.pq_plan.specs.Running.{tied_value}
@@ -25,12 +25,17 @@ use Rattle.pq_base.proofs.Members.{all_from, in_filter, in_flat_map, flat_map_in
 use Rattle.pq_base.proofs.Sets.{set_members}
 use Rattle.pq_plan.proofs.Fixed.{last, earlier_side, tied_one}
 use Rattle.pq_serving.specs.Starts.{Bound, reaches, under, lower, upper}
-use Rattle.pq_serving.specs.Scanning.{first_direction, is_after, own_preds, is_operand, is_tied, passes_one, passes, bounds_with, lowers, uppers, front, rest, ties as tie_values, lows, highs, lies_within, cells_of}
+use Rattle.pq_serving.specs.Scanning.{first_direction, own_preds, is_operand, is_tied, passes_one, passes, bounds_with, lowers, uppers, front, rest, ties as tie_values, lows, highs, lies_within, cells_of}
 use Rattle.pq_serving.proofs.Columns.{same_test_from}
 use Rattle.pq_serving.proofs.Places.{reaches-under, front_equal, common_cmp-prefix}
 use Rattle.pq_serving.proofs.RangePreds.{range_law}
 use Rattle.pq_serving.proofs.Served.{HasColumns, IsServed, fixed_in_front, kept_front}
 use Rattle.pq_serving.proofs.Constants.{dirs_are, cells_are, front_long, start_is}
+
+-- strictly after the cursor
+abbrev pub is_after : Question → Option (List Value) → List (List Value) → Bool
+is_after q None combo = true
+is_after q (Some at) combo = is_lt (by_position q at (position q combo))
 
 -- ---- tests of lists of bounds
 

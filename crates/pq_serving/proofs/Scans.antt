@@ -19,11 +19,11 @@ use Rattle.pq_plan.specs.Meaning.{keeps, partners, followed, read}
 use Rattle.pq_base.proofs.Members.{each_in, each_by_in, in_filter, filter_same, filter_all, filter_both, filter-map, filter-flat_map, flat_map_same}
 use Rattle.pq_plan.proofs.Orders.{filter-sort_by}
 use Rattle.pq_plan.proofs.Positions.{position_cmp_total}
-use Rattle.pq_serving.specs.Scanning.{is_after, position_directions, passes, lies_within, cells_of, scan}
+use Rattle.pq_serving.specs.Scanning.{position_directions, passes, lies_within, cells_of, scan}
 use Rattle.pq_serving.proofs.Merge.{first_of_each}
 use Rattle.pq_serving.proofs.Served.{HasColumns, IsServed}
 use Rattle.pq_serving.proofs.Constants.{order_is}
-use Rattle.pq_serving.proofs.Rows.{row_after}
+use Rattle.pq_serving.proofs.Rows.{row_after, is_after}
 
 -- a sort of a list made from another
 module _ {K X W : Type 0} (R : K → K → Ordering) (key : W → K) (f : X → W) where

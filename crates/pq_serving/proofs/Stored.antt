@@ -28,8 +28,8 @@ use Rattle.pq_plan.proofs.Kept.{row_fits}
 use Rattle.pq_base.proofs.Members.{each_by_in, filter_same}
 use Rattle.pq_serving.specs.Starts.{under}
 use Rattle.pq_serving.specs.Scanning.{ties, lows, highs, lies_within, lying, cells_of}
-use Rattle.pq_serving.specs.Keys.{Fits, AreFit, range_low, range_high}
-use Rattle.pq_serving.proofs.Keys.{key_range}
+use Rattle.pq_serving.specs.Keys.{range_low, range_high}
+use Rattle.pq_serving.proofs.Keys.{key_range, Fits, AreFit}
 
 kinds_fit : (ts : List ColType) (xs : List Value) → AllOfKinds ts xs → Fits ts xs
 kinds_fit [] [] h = tt

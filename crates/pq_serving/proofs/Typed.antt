@@ -33,11 +33,11 @@ use Rattle.pq_base.proofs.Members.{all_at, found}
 use Rattle.pq_base.proofs.Members.{all_member, each_by_in, in_map, map_in, in_filter, filter_in, in_flat_map, in_either}
 use Rattle.pq_base.proofs.Sets.{members_set}
 use Rattle.pq_plan.proofs.Fixed.{ties_belong}
-use Rattle.pq_serving.specs.Starts.{Bound, by_case, own, start_of, under, lower, upper, at_value, past_value}
+use Rattle.pq_serving.specs.Starts.{Bound, by_case, start_of, under, lower, upper, at_value, past_value}
 use Rattle.pq_serving.specs.Scanning.{first_direction, constant_value, constants, position_directions, own_preds, is_operand, is_tied, passes_one, passes, bounds_with, lowers, uppers, starts, front, rest, ties as tie_values, lows, highs}
-use Rattle.pq_serving.specs.Keys.{Fits, AreFit}
+use Rattle.pq_serving.proofs.Keys.{Fits, AreFit}
 use Rattle.pq_serving.proofs.Columns.{map-append}
-use Rattle.pq_serving.proofs.Places.{own_is}
+use Rattle.pq_serving.proofs.Places.{own_is, own}
 use Rattle.pq_serving.proofs.Served.{IsServed, front_tied}
 use Rattle.pq_serving.proofs.Stored.{IsTyped}
 

@@ -27,7 +27,7 @@ use Rattle.std.specs.Prelude.{IfSome}
 use Rattle.pq_schema.specs.declared.query.Query.{Query}
 use Rattle.pq_nodes.specs.Operators.{IsCursor}
 use Rattle.pq_serving.specs.Laws.{IsInput, IsScanned, Serves, StopScans, EntryScans, RowScans, PositionCodes}
-use Rattle.pq_serving.specs.Keys.{Fits}
+use Rattle.pq_serving.proofs.Keys.{Fits}
 use Rattle.pq_serving.proofs.Columns.{position_item}
 use Rattle.pq_serving.proofs.Found.{position_fits, by_code}
 use Rattle.pq_serving.proofs.Served.{each_item, HasColumns, IsServed, served, wide}

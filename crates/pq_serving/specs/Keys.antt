@@ -1,15 +1,12 @@
 -- The bounds of an input's range as keys, and the kinds that their values have.
 use Rattle.std.specs.Prelude.{ℕ, Bool, true, false, cond, List, [], ◌∷◌, ◌++◌, map, Option}
 use Rattle.std.specs.Ordering.{is_lt}
-use Rattle.std.specs.List.{AllByRecursion}
 use Rattle.pq_base.specs.declared.value.Dir.{Dir}
 use Rattle.pq_base.specs.declared.value.Value.{Value}
-use Rattle.pq_base.specs.declared.value.ColType.{ColType}
 use Rattle.pq_schema.specs.Keys.{dirs_of}
 use Rattle.pq_schema.specs.declared.table.KeyPart.{KeyPart}
 use Rattle.pq_key_code.specs.KeyCode.{code_of}
 use Rattle.pq_store.specs.Content.{key_cmp}
-use Rattle.pq_content.specs.Tables.{IsOfKind}
 use Rattle.pq_plan.specs.Answer.{Question}
 use Rattle.pq_serving.specs.Starts.{Bound, under}
 use Rattle.pq_serving.specs.Scanning.{ties, lows, highs}
@@ -32,16 +29,6 @@ highest ds k (b ∷ bs) = higher (bound_key ds b) (highest ds k bs)
 abbrev pub lowest : List Dir → List ℕ → List Bound → List ℕ
 lowest ds k [] = k
 lowest ds k (b ∷ bs) = lesser (bound_key ds b) (lowest ds k bs)
-
--- values of these types' kinds, place by place, as far as they go
-abbrev pub Fits : List ColType → List Value → Type 0
-Fits [] [] = Unit {0}
-Fits (t ∷ ts) [] = Unit {0}
-Fits [] (x ∷ xs) = ⊥
-Fits (t ∷ ts) (x ∷ xs) = IsOfKind t x × Fits ts xs
-
-abbrev pub AreFit : List ColType → List Bound → Type 0
-AreFit ts bs = AllByRecursion (λ b. Fits ts b.values) bs
 
 module _ (q : Question) (p : ℕ) (sequence : List KeyPart) (combo : List (List Value)) where
   -- behind the tied values

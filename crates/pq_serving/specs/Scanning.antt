@@ -1,6 +1,6 @@
 -- What a stop scan asks of a sequence for one input, and what it answers.
 use Rattle.std.specs.Prelude.{ℕ, Bool, true, false, cond, not, ◌&&◌, ◌==◌, List, [], ◌∷◌, ◌++◌, map, filter, flat_map, take, drop, count_ones, unwrap_or, slice_index_or, Option, Some, None}
-use Rattle.std.specs.Ordering.{is_lt, is_eq}
+use Rattle.std.specs.Ordering.{is_eq}
 use Rattle.std.specs.List.{list_all}
 use Rattle.pq_base.specs.declared.value.Dir.{Dir}
 use Rattle.pq_base.specs.declared.value.Dir.TheVariants.{Asc}
@@ -15,7 +15,7 @@ use Rattle.pq_schema.specs.declared.query.OrderItem.{OrderItem}
 use Rattle.pq_schema.specs.Sequences.{columns_of}
 use Rattle.pq_schema.specs.Keys.{dirs_of}
 use Rattle.pq_schema.specs.Relations.{belongs_to, tied_set, is_rest, position_columns}
-use Rattle.pq_plan.specs.Answer.{Question, row_of, rows_at, side, compares, no_value, position, by_position}
+use Rattle.pq_plan.specs.Answer.{Question, row_of, rows_at, side, compares, no_value}
 use Rattle.pq_plan.specs.Kept.{cells}
 use Rattle.pq_plan.specs.Running.{tied_value}
 use Rattle.pq_nodes.specs.Tied.{tied_cells}
@@ -25,11 +25,6 @@ use Rattle.pq_serving.specs.Starts.{Bound, reaches, start_of, under, lower, uppe
 abbrev pub first_direction : List KeyPart → Dir
 first_direction [] = Asc
 first_direction (part ∷ parts) = part.dir
-
--- strictly after the cursor
-abbrev pub is_after : Question → Option (List Value) → List (List Value) → Bool
-is_after q None combo = true
-is_after q (Some at) combo = is_lt (by_position q at (position q combo))
 
 -- whether there is something that a value can be compared with
 abbrev pub is_operand : Option Value → Bool

@@ -1,5 +1,5 @@
 -- Where the range of one input starts and ends.
-use Rattle.std.specs.Prelude.{ℕ, suc, Bool, true, false, cond, List, [], ◌∷◌, ◌++◌, Option, Some, None}
+use Rattle.std.specs.Prelude.{Bool, true, false, cond, List, [], ◌∷◌, ◌++◌, Option, Some, None}
 use Rattle.std.specs.declared.cmp.Ordering.{Ordering}
 use Rattle.std.specs.declared.cmp.Ordering.TheVariants.{Less, Equal, Greater}
 use Rattle.std.specs.Ordering.{is_lt, is_le}
@@ -22,18 +22,6 @@ filled_values [] xs = []
 filled_values (Some v ∷ gs) xs = v ∷ filled_values gs xs
 filled_values (None ∷ gs) [] = []
 filled_values (None ∷ gs) (x ∷ xs) = x ∷ filled_values gs xs
-
--- how many places are not constant
-abbrev pub own_count : {A : Type 0} → List (Option A) → ℕ
-own_count [] = 0
-own_count (Some v ∷ gs) = own_count gs
-own_count (None ∷ gs) = suc (own_count gs)
-
--- what stands beside the places that are not constant
-abbrev pub own : {A B : Type 0} → List A → List (Option B) → List A
-own (d ∷ ds) (Some v ∷ gs) = own ds gs
-own (d ∷ ds) (None ∷ gs) = d ∷ own ds gs
-own _ _ = []
 
 abbrev pub by_case : {A : Type 0} → Ordering → A → A → A → A
 by_case Less a b c = a

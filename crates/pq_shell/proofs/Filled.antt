@@ -24,7 +24,7 @@ use Rattle.pq_text.specs.declared.piece.Piece.TheVariants as piece
 use Rattle.pq_print.specs.Report.{is_refusal}
 use Rattle.pq_print.specs.declared.report.Opened.{Opened}
 use Rattle.pq_print.specs.declared.report.Report.{Report}
-use Rattle.pq_shell.specs.Filling.{FillsSome, Fills}
+use Rattle.pq_shell.specs.Filling.{Fills}
 use Rattle.pq_shell.specs.Fold.{Moment, MadeReports, StoppedItem}
 use Rattle.pq_shell.specs.Forms.{fill_items}
 use Rattle.pq_shell.specs.Items.{Item, Cut, cut_items}
@@ -82,6 +82,14 @@ few_statements n one few =
     omega (arith, statements_long n, subs, few)
 
 -- ---- one more statement
+
+-- the first so many statements were made and noted
+pub record FillsSome (n : ℕ) (first last : Schema) (used : Used) (from to : Moment) (made : ℕ) (filled : Filled)
+    : Type 0 where
+  pub reports : List Report
+  pub made_are : MadeReports (Fill n) first last from to 1 (take made (fill_items n)) reports
+  pub noted : filled.summary ≡ fold with_report (no_reports used) (zip (take made (fill_kinds n)) reports)
+  pub refused_is : filled.refused ≡ list_any is_refusal reports
 
 -- as many reports as statements
 pub record FillsSoFar (n : ℕ) (first last : Schema) (used : Used) (from to : Moment) (made : ℕ) (filled : Filled) : Type 0 where

@@ -1,5 +1,5 @@
 -- The generated script, made, and what was noted of its reports.
-use Rattle.std.specs.Prelude.{◌≡◌, ℕ, List, fold, zip, take, length, Option}
+use Rattle.std.specs.Prelude.{◌≡◌, ℕ, List, fold, zip, length, Option}
 use Rattle.std.specs.List.{list_any}
 use Rattle.pq_base.specs.declared.number.Used.{Used}
 use Rattle.pq_fill.specs.Script.{fill_kinds}
@@ -11,14 +11,6 @@ use Rattle.pq_print.specs.declared.report.Report.{Report}
 use Rattle.pq_shell.specs.Fold.{Moment, MadeReports}
 use Rattle.pq_shell.specs.Forms.{fill_items}
 use Rattle.pq_shell.specs.declared.filling.Filled.{Filled}
-
--- the first so many statements were made and noted
-pub record FillsSome (n : ℕ) (first last : Schema) (used : Used) (from to : Moment) (made : ℕ) (filled : Filled)
-    : Type 0 where
-  pub reports : List Report
-  pub made_are : MadeReports (Fill n) first last from to 1 (take made (fill_items n)) reports
-  pub noted : filled.summary ≡ fold with_report (no_reports used) (zip (take made (fill_kinds n)) reports)
-  pub refused_is : filled.refused ≡ list_any is_refusal reports
 
 -- all of them were
 pub record Fills (n : ℕ) (first : Schema) (used : Used) (from to : Moment) (filled : Filled) : Type 0 where

@@ -15,7 +15,7 @@ use Rattle.pq_session.specs.Actions.{Action, action_of}
 use Rattle.pq_session.specs.Checks.{check_step, without_rows}
 use Rattle.pq_session.specs.Matches.{IsOpening}
 use Rattle.pq_session.specs.Model.{Model}
-use Rattle.pq_session.specs.Stands.{HoldsModel, Opens, Stands}
+use Rattle.pq_session.specs.Stands.{Opens, Stands}
 use Rattle.pq_session.specs.Step.{Step, refused_unread, step}
 use Rattle.pq_store.specs.Content.{Content}
 use Rattle.pq_text.specs.declared.piece.Piece.TheVariants as piece
@@ -104,12 +104,6 @@ abbrev pub StandsIn : Form → Option Content → Schema → Model → Type 0
 StandsIn Run content schema m = Stands content schema m
 StandsIn Check content schema m = m ≡ without_rows schema
 StandsIn (Fill n) content schema m = Stands content schema m
-
--- what the store stands for at the end; a check says nothing of it
-abbrev pub HoldsAt : Form → Option Content → Model → Type 0
-HoldsAt Run content m = HoldsModel content m
-HoldsAt Check content m = Unit {0}
-HoldsAt (Fill n) content m = HoldsModel content m
 
 -- what it opens to where a run stops
 abbrev pub OpensAt : Form → Option Content → Model → Type 0

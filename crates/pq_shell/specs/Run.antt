@@ -14,7 +14,7 @@ use Rattle.pq_print.specs.declared.report.Report.{Report}
 use Rattle.pq_session.specs.Model.{Model}
 use Rattle.pq_session.specs.Stands.{Opens}
 use Rattle.pq_shell.specs.Fold.{Moment, MadeReports, ReportedItems, StoppedItem, after}
-use Rattle.pq_shell.specs.Forms.{HasItems, HasOpening, HoldsAt, OpensAt, Starts, close}
+use Rattle.pq_shell.specs.Forms.{HasItems, HasOpening, OpensAt, Starts, close}
 use Rattle.pq_shell.specs.Items.{Item}
 use Rattle.pq_shell.specs.Openings.{Opening, StoppedOpening}
 use Rattle.pq_shell.specs.Outside.{IsCut}

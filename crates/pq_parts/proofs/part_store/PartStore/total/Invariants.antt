@@ -1,6 +1,6 @@
 use Rattle.std.proofs.Common.{◌≡◌, ◌≤◌, length}
 use Rattle.pq_parts.specs.Spans.{spans, firsts, faults_of}
-use Rattle.pq_parts.specs.Gathered.{IsCounted}
+use Rattle.pq_parts.proofs.Gather.{IsCounted}
 use Rattle.pq_parts.proofs.part_store.PartStore.total.Given as goal
 
 abbrev pub invariant-loop-at : goal.invariant-loop-at
