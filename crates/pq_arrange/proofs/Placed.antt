@@ -1,14 +1,14 @@
 -- The order in which relations are placed has each of them once.
 use Rattle.std.proofs.Common.{◌≡◌, ℕ, zero, suc, Bool, true, false, cond, ◌==◌, inl, inr, List, [], ◌∷◌, ◌++◌, length, append_assoc, flat_map, unwrap_or, Option, Some, None, IsPermutation, refl, sym, ap, ◌∙◌, subst, arith}
 use Rattle.std.specs.List.{range_with_len, list_any, find}
-use Rattle.std.specs.Option.{option_and_then}
+use Rattle.std.specs.Option.{option_and_then, option_map_or}
 use Rattle.std.proofs.lemmas.Bool.{eqb-true, false≢true, eq-eqb}
 use Rattle.std.proofs.lemmas.List.FromFn.{length-range_with_len}
 use Rattle.pq_base.specs.Members.{In}
 use Rattle.pq_schema.specs.declared.table.Table.{Table}
 use Rattle.pq_schema.specs.declared.query.Query.{Query}
 use Rattle.pq_schema.specs.Tables.{least_of}
-use Rattle.pq_arrange.specs.Placing.{without, bound_list, is_bound, bound_next, least_bound, first_ordered, first_of_rest, next, placed_after, arranged_order}
+use Rattle.pq_arrange.specs.Placing.{without, bound_list, bound_next, least_bound, first_ordered, first_of_rest, next, placed_after, arranged_order}
 use Rattle.pq_arrange.specs.Laws.{PlacesEach}
 use Rattle.pq_base.proofs.Shuffles.{Shuffle, keep, swap, then, equal, before, permutation}
 
@@ -65,9 +65,9 @@ module _ (tables : List Table) (query : Query) (close : Bool) where
   least_in : (placed rest : List ℕ) (k : ℕ) → least_bound tables query close placed rest ≡ Some k → In k rest
   least_in placed rest k e = at_least (least_of (flat_map (λ rel. bound_list (bound_next tables query close placed rel)) rest)) e
     where
-      at_least : (o : Option ℕ) → option_and_then (λ n. find (λ rel. is_bound n (bound_next tables query close placed rel)) rest) o ≡ Some k → In k rest
+      at_least : (o : Option ℕ) → option_and_then (λ n. find (λ rel. option_map_or (λ m. m == n) (bound_next tables query close placed rel) false) rest) o ≡ Some k → In k rest
       at_least None e = let no : ⊥ = cc in absurd no
-      at_least (Some n) e = find_in (λ rel. is_bound n (bound_next tables query close placed rel)) rest k e
+      at_least (Some n) e = find_in (λ rel. option_map_or (λ m. m == n) (bound_next tables query close placed rel) false) rest k e
 
   next_in : (placed rest : List ℕ) (n : ℕ) → length rest ≡ suc n → In (next tables query close placed rest) rest
   next_in placed rest n l =

@@ -1,6 +1,6 @@
 -- The order in which the relations of a query are placed.
 use Rattle.std.specs.Prelude.{ℕ, zero, suc, Bool, true, false, ◌==◌, ◌&&◌, ◌||◌, if◌then◌else◌, List, [], ◌∷◌, ◌++◌, filter, flat_map, find, length, unwrap_or, Option, Some, None}
-use Rattle.std.specs.Option.{option_and_then}
+use Rattle.std.specs.Option.{option_and_then, option_map_or}
 use Rattle.std.specs.List.{list_any, range_with_len}
 use Rattle.pq_base.specs.Columns.{set_of}
 use Rattle.pq_schema.specs.declared.table.Table.{Table}
@@ -53,10 +53,6 @@ abbrev pub bound_list : Option ℕ → List ℕ
 bound_list None = []
 bound_list (Some n) = n ∷ []
 
-abbrev pub is_bound : ℕ → Option ℕ → Bool
-is_bound n None = false
-is_bound n (Some m) = m == n
-
 abbrev pub first_of_rest : List ℕ → ℕ
 first_of_rest [] = 0
 first_of_rest (rel ∷ rest) = rel
@@ -78,7 +74,7 @@ module _ (tables : List Table) (query : Query) (close : Bool) where
   -- the first of the unplaced relations with the least data bound
   abbrev pub least_bound : List ℕ → List ℕ → Option ℕ
   least_bound placed rest =
-      option_and_then (λ n. find (λ rel. is_bound n (bound_next placed rel)) rest)
+      option_and_then (λ n. find (λ rel. option_map_or (λ m. m == n) (bound_next placed rel) false) rest)
       (least_of (flat_map (λ rel. bound_list (bound_next placed rel)) rest))
 
   -- the first with a column in ORDER BY

@@ -1,11 +1,12 @@
 //! The order in which the relations of a query are placed.
-ghost use Rattle.std.specs.Prelude.{◌≡◌, ◌==◌, ◌-◌, ◌++◌, ◌≤◌, All, IfOk, OnOk, filter, find, flat_map, fold, length};
+ghost use Rattle.std.specs.Prelude.{◌≡◌, ◌==◌, ◌-◌, ◌++◌, ◌≤◌, false, All, IfOk, OnOk, filter, find, flat_map, fold, length};
 ghost use Rattle.std.specs.List.{list_any, range_with_len};
+ghost use Rattle.std.specs.Option.{option_map_or};
 ghost use Rattle.pq_base.specs.Columns.{with_col};
 ghost use Rattle.pq_schema.specs.Resolved.{same_ref};
 ghost use Rattle.pq_schema.specs.Sound.{IsQuery};
 ghost use Rattle.pq_schema.specs.Tables.{least_of};
-ghost use Rattle.pq_arrange.specs.Placing.{arranged_order, bound_next, first_of_rest, first_ordered, is_bound, is_placed, is_placed_in, is_tied, is_tied_at, least_bound, bound_list, next, placed_after, tied_columns, ties_class, ties_column, ties_with, without};
+ghost use Rattle.pq_arrange.specs.Placing.{arranged_order, bound_next, first_of_rest, first_ordered, is_placed, is_placed_in, is_tied, is_tied_at, least_bound, bound_list, next, placed_after, tied_columns, ties_class, ties_column, ties_with, without};
 
 use crate::closing::is_given;
 use crate::labels::{Classes, same_column};
@@ -172,8 +173,8 @@ impl<'a> Placing<'a> {
         requires query { IsQuery self.catalog.now.tables self.query.now }
         requires classes { self.classes.now ≡ self.query.now.preds }
         requires there { All (λ rel. (1 ≤ rel) × (rel ≤ length self.query.now.relations)) rest.now }
-        ensures { result ≡ find (λ rel. is_bound least
-            (bound_next self.entry.catalog.now.tables self.entry.query.now self.entry.closed placed.now rel))
+        ensures { result ≡ find (λ rel. option_map_or (λ m. m == least)
+            (bound_next self.entry.catalog.now.tables self.entry.query.now self.entry.closed placed.now rel) false)
             rest.now }
     {
         match rest.split_first() {

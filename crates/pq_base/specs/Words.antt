@@ -1,14 +1,10 @@
 -- Tables of words.
 use Rattle.std.specs.Prelude.{◌∷◌, codes, ◌≡◌, ℕ, ◌+◌, ◌<◌, List, [], map, length, slice_index_or}
 use Rattle.std.specs.Borrow.{Bor}
-use Rattle.std.specs.Ordering.{nat_cmp}
 use Rattle.std.specs.Char.{to_ascii_uppercase}
-use Rattle.std.specs.Cmp.Lexicographic.{slice_cmp}
-use Rattle.std.specs.declared.cmp.Ordering.{Ordering}
 use Rattle.std.specs.declared.cmp.Ordering.TheVariants.{Less}
-
-abbrev pub order : List ℕ → List ℕ → Ordering
-order = slice_cmp nat_cmp
+use Rattle.std.specs.Ordering.{nat_cmp}
+use Rattle.std.specs.Cmp.Lexicographic.{slice_cmp}
 
 abbrev pub uppercase_byte : ℕ → ℕ
 uppercase_byte = to_ascii_uppercase
@@ -19,7 +15,7 @@ texts words = map (λ w. w.now) words
 -- each word is below the next, by its bytes
 abbrev pub IsRising : List (List ℕ) → Type 0
 IsRising words = (k : ℕ) → k + 1 < length words
-    → order (slice_index_or words k []) (slice_index_or words (k + 1) []) ≡ Less
+    → slice_cmp nat_cmp (slice_index_or words k []) (slice_index_or words (k + 1) []) ≡ Less
 
 -- the words that are no names
 abbrev pub keywords : List (List ℕ)

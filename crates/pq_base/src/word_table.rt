@@ -1,7 +1,9 @@
 //! Tables of words that rise by their bytes, looked up with the ASCII letters raised.
 
 ghost use Rattle.std.specs.Prelude.{◌≡◌, ◌+◌, ◌-◌, ◌<◌, ◌≤◌, ◌↔◌, IsTrue, ℕ, List, [], length, map, Some, IsSome, IfSome, IfNone, Contains, slice_get, slice_index_or};
-ghost use Rattle.pq_base.specs.Words.{order, uppercase_byte, texts, IsRising, keywords, refusals, counts};
+ghost use Rattle.std.specs.Ordering.{nat_cmp};
+ghost use Rattle.std.specs.Cmp.Lexicographic.{slice_cmp};
+ghost use Rattle.pq_base.specs.Words.{uppercase_byte, texts, IsRising, keywords, refusals, counts};
 
 use std::cmp::Ordering;
 use std::marker::Model;
@@ -31,7 +33,7 @@ fn raise(b: u8) -> u8
 
 /// How a word of the table compares to a raised word.
 fn compare(a: &[u8], b: &[u8]) -> Ordering
-    ensures { result ≡ order a.now (map uppercase_byte b.now) }
+    ensures { result ≡ slice_cmp nat_cmp a.now (map uppercase_byte b.now) }
 {
     match a {
         [] => match b {

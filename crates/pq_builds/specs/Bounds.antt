@@ -1,12 +1,10 @@
 -- The bound of a PREPARE: fixed by the schema and the text alone where it makes no index, and else by the rows too.
 use Rattle.std.specs.Prelude.{ℕ, ◌*◌, nat_le, length, Option, Some, None, if◌then◌else◌}
 use Rattle.pq_base.specs.declared.number.Bound.{Bound}
+pub use Rattle.pq_schema.specs.Costs.{bound}
 use Rattle.pq_schema.specs.declared.table.NewIndex.{NewIndex}
 use Rattle.pq_content.specs.Tables.{Rows, rows_of}
 use Rattle.pq_builds.specs.Stages.{build_ops, left_ops}
-
-abbrev pub bound : ℕ → ℕ → Bound
-bound ops entries = record { ops = ops; entries = entries }
 
 -- over so many rows: all of the build, or the count alone, which refuses it
 abbrev pub build_bound : ℕ → Bound

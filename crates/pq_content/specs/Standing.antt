@@ -1,5 +1,5 @@
 -- What a content settles to, and a content in which an index is being filled.
-use Rattle.std.specs.Prelude.{◌≡◌, ℕ, Bool, false, true, ◌&&◌, ◌==◌, List, [], ◌∷◌, map, MatchOption}
+use Rattle.std.specs.Prelude.{◌≡◌, ℕ, Bool, false, true, ◌&&◌, ◌==◌, List, [], ◌∷◌, map, MatchOption, ◌+◌, if◌then◌else◌}
 use Rattle.std.specs.List.{AllByRecursion}
 use Rattle.std.specs.FinMap.{get, remove, retain_keys}
 use Rattle.pq_row_code.specs.declared.changes.Change.{Change as Coded}
@@ -39,6 +39,10 @@ SettlesTo content settled = MatchOption (get content intent_key) (settled ≡ co
 abbrev pub IsFilledPartOf : (List ℕ → Bool) → Content → Content → Type 0
 IsFilledPartOf may_miss whole part = (keep : List ℕ → Bool)
     × ((key : List ℕ) → may_miss key ≡ false → keep key ≡ true) × (part ≡ retain_keys whole keep)
+
+-- the operations of a commit: one change is one write, and more have an intent, which is written and removed
+abbrev pub write_ops : ℕ → ℕ
+write_ops changes = if changes == 1 then 1 else changes + 2
 
 -- whether bytes begin with these two numbers
 abbrev pub is_numbered : ℕ → ℕ → List ℕ → Bool

@@ -1,5 +1,5 @@
 -- The generated script: its statements in order, the text of each, and what is counted of each.
-use Rattle.std.specs.Prelude.{ℕ, ◌+◌, ◌-◌, ◌*◌, ◌/◌, ◌%◌, min, ◌==◌, Bool, true, false, not, List, [], ◌∷◌, ◌++◌, map, flat_map, slice_get, codes, decimal, Option}
+use Rattle.std.specs.Prelude.{ℕ, ◌+◌, ◌-◌, ◌*◌, ◌/◌, ◌%◌, min, ◌==◌, Bool, true, not, List, [], ◌∷◌, ◌++◌, map, flat_map, slice_get, codes, decimal, Option}
 use Rattle.std.specs.List.{range_with_len}
 use Rattle.pq_fill.specs.declared.item.Definition.{Definition}
 use Rattle.pq_fill.specs.declared.item.Definition.TheVariants as definition
@@ -7,6 +7,7 @@ use Rattle.pq_fill.specs.declared.item.Item.{Item}
 use Rattle.pq_fill.specs.declared.item.Item.TheVariants as item
 use Rattle.pq_fill.specs.declared.item.Kind.{Kind}
 use Rattle.pq_fill.specs.declared.item.Kind.TheVariants as kind
+use Rattle.pq_print.specs.Values.{truth_text}
 
 -- ---- the statements for n users, who are numbered from 0
 
@@ -84,17 +85,13 @@ definition_text definition.Thoughts =
 definition_text definition.Home =
     codes "PREPARE home AS SELECT t.owner, t.ts, t.body FROM subs s, thoughts t WHERE s.owner = [1: uname] AND s.approved = true AND t.owner = s.target ORDER BY t.ts DESC LIMIT 10;"
 
-abbrev pub bool_text : Bool → List ℕ
-bool_text true = codes "true"
-bool_text false = codes "false"
-
 -- a user has one of ten cities, by the last digit of the number
 abbrev pub user_text : ℕ → List ℕ
 user_text i = insert_into (codes "users") i ++ codes ", 'c" ++ digit (i % 10) ∷ codes "');"
 
 abbrev pub sub_text : ℕ → ℕ → Bool → List ℕ
 sub_text i j approved =
-    insert_into (codes "subs") i ++ codes ", " ++ quoted_name j ++ codes ", " ++ bool_text approved ++ codes ");"
+    insert_into (codes "subs") i ++ codes ", " ++ quoted_name j ++ codes ", " ++ truth_text approved ++ codes ");"
 
 abbrev pub thought_text : ℕ → ℕ → List ℕ
 thought_text i time = insert_into (codes "thoughts") i ++ codes ", " ++ decimal time ++ codes ", 'b');"

@@ -1,7 +1,8 @@
 //! The parts of the script's and the summary's texts.
 ghost use Rattle.std.specs.Prelude.{◌≡◌, ◌<◌, ◌++◌, ◌∷◌, [], OnOk, string_bytes};
 ghost use Rattle.pq_print.specs.Report.{bound_text, used_text};
-ghost use Rattle.pq_fill.specs.Script.{digit, quoted_name, insert_into, bool_text, user_text, sub_text, thought_text, run_text, item_text};
+ghost use Rattle.pq_print.specs.Values.{truth_text};
+ghost use Rattle.pq_fill.specs.Script.{digit, quoted_name, insert_into, user_text, sub_text, thought_text, run_text, item_text};
 
 use crate::item::Item;
 use itoa::{Buffer, Integer};
@@ -58,7 +59,7 @@ fn put_user(user: u32, out: &mut String) -> Result<(), AllocError>
 }
 
 fn bool_text(truth: bool) -> &'static str
-    ensures { result.now ≡ bool_text truth }
+    ensures { result.now ≡ truth_text truth }
 {
     if truth { "true" } else { "false" }
 }

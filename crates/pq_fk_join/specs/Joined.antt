@@ -6,12 +6,9 @@ use Rattle.pq_schema.specs.declared.table.Table.{Table}
 use Rattle.pq_schema.specs.Rows.{Rows}
 use Rattle.pq_store.specs.Content.{Content}
 use Rattle.pq_content.specs.Pairs.{Pair, HoldsRows}
-use Rattle.pq_plan.specs.Answer.{Question}
 use Rattle.pq_plan.specs.Meaning.{key_of}
 use Rattle.pq_plan.specs.Running.{matching, looked_up}
-
-abbrev pub question : List Table → Query → Rows → List Value → Question
-question tables query rows params = record { tables = tables; query = query; rows = rows; params = params }
+use Rattle.pq_plan.specs.Answer.{question}
 
 -- over a content that holds rows, the row is the one whose key is tied behind the input, and none where there is none
 abbrev pub IsPartner : Option Content → List Table → Query → List Value → ℕ → List (List Value)

@@ -12,10 +12,11 @@ use Rattle.pq_index_keep.specs.declared.write.Scope.{Scope}
 use Rattle.pq_index_keep.specs.declared.write.Scope.TheVariants as scope
 use Rattle.pq_index_keep.specs.declared.write.Write.{Write}
 use Rattle.pq_index_keep.specs.declared.write.Write.TheVariants as write
-use Rattle.pq_index_keep.specs.Bounds.{commit_ops, tested_n, refers, referring_count, tests, write_bound, most_changes}
+use Rattle.pq_index_keep.specs.Bounds.{tested_n, refers, referring_count, tests, write_bound, most_changes}
 use Rattle.pq_index_keep.specs.Sound.{IsWritable, AreWritable, IsWrite}
 use Rattle.pq_index_keep.specs.Tested.{touches, touches_index, scope_of}
 use Rattle.pq_index_keep.proofs.Inserting.{writable_at}
+use Rattle.pq_content.specs.Standing.{write_ops}
 
 pub record IsFew (bound : Bound) : Type 0 where
   pub ops : bound.ops < 2 ^ 32
@@ -40,7 +41,7 @@ referring_few tables t sound few =
     (λ table w. let most = count_by-le-length (λ (f : Foreign). f.table == t) table.foreign in let short = w.few_foreign in omega (arith, most, short)) tables sound in
     omega (arith, sum_by-le (refers t) 4 tables each, few)
 
-commit_few : (n : ℕ) → commit_ops n ≤ n + 2
+commit_few : (n : ℕ) → write_ops n ≤ n + 2
 commit_few n = elim (n == 1) as (λ b. (if b then 1 else n + 2) ≤ n + 2) [
   | true ↦ omega arith
   | false ↦ omega arith

@@ -11,10 +11,7 @@ use Rattle.pq_index_keep.specs.declared.write.Scope.TheVariants as scope
 use Rattle.pq_index_keep.specs.declared.write.Write.{Write}
 use Rattle.pq_index_keep.specs.declared.write.Write.TheVariants as write
 use Rattle.pq_index_keep.specs.Tested.{touches, touches_index, scope_of}
-
--- one change takes one operation; more take one for the intent, one each, and one for its clearing
-abbrev pub commit_ops : ℕ → ℕ
-commit_ops changes = if changes == 1 then 1 else changes + 2
+use Rattle.pq_content.specs.Standing.{write_ops}
 
 -- ---- foreign keys and limits of a table that are tested
 
@@ -60,6 +57,6 @@ most_changes tables (write.Delete t key) = 1 + length (table_at tables t).indexe
 
 abbrev pub write_bound : List Table → Write → Bound
 write_bound tables write = record {
-  ops = (write_tests tables write).ops + commit_ops (most_changes tables write);
+  ops = (write_tests tables write).ops + write_ops (most_changes tables write);
   entries = (write_tests tables write).entries;
 }

@@ -17,6 +17,7 @@ use Rattle.pq_index_keep.specs.declared.write.SetCol.{SetCol}
 use Rattle.pq_index_keep.specs.declared.write.Write.{Write}
 use Rattle.pq_index_keep.specs.declared.write.Write.TheVariants as write
 use Rattle.pq_index_keep.specs.Tested.{touches, scope_of, with_sets}
+use Rattle.pq_schema.specs.Candidates.{no_limit}
 
 -- ---- foreign keys of the table
 
@@ -48,9 +49,6 @@ is_full rows t row limit = nat_le limit.n (length (group_of t limit.cols (cells 
 
 abbrev pub lacks_room : Rows → Scope → Option (List Value) → ℕ → List Value → Limit → Bool
 lacks_room rows of old t row limit = touches of limit.cols && not (stays old row limit.cols) && is_full rows t row limit
-
-abbrev pub no_limit : Limit
-no_limit = record { n = 0; cols = [] }
 
 abbrev pub limit_at : Table → ℕ → Limit
 limit_at table place = slice_index_or table.limits place no_limit

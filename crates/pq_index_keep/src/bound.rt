@@ -4,7 +4,8 @@ ghost use Rattle.std.specs.List.{list_any, sum_by, count_by};
 ghost use Rattle.pq_base.specs.Columns.{has_col};
 ghost use Rattle.pq_schema.specs.Sound.{AreColumns, AreParts};
 ghost use Rattle.pq_schema.specs.Tables.{table_at};
-ghost use Rattle.pq_index_keep.specs.Bounds.{tested_foreign, tested_limits, tested_n, refers, referring_count, tests, commit_ops, most_changes, write_tests, write_bound};
+ghost use Rattle.pq_content.specs.Standing.{write_ops};
+ghost use Rattle.pq_index_keep.specs.Bounds.{tested_foreign, tested_limits, tested_n, refers, referring_count, tests, most_changes, write_tests, write_bound};
 ghost use Rattle.pq_index_keep.specs.Sound.{AreWritable, IsWritable, IsWrite};
 ghost use Rattle.pq_index_keep.specs.Tested.{touches, touches_index};
 
@@ -139,7 +140,7 @@ fn referring(tables: &[Table], number: u8) -> u128
 
 /// The operations that so many changes take.
 fn commit_ops(changes: usize) -> u128
-    ensures ops { result ≡ commit_ops changes }
+    ensures ops { result ≡ write_ops changes }
     ensures few { result < 2 ^ 80 }
 {
     if changes == 1 { 1 } else { changes as u128 + 2 }

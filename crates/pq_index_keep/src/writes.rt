@@ -1,8 +1,9 @@
 //! The plan of any write.
 ghost use Rattle.std.specs.Prelude.{List, IfOk, IfErr};
 ghost use Rattle.pq_content.specs.Pairs.{Pair};
+ghost use Rattle.pq_content.specs.Standing.{write_ops};
 ghost use Rattle.pq_content.specs.Tables.{Rows};
-ghost use Rattle.pq_index_keep.specs.Bounds.{commit_ops, most_changes, write_tests, write_bound};
+ghost use Rattle.pq_index_keep.specs.Bounds.{most_changes, write_tests, write_bound};
 ghost use Rattle.pq_store.specs.Breaks.{IsUndamaged};
 ghost use Rattle.pq_calls.specs.Calls.{Uses, Fails};
 ghost use Rattle.pq_calls.specs.Evidence.{IsNoRow};
@@ -78,7 +79,7 @@ pub fn plan_write<S: Store<L>, L: Ledger>(
     ensures reads { Reads (world (S.content store.old) (S.faults store.old) allowance.old meter.old)
         (world (S.content store.new) (S.faults store.new) allowance.new meter.new)
         (write_tests catalog.now.tables write.now).ops (write_tests catalog.now.tables write.now).entries }
-    ensures left { Affords allowance.new (commit_ops (most_changes catalog.now.tables write.now)) 0 }
+    ensures left { Affords allowance.new (write_ops (most_changes catalog.now.tables write.now)) 0 }
     ensures cause { IfErr result (Explains (where_told (IsNoRow catalog.now.tables))
         (world (S.content store.old) (S.faults store.old) allowance.old meter.old)
         (world (S.content store.new) (S.faults store.new) allowance.new meter.new)) }

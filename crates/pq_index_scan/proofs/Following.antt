@@ -21,7 +21,7 @@ use Rattle.pq_store.specs.declared.damage.Broke.{Broke}
 use Rattle.pq_calls.specs.Calls.{Uses}
 use Rattle.pq_calls.specs.World.{World, Affords}
 use Rattle.pq_calls.specs.declared.calls.Calls.{Calls}
-use Rattle.pq_plan.specs.Answer.{Question}
+use Rattle.pq_plan.specs.Answer.{Question, question}
 use Rattle.pq_plan.specs.Cost.{is_primary_access}
 use Rattle.pq_plan.specs.Running.{matching, ranged, limit_columns}
 use Rattle.pq_nodes.specs.Combos.{FitsTables}
@@ -29,7 +29,7 @@ use Rattle.pq_nodes.specs.Operators.{AreInputs, AffordsNode, AreFound, Answers, 
 use Rattle.pq_nodes.specs.Paid.{node_cost}
 use Rattle.pq_nodes.proofs.Undamaged.{read_undamaged}
 use Rattle.pq_index_scan.specs.declared.limit.LimitRange.{LimitRange}
-use Rattle.pq_index_scan.specs.Ranged.{own_limit, limit_node, IsRangeOf, question, AreMatching, AddsRanged}
+use Rattle.pq_index_scan.specs.Ranged.{own_limit, limit_node, IsRangeOf, AreMatching, AddsRanged}
 use Rattle.pq_index_scan.proofs.Ranging.{fits_next}
 
 -- ---- one input

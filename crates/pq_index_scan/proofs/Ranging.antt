@@ -32,7 +32,7 @@ use Rattle.pq_calls.specs.Keys.{sequence_key}
 use Rattle.pq_content.specs.Pairs.{Pair, AreBeside, content_pairs, row_pair}
 use Rattle.pq_content.specs.Tables.{AllOfKinds, Keeps, first_columns, types_at, values_of}
 use Rattle.pq_content.proofs.Scans.{rows_under, entries_under, columns_of-primary}
-use Rattle.pq_plan.specs.Answer.{Question, row_of}
+use Rattle.pq_plan.specs.Answer.{Question, row_of, question}
 use Rattle.pq_plan.specs.Running.{matching}
 use Rattle.pq_plan.proofs.Fixed.{last, earlier_row}
 use Rattle.pq_nodes.specs.Combos.{FitsTables}
@@ -45,7 +45,7 @@ use Rattle.pq_operands.specs.Ties.{cells_tied}
 use Rattle.pq_entries.specs.Entries.{AreEnds, pair_of}
 use Rattle.pq_entries.proofs.Naming.{FindsFirst}
 use Rattle.pq_index_scan.specs.declared.limit.LimitRange.{LimitRange}
-use Rattle.pq_index_scan.specs.Ranged.{own_limit, start_of, IsRangeOf, question, AreMatching}
+use Rattle.pq_index_scan.specs.Ranged.{own_limit, start_of, IsRangeOf, AreMatching}
 
 -- ---- the relation, its table and its limit
 

@@ -11,7 +11,6 @@ use Rattle.pq_schema.specs.Sequences.{sequence_of}
 use Rattle.pq_store.specs.Content.{Content}
 use Rattle.pq_content.specs.Pairs.{Pair, HoldsRows}
 use Rattle.pq_content.specs.Tables.{first_columns}
-use Rattle.pq_plan.specs.Answer.{Question}
 use Rattle.pq_plan.specs.Nodes.{Node, limit_range}
 use Rattle.pq_plan.specs.Running.{matching, ranged, limit_columns}
 use Rattle.pq_nodes.specs.Inverse.{limit_at}
@@ -19,6 +18,7 @@ use Rattle.pq_nodes.specs.Operators.{IsReady}
 use Rattle.pq_calls.specs.Keys.{sequence_key}
 use Rattle.pq_operands.specs.Ties.{cells_tied}
 use Rattle.pq_index_scan.specs.declared.limit.LimitRange.{LimitRange}
+use Rattle.pq_plan.specs.Answer.{question}
 
 -- the limit of a relation's table
 abbrev pub own_limit : List Table → Query → ℕ → ℕ → Limit
@@ -41,9 +41,6 @@ abbrev pub start_of : List Table → Query → List Value → LimitRange → Lis
 start_of tables query params range input =
     sequence_key range.number (table_of tables query range.rel) range.access
     (cells_tied query params range.rel input range.first)
-
-abbrev pub question : List Table → Query → Rows → List Value → Question
-question tables query rows params = record { tables = tables; query = query; rows = rows; params = params }
 
 -- over a content that holds rows, the rows that have the tied values at the limit's columns, in some order
 abbrev pub AreMatching : Option Content → List Table → Query → List Value → ℕ → ℕ → List (List Value)

@@ -1,8 +1,9 @@
 -- What calls that write spend of an allowance, and what a settling takes at most.
-use Rattle.std.specs.Prelude.{◌≡◌, ℕ, ◌+◌, ◌≤◌, ◌<◌, ◌==◌, if◌then◌else◌, Option, Some, None}
+use Rattle.std.specs.Prelude.{◌≡◌, ℕ, ◌+◌, ◌≤◌, ◌<◌, Option, Some, None}
 use Rattle.pq_base.specs.declared.number.Bound.{Bound}
 use Rattle.pq_store.specs.Content.{Content}
 use Rattle.pq_store.specs.Counts.{Counts, AllowedCounts}
+pub use Rattle.pq_content.specs.Standing.{write_ops}
 use Rattle.pq_intent.specs.Counting.{HasChanges}
 
 -- at most so many operations and no entries, and exactly those that the meter rose by are spent
@@ -13,10 +14,6 @@ pub record Spends (limit : ℕ) (before after : AllowedCounts) (counts now : Cou
   pub few : now.ops ≤ counts.ops + limit
   pub entries_left : after.left.entries ≡ before.left.entries
   pub entries : now.entries ≡ counts.entries
-
--- the operations of a commit: one change is one write, and more have an intent, which is written and removed
-abbrev pub write_ops : ℕ → ℕ
-write_ops changes = if changes == 1 then 1 else changes + 2
 
 -- ---- a settling
 

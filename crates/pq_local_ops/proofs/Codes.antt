@@ -22,14 +22,14 @@ use Rattle.pq_schema.specs.Resolved.{IsResolved}
 use Rattle.pq_schema.specs.Rows.{Rows}
 use Rattle.pq_schema.specs.Sound.{IsQuery}
 use Rattle.pq_store.specs.Content.{key_cmp}
-use Rattle.pq_plan.specs.Answer.{values_at, position, by_position, in_order, past}
+use Rattle.pq_plan.specs.Answer.{values_at, position, by_position, in_order, past, question}
 use Rattle.pq_nodes.specs.Combos.{FitsTables, position_types}
 use Rattle.pq_nodes.proofs.Fitting.{position_fits}
 use Rattle.pq_serving.proofs.Keys.{Fits, fits_values, fits_kinds}
 use Rattle.pq_serving.proofs.Scans.{sort_alike, sort_by-map}
 use Rattle.pq_serving.proofs.Typed.{kind_from_fit}
 use Rattle.pq_local_ops.specs.Codes.{code_at, is_above, coded_combo}
-use Rattle.pq_local_ops.specs.Lists.{question, AreOrdered, ArePast, ArePart, IsPositionOf}
+use Rattle.pq_local_ops.specs.Lists.{AreOrdered, ArePast, ArePart, IsPositionOf}
 use Rattle.pq_local_ops.proofs.Parts.{part_sort}
 use Rattle.pq_local_ops.specs.declared.sort.Coded.{Coded}
 

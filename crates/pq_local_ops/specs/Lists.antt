@@ -7,12 +7,9 @@ use Rattle.pq_schema.specs.declared.query.Query.{Query}
 use Rattle.pq_schema.specs.declared.table.Table.{Table}
 use Rattle.pq_schema.specs.Relations.{belongs_to}
 use Rattle.pq_schema.specs.Rows.{Rows}
-use Rattle.pq_plan.specs.Answer.{Question, holds, position, in_order, past}
+use Rattle.pq_plan.specs.Answer.{holds, position, in_order, past, question}
 use Rattle.pq_plan.specs.Meaning.{keeps}
 use Rattle.pq_nodes.specs.Combos.{FitsTables}
-
-abbrev pub question : List Table → Query → Rows → List Value → Question
-question tables query rows params = record { tables = tables; query = query; rows = rows; params = params }
 
 -- the combinations at which the predicates of the relation hold
 abbrev pub AreMatching : Query → List Value → ℕ → List (List (List Value)) → List (List (List Value)) → Type 0

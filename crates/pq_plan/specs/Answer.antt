@@ -66,6 +66,9 @@ pub record Question : Type 0 where
   pub rows : List (ℕ × List Value)
   pub params : List Value
 
+abbrev pub question : List Table → Query → List (ℕ × List Value) → List Value → Question
+question tables query rows params = record { tables = tables; query = query; rows = rows; params = params }
+
 module _ (q : Question) where
   -- the rows of a relation's table
   abbrev pub rows_at : ℕ → List (List Value)

@@ -111,6 +111,6 @@ pub record Opens (content : Option Content) (m : Model) : Type 0 where
 abbrev pub new_query_of : Schema → Query → NewQuery
 new_query_of schema query = record {
   key = catalog_key (length schema.definitions + 1);
-  format = 1;
+  format = format_of (OfQuery query None);
   text = query_text schema.tables query;
 }
