@@ -100,7 +100,7 @@ fn labels_of(alloc: Global, preds: &[Pred]) -> Result<List<Label>, NoMem>
                 Operand::Col(other) if pred.op == Op::Eq => {
                     joined(alloc, labels.items(), pred.left, *other)
                 }
-                _ => Ok(labels),
+                Operand::Const(_) | Operand::Param(_) | Operand::Col(_) => Ok(labels),
             }
         }
     }

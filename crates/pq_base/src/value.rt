@@ -148,7 +148,10 @@ pub fn cmp_values(a: &Value, b: &Value) -> Ordering
         (Value::Int(a), Value::Int(b)) => a.cmp(b),
         (Value::Bool(a), Value::Bool(b)) => a.cmp(b),
         (Value::Text(a), Value::Text(b)) => a.bytes().cmp(b.bytes()),
-        _ => Ordering::Equal,
+        (Value::Int(_), Value::Bool(_) | Value::Text(_)) => Ordering::Less,
+        (Value::Bool(_), Value::Int(_)) => Ordering::Greater,
+        (Value::Bool(_), Value::Text(_)) => Ordering::Less,
+        (Value::Text(_), Value::Int(_) | Value::Bool(_)) => Ordering::Greater,
     }
 }
 

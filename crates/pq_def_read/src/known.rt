@@ -32,6 +32,9 @@ pub fn known_statement(statement: &Statement)
         }
         Statement::Delete { key, .. } => known_assigns(key.items()),
         Statement::Run { values, .. } => known_values(values.items()),
-        _ => {}
+        Statement::Create(_)
+        | Statement::Prepare { .. }
+        | Statement::Explain { .. }
+        | Statement::Show => {}
     }
 }

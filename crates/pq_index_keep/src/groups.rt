@@ -182,7 +182,7 @@ fn group_key(
         Some(Access::Secondary(index)) => {
             secondary_key(alloc, number, table, index, cols, values)
         }
-        _ => primary_key(alloc, number, table, cols, values),
+        Some(Access::Primary) | None => primary_key(alloc, number, table, cols, values),
     }
 }
 

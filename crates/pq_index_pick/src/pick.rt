@@ -22,7 +22,8 @@ fn same_part(a: KeyPart, b: KeyPart) -> bool
     let dir = match (a.dir, b.dir) {
         (Dir::Asc, Dir::Asc) => true,
         (Dir::Desc, Dir::Desc) => true,
-        _ => false,
+        (Dir::Asc, Dir::Desc) => false,
+        (Dir::Desc, Dir::Asc) => false,
     };
     a.col == b.col && dir
 }

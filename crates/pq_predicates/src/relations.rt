@@ -15,7 +15,7 @@ pub fn belongs_to(pred: &Pred) -> u8
 {
     match &pred.right {
         Operand::Col(other) => pred.left.rel.max(other.rel),
-        _ => pred.left.rel,
+        Operand::Const(_) | Operand::Param(_) => pred.left.rel,
     }
 }
 
@@ -25,7 +25,7 @@ pub fn ties(pred: &Pred, rel: u8) -> bool
 {
     let before = match &pred.right {
         Operand::Col(other) => other.rel < rel,
-        _ => true,
+        Operand::Const(_) | Operand::Param(_) => true,
     };
     pred.op == Op::Eq && pred.left.rel == rel && before
 }

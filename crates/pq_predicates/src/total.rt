@@ -14,7 +14,7 @@ fn is_column(operand: &Operand, rel: u8, col: u8) -> bool
 {
     match operand {
         Operand::Col(other) => other.rel == rel && other.col == col,
-        _ => false,
+        Operand::Const(_) | Operand::Param(_) => false,
     }
 }
 

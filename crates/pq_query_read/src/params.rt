@@ -30,7 +30,7 @@ fn use_in(catalog: &Catalog, relations: &[Relation], pred: &Pred) -> Option<Para
             number: *number,
             ty: param_type(type_of(catalog, relations, pred.left)),
         }),
-        _ => None,
+        Operand::Const(_) | Operand::Col(_) => None,
     }
 }
 

@@ -46,7 +46,8 @@ fn lower_edge(dir: Dir, op: Op) -> Option<Edge>
     match (dir, op) {
         (Dir::Asc, Op::Gt) | (Dir::Desc, Op::Lt) => Some(Edge::Past),
         (Dir::Asc, Op::Ge) | (Dir::Desc, Op::Le) => Some(Edge::At),
-        _ => None,
+        (Dir::Asc, Op::Eq | Op::Ne | Op::Lt | Op::Le) => None,
+        (Dir::Desc, Op::Eq | Op::Ne | Op::Gt | Op::Ge) => None,
     }
 }
 
@@ -56,7 +57,8 @@ fn upper_edge(dir: Dir, op: Op) -> Option<Edge>
     match (dir, op) {
         (Dir::Asc, Op::Lt) | (Dir::Desc, Op::Gt) => Some(Edge::At),
         (Dir::Asc, Op::Le) | (Dir::Desc, Op::Ge) => Some(Edge::Past),
-        _ => None,
+        (Dir::Asc, Op::Eq | Op::Ne | Op::Gt | Op::Ge) => None,
+        (Dir::Desc, Op::Eq | Op::Ne | Op::Lt | Op::Le) => None,
     }
 }
 
