@@ -4,7 +4,6 @@ ghost use Rattle.pq_schema.specs.Tables.{table_at};
 ghost use Rattle.pq_schema.specs.Relations.{relation_at};
 ghost use Rattle.pq_print.specs.Canonical.{column_name};
 
-use crate::part::as_str;
 use pq_schema::{Column, Query, Table};
 
 /// A number from 1 as a place from 0.
@@ -19,7 +18,7 @@ pub fn table_name(tables: &[Table], number: u8) -> &str
     ensures { result.now ≡ (table_at tables.now number).name }
 {
     match tables.get(place(number)) {
-        Some(table) => as_str(&table.name),
+        Some(table) => table.name.as_str(),
         None => "",
     }
 }
@@ -39,7 +38,7 @@ pub fn column_name(columns: &[Column], col: u8) -> &str
     ensures { result.now ≡ column_name columns.now col }
 {
     match columns.get(col as usize) {
-        Some(column) => as_str(&column.name),
+        Some(column) => column.name.as_str(),
         None => "",
     }
 }
@@ -49,7 +48,7 @@ pub fn relation_alias(query: &Query, rel: u8) -> &str
     ensures { result.now ≡ (relation_at query.now rel).alias }
 {
     match query.relations.items().get(place(rel)) {
-        Some(relation) => as_str(&relation.alias),
+        Some(relation) => relation.alias.as_str(),
         None => "",
     }
 }

@@ -3,7 +3,6 @@ ghost use Rattle.std.specs.Prelude.{◌≡◌, ℕ, ◌++◌, OnOk, string_bytes
 ghost use Rattle.std.specs.Prelude as prelude;
 ghost use Rattle.pq_print.specs.Lists.{each_after, separate_texts, clause};
 
-use pq_base::PText;
 use std::alloc::AllocError;
 
 /// What has a text of its own in a scope, which says what its numbers stand for.
@@ -65,14 +64,4 @@ pub fn put_clause<S, P: Part<S>>(
     }
     out.push_str(keyword)?;
     put_separated(parts, scope, between, out)
-}
-
-/// The text as std's.
-pub fn as_str(text: &PText) -> &str
-    ensures { result.now ≡ text.now }
-{
-    match str::from_utf8(text.bytes()) {
-        Ok(text) => text,
-        Err(_) => unreachable!(),
-    }
 }

@@ -4,7 +4,7 @@ ghost use Rattle.std.specs.Char.{digit_char};
 ghost use Rattle.pq_print.specs.Report.{bound_text, used_text, choice_text, dir_text, index_col_text, line_text, line_of, next_text, end_text, end_line, printed_report, opening_line, hex, damage_line, is_refusal};
 
 use crate::number::put_number;
-use crate::part::{Part, as_str, put_each, put_separated};
+use crate::part::{Part, put_each, put_separated};
 use crate::refusal::put_refusal;
 use crate::report::{End, IndexCol, Line, Opened, Report};
 use crate::value::put_row;
@@ -55,7 +55,7 @@ impl Part<()> for IndexCol {
     ghost text = { λ _ col. index_col_text col };
 
     fn put(&self, _scope: &(), out: &mut String) -> Result<(), AllocError> {
-        out.push_str(as_str(&self.name))?;
+        out.push_str(self.name.as_str())?;
         put_dir(self.dir, out)
     }
 }
@@ -80,7 +80,7 @@ fn put_line(line: &Line, out: &mut String) -> Result<(), AllocError>
             bound,
         } => {
             out.push_str("query ")?;
-            out.push_str(as_str(name))?;
+            out.push_str(name.as_str())?;
             put_choice(*choice, out)?;
             put_bound(*bound, out)
         }
@@ -90,7 +90,7 @@ fn put_line(line: &Line, out: &mut String) -> Result<(), AllocError>
             cols,
         } => {
             out.push_str("index ")?;
-            out.push_str(as_str(table))?;
+            out.push_str(table.as_str())?;
             out.push_str(" ")?;
             put_number(out, *number)?;
             out.push_str(" (")?;
@@ -101,7 +101,7 @@ fn put_line(line: &Line, out: &mut String) -> Result<(), AllocError>
             out.push_str("def ")?;
             put_number(out, *number)?;
             out.push_str(" ")?;
-            out.push_str(as_str(text))
+            out.push_str(text.as_str())
         }
     }
 }
@@ -110,7 +110,7 @@ fn put_next(cursor: &PText, out: &mut String) -> Result<(), AllocError>
     ensures { OnOk result (string_bytes out.new ≡ string_bytes out.old ++ next_text (Some cursor.now)) }
 {
     out.push_str(" next ")?;
-    out.push_str(as_str(cursor))
+    out.push_str(cursor.as_str())
 }
 
 fn put_end(end: &End, out: &mut String) -> Result<(), AllocError>

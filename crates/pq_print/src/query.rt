@@ -4,7 +4,7 @@ ghost use Rattle.pq_print.specs.Canonical.{ref_text, relation_text, op_text, ope
 
 use crate::names::{column_name, relation_alias, relation_table, table_columns, table_name};
 use crate::number::put_number;
-use crate::part::{Part, as_str, put_clause, put_separated};
+use crate::part::{Part, put_clause, put_separated};
 use crate::print::put_dir;
 use pq_base::{Bytes, List, NoMem};
 use pq_schema::{ColRef, Op, Operand, OrderItem, Pred, Query, Relation, Stop, Table};
@@ -42,7 +42,7 @@ fn put_relation(tables: &[Table], relation: &Relation, out: &mut String) -> Resu
 {
     out.push_str(table_name(tables, relation.table))?;
     out.push_str(" AS ")?;
-    out.push_str(as_str(&relation.alias))
+    out.push_str(relation.alias.as_str())
 }
 
 impl<'a> Part<Over<'a>> for Relation {
@@ -146,7 +146,7 @@ pub fn put_query(tables: &[Table], query: &Query, out: &mut String) -> Result<()
     ensures { OnOk result (string_bytes out.new ≡ string_bytes out.old ++ query_text tables.now query.now) }
 {
     out.push_str("PREPARE ")?;
-    out.push_str(as_str(&query.name))?;
+    out.push_str(query.name.as_str())?;
     out.push_str(" AS ")?;
     put_select(tables, query, out)?;
     out.push_str(";")

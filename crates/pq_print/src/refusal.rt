@@ -4,7 +4,6 @@ ghost use Rattle.pq_base.specs.Words.{refusals, counts};
 ghost use Rattle.pq_print.specs.Refusals.{field, refusal_number, refusal_fields, refusal_text};
 
 use crate::number::put_number;
-use crate::part::as_str;
 use itoa::Integer;
 use pq_base::{PText, Refusal, count_word, count_words, refusal_numbers, refusal_place};
 use std::alloc::AllocError;
@@ -73,7 +72,7 @@ fn put_field(text: &str, out: &mut String) -> Result<(), AllocError>
 fn put_name(name: &PText, out: &mut String) -> Result<(), AllocError>
     ensures { OnOk result (string_bytes out.new ≡ string_bytes out.old ++ field name.now) }
 {
-    put_field(as_str(name), out)
+    put_field(name.as_str(), out)
 }
 
 fn put_count<I: Integer>(number: I, out: &mut String) -> Result<(), AllocError>

@@ -4,7 +4,7 @@ ghost use Rattle.pq_print.specs.Canonical.{column_name, type_text, column_text, 
 
 use crate::names::{column_name, table_name};
 use crate::number::put_number;
-use crate::part::{Part, as_str, put_each, put_separated};
+use crate::part::{Part, put_each, put_separated};
 use pq_base::{Bytes, ColType, List, NoMem};
 use pq_schema::{Column, Foreign, Limit, Table};
 use std::alloc::{AllocError, Global};
@@ -27,7 +27,7 @@ fn put_type(ty: ColType, out: &mut String) -> Result<(), AllocError>
 fn put_column(column: &Column, out: &mut String) -> Result<(), AllocError>
     ensures { OnOk result (string_bytes out.new ≡ string_bytes out.old ++ column_text column.now) }
 {
-    out.push_str(as_str(&column.name))?;
+    out.push_str(column.name.as_str())?;
     out.push_str(" ")?;
     put_type(column.ty, out)
 }
@@ -132,7 +132,7 @@ pub fn put_table(
         ≡ string_bytes out.old ++ table_text tables.now (record table.now { columns = columns.now })) }
 {
     out.push_str("CREATE TABLE ")?;
-    out.push_str(as_str(&table.name))?;
+    out.push_str(table.name.as_str())?;
     out.push_str(" (")?;
     put_items(tables, table, columns, out)?;
     out.push_str(");")

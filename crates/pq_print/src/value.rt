@@ -4,7 +4,7 @@ ghost use Rattle.pq_print.specs.Values.{doubled_quotes, quoted_text, value_text,
 ghost use Rattle.pq_print.specs.Report.{line_of};
 
 use crate::number::put_number;
-use crate::part::{Part, as_str, put_separated};
+use crate::part::{Part, put_separated};
 use pq_base::{Bytes, NoMem, Row, Value};
 use std::alloc::{AllocError, Global};
 
@@ -38,7 +38,7 @@ impl Part<()> for Value {
             Value::Int(number) => put_number(out, *number),
             Value::Bool(true) => out.push_str("true"),
             Value::Bool(false) => out.push_str("false"),
-            Value::Text(text) => put_quoted(as_str(text), out),
+            Value::Text(text) => put_quoted(text.as_str(), out),
         }
     }
 }
