@@ -87,6 +87,9 @@ fn completed(alloc: Global, kept: &mut Vec<u8>, part: &[u8]) -> Result<Piece, No
     ensures ok { IfOk result (λ piece. piece ≡ statement (kept.old.items ++ part.now)) }
     ensures err { OnErr result (kept.new.items ≡ kept.old.items) }
 {
+    if kept.is_empty() {
+        return piece_of(alloc, part);
+    }
     let before = kept.len();
     kept.extend_from_slice(part)?;
     let piece = piece_of(alloc, kept.as_slice());
