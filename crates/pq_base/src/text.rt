@@ -1,5 +1,5 @@
 //! UTF-8 text, seen as its bytes.
-ghost use Rattle.std.specs.Prelude.{◌≡◌, MatchOption, IfOk, IsUtf8};
+ghost use Rattle.std.specs.Prelude.{◌≡◌, MatchOption, IfOk, IsUtf8, string_bytes};
 
 use crate::list::NoMem;
 use std::alloc::Global;
@@ -32,6 +32,24 @@ impl PText {
             }
             Err(_) => Ok(None),
         }
+    }
+
+    /// The text of these bytes, None exactly where they aren't UTF-8. It takes no memory.
+    pub fn from_vec(bytes: Vec<u8>) -> Option<PText>
+        ensures { MatchOption result (¬ IsUtf8 bytes.items)
+            (λ text. IsUtf8 bytes.items × text ≡ bytes.items) }
+    {
+        match String::from_utf8(bytes) {
+            Ok(text) => Some(PText { text }),
+            Err(_) => None,
+        }
+    }
+
+    /// The text that a string holds, which takes no memory.
+    pub fn from_string(text: String) -> PText
+        ensures { result ≡ string_bytes text }
+    {
+        PText { text }
     }
 
     /// The bytes, which are UTF-8.

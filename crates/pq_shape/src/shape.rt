@@ -62,6 +62,13 @@ fn text_of(alloc: Global, bytes: &[u8]) -> Result<Option<PText>, NoMem>
     Ok(found)
 }
 
+/// The same of bytes that were gathered for it, which takes no memory.
+fn gathered(bytes: Bytes) -> Option<PText>
+    ensures { result ≡ utf8_text bytes }
+{
+    PText::from_vec(bytes.into_vec())
+}
+
 fn name(alloc: Global, bytes: &[u8]) -> Result<Shape, NoMem>
     ensures { IfOk result (λ shape. shape ≡ name_shape bytes.now) }
 {
@@ -69,8 +76,7 @@ fn name(alloc: Global, bytes: &[u8]) -> Result<Shape, NoMem>
         return Ok(Shape::Other);
     }
     let low = lower(alloc, bytes)?;
-    let made = text_of(alloc, low.items())?;
-    match made {
+    match gathered(low) {
         Some(name) => Ok(Shape::Name(name)),
         None => Ok(Shape::Other),
     }
@@ -120,11 +126,22 @@ fn undouble(alloc: Global, bytes: &[u8]) -> Result<Bytes, NoMem>
     Ok(plain)
 }
 
+/// The text of what stands between the quotes, where it is UTF-8.
+#[tactic(auto, using(crate::proofs::Made::undoubled_plain))]
+fn plain_text(alloc: Global, inner: &[u8]) -> Result<Option<PText>, NoMem>
+    ensures { IfOk result (λ found. found ≡ utf8_text (undoubled_quotes false inner.now)) }
+{
+    if !inner.contains(&b'\'') {
+        return text_of(alloc, inner);
+    }
+    let plain = undouble(alloc, inner)?;
+    Ok(gathered(plain))
+}
+
 fn quoted(alloc: Global, bytes: &[u8]) -> Result<Shape, NoMem>
     ensures { IfOk result (λ shape. shape ≡ kind_shape kind.Text bytes.now) }
 {
-    let plain = undouble(alloc, inner(bytes))?;
-    let made = text_of(alloc, plain.items())?;
+    let made = plain_text(alloc, inner(bytes))?;
     match made {
         Some(text) => Ok(Shape::Text(text)),
         None => Ok(Shape::Other),
