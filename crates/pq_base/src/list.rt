@@ -1,5 +1,5 @@
 //! A list that contracts see as the list of its items.
-ghost use Rattle.std.specs.Prelude.{◌≡◌, ◌++◌, ◌∷◌, [], OnOk, OnErr, IfOk, take};
+ghost use Rattle.std.specs.Prelude.{◌≡◌, ◌++◌, ◌∷◌, [], OnOk, OnErr, IfOk, take, string_bytes};
 
 use std::alloc::{AllocError, AllocFailed, Global};
 use std::marker::Model;
@@ -106,5 +106,17 @@ impl List<u8> {
     {
         self.held.extend_from_slice(bytes)?;
         Ok(())
+    }
+
+    /// Puts a text's bytes behind those that are there. After `NoMem` the list is as before.
+    pub fn extend_text(&mut self, alloc: Global, text: String) -> Result<(), NoMem>
+        ensures ok { OnOk result (self.new ≡ self.old ++ string_bytes text) }
+        ensures err { OnErr result (self.new ≡ self.old) }
+    {
+        if self.held.is_empty() {
+            self.held = text.into_bytes();
+            return Ok(());
+        }
+        self.extend(alloc, text.as_str().as_bytes())
     }
 }

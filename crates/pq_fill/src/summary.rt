@@ -114,5 +114,5 @@ pub fn print_summary(alloc: Global, n: u32, summary: &Summary, out: &mut Bytes) 
     put_count("fill", u64::from(n), &mut text)?;
     put_counts(&summary.numbers, &mut text)?;
     put_sums(&summary.numbers, &mut text)?;
-    out.extend(alloc, text.as_str().as_bytes())
+    out.extend_text(alloc, text)
 }

@@ -48,8 +48,5 @@ pub fn print_definition(alloc: Global, catalog: &Catalog, number: u16) -> Result
     let definition = catalog.definition_at(number);
     let mut text = String::new(alloc);
     put_definition(catalog.tables(), definition, &mut text)?;
-    match PText::from_bytes(alloc, text.as_str().as_bytes())? {
-        Some(text) => Ok(text),
-        None => unreachable!(),
-    }
+    Ok(PText::from_string(text))
 }

@@ -164,7 +164,7 @@ pub fn print_report(alloc: Global, report: &Report, out: &mut Bytes) -> Result<(
     let mut text = String::new(alloc);
     put_each(report.lines.items(), &(), "", &mut text)?;
     put_end_line(report, &mut text)?;
-    out.extend(alloc, text.as_str().as_bytes())
+    out.extend_text(alloc, text)
 }
 
 #[tactic(auto, unfolding(crate::specs::Report::opening_line))]
@@ -179,7 +179,7 @@ pub fn print_opening(alloc: Global, opened: &Opened, out: &mut Bytes) -> Result<
     put_bound(opened.bound, &mut text)?;
     put_used(opened.used, &mut text)?;
     text.push_str("\n")?;
-    out.extend(alloc, text.as_str().as_bytes())
+    out.extend_text(alloc, text)
 }
 
 fn hex_digit(value: u8) -> char
@@ -212,5 +212,5 @@ pub fn print_damage(alloc: Global, key: &[u8], out: &mut Bytes) -> Result<(), No
     text.push_str("damaged ")?;
     put_hex(key, &mut text)?;
     text.push_str("\n")?;
-    out.extend(alloc, text.as_str().as_bytes())
+    out.extend_text(alloc, text)
 }

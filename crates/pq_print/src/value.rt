@@ -59,5 +59,5 @@ pub fn print_row(alloc: Global, row: &Row, out: &mut Bytes) -> Result<(), NoMem>
     let mut text = String::new(alloc);
     put_row(row, &mut text)?;
     text.push_str("\n")?;
-    out.extend(alloc, text.as_str().as_bytes())
+    out.extend_text(alloc, text)
 }
