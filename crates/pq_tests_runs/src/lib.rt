@@ -4,6 +4,10 @@
 #[cfg(test)]
 mod crowded;
 #[cfg(test)]
+mod cursors;
+#[cfg(test)]
+mod cut;
+#[cfg(test)]
 mod damaged;
 #[cfg(test)]
 mod definitions;

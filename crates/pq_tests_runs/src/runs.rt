@@ -228,16 +228,45 @@ fn scripts_are_read_to_the_limit(rt: HostRuntime) -> Result<(), test::Fail> {
     Ok(())
 }
 
-// The first read has the first statement, and the second one fails.
-#[test]
-fn a_read_fails_behind_a_statement(rt: HostRuntime) -> Result<(), test::Fail> {
-    let mut script = Vec::from_elem(rt.alloc(), b' ', 8192)?;
-    for (place, byte) in script.iter_mut().zip(FIRST) {
-        *place = *byte;
+// The statements of the worked script.
+const SPREAD: [&[u8]; 4] = [
+    FIRST,
+    b"INSERT INTO m VALUES (1, 7);",
+    b"PREPARE one AS SELECT m.v FROM m WHERE m.id = [1];",
+    b"RUN one (1);",
+];
+
+// Each with spaces before it, so that it ends in the part of 4,096 bytes behind the one that it begins in.
+fn spread_script(alloc: Global) -> Result<Vec<u8>, NoMem> {
+    let mut script = Vec::new(alloc);
+    for statement in SPREAD {
+        for _ in statement.len()..4100 {
+            script.push(b' ')?;
+        }
+        script.extend_from_slice(statement)?;
     }
-    let (status, text) = run_bytes(rt.alloc(), script, 2)?;
-    assert_eq!(rt; status, Status::ReadFault);
-    assert!(rt; text.as_slice() == FIRST_TEXT);
+    Ok(script)
+}
+
+// The read that fails, how the run ends, and what it writes. It makes six reads, of which the last finds the end.
+const READS: [(u64, Status, &[u8]); 7] = [
+    (1, Status::ReadFault, OPENED),
+    (2, Status::ReadFault, OPENED),
+    (3, Status::ReadFault, FIRST_TEXT),
+    (4, Status::ReadFault, SECOND_TEXT),
+    (5, Status::ReadFault, THIRD_TEXT),
+    (6, Status::ReadFault, ROW_TEXT),
+    (7, Status::Good, ROW_TEXT),
+];
+
+#[test]
+fn each_read_may_fail(rt: HostRuntime) -> Result<(), test::Fail> {
+    for (call, wanted, wanted_text) in READS {
+        let script = spread_script(rt.alloc())?;
+        let (status, text) = run_bytes(rt.alloc(), script, call)?;
+        assert_eq!(rt; status, wanted, "at read {call}");
+        assert!(rt; text.as_slice() == wanted_text, "at read {call}");
+    }
     Ok(())
 }
 
