@@ -1,8 +1,9 @@
-"""The workloads: each is a script for the engine, the same statements for SQLite, and how many of them are timed.
+"""The workloads: each is a script for the engine, and the same statements for SQLite.
 
     workloads.py NAME COUNT FOLDER
 
-writes FOLDER/script.piql and FOLDER/script.sql, and prints the number of the timed statements and what they are.
+writes FOLDER/ground.piql, FOLDER/script.piql and the same two for SQLite, with the ending sql. The ground is what the
+timed statements stand on, and the script is the ground with them behind it. It prints how many they are, and what.
 
 SQLite has no limits on how many rows share values, so its tables have an index in place of each limit, and it checks
 less than the engine does.
@@ -19,12 +20,23 @@ PRIME = 100_003
 
 @dataclass(frozen=True)
 class Workload:
-    """What the engine and SQLite are given to do, as text. Of the statements all are ok."""
+    """What the engine and SQLite are given to do. Of the statements all are ok."""
 
     text: str
-    statements: int
-    script: str
-    sql: str
+    tables: list[str]
+    sql_tables: list[str]
+    # Statements that both are given: what the timed ones stand on, and the timed ones.
+    ground: list[str]
+    timed: list[str]
+    # The timed statements of SQLite, where they are others.
+    sql_timed: list[str] | None = None
+
+    def write(self, folder):
+        grounds = {"piql": self.tables + self.ground, "sql": self.sql_tables + self.ground}
+        timed = {"piql": self.timed, "sql": self.timed if self.sql_timed is None else self.sql_timed}
+        for ending, ground in grounds.items():
+            pathlib.Path(folder, f"ground.{ending}").write_text("\n".join(ground) + "\n")
+            pathlib.Path(folder, f"script.{ending}").write_text("\n".join(ground + timed[ending]) + "\n")
 
 
 def scattered(number, factor):
@@ -32,84 +44,139 @@ def scattered(number, factor):
     return number * factor % PRIME
 
 
-def limited_rows(count):
+def inserts(count):
     """INSERTs into a table with two limits and a foreign key, 20 rows for each of its parents."""
     parents = max(count // 20, 1)
-    users = [f"INSERT INTO users VALUES ('user{user:05}');" for user in range(parents)]
     rows = []
     for user in range(parents):
         for other in range(count // parents):
             target = (user * 31 + other * 17) % parents
             rows.append(f"INSERT INTO subs VALUES ('user{user:05}', 'user{target:05}', {other});")
-    script = [
-        "CREATE TABLE users (name TEXT(20), PRIMARY KEY (name));",
-        "CREATE TABLE subs (owner TEXT(20), target TEXT(20), since INT, PRIMARY KEY (owner, target, since),"
-        " CARDINALITY LIMIT 100 (owner), CARDINALITY LIMIT 100 (target), FOREIGN KEY (target) REFERENCES users);",
-    ]
-    sql = [
-        "PRAGMA foreign_keys = ON;",
-        "CREATE TABLE users (name TEXT, PRIMARY KEY (name)) WITHOUT ROWID;",
-        "CREATE TABLE subs (owner TEXT, target TEXT, since INT, PRIMARY KEY (owner, target, since),"
-        " FOREIGN KEY (target) REFERENCES users) WITHOUT ROWID;",
-        "CREATE INDEX subs_target ON subs (target);",
-    ]
     return Workload(
-        f"{count:,} INSERTs into a table with two limits and a foreign key, and {parents:,} into its parent",
-        len(users) + len(rows),
-        "\n".join(script + users + rows) + "\n",
-        "\n".join(sql + users + rows) + "\n",
+        f"{len(rows):,} INSERTs into a table with two limits and a foreign key",
+        [
+            "CREATE TABLE users (name TEXT(20), PRIMARY KEY (name));",
+            "CREATE TABLE subs (owner TEXT(20), target TEXT(20), since INT, PRIMARY KEY (owner, target, since),"
+            " CARDINALITY LIMIT 100 (owner), CARDINALITY LIMIT 100 (target), FOREIGN KEY (target) REFERENCES users);",
+        ],
+        [
+            "PRAGMA foreign_keys = ON;",
+            "CREATE TABLE users (name TEXT, PRIMARY KEY (name)) WITHOUT ROWID;",
+            "CREATE TABLE subs (owner TEXT, target TEXT, since INT, PRIMARY KEY (owner, target, since),"
+            " FOREIGN KEY (target) REFERENCES users) WITHOUT ROWID;",
+            "CREATE INDEX subs_target ON subs (target);",
+        ],
+        [f"INSERT INTO users VALUES ('user{user:05}');" for user in range(parents)],
+        rows,
     )
 
 
-def scattered_rows(count):
+def indexes(count):
     """INSERTs into a table with two indexes, whose values come in no order."""
-    rows = [
-        f"INSERT INTO t VALUES ({row}, {scattered(row, FACTORS[0])}, {scattered(row, FACTORS[1])});"
-        for row in range(count)
-    ]
-    script = [
-        "CREATE TABLE t (id INT, a INT, b INT, PRIMARY KEY (id),"
-        " CARDINALITY LIMIT 1000 (a), CARDINALITY LIMIT 1000 (b));"
-    ]
-    sql = [
-        "CREATE TABLE t (id INTEGER PRIMARY KEY, a INT, b INT);",
-        "CREATE INDEX t_a ON t (a);",
-        "CREATE INDEX t_b ON t (b);",
-    ]
     return Workload(
         f"{count:,} INSERTs into a table with two indexes, values in no order",
-        count,
-        "\n".join(script + rows) + "\n",
-        "\n".join(sql + rows) + "\n",
+        [
+            "CREATE TABLE t (id INT, a INT, b INT, PRIMARY KEY (id),"
+            " CARDINALITY LIMIT 1000 (a), CARDINALITY LIMIT 1000 (b));"
+        ],
+        [
+            "CREATE TABLE t (id INTEGER PRIMARY KEY, a INT, b INT);",
+            "CREATE INDEX t_a ON t (a);",
+            "CREATE INDEX t_b ON t (b);",
+        ],
+        [],
+        [
+            f"INSERT INTO t VALUES ({row}, {scattered(row, FACTORS[0])}, {scattered(row, FACTORS[1])});"
+            for row in range(count)
+        ],
     )
 
 
-def rows_and_runs(count):
-    """INSERTs in the order of their keys, and a query by the key for each."""
-    rows = [f"INSERT INTO m VALUES ({row}, {scattered(row, FACTORS[0])});" for row in range(count)]
-    script = [
-        "CREATE TABLE m (id INT, v INT, PRIMARY KEY (id));",
-        "PREPARE q AS SELECT x.v FROM m AS x WHERE x.id = [1];",
-    ]
-    sql = ["CREATE TABLE m (id INTEGER PRIMARY KEY, v INT);"]
-    runs = [f"RUN q ({row});" for row in range(count)]
-    selects = [f"SELECT x.v FROM m AS x WHERE x.id = {row};" for row in range(count)]
+def runs(count):
+    """A query by the key, for each row of a table."""
     return Workload(
-        f"{count:,} INSERTs in the order of their keys, and {count:,} RUNs of a query by its key",
-        2 * count,
-        "\n".join(script + rows + runs) + "\n",
-        "\n".join(sql + rows + selects) + "\n",
+        f"{count:,} RUNs of a query by its key",
+        [
+            "CREATE TABLE m (id INT, v INT, PRIMARY KEY (id));",
+            "PREPARE q AS SELECT x.v FROM m AS x WHERE x.id = [1];",
+        ],
+        ["CREATE TABLE m (id INTEGER PRIMARY KEY, v INT);"],
+        [f"INSERT INTO m VALUES ({row}, {scattered(row, FACTORS[0])});" for row in range(count)],
+        [f"RUN q ({scattered(row, FACTORS[0]) % count});" for row in range(count)],
+        [f"SELECT x.v FROM m AS x WHERE x.id = {scattered(row, FACTORS[0]) % count};" for row in range(count)],
     )
 
 
-WORKLOADS = {"limits": limited_rows, "indexes": scattered_rows, "runs": rows_and_runs}
+# The tables and the query of the generated script, as docs/FORMATS.md has them.
+SITE = [
+    "CREATE TABLE users (name TEXT(16), city TEXT(16), PRIMARY KEY (name));",
+    "CREATE TABLE subs (owner TEXT(16), target TEXT(16), approved BOOL, PRIMARY KEY (owner, target), CARDINALITY LIMIT"
+    " 100 (owner), FOREIGN KEY (owner) REFERENCES users, FOREIGN KEY (target) REFERENCES users);",
+    "CREATE TABLE thoughts (owner TEXT(16), ts INT, body TEXT(140), PRIMARY KEY (owner, ts), FOREIGN KEY (owner)"
+    " REFERENCES users);",
+    "PREPARE home AS SELECT t.owner, t.ts, t.body FROM subs s, thoughts t WHERE s.owner = [1: uname] AND s.approved ="
+    " true AND t.owner = s.target ORDER BY t.ts DESC LIMIT 10;",
+]
+SQL_SITE = [
+    "PRAGMA foreign_keys = ON;",
+    "CREATE TABLE users (name TEXT, city TEXT, PRIMARY KEY (name)) WITHOUT ROWID;",
+    "CREATE TABLE subs (owner TEXT, target TEXT, approved BOOL, PRIMARY KEY (owner, target),"
+    " FOREIGN KEY (owner) REFERENCES users, FOREIGN KEY (target) REFERENCES users) WITHOUT ROWID;",
+    "CREATE INDEX subs_target ON subs (target);",
+    "CREATE TABLE thoughts (owner TEXT, ts INT, body TEXT, PRIMARY KEY (owner, ts),"
+    " FOREIGN KEY (owner) REFERENCES users) WITHOUT ROWID;",
+    "CREATE INDEX thoughts_ts ON thoughts (owner, ts DESC);",
+]
 
 
-def main(name, count, folder):
-    workload = WORKLOADS[name](int(count))
-    pathlib.Path(folder, "script.piql").write_text(workload.script)
-    pathlib.Path(folder, "script.sql").write_text(workload.sql)
-    print(workload.statements, workload.text)
+def name(user):
+    return f"u{user:05}"
+
+
+def site_rows(users):
+    """The INSERTs of the generated script."""
+    for user in range(users):
+        yield f"INSERT INTO users VALUES ('{name(user)}', 'c{user % 10}');"
+    for user in range(users):
+        for other in range(1, min(5, users - 1) + 1):
+            approved = "false" if other == 3 else "true"
+            yield f"INSERT INTO subs VALUES ('{name(user)}', '{name((user + other) % users)}', {approved});"
+    for turn in range(5):
+        for user in range(users):
+            yield f"INSERT INTO thoughts VALUES ('{name(user)}', {turn * users + user}, 'b');"
+
+
+def site_runs(users):
+    """Its RUNs, and the same for SQLite."""
+    select = (
+        "SELECT t.owner, t.ts, t.body FROM subs s, thoughts t WHERE s.owner = '{}' AND s.approved = true"
+        " AND t.owner = s.target ORDER BY t.ts DESC LIMIT 10;"
+    )
+    names = [name(user) for user in range(users)]
+    return [f"RUN home ('{user}');" for user in names], [select.format(user) for user in names]
+
+
+def fill(count):
+    """The generated script of `fill`, whole."""
+    rows = list(site_rows(count))
+    asked, selects = site_runs(count)
+    text = f"the {len(rows) + len(asked):,} statements of fill {count:,} behind its definitions"
+    return Workload(text, SITE, SQL_SITE, [], rows + asked, rows + selects)
+
+
+def feed(count):
+    """The RUNs of the same script alone: a page of ten, of whom a user follows."""
+    asked, selects = site_runs(count)
+    return Workload(f"{count:,} RUNs of a follower's feed", SITE, SQL_SITE, list(site_rows(count)), asked, selects)
+
+
+WORKLOADS = {"fill": fill, "inserts": inserts, "indexes": indexes, "runs": runs, "feed": feed}
+
+
+def main(workload, count, folder):
+    made = WORKLOADS[workload](int(count))
+    made.write(folder)
+    print(len(made.timed), made.text)
 
 
 if __name__ == "__main__":
