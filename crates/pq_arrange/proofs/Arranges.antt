@@ -12,7 +12,7 @@ use Rattle.pq_schema.specs.declared.query.Pred.{Pred}
 use Rattle.pq_schema.specs.Resolved.{IsResolved, IsPredicate}
 use Rattle.pq_plan.specs.Answer.{Question, combos, product, row_of, rows_at, holds}
 use Rattle.pq_base.proofs.Members.{in_filter, in_map, all_member, range_in}
-use Rattle.pq_arrange.specs.Moves.{permuted_combo, reordered_query, move_pred, place_of}
+use Rattle.pq_arrange.specs.Moves.{permuted_combo, reordered_query, move_pred, order_place}
 use Rattle.pq_arrange.specs.Classes.{closed_query}
 use Rattle.pq_arrange.specs.Placing.{arranged_order}
 use Rattle.pq_arrange.specs.Arrange.{rearranged_query, has_candidate, arranged_query}
@@ -115,7 +115,7 @@ rows_by_places query order p combo rel low high =
     let long : length order ≡ length query.relations = length_permutation (range_with_len 1 (length query.relations)) order p ∙ length-range_with_len 1 (length query.relations) in
     let inside : rel - 1 < length order = omega (arith, long, low, high) in
     let e : 1 + (rel - 1) ≡ rel = omega (arith, low) in
-    ap (λ (n : ℕ). row_of n (permuted_combo order combo)) (get_or-map-range_with_len (place_of order) 1 (length order) (rel - 1) rel 0 inside e)
+    ap (λ (n : ℕ). row_of n (permuted_combo order combo)) (get_or-map-range_with_len (order_place order) 1 (length order) (rel - 1) rel 0 inside e)
     ∙ row_moved order rel here combo
 
 -- ---- a query again

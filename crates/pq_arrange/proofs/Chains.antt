@@ -17,7 +17,7 @@ use Rattle.pq_schema.specs.Resolved.{IsColumnOf, same_ref}
 use Rattle.pq_plan.specs.Answer.{cell, side, compares, holds}
 use Rattle.pq_base.proofs.Members.{in_filter, filter_in, in_map, map_in, in_flat_map, flat_map_in, in_either, in_range, range_in}
 use Rattle.pq_plan.proofs.ValueOrder.{value_cmp_total}
-use Rattle.pq_arrange.specs.Classes.{is_ref, is_join, merged_classes, joined_with, class_of, is_in, columns_at, members}
+use Rattle.pq_arrange.specs.Classes.{is_ref, is_join, merged_classes, joined_with, class_of, is_in, column_refs_at, members}
 use Rattle.pq_arrange.proofs.Moved.{equality, equal_sides}
 
 -- ---- equal values that are there
@@ -138,13 +138,13 @@ module _ (tables : List Table) (query : Query) where
   member_in class ref c e =
       let low = c.from_one in
       let high = c.there in
-      filter_in (is_in query.preds class) ref (flat_map (columns_at tables query) (range_with_len 1 (length query.relations)))
-      (flat_map_in (columns_at tables query) ref ref.rel (range_with_len 1 (length query.relations)) (range_in ref.rel 1 (length query.relations) low (omega arith))
+      filter_in (is_in query.preds class) ref (flat_map (column_refs_at tables query) (range_with_len 1 (length query.relations)))
+      (flat_map_in (column_refs_at tables query) ref ref.rel (range_with_len 1 (length query.relations)) (range_in ref.rel 1 (length query.relations) low (omega arith))
       (map_in (λ col. record { rel = ref.rel; col = col }) ref.col (range_with_len 0 (length (table_of tables query ref.rel).columns)) (range_in ref.col 0 (length (table_of tables query ref.rel).columns) (omega arith) (let inside : ref.col < length (table_of tables query ref.rel).columns = c.inside in omega (arith, inside)))))
       (same_when (class_of query.preds ref) class e)
 
   pub in_members : (class ref : ColRef) → In ref (members tables query class) → class_of query.preds ref ≡ class
-  in_members class ref i = ref_same _ _ (in_filter (is_in query.preds class) ref (flat_map (columns_at tables query) (range_with_len 1 (length query.relations))) i).1
+  in_members class ref i = ref_same _ _ (in_filter (is_in query.preds class) ref (flat_map (column_refs_at tables query) (range_with_len 1 (length query.relations))) i).1
 
   abbrev pub Rises : List ColRef → Type 0
   Rises [] = Unit {0}
@@ -171,15 +171,15 @@ module _ (tables : List Table) (query : Query) where
   rises_columns rel [] = tt
   rises_columns rel (col ∷ cols) = ((λ y i. let e : y.rel ≡ rel = of_relation rel cols y i in omega (arith, e)), rises_columns rel cols)
 
-  rises_all : (a n : ℕ) → Rises (flat_map (columns_at tables query) (range_with_len a n))
+  rises_all : (a n : ℕ) → Rises (flat_map (column_refs_at tables query) (range_with_len a n))
   rises_all a zero = tt
-  rises_all a (suc n) = rises_append (columns_at tables query a) (flat_map (columns_at tables query) (range_with_len (a + 1) n)) (rises_columns a (range_with_len 0 (length (table_of tables query a).columns))) (rises_all (a + 1) n)
+  rises_all a (suc n) = rises_append (column_refs_at tables query a) (flat_map (column_refs_at tables query) (range_with_len (a + 1) n)) (rises_columns a (range_with_len 0 (length (table_of tables query a).columns))) (rises_all (a + 1) n)
       (λ x y i j.
       let e : x.rel ≡ a = of_relation a (range_with_len 0 (length (table_of tables query a).columns)) x i in
-      let f = in_flat_map (columns_at tables query) y (range_with_len (a + 1) n) j in
+      let f = in_flat_map (column_refs_at tables query) y (range_with_len (a + 1) n) j in
       let g : y.rel ≡ f.0 = of_relation f.0 (range_with_len 0 (length (table_of tables query f.0).columns)) y f.2 in
       let low : a + 1 ≤ f.0 = (in_range f.0 (a + 1) n f.1).0 in
       omega (arith, e, g, low))
 
   pub members_rise : (class : ColRef) → Rises (members tables query class)
-  members_rise class = rises_filter (is_in query.preds class) (flat_map (columns_at tables query) (range_with_len 1 (length query.relations))) (rises_all 1 (length query.relations))
+  members_rise class = rises_filter (is_in query.preds class) (flat_map (column_refs_at tables query) (range_with_len 1 (length query.relations))) (rises_all 1 (length query.relations))

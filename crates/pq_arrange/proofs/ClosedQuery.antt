@@ -19,7 +19,7 @@ use Rattle.pq_base.specs.Values.{same_kind}
 use Rattle.pq_schema.specs.Relations.{table_of, is_equality}
 use Rattle.pq_schema.specs.Resolved.{IsResolved, IsPredicate, IsOperand, IsColumnOf, IsParam, ref_type, param_type, is_param}
 use Rattle.pq_base.proofs.Members.{each_by_in, in_filter, in_map, map_in, in_flat_map, flat_map_in, in_either, in_left, in_right, in_range, all_member, any_at, any_from}
-use Rattle.pq_arrange.specs.Classes.{is_ref, is_given, class_of, is_in, classes, columns_at, members, gives, equality_of, is_later, beside, joins, class_preds, others, closed_query}
+use Rattle.pq_arrange.specs.Classes.{is_ref, is_given, class_of, is_in, classes, column_refs_at, members, gives, equality_of, is_later, beside, class_joins, class_preds, others, closed_query}
 use Rattle.pq_arrange.specs.Laws.{ResolvedWhenClosed, NoMorePredicates}
 use Rattle.pq_arrange.proofs.Chains.{within_class, ref_same, member_in, in_members, Rises, members_rise}
 use Rattle.pq_arrange.proofs.Closes.{find_parts, others_in, stays_or_gives, class_there, not_true}
@@ -85,8 +85,8 @@ module _ (tables : List Table) (query : Query) (r : IsResolved tables query) whe
 
   member_column : (class ref : ColRef) → In ref (members tables query class) → IsColumnOf tables query ref
   member_column class ref i =
-      let f = in_filter (is_in old class) ref (flat_map (columns_at tables query) (range_with_len 1 (length query.relations))) i in
-      let g = in_flat_map (columns_at tables query) ref (range_with_len 1 (length query.relations)) f.0 in
+      let f = in_filter (is_in old class) ref (flat_map (column_refs_at tables query) (range_with_len 1 (length query.relations))) i in
+      let g = in_flat_map (column_refs_at tables query) ref (range_with_len 1 (length query.relations)) f.0 in
       let h = in_map (λ (col : ℕ). let r : ColRef = record { rel = g.0; col = col } in r) ref (range_with_len 0 (length (table_of tables query g.0).columns)) g.2 in
       let rels = in_range g.0 1 (length query.relations) g.1 in
       let cols = in_range h.0 0 (length (table_of tables query g.0).columns) h.1 in
@@ -107,7 +107,7 @@ module _ (tables : List Table) (query : Query) (r : IsResolved tables query) whe
   operand_kept a pred (operand.Param number) n o e = subst (λ (t : ColType). IsParam query.params number t) (sym e) o
   operand_kept a pred (operand.Col other) n o e = absurd (false≢true (sym n))
 
-  joins_kept : (class : ColRef) (refs : List ColRef) → ((ref : ColRef) → In ref refs → IsColumnOf tables query ref × (class_of old ref ≡ class)) → Rises tables query refs → (pred : Pred) → In pred (joins refs) → IsPredicate tables query' pred
+  joins_kept : (class : ColRef) (refs : List ColRef) → ((ref : ColRef) → In ref refs → IsColumnOf tables query ref × (class_of old ref ≡ class)) → Rises tables query refs → (pred : Pred) → In pred (class_joins refs) → IsPredicate tables query' pred
   joins_kept class [] known up pred i = absurd i
   joins_kept class (f ∷ rest) known up pred i =
       let later : List ColRef = filter (is_later f) rest in
@@ -139,7 +139,7 @@ module _ (tables : List Table) (query : Query) (r : IsResolved tables query) whe
   class_kept : (class : ColRef) (pred : Pred) → In pred (class_preds tables query class) → IsPredicate tables query' pred
   class_kept class pred i = by_given (find (gives old class) old) refl i
     where
-      by_given : (o : Option Pred) → find (gives old class) old ≡ o → In pred (option_map_or (λ pred. map (equality_of pred.right) (members tables query class)) o (joins (members tables query class))) → IsPredicate tables query' pred
+      by_given : (o : Option Pred) → find (gives old class) old ≡ o → In pred (option_map_or (λ pred. map (equality_of pred.right) (members tables query class)) o (class_joins (members tables query class))) → IsPredicate tables query' pred
       by_given None e i = joins_kept class (members tables query class) (λ ref here. (member_column class ref here, in_members tables query class ref here)) (members_rise tables query class) pred i
       by_given (Some p) e i =
           let f = find_parts (gives old class) old p e in
@@ -172,7 +172,7 @@ module _ (tables : List Table) (query : Query) (r : IsResolved tables query) whe
     | inr given ↦
         let c : ColRef = class_of old pred.left in
         let there : In c (classes old) = class_there old pred i (and_parts (is_equality pred.op) (not (is_ref pred.right)) given.0).0 given.1 in
-        let in_class : In (equality_of pred.right pred.left) (class_preds tables query c) = subst (λ (o : Option Pred). In (equality_of pred.right pred.left) (option_map_or (λ pred. map (equality_of pred.right) (members tables query c)) o (joins (members tables query c)))) (sym given.2)
+        let in_class : In (equality_of pred.right pred.left) (class_preds tables query c) = subst (λ (o : Option Pred). In (equality_of pred.right pred.left) (option_map_or (λ pred. map (equality_of pred.right) (members tables query c)) o (class_joins (members tables query c)))) (sym given.2)
         (map_in (equality_of pred.right) pred.left (members tables query c) (member_in tables query c pred.left (predicate pred i).left refl)) in
         (equality_of pred.right pred.left, in_left (equality_of pred.right pred.left) (flat_map (class_preds tables query) (classes old)) (others old) (flat_map_in (class_preds tables query) (equality_of pred.right pred.left) c (classes old) there in_class), u)
   ]

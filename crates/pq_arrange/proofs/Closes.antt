@@ -17,7 +17,7 @@ use Rattle.pq_schema.specs.Relations.{is_equality}
 use Rattle.pq_schema.specs.Resolved.{IsColumnOf, IsPredicate, IsOperand, same_ref}
 use Rattle.pq_plan.specs.Answer.{cell, side, compares, holds, product}
 use Rattle.pq_base.proofs.Members.{in_filter, filter_in, in_map, map_in, in_flat_map, flat_map_in, in_either, in_left, in_right, all_at, all_from, any_from, all_member, filter_same, each_by_in}
-use Rattle.pq_arrange.specs.Classes.{is_ref, is_join, is_given, class_of, is_in, is_joined, has, is_new, classes_after, classes, members, gives, equality_of, is_later, beside, joins, class_preds, others_after, others, closed_query}
+use Rattle.pq_arrange.specs.Classes.{is_ref, is_join, is_given, class_of, is_in, is_joined, has, is_new, classes_after, classes, members, gives, equality_of, is_later, beside, class_joins, class_preds, others_after, others, closed_query}
 use Rattle.pq_arrange.specs.Laws.{Chain, ends, rightward, leftward, SameWhenClosed, ClassesAreChains}
 use Rattle.pq_arrange.proofs.Moved.{equality}
 use Rattle.pq_arrange.proofs.Chains.{Equal, equal_back, equal_on, ref_same, same_itself, same_when, join_parts, Near, within_class, class_equal, one_class, member_in, in_members, Rises, members_rise}
@@ -199,7 +199,7 @@ module _ (params : List Value) (combo : List (List Value)) where
   in_beside (s ∷ more) q pred (inr i) = absurd i
 
   -- where all members are equal
-  joins_hold : (refs : List ColRef) → ((a b : ColRef) → In a refs → In b refs → Near params combo a b) → (pred : Pred) → In pred (joins refs) → holds params combo pred ≡ true
+  joins_hold : (refs : List ColRef) → ((a b : ColRef) → In a refs → In b refs → Near params combo a b) → (pred : Pred) → In pred (class_joins refs) → holds params combo pred ≡ true
   joins_hold [] near pred i = absurd i
   joins_hold (f ∷ rest) near pred i =
       let later : List ColRef = filter (is_later f) rest in
@@ -218,7 +218,7 @@ module _ (params : List Value) (combo : List (List Value)) where
       ]
 
   -- and the other way: members of two relations are equal
-  joins_give : (refs : List ColRef) → ((f : ColRef) (rest : List ColRef) → refs ≡ f ∷ rest → (y : ColRef) → In y rest → f.rel ≤ y.rel) → ((pred : Pred) → In pred (joins refs) → holds params combo pred ≡ true) → (a b : ColRef) → In a refs → In b refs → b.rel < a.rel → Equal (cell combo a) (cell combo b)
+  joins_give : (refs : List ColRef) → ((f : ColRef) (rest : List ColRef) → refs ≡ f ∷ rest → (y : ColRef) → In y rest → f.rel ≤ y.rel) → ((pred : Pred) → In pred (class_joins refs) → holds params combo pred ≡ true) → (a b : ColRef) → In a refs → In b refs → b.rel < a.rel → Equal (cell combo a) (cell combo b)
   joins_give [] low hold a b i j apart = absurd i
   joins_give (f ∷ rest) low hold a b i j apart =
       let later : List ColRef = filter (is_later f) rest in
@@ -255,7 +255,7 @@ module _ (params : List Value) (combo : List (List Value)) where
     new = flat_map (class_preds tables query) (classes old) ++ others old
 
     abbrev with_operand : ColRef → Option Pred → List Pred
-    with_operand class given = option_map_or (λ pred. map (equality_of pred.right) (members tables query class)) given (joins (members tables query class))
+    with_operand class given = option_map_or (λ pred. map (equality_of pred.right) (members tables query class)) given (class_joins (members tables query class))
 
     given_is : (pred : Pred) → is_given pred ≡ true → pred.op ≡ op.Eq
     given_is pred h = equality pred.op (and_parts (is_equality pred.op) (not (is_ref pred.right)) h).0

@@ -12,7 +12,7 @@ use Rattle.pq_schema.specs.declared.query.Pred.{Pred}
 use Rattle.pq_schema.specs.declared.query.Query.{Query}
 use Rattle.pq_schema.specs.Relations.{is_equality}
 use Rattle.pq_schema.specs.Resolved.{same_ref}
-use Rattle.pq_arrange.specs.Classes.{is_join, is_given, class_of, is_in, is_joined, has, is_new, classes_after, classes, columns_at, members, gives, equality_of, is_later, beside, joins, class_preds, others_after, others, closed_query}
+use Rattle.pq_arrange.specs.Classes.{is_join, is_given, class_of, is_in, is_joined, has, is_new, classes_after, classes, column_refs_at, members, gives, equality_of, is_later, beside, class_joins, class_preds, others_after, others, closed_query}
 use Rattle.pq_arrange.proofs.Chains.{ref_same, same_itself}
 use Rattle.pq_arrange.proofs.Closes.{not_true, not_given, or_parts, gives_none, flipped}
 use Rattle.pq_arrange.proofs.Fewer.{bit, total, count, total_add, total_le, length_filter, one_hit, Distinct, length_flat, all_distinct, joins_of, few_members}
@@ -155,7 +155,7 @@ most_one f (x ∷ xs) h =
     let c : length (f x ++ flat_map f xs) ≡ length (f x) + length (flat_map f xs) = length-append (f x) (flat_map f xs) in
     omega (arith, a, b, c)
 
-joins_few : (refs : List ColRef) (n : ℕ) → length refs ≤ 1 + n → length (joins refs) ≤ n
+joins_few : (refs : List ColRef) (n : ℕ) → length refs ≤ 1 + n → length (class_joins refs) ≤ n
 joins_few [] n h = omega arith
 joins_few (f ∷ rest) n h =
     let later : List ColRef = filter (is_later f) rest in
@@ -175,16 +175,16 @@ module _ (tables : List Table) (query : Query) where
   class_few class = by_given (find (gives all class) all)
     where
       refs : List ColRef
-      refs = flat_map (columns_at tables query) (range_with_len 1 (length query.relations))
+      refs = flat_map (column_refs_at tables query) (range_with_len 1 (length query.relations))
 
       few : length (members tables query class) ≤ 1 + joins_of all class all
       few =
-          let a : length (members tables query class) ≡ count (is_in all class) (flat_map (columns_at tables query) (range_with_len 1 (length query.relations))) = length_filter (is_in all class) (flat_map (columns_at tables query) (range_with_len 1 (length query.relations))) in
-          let b = few_members (flat_map (columns_at tables query) (range_with_len 1 (length query.relations))) (all_distinct tables query 1 (length query.relations)) all class in
+          let a : length (members tables query class) ≡ count (is_in all class) (flat_map (column_refs_at tables query) (range_with_len 1 (length query.relations))) = length_filter (is_in all class) (flat_map (column_refs_at tables query) (range_with_len 1 (length query.relations))) in
+          let b = few_members (flat_map (column_refs_at tables query) (range_with_len 1 (length query.relations))) (all_distinct tables query 1 (length query.relations)) all class in
           omega (arith, a, b)
 
-      by_given : (o : Option Pred) → length (option_map_or (λ pred. map (equality_of pred.right) (members tables query class)) o (joins (members tables query class))) ≤ joins_of all class all + some o
-      by_given None = let h : length (joins (members tables query class)) ≤ joins_of all class all = joins_few (members tables query class) (joins_of all class all) few in omega (arith, h)
+      by_given : (o : Option Pred) → length (option_map_or (λ pred. map (equality_of pred.right) (members tables query class)) o (class_joins (members tables query class))) ≤ joins_of all class all + some o
+      by_given None = let h : length (class_joins (members tables query class)) ≤ joins_of all class all = joins_few (members tables query class) (joins_of all class all) few in omega (arith, h)
       by_given (Some p) =
           let a : length (map (equality_of p.right) (members tables query class)) ≡ length (members tables query class) = length-map (members tables query class) (equality_of p.right) in
           let b : length (members tables query class) ≤ 1 + joins_of all class all = few in

@@ -12,7 +12,7 @@ use Rattle.pq_schema.specs.declared.query.Query.{Query}
 use Rattle.pq_schema.specs.Relations.{table_of, is_equality}
 use Rattle.pq_schema.specs.Resolved.{same_ref}
 use Rattle.pq_base.proofs.Members.{in_filter, in_map, in_flat_map, in_either, in_range}
-use Rattle.pq_arrange.specs.Classes.{is_ref, is_join, merged_classes, joined_with, class_of, is_in, columns_at}
+use Rattle.pq_arrange.specs.Classes.{is_ref, is_join, merged_classes, joined_with, class_of, is_in, column_refs_at}
 use Rattle.pq_arrange.proofs.Chains.{ref_same, same_when, of_relation}
 
 -- ---- sums
@@ -112,13 +112,13 @@ columns_distinct rel a (suc n) = (
   columns_distinct rel (a + 1) n,
 )
 
-pub all_distinct : (tables : List Table) (query : Query) (a n : ℕ) → Distinct (flat_map (columns_at tables query) (range_with_len a n))
+pub all_distinct : (tables : List Table) (query : Query) (a n : ℕ) → Distinct (flat_map (column_refs_at tables query) (range_with_len a n))
 all_distinct tables query a zero = tt
 all_distinct tables query a (suc n) =
-    distinct_append (columns_at tables query a) (flat_map (columns_at tables query) (range_with_len (a + 1) n)) (columns_distinct a 0 (length (table_of tables query a).columns)) (all_distinct tables query (a + 1) n)
+    distinct_append (column_refs_at tables query a) (flat_map (column_refs_at tables query) (range_with_len (a + 1) n)) (columns_distinct a 0 (length (table_of tables query a).columns)) (all_distinct tables query (a + 1) n)
     (λ x i j.
     let e : x.rel ≡ a = of_relation tables query a (range_with_len 0 (length (table_of tables query a).columns)) x i in
-    let f = in_flat_map (columns_at tables query) x (range_with_len (a + 1) n) j in
+    let f = in_flat_map (column_refs_at tables query) x (range_with_len (a + 1) n) j in
     let g : x.rel ≡ f.0 = of_relation tables query f.0 (range_with_len 0 (length (table_of tables query f.0).columns)) x f.2 in
     let low : a + 1 ≤ f.0 = (in_range f.0 (a + 1) n f.1).0 in
     absurd (omega (arith, e, g, low)))

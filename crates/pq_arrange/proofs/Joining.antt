@@ -6,7 +6,7 @@ use Rattle.std.proofs.lemmas.List.Concat.{flat_map_single}
 use Rattle.pq_schema.specs.declared.query.ColRef.{ColRef}
 use Rattle.pq_schema.specs.declared.query.Pred.{Pred}
 use Rattle.pq_schema.specs.declared.query.Operand.TheVariants as operand
-use Rattle.pq_arrange.specs.Classes.{equality_of, is_later, beside, joins}
+use Rattle.pq_arrange.specs.Classes.{equality_of, is_later, beside, class_joins}
 
 no_some : {X : Type 0} {x : X} → None ≡ Some x → ⊥
 no_some e = cc
@@ -35,14 +35,14 @@ none_beside [] = refl
 none_beside (ref ∷ refs) = none_beside refs
 
 -- no member is of a later relation
-pub joins_alone : (first : ColRef) (rest : List ColRef) → find (is_later first) rest ≡ None → joins (first ∷ rest) ≡ map (equality_of (operand.Col first)) (filter (is_later first) rest)
+pub joins_alone : (first : ColRef) (rest : List ColRef) → find (is_later first) rest ≡ None → class_joins (first ∷ rest) ≡ map (equality_of (operand.Col first)) (filter (is_later first) rest)
 joins_alone first rest e =
     let same = map (equality_of (operand.Col first)) (filter (is_later first) rest) in
     let own = filter (λ ref. not (is_later first ref)) rest in
     ap (λ (later : List ColRef). same ++ flat_map (beside later) own) (filter_none (is_later first) rest e) ∙ ap (λ (l : List Pred). same ++ l) (none_beside own) ∙ append-nil same
 
 -- the first of the members that are
-pub joins_beside : (first later : ColRef) (rest : List ColRef) → find (is_later first) rest ≡ Some later → joins (first ∷ rest) ≡ map (equality_of (operand.Col first)) (filter (is_later first) rest) ++ map (λ ref. equality_of (operand.Col ref) later) (filter (λ ref. not (is_later first ref)) rest)
+pub joins_beside : (first later : ColRef) (rest : List ColRef) → find (is_later first) rest ≡ Some later → class_joins (first ∷ rest) ≡ map (equality_of (operand.Col first)) (filter (is_later first) rest) ++ map (λ ref. equality_of (operand.Col ref) later) (filter (λ ref. not (is_later first ref)) rest)
 joins_beside first later rest e =
     let same = map (equality_of (operand.Col first)) (filter (is_later first) rest) in
     let own = filter (λ ref. not (is_later first ref)) rest in
@@ -51,7 +51,7 @@ joins_beside first later rest e =
 
 -- behind what was there before
 pub joins_found : (first later : ColRef) (rest : List ColRef) (old half all : List Pred) → find (is_later first) rest ≡ Some later → half ≡ old ++ map (equality_of (operand.Col first)) (filter (is_later first) rest)
-    → all ≡ half ++ map (λ ref. equality_of (operand.Col ref) later) (filter (λ ref. not (is_later first ref)) rest) → all ≡ old ++ joins (first ∷ rest)
+    → all ≡ half ++ map (λ ref. equality_of (operand.Col ref) later) (filter (λ ref. not (is_later first ref)) rest) → all ≡ old ++ class_joins (first ∷ rest)
 joins_found first later rest old half all e half_is all_is =
     let same = map (equality_of (operand.Col first)) (filter (is_later first) rest) in
     let own = map (λ ref. equality_of (operand.Col ref) later) (filter (λ ref. not (is_later first ref)) rest) in

@@ -16,7 +16,7 @@ use Rattle.pq_schema.specs.declared.query.Pred.{Pred}
 use Rattle.pq_schema.specs.Relations.{is_equality}
 use Rattle.pq_plan.specs.Answer.{row_of, cell, side, compares, holds}
 use Rattle.pq_plan.proofs.ValueOrder.{value_cmp_total}
-use Rattle.pq_arrange.specs.Moves.{place_of, move, move_operand, swap_sides, later_left_with, move_pred, permuted_combo}
+use Rattle.pq_arrange.specs.Moves.{order_place, move, move_operand, swap_sides, later_left_with, move_pred, permuted_combo}
 
 pub equality : (o : Op) → is_equality o ≡ true → o ≡ op.Eq
 equality op.Eq h = refl
@@ -33,10 +33,10 @@ equal_sides None (Some y) = refl
 equal_sides (Some x) None = refl
 equal_sides (Some x) (Some y) = (eq_by_cmp_equiv value_cmp_total).symm x y
 
-pub place_is : (order : List ℕ) (rel : ℕ) → In rel order → (n : ℕ) × (place_of order rel ≡ suc n) × (n < length order) × (get_or order n 0 ≡ rel)
+pub place_is : (order : List ℕ) (rel : ℕ) → In rel order → (n : ℕ) × (order_place order rel ≡ suc n) × (n < length order) × (get_or order n 0 ≡ rel)
 place_is [] rel i = absurd i
 place_is (other ∷ others) rel i =
-    elim (other == rel) as (λ b. (other == rel) ≡ b → (n : ℕ) × (cond b 1 (suc (place_of others rel)) ≡ suc n) × (n < length (other ∷ others)) × (get_or (other ∷ others) n 0 ≡ rel)) [
+    elim (other == rel) as (λ b. (other == rel) ≡ b → (n : ℕ) × (cond b 1 (suc (order_place others rel)) ≡ suc n) × (n < length (other ∷ others)) × (get_or (other ∷ others) n 0 ≡ rel)) [
       | true ↦ λ e. (0, refl, omega arith, eqb-true other rel e)
       | false ↦ λ e.
           let h = place_is others rel (elim i [ inl s ↦ absurd (false≢true (sym e ∙ eq-eqb other rel s)) | inr r ↦ r ]) in
@@ -44,7 +44,7 @@ place_is (other ∷ others) rel i =
     ] refl
 
 -- the row of a relation stands at its new number
-pub row_moved : (order : List ℕ) (rel : ℕ) → In rel order → (combo : List (List Value)) → row_of (place_of order rel) (permuted_combo order combo) ≡ row_of rel combo
+pub row_moved : (order : List ℕ) (rel : ℕ) → In rel order → (combo : List (List Value)) → row_of (order_place order rel) (permuted_combo order combo) ≡ row_of rel combo
 row_moved order rel here combo =
     let h = place_is order rel here in
     ap (λ (n : ℕ). row_of n (permuted_combo order combo)) h.1

@@ -28,7 +28,7 @@ use Rattle.pq_schema.specs.Tables.{table_at, type_at}
 use Rattle.pq_schema.specs.Relations.{relation_at, no_relation, table_of, is_equality}
 use Rattle.pq_schema.specs.Resolved.{IsResolved, IsRelation, IsPredicate, IsOperand, IsColumnOf, IsParam, ref_type, param_type, same_ref, is_param}
 use Rattle.pq_base.proofs.Members.{range_in, all_member, any_at, any_from, map_in, in_map}
-use Rattle.pq_arrange.specs.Moves.{place_of, move, move_operand, move_item, swap_sides, later_left_with, move_pred, reordered_query}
+use Rattle.pq_arrange.specs.Moves.{order_place, move, move_operand, move_item, swap_sides, later_left_with, move_pred, reordered_query}
 use Rattle.pq_arrange.specs.Laws.{ResolvedInAnyOrder}
 use Rattle.pq_arrange.proofs.Moved.{place_is}
 use Rattle.pq_arrange.proofs.Reordered.{in_permuted}
@@ -85,22 +85,22 @@ module _ (tables : List Table) (query : Query) (r : IsResolved tables query) (or
   here : (rel : ℕ) → 1 ≤ rel → rel ≤ m → In rel order
   here rel low high = in_permuted rel (range_with_len 1 m) order p (range_in rel 1 m low (omega arith))
 
-  relation_moved : (rel : ℕ) → In rel order → relation_at query' (place_of order rel) ≡ relation_at query rel
+  relation_moved : (rel : ℕ) → In rel order → relation_at query' (order_place order rel) ≡ relation_at query rel
   relation_moved rel i =
       let h = place_is order rel i in
-      let e : place_of order rel - 1 ≡ h.0 = (let s : place_of order rel ≡ suc h.0 = h.1 in omega (arith, s)) in
+      let e : order_place order rel - 1 ≡ h.0 = (let s : order_place order rel ≡ suc h.0 = h.1 in omega (arith, s)) in
       ap (λ (n : ℕ). get_or (map (relation_at query) order) n no_relation) e
       ∙ get_or-map (relation_at query) order h.0 0 no_relation h.2
       ∙ ap (relation_at query) h.3
 
-  table_moved : (rel : ℕ) → In rel order → table_of tables query' (place_of order rel) ≡ table_of tables query rel
+  table_moved : (rel : ℕ) → In rel order → table_of tables query' (order_place order rel) ≡ table_of tables query rel
   table_moved rel i = ap (λ (relation : Relation). table_at tables relation.table) (relation_moved rel i)
 
   pub column_moved : (ref : ColRef) → IsColumnOf tables query ref → IsColumnOf tables query' (move order ref)
   column_moved ref c =
       let i = here ref.rel c.from_one c.there in
       let h = place_is order ref.rel i in
-      let s : place_of order ref.rel ≡ suc h.0 = h.1 in
+      let s : order_place order ref.rel ≡ suc h.0 = h.1 in
       let inside : h.0 < length order = h.2 in
       let l : length query'.relations ≡ length order = length-map order (relation_at query) in
       record {
@@ -113,11 +113,11 @@ module _ (tables : List Table) (query : Query) (r : IsResolved tables query) (or
   type_moved ref c = ap (λ (t : Table). type_at t.columns ref.col) (table_moved ref.rel (here ref.rel c.from_one c.there))
 
   -- relations that differ have different places
-  pub places_differ : (a b : ℕ) → In a order → In b order → place_of order a ≡ place_of order b → a ≡ b
+  pub places_differ : (a b : ℕ) → In a order → In b order → order_place order a ≡ order_place order b → a ≡ b
   places_differ a b i j e =
       let h = place_is order a i in
       let k = place_is order b j in
-      let s : h.0 ≡ k.0 = (let x : place_of order a ≡ suc h.0 = h.1 in let y : place_of order b ≡ suc k.0 = k.1 in omega (arith, x, y, e)) in
+      let s : h.0 ≡ k.0 = (let x : order_place order a ≡ suc h.0 = h.1 in let y : order_place order b ≡ suc k.0 = k.1 in omega (arith, x, y, e)) in
       sym h.3 ∙ ap (λ (n : ℕ). get_or order n 0) s ∙ k.3
 
   relations_permuted : IsPermutation query.relations query'.relations
@@ -144,8 +144,8 @@ module _ (tables : List Table) (query : Query) (r : IsResolved tables query) (or
       by_right (operand.Const value) o = record { left = left; right = subst (λ (t : ColType). FitsType (param_type t) value) (sym same_type) o }
       by_right (operand.Param number) o = record { left = left; right = subst (λ (t : ColType). IsParam query.params number (param_type t)) (sym same_type) o }
       by_right (operand.Col other) o =
-          let a : ℕ = place_of order pred.left.rel in
-          let b : ℕ = place_of order other.rel in
+          let a : ℕ = order_place order pred.left.rel in
+          let b : ℕ = order_place order other.rel in
           let moved : Pred = record { left = move order pred.left; op = pred.op; right = operand.Col (move order other) } in
           let is_eq : is_equality pred.op ≡ true = ap is_equality o.equal in
           let other_type : ref_type tables query' (move order other) ≡ ref_type tables query other = type_moved other o.column in
@@ -175,8 +175,8 @@ module _ (tables : List Table) (query : Query) (r : IsResolved tables query) (or
   refs_differ : (a b : ColRef) → IsColumnOf tables query a → IsColumnOf tables query b → same_ref a b ≡ false → same_ref (move order a) (move order b) ≡ false
   refs_differ a b c d h =
       elim (cases_eq a.rel b.rel) [
-        | inl e ↦ (λ i. eq-eqb (place_of order a.rel) (place_of order b.rel) (ap (place_of order) e) i && (a.col == b.col)) ∙ sym (λ i. eq-eqb a.rel b.rel e i && (a.col == b.col)) ∙ h
-        | inr other ↦ λ i. ne_eqb (place_of order a.rel) (place_of order b.rel) (λ e. other (places_differ a.rel b.rel (here a.rel c.from_one c.there) (here b.rel d.from_one d.there) e)) i && (a.col == b.col)
+        | inl e ↦ (λ i. eq-eqb (order_place order a.rel) (order_place order b.rel) (ap (order_place order) e) i && (a.col == b.col)) ∙ sym (λ i. eq-eqb a.rel b.rel e i && (a.col == b.col)) ∙ h
+        | inr other ↦ λ i. ne_eqb (order_place order a.rel) (order_place order b.rel) (λ e. other (places_differ a.rel b.rel (here a.rel c.from_one c.there) (here b.rel d.from_one d.there) e)) i && (a.col == b.col)
       ]
 
   pub reordered_resolved : IsResolved tables query'

@@ -22,5 +22,6 @@ has_candidate tables query = is_some_list (candidates tables query)
 -- the first of the query, of it rearranged, and of it rearranged and closed, that has a candidate
 abbrev pub arranged_query : List Table → Query → Query
 arranged_query tables query =
-    unwrap_or (find (has_candidate tables) (query ∷ rearranged_query tables query false ∷ rearranged_query tables query true
+    unwrap_or (find (has_candidate tables) (query ∷ rearranged_query tables query false
+    ∷ rearranged_query tables query true
     ∷ [])) query

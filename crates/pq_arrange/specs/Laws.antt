@@ -86,7 +86,8 @@ FindsCandidate =
 
 -- and it is its own arrangement
 abbrev pub ArrangedOnce : Type 0
-ArrangedOnce = (tables : List Table) (query : Query) → arranged_query tables (arranged_query tables query) ≡ arranged_query tables query
+ArrangedOnce = (tables : List Table) (query : Query)
+    → arranged_query tables (arranged_query tables query) ≡ arranged_query tables query
 
 -- closing gives again a query that reading gives over the tables
 abbrev pub ResolvedWhenClosed : Type 0

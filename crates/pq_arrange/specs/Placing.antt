@@ -41,13 +41,13 @@ ties_class preds placed class pred =
     || is_placed_in preds class placed pred.right)
 
 -- whether equalities are closed
-abbrev pub is_tied : Bool → List Pred → List ℕ → ColRef → Bool
-is_tied false preds placed ref = list_any (ties_column placed ref) preds
-is_tied true preds placed ref = list_any (ties_class preds placed (class_of preds ref)) preds
+abbrev pub is_tied_ref : Bool → List Pred → List ℕ → ColRef → Bool
+is_tied_ref false preds placed ref = list_any (ties_column placed ref) preds
+is_tied_ref true preds placed ref = list_any (ties_class preds placed (class_of preds ref)) preds
 
 -- the column of this number of a relation is tied
 abbrev pub is_tied_at : Bool → List Pred → List ℕ → ℕ → ℕ → Bool
-is_tied_at close preds placed rel col = is_tied close preds placed (record { rel = rel; col = col })
+is_tied_at close preds placed rel col = is_tied_ref close preds placed (record { rel = rel; col = col })
 
 abbrev pub bound_list : Option ℕ → List ℕ
 bound_list None = []

@@ -3,7 +3,7 @@ ghost use Rattle.std.specs.Prelude.{◌≡◌, ◌++◌, ◌∷◌, IfOk, OnOk, 
 ghost use Rattle.std.specs.List.{list_any, range_with_len};
 ghost use Rattle.pq_schema.specs.Resolved.{same_ref};
 ghost use Rattle.pq_schema.specs.Sound.{IsQuery};
-ghost use Rattle.pq_arrange.specs.Classes.{beside, class_of, class_preds, classes, classes_after, closed_query, columns_at, equality_of, gives, has, is_given, is_in, is_join, is_joined, is_later, is_new, is_ref, joins, members, others, others_after};
+ghost use Rattle.pq_arrange.specs.Classes.{beside, class_of, class_preds, classes, classes_after, closed_query, column_refs_at, equality_of, gives, has, is_given, is_in, is_join, is_joined, is_later, is_new, is_ref, class_joins, members, others, others_after};
 
 use crate::labels::{Classes, same_column};
 use crate::moves::copy_operand;
@@ -213,7 +213,7 @@ fn push_equalities(
     rest: &[ColRef],
     found: &mut List<Pred>,
 ) -> Result<(), NoMem>
-    ensures { OnOk result (found.new ≡ found.old ++ joins (first ∷ rest.now)) }
+    ensures { OnOk result (found.new ≡ found.old ++ class_joins (first ∷ rest.now)) }
 {
     push_later(alloc, first, rest, found)?;
     if let Some(later) = first_later(first, rest) {
@@ -224,7 +224,7 @@ fn push_equalities(
 
 /// Puts the equalities of a class that has no constant and no parameter.
 fn push_joins(alloc: Global, members: &[ColRef], found: &mut List<Pred>) -> Result<(), NoMem>
-    ensures { OnOk result (found.new ≡ found.old ++ joins members.now) }
+    ensures { OnOk result (found.new ≡ found.old ++ class_joins members.now) }
 {
     match members.split_first() {
         None => Ok(()),

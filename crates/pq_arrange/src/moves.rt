@@ -1,7 +1,7 @@
 //! A query with its relations in another order.
 ghost use Rattle.std.specs.Prelude.{◌≡◌, ◌+◌, ◌≤◌, All, IfOk, length, map};
 ghost use Rattle.pq_schema.specs.Relations.{relation_at};
-ghost use Rattle.pq_arrange.specs.Moves.{place_of, places, move, move_operand, later_left, move_pred, move_item, reordered_query};
+ghost use Rattle.pq_arrange.specs.Moves.{order_place, places, move, move_operand, later_left, move_pred, move_item, reordered_query};
 
 use crate::numbers::numbers;
 use pq_base::{ColType, List, NoMem};
@@ -11,7 +11,7 @@ use std::alloc::Global;
 /// The new number of the relation with this old one.
 fn place_of(order: &[u8], rel: u8) -> u8
     requires { length order.now ≤ 6 }
-    ensures value { result ≡ place_of order.now rel }
+    ensures value { result ≡ order_place order.now rel }
     ensures few { result ≤ 1 + length order.now }
 {
     match order.split_first() {

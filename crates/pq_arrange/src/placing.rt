@@ -6,7 +6,7 @@ ghost use Rattle.pq_base.specs.Columns.{with_col};
 ghost use Rattle.pq_schema.specs.Resolved.{same_ref};
 ghost use Rattle.pq_schema.specs.Sound.{IsQuery};
 ghost use Rattle.pq_schema.specs.Tables.{least_of};
-ghost use Rattle.pq_arrange.specs.Placing.{arranged_order, bound_next, first_of_rest, first_ordered, is_placed, is_placed_in, is_tied, is_tied_at, least_bound, bound_list, next, placed_after, tied_columns, ties_class, ties_column, ties_with, without};
+ghost use Rattle.pq_arrange.specs.Placing.{arranged_order, bound_next, first_of_rest, first_ordered, is_placed, is_placed_in, is_tied_ref, is_tied_at, least_bound, bound_list, next, placed_after, tied_columns, ties_class, ties_column, ties_with, without};
 
 use crate::closing::is_given;
 use crate::labels::{Classes, same_column};
@@ -88,7 +88,7 @@ pub(crate) struct Placing<'a> {
 impl<'a> Placing<'a> {
     fn is_tied(self, placed: &[u8], column: ColRef) -> bool
         requires { self.classes.now ≡ self.query.now.preds }
-        ensures { result ≡ is_tied self.entry.closed self.entry.query.now.preds placed.now column }
+        ensures { result ≡ is_tied_ref self.entry.closed self.entry.query.now.preds placed.now column }
     {
         if self.closed {
             tied_by_class(self.classes, placed, self.classes.class_of(column))

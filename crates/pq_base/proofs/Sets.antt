@@ -3,7 +3,7 @@ use Rattle.std.proofs.Common.{◌≡◌, ℕ, ◌^◌, min, true, ◌⊎◌, inl
 use Rattle.std.specs.Int.{bit_at}
 use Rattle.std.proofs.lemmas.Bool.{cases_eq, eqb-true, eq-eqb}
 use Rattle.std.proofs.lemmas.Nat.Bits.{bit_at_and, bit_at_or, bit_at-pow_same, bit_at-pow_other, bit_at-zero, same_from_bits}
-use Rattle.pq_base.specs.Columns.{with_col, has_col, is_within, set_of}
+use Rattle.pq_base.specs.Columns.{with_col, has_col, is_column_within, set_of}
 use Rattle.pq_base.specs.Members.{In}
 
 bit_with : (s c k : ℕ) → bit_at (with_col s c) k ≡ 1 → (bit_at s k ≡ 1) ⊎ (c ≡ k)
@@ -45,17 +45,17 @@ set_members cols k h = elim (from_bit cols 0 k (eqb-true _ _ h)) [
 pub members_set : (cols : List ℕ) (k : ℕ) → In k cols → has_col (set_of cols) k ≡ true
 members_set cols k i = eq-eqb _ _ (to_bit cols 0 k (inr i))
 
-within_bits : (a b k : ℕ) → is_within a b ≡ true → bit_at a k ≡ 1 → bit_at b k ≡ 1
+within_bits : (a b k : ℕ) → is_column_within a b ≡ true → bit_at a k ≡ 1 → bit_at b k ≡ 1
 within_bits a b k h one =
     let same : bit_at (bit_and a b) k ≡ bit_at a k = ap (λ s. bit_at s k) (eqb-true _ _ h) in
     let both = bit_at_and a b k in
     omega (arith, same, both, one)
 
 -- the members of a set that lies in another are members of that
-pub within_members : (xs ys : List ℕ) → is_within (set_of xs) (set_of ys) ≡ true → (k : ℕ) → In k xs → In k ys
+pub within_members : (xs ys : List ℕ) → is_column_within (set_of xs) (set_of ys) ≡ true → (k : ℕ) → In k xs → In k ys
 within_members xs ys h k i = set_members ys k (eq-eqb _ _ (within_bits (set_of xs) (set_of ys) k h (to_bit xs 0 k (inr i))))
 
-pub members_within : (xs ys : List ℕ) → ((k : ℕ) → In k xs → In k ys) → is_within (set_of xs) (set_of ys) ≡ true
+pub members_within : (xs ys : List ℕ) → ((k : ℕ) → In k xs → In k ys) → is_column_within (set_of xs) (set_of ys) ≡ true
 members_within xs ys f = eq-eqb _ _ (same_from_bits _ _ (λ k. bit_at_and (set_of xs) (set_of ys) k ∙ each k))
   where
     each : (k : ℕ) → min (bit_at (set_of xs) k) (bit_at (set_of ys) k) ≡ bit_at (set_of xs) k

@@ -1,7 +1,7 @@
 //! A set of columns, seen as the number whose bits are the columns.
 
 ghost use Rattle.std.specs.Prelude.{◌≡◌, ◌==◌, ◌<◌, All, count_ones, bit_or};
-ghost use Rattle.pq_base.specs.Columns.{with_col, has_col, is_within, set_of};
+ghost use Rattle.pq_base.specs.Columns.{with_col, has_col, is_column_within, set_of};
 
 use std::marker::Model;
 
@@ -48,7 +48,7 @@ impl ColSet {
 
     /// Whether each column of this set is in the other.
     pub fn within(self, other: ColSet) -> bool
-        ensures { result ≡ is_within self other }
+        ensures { result ≡ is_column_within self other }
     {
         self.bits & other.bits == self.bits
     }

@@ -81,7 +81,8 @@ fn rises(words: &[&'static str]) -> bool
 fn find(words: &[&'static str], word: &[u8]) -> Option<usize>
     requires { IsRising (texts words.now) }
     ensures found { IfSome result (λ place. slice_get (texts words.now) place ≡ Some (map uppercase_byte word.now)) }
-    ensures none { IfNone result ((place : ℕ) → slice_get (texts words.now) place ≡ Some (map uppercase_byte word.now) → ⊥) }
+    ensures none { IfNone result ((place : ℕ)
+        → slice_get (texts words.now) place ≡ Some (map uppercase_byte word.now) → ⊥) }
 {
     let mut low = 0;
     let mut high = words.len();

@@ -17,7 +17,7 @@ use Rattle.pq_intent.specs.Changing.{MayChange}
 use Rattle.pq_builds.specs.declared.target.NewQuery.{NewQuery}
 use Rattle.pq_builds.specs.declared.target.Target.{Target}
 use Rattle.pq_builds.specs.Filling.{first_key, past_key, row_pairs_in, Enters, EntersSome, IsNoRowAmong}
-use Rattle.pq_builds.specs.Stages.{ready_value, building_value, marked_content, IsReady, StopsFilling, IsMarked, IsBuilt, StopsBuilding, ShowsBuild, IsCounted, Takes, IsWithin, left_ops}
+use Rattle.pq_builds.specs.Stages.{ready_value, building_value, marked_content, IsReady, StopsFilling, IsMarked, IsBuilt, StopsBuilding, ShowsBuild, IsCounted, Takes, IsWithinBuild, left_ops}
 use Rattle.pq_builds.proofs.Entering.{some_none}
 use Rattle.pq_builds.proofs.Ranges.{range_insert, no_row_key}
 
@@ -113,7 +113,7 @@ counted_some t n low high (Some c) low_is high_is few answer =
     omega arith
 
 -- the count alone is within a completion
-pub within_left : (before after : Counts) → Takes 1 1000001 before after → IsWithin left_ops before after
+pub within_left : (before after : Counts) → Takes 1 1000001 before after → IsWithinBuild left_ops before after
 within_left before after t =
     let ops = t.ops_are in
     let entries = t.entries_are in

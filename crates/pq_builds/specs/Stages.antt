@@ -104,9 +104,9 @@ IsCounted rows None = 1000000 < rows
 IsCounted rows (Some count) = rows ≡ count
 
 -- the entries that the count takes
-abbrev pub counted_entries : Option ℕ → ℕ
-counted_entries None = 1000001
-counted_entries (Some count) = count
+abbrev pub count_entries : Option ℕ → ℕ
+count_entries None = 1000001
+count_entries (Some count) = count
 
 -- the operations of a build over so many rows, and of one that was left, which has its mark
 abbrev pub build_ops : ℕ → ℕ
@@ -125,7 +125,7 @@ TakesBuild (built.Rows count) before after = Takes (build_ops count) (2 * count)
 TakesBuild built.TooMany before after = Takes 1 1000001 before after
 
 -- at most so many operations over some number of rows, and their entries with those of one range more
-pub record IsWithin (ops_of : ℕ → ℕ) (before after : Counts) : Type 0 where
+pub record IsWithinBuild (ops_of : ℕ → ℕ) (before after : Counts) : Type 0 where
   pub count : ℕ
   pub few : count ≤ 1000000
   pub ops : after.ops ≤ before.ops + ops_of count

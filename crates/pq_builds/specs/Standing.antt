@@ -78,7 +78,8 @@ before origin = content_pairs origin.tables origin.rows origin.others
 
 -- the content with the index, and with the definition's pair of this value
 abbrev pub whole_content : Origin → Target → NewQuery → List ℕ → Content
-whole_content origin target query value = defined_content (tables_with origin target) origin.rows origin.others query value
+whole_content origin target query value =
+    defined_content (tables_with origin target) origin.rows origin.others query value
 
 -- the index is being filled
 abbrev pub FillsIndex : Origin → Target → NewQuery → Content → Type 0
@@ -103,19 +104,19 @@ pub record HoldsFilling (origin : Origin) (target : Target) (query : NewQuery) (
 -- ---- what a build makes and leaves
 
 -- the index and the definition are there
-abbrev pub HasIndex : Origin → Target → NewQuery → Option Content → Type 0
-HasIndex origin target query now = now ≡ Some (whole_content origin target query (ready_value query))
+abbrev pub HoldsIndex : Origin → Target → NewQuery → Option Content → Type 0
+HoldsIndex origin target query now = now ≡ Some (whole_content origin target query (ready_value query))
 
 -- the index is being filled, or is there with the definition
 abbrev pub IsMarkedOrReady : Origin → Target → NewQuery → Option Content → Type 0
 IsMarkedOrReady origin target query now =
     ((content : Content) × (now ≡ Some content) × FillsIndex origin target query content)
-    ⊎ HasIndex origin target query now
+    ⊎ HoldsIndex origin target query now
 
 -- the index and the definition are there; or nothing is changed, since there are too many rows
 abbrev pub Makes : Origin → Target → NewQuery → Built → Option Content → Type 0
 Makes origin target query (built.Rows count) now =
-    (rows_in origin target ≡ count) × (rows_in origin target ≤ 1000000) × HasIndex origin target query now
+    (rows_in origin target ≡ count) × (rows_in origin target ≤ 1000000) × HoldsIndex origin target query now
 Makes origin target query built.TooMany now = (1000000 < rows_in origin target) × (now ≡ Some (before origin))
 
 -- nothing was changed, or the index is being filled, or it is there with the definition

@@ -6,7 +6,7 @@ ghost use Rattle.pq_store.specs.Content.{HasBrokeCause, Content};
 ghost use Rattle.pq_intent.specs.Spending.{TakesAtMost};
 ghost use Rattle.pq_builds.specs.Bounds.{left_bound};
 ghost use Rattle.pq_builds.specs.Filling.{row_pairs_in, IsNoRowAmong, NamesKey, fill_ops};
-ghost use Rattle.pq_builds.specs.Stages.{marked_value, IsMarked, IsReady, IsBuilt, StopsFilling, StopsBuilding, ShowsBuild, ShowsLeft, RanBuild, Takes, TakesBuild, IsFew, IsWithin, build_ops, left_ops};
+ghost use Rattle.pq_builds.specs.Stages.{marked_value, IsMarked, IsReady, IsBuilt, StopsFilling, StopsBuilding, ShowsBuild, ShowsLeft, RanBuild, Takes, TakesBuild, IsFew, IsWithinBuild, build_ops, left_ops};
 ghost use Rattle.pq_builds.specs.Standing.{Origin, HoldsOrigin, HoldsFilling, IsMarkedOrReady, Makes, Leaves, rows_in};
 
 use crate::count::count_rows;
@@ -149,7 +149,7 @@ fn run_build<S: Store<L>, L: Ledger>(
     ensures unchanged { IfOk result (λ built. built ≡ Built.TooMany → S.content store.new ≡ S.content store.old) }
     ensures few { IfOk result IsFew }
     ensures takes { IfOk result (λ built. TakesBuild built meter.old meter.new) }
-    ensures within { OnErr result (IsWithin build_ops meter.old meter.new) }
+    ensures within { OnErr result (IsWithinBuild build_ops meter.old meter.new) }
     ensures cause { HasBrokeCause (S.faults store.old) (S.faults store.new) result }
 {
     match count_rows(alloc, target.table, store, meter)? {
@@ -178,7 +178,7 @@ fn run_completion<S: Store<L>, L: Ledger>(
         ShowsLeft target.now query.now c broke)) }
     ensures names { IfErr result (NamesKey query.now.key) }
     ensures takes { IfOk result (λ count. Takes (left_ops count) (2 * count) meter.old meter.new) }
-    ensures within { OnErr result (IsWithin left_ops meter.old meter.new) }
+    ensures within { OnErr result (IsWithinBuild left_ops meter.old meter.new) }
     ensures within_own { OnErr result (IfSome (S.content store.old) (λ c.
         TakesAtMost (left_bound (length (row_pairs_in target.now.table c))) meter.old meter.new)) }
     ensures cause { HasBrokeCause (S.faults store.old) (S.faults store.new) result }
@@ -224,7 +224,7 @@ pub fn build_index<S: Store<L>, L: Ledger>(
     ensures unchanged { IfOk result (λ built. built ≡ Built.TooMany → S.content store.new ≡ S.content store.old) }
     ensures few { IfOk result IsFew }
     ensures takes { IfOk result (λ built. TakesBuild built meter.old meter.new) }
-    ensures within { OnErr result (IsWithin build_ops meter.old meter.new) }
+    ensures within { OnErr result (IsWithinBuild build_ops meter.old meter.new) }
     ensures cause { HasBrokeCause (S.faults store.old) (S.faults store.new) result }
 {
     run_build(alloc, target, query, store, meter)
@@ -262,7 +262,7 @@ pub fn complete_index<S: Store<L>, L: Ledger>(
     ensures few { IfOk result (λ count. count ≤ 1000000) }
     ensures names { IfErr result (NamesKey query.now.key) }
     ensures takes { IfOk result (λ count. Takes (left_ops count) (2 * count) meter.old meter.new) }
-    ensures within { OnErr result (IsWithin left_ops meter.old meter.new) }
+    ensures within { OnErr result (IsWithinBuild left_ops meter.old meter.new) }
     ensures cause { HasBrokeCause (S.faults store.old) (S.faults store.new) result }
 {
     run_completion(alloc, target, query, store, meter)

@@ -3,7 +3,7 @@ ghost use Rattle.std.specs.Prelude.{◌≡◌, ◌≤◌, ◌+◌, length, IfOk,
 ghost use Rattle.pq_store.specs.Content.{HasBrokeCause};
 ghost use Rattle.pq_store.specs.Breaks.{IsUndamaged};
 ghost use Rattle.pq_builds.specs.Filling.{row_pairs_in};
-ghost use Rattle.pq_builds.specs.Stages.{IsCounted, Takes, counted_entries};
+ghost use Rattle.pq_builds.specs.Stages.{IsCounted, Takes, count_entries};
 
 use crate::fill::{first_key, past_key};
 use pq_store::{Broke, Meter, Store};
@@ -25,7 +25,7 @@ pub(crate) fn count_rows<S: Store<L>, L: Ledger>(
     ensures few { IfOk result (λ count. IfSome count (λ n. n ≤ 1000000)) }
     ensures same { S.content store.new ≡ S.content store.old }
     ensures sound { IfErr result IsUndamaged }
-    ensures takes { IfOk result (λ count. Takes 1 (counted_entries count) meter.old meter.new) }
+    ensures takes { IfOk result (λ count. Takes 1 (count_entries count) meter.old meter.new) }
     ensures few_ops { meter.new.ops ≤ meter.old.ops + 1 }
     ensures none { OnErr result (meter.new.entries ≡ meter.old.entries) }
     ensures cause { HasBrokeCause (S.faults store.old) (S.faults store.new) result }

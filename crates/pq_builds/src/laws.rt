@@ -18,7 +18,7 @@ ghost use Rattle.pq_builds.specs.declared.target.Target.{Target};
 ghost use Rattle.pq_builds.specs.Bounds.{fixed_bound, prepare_bound, build_bound, left_bound};
 ghost use Rattle.pq_builds.specs.Filling.{row_pairs_in};
 ghost use Rattle.pq_builds.specs.Stages.{building_value, Takes, TakesBuild, left_ops};
-ghost use Rattle.pq_builds.specs.Standing.{defined_content, IsFilling, Origin, IsTarget, IsNewIn, HoldsOrigin, HasIndex, Makes, rows_in, tables_with, whole_content};
+ghost use Rattle.pq_builds.specs.Standing.{defined_content, IsFilling, Origin, IsTarget, IsNewIn, HoldsOrigin, HoldsIndex, Makes, rows_in, tables_with, whole_content};
 
 /// What is told by a content in which an index is being filled.
 pub fn filling_law()

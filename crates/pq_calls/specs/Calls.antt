@@ -7,7 +7,8 @@ use Rattle.pq_calls.specs.declared.calls.Calls.{Calls}
 use Rattle.pq_calls.specs.World.{World, world, Reads, Explains}
 
 abbrev pub seen_world : {S L : Type 0} → (S → Option Content) → (S → ℕ) → Calls S L → World
-seen_world content faults calls = world (content calls.store.now) (faults calls.store.now) calls.allowance.now calls.meter.now
+seen_world content faults calls =
+    world (content calls.store.now) (faults calls.store.now) calls.allowance.now calls.meter.now
 
 -- it is the same store, allowance and meter, and at most so much was read
 pub record Uses {S L : Type 0} (content : S → Option Content) (faults : S

@@ -12,7 +12,7 @@ use Rattle.pq_schema.specs.declared.table.Foreign.{Foreign}
 use Rattle.pq_schema.specs.declared.table.Limit.{Limit}
 use Rattle.pq_schema.specs.declared.table.Table.{Table}
 use Rattle.pq_schema.specs.Tables.{table_at}
-use Rattle.pq_content.specs.Tables.{Rows, rows_of, types_of, key_of, cells, agrees, has_key, row_at, group_of, IsTableNumber, AreApart, IsWithin, HasParent, HasRoom, IsFound, Keeps, stored_code}
+use Rattle.pq_content.specs.Tables.{Rows, rows_of, types_of, key_of, cells, agrees, has_key, row_at, group_of, IsTableNumber, AreApart, IsWithinLimit, HasParent, HasRoom, IsFound, Keeps, stored_code}
 use Rattle.pq_content.proofs.Values.{same_from_test}
 use Rattle.pq_base.proofs.Members.{each_weaker, each_both}
 
@@ -118,7 +118,7 @@ found_still tables rows e t key some =
       | false ↦ some
     ]
 
-pub within_still : (rows : Rows) (t u : ℕ) (row : List Value) (limit : Limit) → (t ≡ u → HasRoom t rows row limit) → IsWithin u rows limit → IsWithin u ((t, row) ∷ rows) limit
+pub within_still : (rows : Rows) (t u : ℕ) (row : List Value) (limit : Limit) → (t ≡ u → HasRoom t rows row limit) → IsWithinLimit u rows limit → IsWithinLimit u ((t, row) ∷ rows) limit
 within_still rows t u row limit room within values =
     let p = agrees limit.cols values in
     let group = group_of u limit.cols values rows in
@@ -146,12 +146,12 @@ keeps_insert tables rows t row keeps number fits short none room parents =
         known = (number, keeps.known);
         fit = (fits, keeps.fit);
         apart = (none_has_key tables rows t (key_of (table_at tables t) row) none, keeps.apart);
-        limits = λ u is. elim (t == u) as (λ b. (t == u) ≡ b → AllByRecursion (IsWithin u now) (table_at tables u).limits) [
+        limits = λ u is. elim (t == u) as (λ b. (t == u) ≡ b → AllByRecursion (IsWithinLimit u now) (table_at tables u).limits) [
           | true ↦ λ same.
               let one : t ≡ u = eqb-true t u same in
-              each_both (HasRoom t rows row) (IsWithin u rows) (IsWithin u now) (λ limit free within. within_still rows t u row limit (λ _. free) within) (table_at tables u).limits (subst (λ (n : ℕ). AllByRecursion (HasRoom t rows row) (table_at tables n).limits) one room) (keeps.limits u is)
+              each_both (HasRoom t rows row) (IsWithinLimit u rows) (IsWithinLimit u now) (λ limit free within. within_still rows t u row limit (λ _. free) within) (table_at tables u).limits (subst (λ (n : ℕ). AllByRecursion (HasRoom t rows row) (table_at tables n).limits) one room) (keeps.limits u is)
           | false ↦ λ other.
-              each_weaker (IsWithin u rows) (IsWithin u now) (λ limit within. within_still rows t u row limit (λ one. absurd (false≢true (sym other ∙ subst (λ (n : ℕ). (t == n) ≡ true) one (eq-eqb t t refl)))) within) (table_at tables u).limits (keeps.limits u is)
+              each_weaker (IsWithinLimit u rows) (IsWithinLimit u now) (λ limit within. within_still rows t u row limit (λ one. absurd (false≢true (sym other ∙ subst (λ (n : ℕ). (t == n) ≡ true) one (eq-eqb t t refl)))) within) (table_at tables u).limits (keeps.limits u is)
         ] refl;
         foreign = (parents_still row (table_at tables t).foreign parents, each_weaker (λ (e : ℕ × List Value). AllByRecursion (HasParent tables rows e.1) (table_at tables e.0).foreign) (λ (e : ℕ × List Value). AllByRecursion (HasParent tables now e.1) (table_at tables e.0).foreign) (λ e h. parents_still e.1 (table_at tables e.0).foreign h) rows keeps.foreign);
       };

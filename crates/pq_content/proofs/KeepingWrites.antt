@@ -10,7 +10,7 @@ use Rattle.pq_schema.specs.declared.table.Foreign.{Foreign}
 use Rattle.pq_schema.specs.declared.table.Limit.{Limit}
 use Rattle.pq_schema.specs.declared.table.Table.{Table}
 use Rattle.pq_schema.specs.Tables.{table_at}
-use Rattle.pq_content.specs.Tables.{Rows, rows_of, types_of, key_of, cells, agrees, same_values, has_key, row_at, rows_without, group_of, IsTableNumber, AreApart, IsWithin, HasParent, HasRoom, MayChange, MayRefer, IsUnreferenced, Keeps, stored_code}
+use Rattle.pq_content.specs.Tables.{Rows, rows_of, types_of, key_of, cells, agrees, same_values, has_key, row_at, rows_without, group_of, IsTableNumber, AreApart, IsWithinLimit, HasParent, HasRoom, MayChangeRow, MayRefer, IsUnreferenced, Keeps, stored_code}
 use Rattle.pq_content.proofs.Keeping.{none_has_key, found_still, within_still, row_found}
 use Rattle.pq_base.proofs.Members.{in_from_contains, each_in, each_by_in, in_filter, each_filter, fewer_kept, one_less_kept, find-filter, in_from_find, each_weaker, each_both}
 use Rattle.pq_base.specs.Members.{In}
@@ -49,7 +49,7 @@ group_without tables rows t u key cols values =
     let q = λ (row : List Value). not ((u == t) && agrees (table_at tables t).key key row) in
     subst (λ (l : List (List Value)). length (filter (agrees cols values) l) ≤ length (group_of u cols values rows)) (sym (rows_of-without tables rows t u key)) (fewer_kept q (agrees cols values) (rows_of u rows))
 
-within_without : (tables : List Table) (rows : Rows) (t u : ℕ) (key : List Value) (limit : Limit) → IsWithin u rows limit → IsWithin u (rows_without tables t key rows) limit
+within_without : (tables : List Table) (rows : Rows) (t u : ℕ) (key : List Value) (limit : Limit) → IsWithinLimit u rows limit → IsWithinLimit u (rows_without tables t key rows) limit
 within_without tables rows t u key limit within values =
     let less = group_without tables rows t u key limit.cols values in
     let most = within values in
@@ -111,7 +111,7 @@ keeps_delete tables rows t key keeps free =
         known = each_filter p _ rows keeps.known;
         fit = each_filter p _ rows keeps.fit;
         apart = AreApart-filter tables p rows keeps.apart;
-        limits = λ u is. each_weaker (IsWithin u rows) (IsWithin u left) (λ limit within. within_without tables rows t u key limit within) (table_at tables u).limits (keeps.limits u is);
+        limits = λ u is. each_weaker (IsWithinLimit u rows) (IsWithinLimit u left) (λ limit within. within_without tables rows t u key limit within) (table_at tables u).limits (keeps.limits u is);
         foreign = each_by_in (λ (e : ℕ × List Value). AllByRecursion (HasParent tables left e.1) (table_at tables e.0).foreign) left (λ e i.
             let there : In e rows = (in_filter p e rows i).0 in
             each_by_in (HasParent tables left e.1) (table_at tables e.0).foreign (λ f j. parent e there f j (each_in (HasParent tables rows e.1) (table_at tables e.0).foreign (each_in (λ (x : ℕ × List Value). AllByRecursion (HasParent tables rows x.1) (table_at tables x.0).foreign) rows keeps.foreign e there) f j)));
@@ -143,7 +143,7 @@ replaced_found tables rows t u key new k own there =
     ] refl
 
 -- the group of the new row has room where the old row left it
-room_left : (tables : List Table) (rows : Rows) (t : ℕ) (old new : List Value) (limit : Limit) → In old (rows_of t rows) → IsWithin t rows limit → MayChange t rows old new limit → HasRoom t (rows_without tables t (key_of (table_at tables t) old) rows) new limit
+room_left : (tables : List Table) (rows : Rows) (t : ℕ) (old new : List Value) (limit : Limit) → In old (rows_of t rows) → IsWithinLimit t rows limit → MayChangeRow t rows old new limit → HasRoom t (rows_without tables t (key_of (table_at tables t) old) rows) new limit
 room_left tables rows t old new limit there within (inl same) =
     let key = key_of (table_at tables t) old in
     let p = λ (row : List Value). not ((t == t) && agrees (table_at tables t).key key row) in
@@ -159,7 +159,7 @@ room_left tables rows t old new limit there within (inr room) =
     omega arith
 
 -- a new row that fits, is short and has the old row's key, and whose changes have room and parents
-pub keeps_update : (tables : List Table) (rows : Rows) (t : ℕ) (old new : List Value) → Keeps tables rows → row_at tables rows t (key_of (table_at tables t) old) ≡ Some old → key_of (table_at tables t) old ≡ key_of (table_at tables t) new → AllFit (types_of (table_at tables t)) new → length (stored_code (table_at tables t) new) ≤ 4096 → AllByRecursion (MayChange t rows old new) (table_at tables t).limits → AllByRecursion (MayRefer tables rows old new) (table_at tables t).foreign → Keeps tables ((t, new) ∷ rows_without tables t (key_of (table_at tables t) old) rows)
+pub keeps_update : (tables : List Table) (rows : Rows) (t : ℕ) (old new : List Value) → Keeps tables rows → row_at tables rows t (key_of (table_at tables t) old) ≡ Some old → key_of (table_at tables t) old ≡ key_of (table_at tables t) new → AllFit (types_of (table_at tables t)) new → length (stored_code (table_at tables t) new) ≤ 4096 → AllByRecursion (MayChangeRow t rows old new) (table_at tables t).limits → AllByRecursion (MayRefer tables rows old new) (table_at tables t).foreign → Keeps tables ((t, new) ∷ rows_without tables t (key_of (table_at tables t) old) rows)
 keeps_update tables rows t old new keeps found same fits short changes names =
     let key = key_of (table_at tables t) old in
     let p = λ (e : ℕ × List Value). not (has_key tables t key e) in
@@ -182,9 +182,9 @@ keeps_update tables rows t old new keeps found same fits short changes names =
           none_has_key tables left t (key_of (table_at tables t) new) (ap (row_at tables left t) (sym same) ∙ gone key),
           AreApart-filter tables p rows keeps.apart,
         );
-        limits = λ u is. each_by_in (IsWithin u now) (table_at tables u).limits (λ limit i.
-            let within : IsWithin u rows limit = each_in (IsWithin u rows) (table_at tables u).limits (keeps.limits u is) limit i in
-            within_still left t u new limit (λ number. room_left tables rows t old new limit in_table (subst (λ (n : ℕ). IsWithin n rows limit) (sym number) within) (each_in (MayChange t rows old new) (table_at tables t).limits changes limit (subst (λ (n : ℕ). In limit (table_at tables n).limits) (sym number) i))) (within_without tables rows t u key limit within));
+        limits = λ u is. each_by_in (IsWithinLimit u now) (table_at tables u).limits (λ limit i.
+            let within : IsWithinLimit u rows limit = each_in (IsWithinLimit u rows) (table_at tables u).limits (keeps.limits u is) limit i in
+            within_still left t u new limit (λ number. room_left tables rows t old new limit in_table (subst (λ (n : ℕ). IsWithinLimit n rows limit) (sym number) within) (each_in (MayChangeRow t rows old new) (table_at tables t).limits changes limit (subst (λ (n : ℕ). In limit (table_at tables n).limits) (sym number) i))) (within_without tables rows t u key limit within));
         foreign = (
           each_both (HasParent tables rows old) (MayRefer tables rows old new) (HasParent tables now new) named (table_at tables t).foreign (parents (t, old) in_rows) names,
           each_by_in (λ (e : ℕ × List Value). AllByRecursion (HasParent tables now e.1) (table_at tables e.0).foreign) left (λ e i. each_weaker (HasParent tables rows e.1) (HasParent tables now e.1) (λ f there. still e.1 f there) (table_at tables e.0).foreign (parents e ((in_filter p e rows i).0))),

@@ -13,7 +13,7 @@ use Rattle.pq_schema.specs.Tables.{table_at, no_table}
 use Rattle.std.specs.FinMap.{from_entries}
 use Rattle.pq_content.specs.Pairs.{Pair, pairs_of_row, row_pairs, content_pairs}
 use Rattle.pq_store.specs.Content.{key_cmp}
-use Rattle.pq_content.specs.Tables.{Rows, rows_of, types_of, key_of, cells, agrees, has_key, row_at, group_of, IsTableNumber, AreApart, IsWithin, HasParent, Keeps, stored_code}
+use Rattle.pq_content.specs.Tables.{Rows, rows_of, types_of, key_of, cells, agrees, has_key, row_at, group_of, IsTableNumber, AreApart, IsWithinLimit, HasParent, Keeps, stored_code}
 use Rattle.pq_content.proofs.Keeping.{number_of_found}
 use Rattle.pq_base.proofs.Members.{each_weaker, each_both}
 
@@ -56,7 +56,7 @@ no_rows tables (e ∷ es) t known above =
       | false ↦ λ _. no_rows tables es t known.1 above
     ] refl
 
-each_within_none : (t : ℕ) (rows : Rows) (limits : List Limit) → rows_of t rows ≡ [] → AllByRecursion (IsWithin t rows) limits
+each_within_none : (t : ℕ) (rows : Rows) (limits : List Limit) → rows_of t rows ≡ [] → AllByRecursion (IsWithinLimit t rows) limits
 each_within_none t rows [] none = tt
 each_within_none t rows (limit ∷ limits) none =
     ((λ values. let is : length (group_of t limit.cols values rows) ≡ 0 = ap (λ (l : List (List Value)). length (filter (agrees limit.cols values) l)) none in omega arith), each_within_none t rows limits none)
@@ -77,7 +77,7 @@ keeps-more tables table rows keeps =
         fit = each_both (λ (e : ℕ × List Value). IsTableNumber tables e.0) (λ (e : ℕ × List Value). AllFit (types_of (table_at tables e.0)) e.1) (λ (e : ℕ × List Value). AllFit (types_of (table_at more e.0)) e.1) (λ e is fits. subst (λ (x : Table). AllFit (types_of x) e.1) (sym (table_at-more tables table e.0 is)) fits) rows keeps.known keeps.fit;
         apart = apart-more tables table rows keeps.known keeps.apart;
         limits = λ t is. elim (number_cases tables table t is) [
-          | inl old ↦ subst (λ (x : Table). AllByRecursion (IsWithin t rows) x.limits) (sym (table_at-more tables table t old)) (keeps.limits t old)
+          | inl old ↦ subst (λ (x : Table). AllByRecursion (IsWithinLimit t rows) x.limits) (sym (table_at-more tables table t old)) (keeps.limits t old)
           | inr new ↦ each_within_none t rows (table_at more t).limits (no_rows tables rows t keeps.known new)
         ];
         foreign = each_both (λ (e : ℕ × List Value). IsTableNumber tables e.0) (λ (e : ℕ × List Value). AllByRecursion (HasParent tables rows e.1) (table_at tables e.0).foreign) (λ (e : ℕ × List Value). AllByRecursion (HasParent more rows e.1) (table_at more e.0).foreign) (λ e is parents.

@@ -8,7 +8,7 @@ use Rattle.pq_base.specs.Values.{AllFit}
 use Rattle.pq_schema.specs.declared.table.Column.{Column}
 use Rattle.pq_schema.specs.declared.table.Table.{Table}
 use Rattle.pq_schema.specs.Tables.{table_at}
-use Rattle.pq_content.specs.Tables.{Rows, rows_of, types_of, cells, agrees, row_at, IsTableNumber, AreApart, IsWithin, HasParent, Keeps, stored_code}
+use Rattle.pq_content.specs.Tables.{Rows, rows_of, types_of, cells, agrees, row_at, IsTableNumber, AreApart, IsWithinLimit, HasParent, Keeps, stored_code}
 use Rattle.pq_base.proofs.Members.{each_weaker}
 use Rattle.pq_content.proofs.Codes.{same_columns_code}
 
@@ -44,7 +44,7 @@ module _ (tables tables' : List Table) (same : SameShapes tables tables') where
       known = each_weaker (λ (e : ℕ × List Value). IsTableNumber tables e.0) (λ (e : ℕ × List Value). IsTableNumber tables' e.0) (λ e is. number-shape e.0 is) rows keeps.known;
       fit = each_weaker (λ (e : ℕ × List Value). AllFit (types_of (table_at tables e.0)) e.1) (λ (e : ℕ × List Value). AllFit (types_of (table_at tables' e.0)) e.1) (λ e fits. subst (λ (cs : List Column). AllFit (map (λ (c : Column). c.ty) cs) e.1) (same.each e.0).columns fits) rows keeps.fit;
       apart = apart-shape rows keeps.apart;
-      limits = λ t is. subst (AllByRecursion (IsWithin t rows)) (same.each t).limits (keeps.limits t (number-back t is));
+      limits = λ t is. subst (AllByRecursion (IsWithinLimit t rows)) (same.each t).limits (keeps.limits t (number-back t is));
       foreign = each_weaker (λ (e : ℕ × List Value). AllByRecursion (HasParent tables rows e.1) (table_at tables e.0).foreign) (λ (e : ℕ × List Value). AllByRecursion (HasParent tables' rows e.1) (table_at tables' e.0).foreign) (λ e parents.
           subst (AllByRecursion (HasParent tables' rows e.1)) (same.each e.0).foreign (each_weaker (HasParent tables rows e.1) (HasParent tables' rows e.1) (λ f there. subst (λ (o : Option (List Value)). IsSome o) (row_at-shape rows f.table (cells f.cols e.1)) there) (table_at tables e.0).foreign parents)) rows keeps.foreign;
     };

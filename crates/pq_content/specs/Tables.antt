@@ -15,7 +15,7 @@ use Rattle.pq_schema.specs.declared.table.Limit.{Limit}
 use Rattle.pq_schema.specs.declared.table.Table.{Table}
 use Rattle.pq_schema.specs.Sequences.{columns_of}
 pub use Rattle.pq_schema.specs.Keys.{IsOfKind, AllOfKinds, key_types, dirs_of}
-pub use Rattle.pq_schema.specs.Rows.{Rows, rows_of, value_of, cells, types_of, key_of, same_value, same_values, agrees, has_key, row_at, group_of, IsTableNumber, AreApart, IsWithin, HasParent, KeepsSchema}
+pub use Rattle.pq_schema.specs.Rows.{Rows, rows_of, value_of, cells, types_of, key_of, same_value, same_values, agrees, has_key, row_at, group_of, IsTableNumber, AreApart, IsWithinLimit, HasParent, KeepsSchema}
 use Rattle.pq_schema.specs.Tables.{table_at}
 use Rattle.pq_row_code.specs.RowCode.{row_code}
 
@@ -67,8 +67,8 @@ IsUnreferenced tables rows t key =
     (λ foreign. foreign.table ≡ t → group_of u foreign.cols key rows ≡ []) (table_at tables u).foreign
 
 -- the values at a limit's columns stay, or the group that the new row comes into has room
-abbrev pub MayChange : ℕ → Rows → List Value → List Value → Limit → Type 0
-MayChange t rows old new limit = (cells limit.cols old ≡ cells limit.cols new) ⊎ HasRoom t rows new limit
+abbrev pub MayChangeRow : ℕ → Rows → List Value → List Value → Limit → Type 0
+MayChangeRow t rows old new limit = (cells limit.cols old ≡ cells limit.cols new) ⊎ HasRoom t rows new limit
 
 -- the values at a foreign key's columns stay, or the row that they name is there
 abbrev pub MayRefer : List Table → Rows → List Value → List Value → Foreign → Type 0

@@ -19,7 +19,7 @@ ghost use Rattle.pq_content.specs.Pairs.{Pair, Change, AreCatalog, row_pair, ent
 ghost use Rattle.pq_store.specs.Content.{key_cmp, Content, pairs_within};
 ghost use Rattle.pq_base.specs.Sorting.{sort_by};
 ghost use Rattle.pq_content.specs.Standing.{change_of, AreOfRows, SettlesTo, IsIntent, IsFilledPartOf, is_entry_of, AreIntended};
-ghost use Rattle.pq_content.specs.Tables.{Rows, AllOfKinds, rows_of, types_of, types_at, key_types, key_of, values_of, dirs_of, row_at, rows_without, group_of, first_columns, IsTableNumber, HasRoom, HasParent, MayChange, MayRefer, IsUnreferenced, IsFound, Keeps, stored_code};
+ghost use Rattle.pq_content.specs.Tables.{Rows, AllOfKinds, rows_of, types_of, types_at, key_types, key_of, values_of, dirs_of, row_at, rows_without, group_of, first_columns, IsTableNumber, HasRoom, HasParent, MayChangeRow, MayRefer, IsUnreferenced, IsFound, Keeps, stored_code};
 ghost use Rattle.pq_schema.specs.Schema.{with_wanted};
 ghost use Rattle.pq_schema.specs.declared.table.NewIndex.{NewIndex};
 
@@ -95,7 +95,7 @@ pub fn update_laws()
         → row_at tables rows t (key_of (table_at tables t) old) ≡ Some old
         → key_of (table_at tables t) old ≡ key_of (table_at tables t) new
         → AllFit (types_of (table_at tables t)) new → length (stored_code (table_at tables t) new) ≤ 4096
-        → AllByRecursion (MayChange t rows old new) (table_at tables t).limits
+        → AllByRecursion (MayChangeRow t rows old new) (table_at tables t).limits
         → AllByRecursion (MayRefer tables rows old new) (table_at tables t).foreign
         → Keeps tables ((t, new) ∷ rows_without tables t (key_of (table_at tables t) old) rows) }
 {}

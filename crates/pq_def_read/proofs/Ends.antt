@@ -2,17 +2,17 @@
 use Rattle.std.proofs.Common.{ℕ}
 use Rattle.pq_grammar.specs.Reader.{pair_at, skip_at, test_of}
 use Rattle.pq_grammar.specs.Shrinking.{Shrinks, Keeps, token_shrinks, shrinks_keeps, pair_shrinks, close_shrinks, skip_shrinks, map_shrinks, map_keeps, choice_keeps, choice_shrinks, separated_shrinks}
-use Rattle.pq_shape.specs.Front.{is_word, is_mark, word_at, mark_at, name_of, name_at, number_in, number_at}
+use Rattle.pq_shape.specs.Front.{is_word_shape, is_mark_shape, word_at, mark_at, name_of, name_at, number_in, number_at}
 use Rattle.pq_shape.specs.declared.keyword.TheConstants.{BOOL, CARDINALITY, FOREIGN, INT, KEY, LIMIT, REFERENCES, TEXT}
 use Rattle.pq_shape.specs.declared.mark.TheConstants.{CLOSE, COMMA, OPEN}
 use Rattle.pq_def_read.specs.declared.definition.Constraint.TheVariants as constraint
-use Rattle.pq_def_read.specs.Definitions.{text_kind, int_kind, bool_kind, text_kind_at, kind_at, column_at, ended_column_at, names_at, cols_at, limit_at, foreign_at, constraint_at, next_constraint_at}
+use Rattle.pq_def_read.specs.Definitions.{text_kind, int_kind, bool_kind, text_kind_at, kind_at, column_at, ended_column_at, names_at, cols_at, limit_clause_at, foreign_at, constraint_at, next_constraint_at}
 
 word_shrinks : (k : ℕ) → Shrinks (word_at k)
-word_shrinks k = token_shrinks (test_of (is_word k))
+word_shrinks k = token_shrinks (test_of (is_word_shape k))
 
 mark_shrinks : (k : ℕ) → Shrinks (mark_at k)
-mark_shrinks k = token_shrinks (test_of (is_mark k))
+mark_shrinks k = token_shrinks (test_of (is_mark_shape k))
 
 text_kind_keeps : Keeps text_kind_at
 unfolding text_kind_at
@@ -24,8 +24,8 @@ text_kind_keeps =
 kind_keeps : Keeps kind_at
 unfolding kind_at
 kind_keeps =
-    choice_keeps (is_word TEXT) text_kind_at _ text_kind_keeps
-    (choice_keeps (is_word INT) _ _ (map_keeps (λ u. int_kind) (word_at INT) (shrinks_keeps _ (word_shrinks INT))) (map_keeps (λ u. bool_kind) (word_at BOOL) (shrinks_keeps _ (word_shrinks BOOL))))
+    choice_keeps (is_word_shape TEXT) text_kind_at _ text_kind_keeps
+    (choice_keeps (is_word_shape INT) _ _ (map_keeps (λ u. int_kind) (word_at INT) (shrinks_keeps _ (word_shrinks INT))) (map_keeps (λ u. bool_kind) (word_at BOOL) (shrinks_keeps _ (word_shrinks BOOL))))
 
 column_shrinks : Shrinks column_at
 unfolding column_at
@@ -38,10 +38,10 @@ cols_shrinks : Shrinks cols_at
 unfolding cols_at names_at
 cols_shrinks =
     skip_shrinks (mark_at OPEN) _ (mark_shrinks OPEN)
-    (shrinks_keeps _ (close_shrinks _ (mark_at CLOSE) (separated_shrinks (is_mark COMMA) (mark_at COMMA) name_at (token_shrinks name_of) (mark_shrinks COMMA)) (shrinks_keeps _ (mark_shrinks CLOSE))))
+    (shrinks_keeps _ (close_shrinks _ (mark_at CLOSE) (separated_shrinks (is_mark_shape COMMA) (mark_at COMMA) name_at (token_shrinks name_of) (mark_shrinks COMMA)) (shrinks_keeps _ (mark_shrinks CLOSE))))
 
-limit_shrinks : Shrinks limit_at
-unfolding limit_at
+limit_shrinks : Shrinks limit_clause_at
+unfolding limit_clause_at
 limit_shrinks =
     map_shrinks _ (skip_at (word_at CARDINALITY) (skip_at (word_at LIMIT) (pair_at number_at cols_at)))
     (skip_shrinks (word_at CARDINALITY) _ (word_shrinks CARDINALITY)
@@ -60,4 +60,4 @@ pub next_constraint_shrinks : Shrinks next_constraint_at
 unfolding next_constraint_at constraint_at
 next_constraint_shrinks =
     skip_shrinks (mark_at COMMA) constraint_at (mark_shrinks COMMA)
-    (shrinks_keeps _ (choice_shrinks (is_word FOREIGN) _ _ (map_shrinks (λ f. constraint.Foreign f) foreign_at foreign_shrinks) (map_shrinks (λ l. constraint.Limit l) limit_at limit_shrinks)))
+    (shrinks_keeps _ (choice_shrinks (is_word_shape FOREIGN) _ _ (map_shrinks (λ f. constraint.Foreign f) foreign_at foreign_shrinks) (map_shrinks (λ l. constraint.Limit l) limit_clause_at limit_shrinks)))

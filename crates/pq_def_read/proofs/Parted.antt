@@ -1,7 +1,7 @@
 -- A loop that puts limits and foreign keys apart.
 use Rattle.std.proofs.Common.{◌≡◌, ℕ, Bool, true, false, List, [], ◌∷◌, ◌++◌, length, Result, Ok, Err, refl, sym, ap, ◌∙◌, append_assoc}
 use Rattle.std.proofs.lemmas.List.{append-nil}
-use Rattle.pq_grammar.specs.Answers.{Fails}
+use Rattle.pq_grammar.specs.Answers.{FailsReading}
 use Rattle.pq_grammar.specs.Reader.{◌>>=◌, Reader, begins, map_at, many_at}
 use Rattle.pq_grammar.specs.Shrinking.{Shrinks}
 use Rattle.pq_grammar.specs.declared.fault.ReadError.{ReadError}
@@ -35,7 +35,7 @@ parted_fails : (p : Shape → Bool) (r : Reader Shape Constraint) (held : Constr
 parted_fails p r held ts total n so_far is e = sym so_far ∙ ap (behind held) (many_fails p r ts n is e)
 
 pub parted_ends : (p : Shape → Bool) (r : Reader Shape Constraint) (e : ReadError) (held : Constraints) (ts : List Shape) (total : Result (Constraints × List Shape) ℕ)
-    → behind held (many_at p r ts) ≡ total → begins p ts ≡ true → Fails e (r ts) → Fails e total
+    → behind held (many_at p r ts) ≡ total → begins p ts ≡ true → FailsReading e (r ts) → FailsReading e total
 parted_ends p r errors.NoMem held ts total so_far is h = tt
 parted_ends p r (errors.Stuck n) held ts total so_far is h = parted_fails p r held ts total n so_far is h
 

@@ -7,7 +7,7 @@ use Rattle.pq_grammar.proofs.Readers.{close_reads, map_reads}
 use Rattle.pq_grammar.proofs.Repeats.{many_reads}
 use Rattle.pq_grammar.proofs.Lists.{one_opens, then_opens, one_shuts, then_shuts, pair_free, skip_free, close_free, same_set, ended_reads}
 use Rattle.pq_grammar.proofs.Choices.{made_reads, choice_reads, one_or_other}
-use Rattle.pq_shape.specs.Front.{is_word, is_mark, is_name, word_at, mark_at, name_at, number_at}
+use Rattle.pq_shape.specs.Front.{is_word_shape, is_mark_shape, is_name_shape, word_at, mark_at, name_at, number_at}
 use Rattle.pq_shape.specs.Parts.{word, mark, comma, name, number}
 use Rattle.pq_shape.proofs.Tokens.{word_reads, mark_reads, name_reads, number_reads, comma_separated}
 use Rattle.pq_shape.specs.declared.shape.Shape.{Shape}
@@ -16,25 +16,25 @@ use Rattle.pq_shape.specs.declared.keyword.TheConstants.{BOOL, CARDINALITY, FORE
 use Rattle.pq_shape.specs.declared.mark.TheConstants.{CLOSE, COMMA, OPEN}
 use Rattle.pq_schema.specs.declared.definition.LimitDef.{LimitDef}
 use Rattle.pq_schema.specs.declared.definition.ForeignDef.{ForeignDef}
-use Rattle.pq_def_read.specs.Definitions.{names_at, cols_at, int_kind, bool_kind, text_kind, text_kind_at, kind_at, column_at, columns_at, limit_at, foreign_at, constraint_at, next_constraint_at, parted_constraints, constraints_at}
-use Rattle.pq_def_read.specs.Grammar.{cols, text_size, kind, column, limit, foreign, a_constraint, constraints}
+use Rattle.pq_def_read.specs.Definitions.{names_at, cols_at, int_kind, bool_kind, text_kind, text_kind_at, kind_at, column_at, columns_at, limit_clause_at, foreign_at, constraint_at, next_constraint_at, parted_constraints, constraints_at}
+use Rattle.pq_def_read.specs.Grammar.{cols, text_size_tokens, kind, column, limit, foreign, a_constraint, constraints}
 use Rattle.pq_def_read.specs.declared.definition.Constraint.{Constraint}
 use Rattle.pq_def_read.specs.declared.definition.Constraint.TheVariants as constraint
 use Rattle.pq_def_read.specs.declared.definition.Kind.{Kind}
 
-pub names_reads : Reads (separated_by comma name) (is_mark COMMA) names_at
+pub names_reads : Reads (separated_by comma name) (is_mark_shape COMMA) names_at
 unfolding names_at
 names_reads = comma_separated name name_at name_reads
 
 pub cols_reads : Reads cols never cols_at
-unfolding cols_at is_mark
+unfolding cols_at is_mark_shape
 cols_reads =
     skip_free (mark OPEN) (λ ns. separated_by comma name ns ⋅ mark CLOSE) never (mark_at OPEN) (close_at names_at (mark_at CLOSE)) (mark_reads OPEN)
-    (close_reads (separated_by comma name) (mark CLOSE) (is_mark COMMA) never names_at (mark_at CLOSE) names_reads (mark_reads CLOSE) (λ v rest h e. one_shuts (is_mark COMMA) (shape.Mark CLOSE) refl v rest h))
+    (close_reads (separated_by comma name) (mark CLOSE) (is_mark_shape COMMA) never names_at (mark_at CLOSE) names_reads (mark_reads CLOSE) (λ v rest h e. one_shuts (is_mark_shape COMMA) (shape.Mark CLOSE) refl v rest h))
 
 -- ---- kinds
 
-size_reads : Reads text_size never (skip_at (word_at TEXT) (skip_at (mark_at OPEN) (close_at number_at (mark_at CLOSE))))
+size_reads : Reads text_size_tokens never (skip_at (word_at TEXT) (skip_at (mark_at OPEN) (close_at number_at (mark_at CLOSE))))
 size_reads =
     skip_free (word TEXT) (λ n. mark OPEN ⋅ number n ⋅ mark CLOSE) never (word_at TEXT) (skip_at (mark_at OPEN) (close_at number_at (mark_at CLOSE))) (word_reads TEXT)
     (skip_free (mark OPEN) (λ n. number n ⋅ mark CLOSE) never (mark_at OPEN) (close_at number_at (mark_at CLOSE)) (mark_reads OPEN)
@@ -46,29 +46,29 @@ plain_kind j k = made_from (λ (u : Unit {0}). j) (λ u. word k)
 plain_reads : (j : Kind) (k : ℕ) → Reads (plain_kind j k) never (map_at (λ u. j) (word_at k))
 plain_reads j k = made_reads (λ u. j) (λ u. word k) never (word_at k) (word_reads k)
 
-kind_to : (x : Kind) (w : List Shape) → one_or_other (made_from text_kind text_size) (one_or_other (plain_kind int_kind INT) (plain_kind bool_kind BOOL)) x w → kind x w
+kind_to : (x : Kind) (w : List Shape) → one_or_other (made_from text_kind text_size_tokens) (one_or_other (plain_kind int_kind INT) (plain_kind bool_kind BOOL)) x w → kind x w
 kind_to x w (inl h) = inl h
 kind_to x w (inr (inl h)) = inr (inl (sym h.1, h.2))
 kind_to x w (inr (inr h)) = inr (inr (sym h.1, h.2))
 
-kind_from : (x : Kind) (w : List Shape) → kind x w → one_or_other (made_from text_kind text_size) (one_or_other (plain_kind int_kind INT) (plain_kind bool_kind BOOL)) x w
+kind_from : (x : Kind) (w : List Shape) → kind x w → one_or_other (made_from text_kind text_size_tokens) (one_or_other (plain_kind int_kind INT) (plain_kind bool_kind BOOL)) x w
 kind_from x w (inl h) = inl h
 kind_from x w (inr (inl h)) = inr (inl (tt, sym h.0, h.1))
 kind_from x w (inr (inr h)) = inr (inr (tt, sym h.0, h.1))
 
-no_size : (x : Kind) (w rest : List Shape) → one_or_other (plain_kind int_kind INT) (plain_kind bool_kind BOOL) x w → begins (is_word TEXT) (w ++ rest) ≡ false
-unfolding is_word
-no_size x w rest (inl h) = one_shuts (is_word TEXT) (shape.Keyword INT) refl w rest h.2
-no_size x w rest (inr h) = one_shuts (is_word TEXT) (shape.Keyword BOOL) refl w rest h.2
+no_size : (x : Kind) (w rest : List Shape) → one_or_other (plain_kind int_kind INT) (plain_kind bool_kind BOOL) x w → begins (is_word_shape TEXT) (w ++ rest) ≡ false
+unfolding is_word_shape
+no_size x w rest (inl h) = one_shuts (is_word_shape TEXT) (shape.Keyword INT) refl w rest h.2
+no_size x w rest (inr h) = one_shuts (is_word_shape TEXT) (shape.Keyword BOOL) refl w rest h.2
 
 pub kind_reads : Reads kind never kind_at
-unfolding kind_at text_kind_at is_word
+unfolding kind_at text_kind_at is_word_shape
 kind_reads =
-    same_set (one_or_other (made_from text_kind text_size) (one_or_other (plain_kind int_kind INT) (plain_kind bool_kind BOOL))) kind never kind_at kind_to kind_from
-    (choice_reads (made_from text_kind text_size) (one_or_other (plain_kind int_kind INT) (plain_kind bool_kind BOOL)) (is_word TEXT) text_kind_at _ never (made_reads text_kind text_size never _ size_reads)
-    (choice_reads (plain_kind int_kind INT) (plain_kind bool_kind BOOL) (is_word INT) _ _ never (plain_reads int_kind INT) (plain_reads bool_kind BOOL)
-    (λ x w h. one_opens (is_word INT) (shape.Keyword INT) refl w h.2) (λ y w rest h e. one_shuts (is_word INT) (shape.Keyword BOOL) refl w rest h.2))
-    (λ x w h. then_opens (is_word TEXT) (shape.Keyword TEXT) (mark OPEN ⋅ number h.0 ⋅ mark CLOSE) refl w h.2) (λ y w rest h e. no_size y w rest h))
+    same_set (one_or_other (made_from text_kind text_size_tokens) (one_or_other (plain_kind int_kind INT) (plain_kind bool_kind BOOL))) kind never kind_at kind_to kind_from
+    (choice_reads (made_from text_kind text_size_tokens) (one_or_other (plain_kind int_kind INT) (plain_kind bool_kind BOOL)) (is_word_shape TEXT) text_kind_at _ never (made_reads text_kind text_size_tokens never _ size_reads)
+    (choice_reads (plain_kind int_kind INT) (plain_kind bool_kind BOOL) (is_word_shape INT) _ _ never (plain_reads int_kind INT) (plain_reads bool_kind BOOL)
+    (λ x w h. one_opens (is_word_shape INT) (shape.Keyword INT) refl w h.2) (λ y w rest h e. one_shuts (is_word_shape INT) (shape.Keyword BOOL) refl w rest h.2))
+    (λ x w h. then_opens (is_word_shape TEXT) (shape.Keyword TEXT) (mark OPEN ⋅ number h.0 ⋅ mark CLOSE) refl w h.2) (λ y w rest h e. no_size y w rest h))
 
 -- ---- columns
 
@@ -78,15 +78,15 @@ column_reads =
     map_reads (λ (x : List ℕ × Kind). name x.0 ⋅ kind x.1) column never (λ x. record { name = x.0; kind = x.1.name; size = x.1.size }) (pair_at name_at kind_at)
     (pair_free name kind never name_at kind_at name_reads kind_reads) (λ x w h. h) (λ c w h. ((c.name, record { name = c.kind; size = c.size }), refl, h))
 
-pub columns_reads : Reads (λ cs. separated_by comma column cs ⋅ comma) is_name columns_at
-unfolding columns_at is_name
+pub columns_reads : Reads (λ cs. separated_by comma column cs ⋅ comma) is_name_shape columns_at
+unfolding columns_at is_name_shape
 columns_reads =
-    ended_reads comma column is_name (mark_at COMMA) column_at (mark_reads COMMA) column_reads (λ c w h. then_opens is_name (shape.Name c.name) (kind (record { name = c.kind; size = c.size })) refl w h)
+    ended_reads comma column is_name_shape (mark_at COMMA) column_at (mark_reads COMMA) column_reads (λ c w h. then_opens is_name_shape (shape.Name c.name) (kind (record { name = c.kind; size = c.size })) refl w h)
 
 -- ---- limits and foreign keys
 
-pub limit_reads : Reads limit never limit_at
-unfolding limit_at
+pub limit_reads : Reads limit never limit_clause_at
+unfolding limit_clause_at
 limit_reads =
     map_reads (λ (x : ℤ × List (List ℕ)). word CARDINALITY ⋅ word LIMIT ⋅ number x.0 ⋅ cols x.1) limit never (λ x. record { n = x.0; cols = x.1 }) _
     (skip_free (word CARDINALITY) (λ (x : ℤ × List (List ℕ)). word LIMIT ⋅ number x.0 ⋅ cols x.1) never (word_at CARDINALITY) _ (word_reads CARDINALITY)
@@ -126,15 +126,15 @@ constraint_from (constraint.Foreign f) w h = inl (f, refl, h)
 constraint_from (constraint.Limit l) w h = inr (l, refl, h)
 
 constraint_reads : Reads a_constraint never constraint_at
-unfolding constraint_at is_word
+unfolding constraint_at is_word_shape
 constraint_reads =
     same_set (one_or_other foreign_made limit_made) a_constraint never constraint_at constraint_to constraint_from
-    (choice_reads foreign_made limit_made (is_word FOREIGN) _ _ never (made_reads (λ f. constraint.Foreign f) foreign never foreign_at foreign_reads) (made_reads (λ l. constraint.Limit l) limit never limit_at limit_reads)
-    (λ x w h. then_opens (is_word FOREIGN) (shape.Keyword FOREIGN) _ refl w h.2) (λ y w rest h e. then_shuts (is_word FOREIGN) (shape.Keyword CARDINALITY) _ refl w rest h.2))
+    (choice_reads foreign_made limit_made (is_word_shape FOREIGN) _ _ never (made_reads (λ f. constraint.Foreign f) foreign never foreign_at foreign_reads) (made_reads (λ l. constraint.Limit l) limit never limit_clause_at limit_reads)
+    (λ x w h. then_opens (is_word_shape FOREIGN) (shape.Keyword FOREIGN) _ refl w h.2) (λ y w rest h e. then_shuts (is_word_shape FOREIGN) (shape.Keyword CARDINALITY) _ refl w rest h.2))
 
-pub constraints_reads : Reads constraints (is_mark COMMA) constraints_at
-unfolding constraints_at next_constraint_at is_mark
+pub constraints_reads : Reads constraints (is_mark_shape COMMA) constraints_at
+unfolding constraints_at next_constraint_at is_mark_shape
 constraints_reads =
-    made_reads parted_constraints (each (λ c. comma ⋅ a_constraint c)) (is_mark COMMA) (many_at (is_mark COMMA) next_constraint_at)
-    (many_reads (λ c. comma ⋅ a_constraint c) (is_mark COMMA) never (is_mark COMMA) next_constraint_at (skip_free comma a_constraint never (mark_at COMMA) constraint_at (mark_reads COMMA) constraint_reads)
-    (λ c w h. then_opens (is_mark COMMA) (shape.Mark COMMA) (a_constraint c) refl w h) (λ u e. refl) (λ rest e. begins-never rest) (λ rest e. e))
+    made_reads parted_constraints (each (λ c. comma ⋅ a_constraint c)) (is_mark_shape COMMA) (many_at (is_mark_shape COMMA) next_constraint_at)
+    (many_reads (λ c. comma ⋅ a_constraint c) (is_mark_shape COMMA) never (is_mark_shape COMMA) next_constraint_at (skip_free comma a_constraint never (mark_at COMMA) constraint_at (mark_reads COMMA) constraint_reads)
+    (λ c w h. then_opens (is_mark_shape COMMA) (shape.Mark COMMA) (a_constraint c) refl w h) (λ u e. refl) (λ rest e. begins-never rest) (λ rest e. e))

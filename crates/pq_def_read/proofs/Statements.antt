@@ -2,21 +2,21 @@
 use Rattle.std.proofs.Common.{◌≡◌, ℕ, true, false, List, [], ◌∷◌, ◌++◌, Option, Some, None, inl, inr, refl, sym, ap, subst, ◌∙◌}
 use Rattle.pq_base.specs.declared.value.Value.{Value}
 use Rattle.pq_grammar.specs.Language.{◌⋅◌, anything, optional, separated_by, listed_by, made_from}
-use Rattle.pq_grammar.specs.Reader.{Reader, begins, pair_at, skip_at, close_at, map_at, option_at, items_of, rest_at}
+use Rattle.pq_grammar.specs.Reader.{Reader, begins, pair_at, skip_at, close_at, map_at, option_at, option_items, rest_at}
 use Rattle.pq_grammar.proofs.Steps.{Reads, never, first_of_list, begins-never, wider_reads}
 use Rattle.pq_grammar.proofs.Readers.{pair_reads, close_reads, map_reads}
 use Rattle.pq_grammar.proofs.Options.{always, option_reads, rest_reads}
 use Rattle.pq_grammar.proofs.Lists.{one_opens, then_opens, one_shuts, then_shuts, pair_free, skip_free, close_free, same_set, separated_reads}
 use Rattle.pq_grammar.proofs.Choices.{made_reads, choice_reads, listed_reads, begins_with, first_of_then, any_of, not_first, not_second, one_or_other}
-use Rattle.pq_shape.specs.Front.{is_word, is_mark, is_value, word_at, mark_at, name_at, text_at, value_at}
+use Rattle.pq_shape.specs.Front.{is_word_shape, is_mark_shape, is_value, word_at, mark_at, name_at, text_at, value_shape_at}
 use Rattle.pq_shape.specs.Parts.{word, mark, comma, name, text, a_value}
 use Rattle.pq_shape.proofs.Tokens.{word_reads, mark_reads, name_reads, text_reads, value_reads, value_opens, comma_separated}
 use Rattle.pq_shape.specs.declared.shape.Shape.{Shape}
 use Rattle.pq_shape.specs.declared.shape.Shape.TheVariants as shape
 use Rattle.pq_shape.specs.declared.keyword.TheConstants.{AFTER, AND, AS, CREATE, DELETE, EXPLAIN, FROM, INSERT, INTO, PREPARE, RUN, SET, SHOW, UPDATE, VALUES, WHERE}
 use Rattle.pq_shape.specs.declared.mark.TheConstants.{CLOSE, COMMA, EQUAL, OPEN, SEMICOLON}
-use Rattle.pq_def_read.specs.Definitions.{cols_at, create_at, stop_at}
-use Rattle.pq_def_read.specs.Reading.{values_at, assign_at, sets_at, key_at, insert_at, update_at, delete_at, prepare_at, explain_at, listed_values_at, arguments_at, after_at, run_at, show_at, statement_at}
+use Rattle.pq_def_read.specs.Definitions.{cols_at, create_at, statement_end_at}
+use Rattle.pq_def_read.specs.Reading.{values_clause_at, assign_at, sets_at, key_clause_at, insert_at, update_at, delete_at, prepare_at, explain_at, listed_values_at, arguments_at, after_at, run_at, show_at, statement_at}
 use Rattle.pq_def_read.specs.Grammar.{cols, create, insert, assign, key, update, delete, arguments, cursor, run, Spells}
 use Rattle.pq_def_read.specs.declared.statement.Assign.{Assign}
 use Rattle.pq_def_read.specs.declared.statement.Statement.{Statement}
@@ -24,37 +24,37 @@ use Rattle.pq_def_read.specs.declared.statement.Statement.TheVariants.{Create, I
 use Rattle.pq_def_read.proofs.Parts.{cols_reads}
 use Rattle.pq_def_read.proofs.Tables.{stop, stop_reads, stop_shuts, create_reads}
 
-values_reads : Reads (separated_by comma a_value) (is_mark COMMA) values_at
-unfolding values_at
-values_reads = comma_separated a_value value_at value_reads
+values_reads : Reads (separated_by comma a_value) (is_mark_shape COMMA) values_clause_at
+unfolding values_clause_at
+values_reads = comma_separated a_value value_shape_at value_reads
 
 assign_reads : Reads assign never assign_at
 assign_reads =
-    map_reads (λ (x : List ℕ × Value). name x.0 ⋅ mark EQUAL ⋅ a_value x.1) assign never (λ x. record { col = x.0; value = x.1 }) (pair_at name_at (skip_at (mark_at EQUAL) value_at))
-    (pair_free name (λ v. mark EQUAL ⋅ a_value v) never name_at (skip_at (mark_at EQUAL) value_at) name_reads (skip_free (mark EQUAL) a_value never (mark_at EQUAL) value_at (mark_reads EQUAL) value_reads))
+    map_reads (λ (x : List ℕ × Value). name x.0 ⋅ mark EQUAL ⋅ a_value x.1) assign never (λ x. record { col = x.0; value = x.1 }) (pair_at name_at (skip_at (mark_at EQUAL) value_shape_at))
+    (pair_free name (λ v. mark EQUAL ⋅ a_value v) never name_at (skip_at (mark_at EQUAL) value_shape_at) name_reads (skip_free (mark EQUAL) a_value never (mark_at EQUAL) value_shape_at (mark_reads EQUAL) value_reads))
     (λ x w h. h) (λ a w h. ((a.col, a.value), refl, h))
 
-sets_reads : Reads (separated_by comma assign) (is_mark COMMA) sets_at
+sets_reads : Reads (separated_by comma assign) (is_mark_shape COMMA) sets_at
 unfolding sets_at
 sets_reads = comma_separated assign assign_at assign_reads
 
-key_reads : Reads key (is_word AND) key_at
-unfolding key_at is_word
+key_reads : Reads key (is_word_shape AND) key_clause_at
+unfolding key_clause_at is_word_shape
 key_reads =
-    separated_reads (word AND) assign (is_word AND) never (is_word AND) (word_at AND) assign_at (word_reads AND) assign_reads
-    (λ w h. one_opens (is_word AND) (shape.Keyword AND) refl w h) (λ u e. refl) (λ rest e. begins-never rest) (λ rest e. e)
+    separated_reads (word AND) assign (is_word_shape AND) never (is_word_shape AND) (word_at AND) assign_at (word_reads AND) assign_reads
+    (λ w h. one_opens (is_word_shape AND) (shape.Keyword AND) refl w h) (λ u e. refl) (λ rest e. begins-never rest) (λ rest e. e)
 
-key_end_reads : Reads (λ ks. key ks ⋅ mark SEMICOLON) never (close_at key_at (mark_at SEMICOLON))
-unfolding is_word
-key_end_reads = close_reads key (mark SEMICOLON) (is_word AND) never key_at (mark_at SEMICOLON) key_reads (mark_reads SEMICOLON) (λ v rest h e. one_shuts (is_word AND) (shape.Mark SEMICOLON) refl v rest h)
+key_end_reads : Reads (λ ks. key ks ⋅ mark SEMICOLON) never (close_at key_clause_at (mark_at SEMICOLON))
+unfolding is_word_shape
+key_end_reads = close_reads key (mark SEMICOLON) (is_word_shape AND) never key_clause_at (mark_at SEMICOLON) key_reads (mark_reads SEMICOLON) (λ v rest h e. one_shuts (is_word_shape AND) (shape.Mark SEMICOLON) refl v rest h)
 
 -- ---- INSERT
 
-option_cols : Reads (optional cols) (is_mark OPEN) (option_at (is_mark OPEN) cols_at)
-unfolding is_mark
+option_cols : Reads (optional cols) (is_mark_shape OPEN) (option_at (is_mark_shape OPEN) cols_at)
+unfolding is_mark_shape
 option_cols =
-    option_reads cols (is_mark OPEN) (is_mark OPEN) cols_at (wider_reads cols never (is_mark OPEN) cols_at (λ rest e. begins-never rest) cols_reads)
-    (λ ns w h. then_opens (is_mark OPEN) (shape.Mark OPEN) (separated_by comma name ns ⋅ mark CLOSE) refl w h) (λ rest e. e)
+    option_reads cols (is_mark_shape OPEN) (is_mark_shape OPEN) cols_at (wider_reads cols never (is_mark_shape OPEN) cols_at (λ rest e. begins-never rest) cols_reads)
+    (λ ns w h. then_opens (is_mark_shape OPEN) (shape.Mark OPEN) (separated_by comma name ns ⋅ mark CLOSE) refl w h) (λ rest e. e)
 
 abbrev Inserted : Type 0
 Inserted = List ℕ × (Option (List (List ℕ)) × List Value)
@@ -63,17 +63,17 @@ abbrev inserts : Inserted → List Shape → Type 0
 inserts x = insert x.0 x.1.0 x.1.1
 
 insert_reads : Reads (made_from (λ (x : Inserted). Insert x.0 x.1.0 x.1.1) inserts) never insert_at
-unfolding insert_at is_mark
+unfolding insert_at is_mark_shape
 insert_reads =
     made_reads (λ (x : Inserted). Insert x.0 x.1.0 x.1.1) inserts never _
     (skip_free (word INSERT) (λ (x : Inserted). word INTO ⋅ name x.0 ⋅ optional cols x.1.0 ⋅ word VALUES ⋅ mark OPEN ⋅ separated_by comma a_value x.1.1 ⋅ stop) never (word_at INSERT) _ (word_reads INSERT)
     (skip_free (word INTO) (λ (x : Inserted). name x.0 ⋅ optional cols x.1.0 ⋅ word VALUES ⋅ mark OPEN ⋅ separated_by comma a_value x.1.1 ⋅ stop) never (word_at INTO) _ (word_reads INTO)
     (pair_free name (λ (y : Option (List (List ℕ)) × List Value). optional cols y.0 ⋅ word VALUES ⋅ mark OPEN ⋅ separated_by comma a_value y.1 ⋅ stop) never name_at _ name_reads
-    (pair_reads (optional cols) (λ vs. word VALUES ⋅ mark OPEN ⋅ separated_by comma a_value vs ⋅ stop) (is_mark OPEN) never (option_at (is_mark OPEN) cols_at) _ option_cols
+    (pair_reads (optional cols) (λ vs. word VALUES ⋅ mark OPEN ⋅ separated_by comma a_value vs ⋅ stop) (is_mark_shape OPEN) never (option_at (is_mark_shape OPEN) cols_at) _ option_cols
     (skip_free (word VALUES) (λ vs. mark OPEN ⋅ separated_by comma a_value vs ⋅ stop) never (word_at VALUES) _ (word_reads VALUES)
     (skip_free (mark OPEN) (λ vs. separated_by comma a_value vs ⋅ stop) never (mark_at OPEN) _ (mark_reads OPEN)
-    (close_reads (separated_by comma a_value) stop (is_mark COMMA) never values_at stop_at values_reads stop_reads (λ v rest h e. stop_shuts v rest h))))
-    (λ vs v rest h e. then_shuts (is_mark OPEN) (shape.Keyword VALUES) (mark OPEN ⋅ separated_by comma a_value vs ⋅ stop) refl v rest h)))))
+    (close_reads (separated_by comma a_value) stop (is_mark_shape COMMA) never values_clause_at statement_end_at values_reads stop_reads (λ v rest h e. stop_shuts v rest h))))
+    (λ vs v rest h e. then_shuts (is_mark_shape OPEN) (shape.Keyword VALUES) (mark OPEN ⋅ separated_by comma a_value vs ⋅ stop) refl v rest h)))))
 
 -- ---- UPDATE and DELETE
 
@@ -84,15 +84,15 @@ abbrev updates : Updated → List Shape → Type 0
 updates x = update x.0 x.1.0 x.1.1
 
 update_reads : Reads (made_from (λ (x : Updated). Update x.0 x.1.0 x.1.1) updates) never update_at
-unfolding update_at is_mark
+unfolding update_at is_mark_shape
 update_reads =
     made_reads (λ (x : Updated). Update x.0 x.1.0 x.1.1) updates never _
     (skip_free (word UPDATE) (λ (x : Updated). name x.0 ⋅ word SET ⋅ separated_by comma assign x.1.0 ⋅ word WHERE ⋅ key x.1.1 ⋅ mark SEMICOLON) never (word_at UPDATE) _ (word_reads UPDATE)
     (pair_free name (λ (y : List Assign × List Assign). word SET ⋅ separated_by comma assign y.0 ⋅ word WHERE ⋅ key y.1 ⋅ mark SEMICOLON) never name_at _ name_reads
     (skip_free (word SET) (λ (y : List Assign × List Assign). separated_by comma assign y.0 ⋅ word WHERE ⋅ key y.1 ⋅ mark SEMICOLON) never (word_at SET) _ (word_reads SET)
-    (pair_reads (separated_by comma assign) (λ ks. word WHERE ⋅ key ks ⋅ mark SEMICOLON) (is_mark COMMA) never sets_at _ sets_reads
+    (pair_reads (separated_by comma assign) (λ ks. word WHERE ⋅ key ks ⋅ mark SEMICOLON) (is_mark_shape COMMA) never sets_at _ sets_reads
     (skip_free (word WHERE) (λ ks. key ks ⋅ mark SEMICOLON) never (word_at WHERE) _ (word_reads WHERE) key_end_reads)
-    (λ ks v rest h e. then_shuts (is_mark COMMA) (shape.Keyword WHERE) (key ks ⋅ mark SEMICOLON) refl v rest h)))))
+    (λ ks v rest h e. then_shuts (is_mark_shape COMMA) (shape.Keyword WHERE) (key ks ⋅ mark SEMICOLON) refl v rest h)))))
 
 abbrev Deleted : Type 0
 Deleted = List ℕ × List Assign
@@ -130,42 +130,42 @@ explain_reads = made_reads (λ u. Explain 1) explains always _ (skip_free (word 
 
 -- ---- RUN
 
-listed_values_reads : Reads (listed_by comma a_value) (any_of (is_mark COMMA) is_value) listed_values_at
+listed_values_reads : Reads (listed_by comma a_value) (any_of (is_mark_shape COMMA) is_value) listed_values_at
 unfolding listed_values_at
 listed_values_reads =
-    listed_reads comma a_value is_value (is_mark COMMA) (any_of (is_mark COMMA) is_value) (mark_at COMMA) value_at
-    (wider_reads (separated_by comma a_value) (is_mark COMMA) (any_of (is_mark COMMA) is_value) _ (not_first (is_mark COMMA) is_value) (comma_separated a_value value_at value_reads))
-    value_opens (not_second (is_mark COMMA) is_value)
+    listed_reads comma a_value is_value (is_mark_shape COMMA) (any_of (is_mark_shape COMMA) is_value) (mark_at COMMA) value_shape_at
+    (wider_reads (separated_by comma a_value) (is_mark_shape COMMA) (any_of (is_mark_shape COMMA) is_value) _ (not_first (is_mark_shape COMMA) is_value) (comma_separated a_value value_shape_at value_reads))
+    value_opens (not_second (is_mark_shape COMMA) is_value)
 
 between_reads : Reads (λ vs. mark OPEN ⋅ listed_by comma a_value vs ⋅ mark CLOSE) never (skip_at (mark_at OPEN) (close_at listed_values_at (mark_at CLOSE)))
-unfolding is_mark is_value
+unfolding is_mark_shape is_value
 between_reads =
     skip_free (mark OPEN) (λ vs. listed_by comma a_value vs ⋅ mark CLOSE) never (mark_at OPEN) _ (mark_reads OPEN)
-    (close_reads (listed_by comma a_value) (mark CLOSE) (any_of (is_mark COMMA) is_value) never listed_values_at (mark_at CLOSE) listed_values_reads (mark_reads CLOSE)
-    (λ v rest h e. one_shuts (any_of (is_mark COMMA) is_value) (shape.Mark CLOSE) refl v rest h))
+    (close_reads (listed_by comma a_value) (mark CLOSE) (any_of (is_mark_shape COMMA) is_value) never listed_values_at (mark_at CLOSE) listed_values_reads (mark_reads CLOSE)
+    (λ v rest h e. one_shuts (any_of (is_mark_shape COMMA) is_value) (shape.Mark CLOSE) refl v rest h))
 
-arguments_to : (x : Option (List Value)) (w : List Shape) → optional (λ vs. mark OPEN ⋅ listed_by comma a_value vs ⋅ mark CLOSE) x w → arguments (items_of x) w
+arguments_to : (x : Option (List Value)) (w : List Shape) → optional (λ vs. mark OPEN ⋅ listed_by comma a_value vs ⋅ mark CLOSE) x w → arguments (option_items x) w
 arguments_to None w h = inl (refl, h)
 arguments_to (Some vs) w h = inr h
 
-arguments_from : (y : List Value) (w : List Shape) → arguments y w → (x : Option (List Value)) × (items_of x ≡ y) × optional (λ vs. mark OPEN ⋅ listed_by comma a_value vs ⋅ mark CLOSE) x w
+arguments_from : (y : List Value) (w : List Shape) → arguments y w → (x : Option (List Value)) × (option_items x ≡ y) × optional (λ vs. mark OPEN ⋅ listed_by comma a_value vs ⋅ mark CLOSE) x w
 arguments_from y w (inl h) = (None, sym h.0, h.1)
 arguments_from y w (inr h) = (Some y, refl, h)
 
-arguments_reads : Reads arguments (is_mark OPEN) arguments_at
-unfolding arguments_at is_mark
+arguments_reads : Reads arguments (is_mark_shape OPEN) arguments_at
+unfolding arguments_at is_mark_shape
 arguments_reads =
-    map_reads (optional (λ vs. mark OPEN ⋅ listed_by comma a_value vs ⋅ mark CLOSE)) arguments (is_mark OPEN) items_of _
-    (option_reads (λ vs. mark OPEN ⋅ listed_by comma a_value vs ⋅ mark CLOSE) (is_mark OPEN) (is_mark OPEN) _ (wider_reads _ never (is_mark OPEN) _ (λ rest e. begins-never rest) between_reads)
-    (λ vs w h. then_opens (is_mark OPEN) (shape.Mark OPEN) (listed_by comma a_value vs ⋅ mark CLOSE) refl w h) (λ rest e. e))
+    map_reads (optional (λ vs. mark OPEN ⋅ listed_by comma a_value vs ⋅ mark CLOSE)) arguments (is_mark_shape OPEN) option_items _
+    (option_reads (λ vs. mark OPEN ⋅ listed_by comma a_value vs ⋅ mark CLOSE) (is_mark_shape OPEN) (is_mark_shape OPEN) _ (wider_reads _ never (is_mark_shape OPEN) _ (λ rest e. begins-never rest) between_reads)
+    (λ vs w h. then_opens (is_mark_shape OPEN) (shape.Mark OPEN) (listed_by comma a_value vs ⋅ mark CLOSE) refl w h) (λ rest e. e))
     arguments_to arguments_from
 
-after_reads : Reads (optional cursor) (is_word AFTER) after_at
-unfolding after_at is_word
+after_reads : Reads (optional cursor) (is_word_shape AFTER) after_at
+unfolding after_at is_word_shape
 after_reads =
-    option_reads cursor (is_word AFTER) (is_word AFTER) (skip_at (word_at AFTER) text_at)
-    (wider_reads cursor never (is_word AFTER) _ (λ rest e. begins-never rest) (skip_free (word AFTER) text never (word_at AFTER) text_at (word_reads AFTER) text_reads))
-    (λ t w h. then_opens (is_word AFTER) (shape.Keyword AFTER) (text t) refl w h) (λ rest e. e)
+    option_reads cursor (is_word_shape AFTER) (is_word_shape AFTER) (skip_at (word_at AFTER) text_at)
+    (wider_reads cursor never (is_word_shape AFTER) _ (λ rest e. begins-never rest) (skip_free (word AFTER) text never (word_at AFTER) text_at (word_reads AFTER) text_reads))
+    (λ t w h. then_opens (is_word_shape AFTER) (shape.Keyword AFTER) (text t) refl w h) (λ rest e. e)
 
 abbrev Started : Type 0
 Started = List ℕ × (List Value × Option (List ℕ))
@@ -174,19 +174,19 @@ abbrev runs : Started → List Shape → Type 0
 runs x = run x.0 x.1.0 x.1.1
 
 -- what follows the arguments is no parenthesis
-not_open : (t : Option (List ℕ)) (v rest : List Shape) → (optional cursor t ⋅ mark SEMICOLON) v → begins (is_mark OPEN) (v ++ rest) ≡ false
-unfolding is_mark
-not_open None v rest h = begins_with (is_mark OPEN) (shape.Mark SEMICOLON) v rest (ap first_of_list (h.parts ∙ ap (λ (u : List Shape). u ++ h.back) h.fits_front) ∙ ap first_of_list h.fits_back)
-not_open (Some t) v rest h = begins_with (is_mark OPEN) (shape.Keyword AFTER) v rest (ap first_of_list (h.parts ∙ ap (λ (u : List Shape). u ++ h.back) (h.fits_front.parts ∙ ap (λ (u : List Shape). u ++ h.fits_front.back) h.fits_front.fits_front)))
+not_open : (t : Option (List ℕ)) (v rest : List Shape) → (optional cursor t ⋅ mark SEMICOLON) v → begins (is_mark_shape OPEN) (v ++ rest) ≡ false
+unfolding is_mark_shape
+not_open None v rest h = begins_with (is_mark_shape OPEN) (shape.Mark SEMICOLON) v rest (ap first_of_list (h.parts ∙ ap (λ (u : List Shape). u ++ h.back) h.fits_front) ∙ ap first_of_list h.fits_back)
+not_open (Some t) v rest h = begins_with (is_mark_shape OPEN) (shape.Keyword AFTER) v rest (ap first_of_list (h.parts ∙ ap (λ (u : List Shape). u ++ h.back) (h.fits_front.parts ∙ ap (λ (u : List Shape). u ++ h.fits_front.back) h.fits_front.fits_front)))
 
 run_reads : Reads (made_from (λ (x : Started). Run x.0 x.1.0 x.1.1) runs) never run_at
-unfolding run_at is_word
+unfolding run_at is_word_shape
 run_reads =
     made_reads (λ (x : Started). Run x.0 x.1.0 x.1.1) runs never _
     (skip_free (word RUN) (λ (x : Started). name x.0 ⋅ arguments x.1.0 ⋅ optional cursor x.1.1 ⋅ mark SEMICOLON) never (word_at RUN) _ (word_reads RUN)
     (pair_free name (λ (y : List Value × Option (List ℕ)). arguments y.0 ⋅ optional cursor y.1 ⋅ mark SEMICOLON) never name_at _ name_reads
-    (pair_reads arguments (λ t. optional cursor t ⋅ mark SEMICOLON) (is_mark OPEN) never arguments_at _ arguments_reads
-    (close_reads (optional cursor) (mark SEMICOLON) (is_word AFTER) never after_at (mark_at SEMICOLON) after_reads (mark_reads SEMICOLON) (λ v rest h e. one_shuts (is_word AFTER) (shape.Mark SEMICOLON) refl v rest h))
+    (pair_reads arguments (λ t. optional cursor t ⋅ mark SEMICOLON) (is_mark_shape OPEN) never arguments_at _ arguments_reads
+    (close_reads (optional cursor) (mark SEMICOLON) (is_word_shape AFTER) never after_at (mark_at SEMICOLON) after_reads (mark_reads SEMICOLON) (λ v rest h e. one_shuts (is_word_shape AFTER) (shape.Mark SEMICOLON) refl v rest h))
     (λ t v rest h e. not_open t v rest h))))
 
 -- ---- SHOW
@@ -271,59 +271,59 @@ first_run s w h = first_of_then (shape.Keyword RUN) _ w h.2
 first_show : (s : Statement) (w : List Shape) → a_show s w → first_of_list w ≡ Some (shape.Keyword SHOW)
 first_show s w h = first_of_then (shape.Keyword SHOW) _ w h.2
 
-no_create : (s : Statement) (w rest : List Shape) → from_insert s w → begins (is_word CREATE) (w ++ rest) ≡ false
-unfolding is_word
-no_create s w rest (inl h) = begins_with (is_word CREATE) (shape.Keyword INSERT) w rest (first_insert s w h)
-no_create s w rest (inr (inl h)) = begins_with (is_word CREATE) (shape.Keyword UPDATE) w rest (first_update s w h)
-no_create s w rest (inr (inr (inl h))) = begins_with (is_word CREATE) (shape.Keyword DELETE) w rest (first_delete s w h)
-no_create s w rest (inr (inr (inr (inl h)))) = begins_with (is_word CREATE) (shape.Keyword PREPARE) w rest (first_prepare s w h)
-no_create s w rest (inr (inr (inr (inr (inl h))))) = begins_with (is_word CREATE) (shape.Keyword EXPLAIN) w rest (first_explain s w h)
-no_create s w rest (inr (inr (inr (inr (inr (inl h)))))) = begins_with (is_word CREATE) (shape.Keyword RUN) w rest (first_run s w h)
-no_create s w rest (inr (inr (inr (inr (inr (inr (h))))))) = begins_with (is_word CREATE) (shape.Keyword SHOW) w rest (first_show s w h)
+no_create : (s : Statement) (w rest : List Shape) → from_insert s w → begins (is_word_shape CREATE) (w ++ rest) ≡ false
+unfolding is_word_shape
+no_create s w rest (inl h) = begins_with (is_word_shape CREATE) (shape.Keyword INSERT) w rest (first_insert s w h)
+no_create s w rest (inr (inl h)) = begins_with (is_word_shape CREATE) (shape.Keyword UPDATE) w rest (first_update s w h)
+no_create s w rest (inr (inr (inl h))) = begins_with (is_word_shape CREATE) (shape.Keyword DELETE) w rest (first_delete s w h)
+no_create s w rest (inr (inr (inr (inl h)))) = begins_with (is_word_shape CREATE) (shape.Keyword PREPARE) w rest (first_prepare s w h)
+no_create s w rest (inr (inr (inr (inr (inl h))))) = begins_with (is_word_shape CREATE) (shape.Keyword EXPLAIN) w rest (first_explain s w h)
+no_create s w rest (inr (inr (inr (inr (inr (inl h)))))) = begins_with (is_word_shape CREATE) (shape.Keyword RUN) w rest (first_run s w h)
+no_create s w rest (inr (inr (inr (inr (inr (inr (h))))))) = begins_with (is_word_shape CREATE) (shape.Keyword SHOW) w rest (first_show s w h)
 
-no_insert : (s : Statement) (w rest : List Shape) → from_update s w → begins (is_word INSERT) (w ++ rest) ≡ false
-unfolding is_word
-no_insert s w rest (inl h) = begins_with (is_word INSERT) (shape.Keyword UPDATE) w rest (first_update s w h)
-no_insert s w rest (inr (inl h)) = begins_with (is_word INSERT) (shape.Keyword DELETE) w rest (first_delete s w h)
-no_insert s w rest (inr (inr (inl h))) = begins_with (is_word INSERT) (shape.Keyword PREPARE) w rest (first_prepare s w h)
-no_insert s w rest (inr (inr (inr (inl h)))) = begins_with (is_word INSERT) (shape.Keyword EXPLAIN) w rest (first_explain s w h)
-no_insert s w rest (inr (inr (inr (inr (inl h))))) = begins_with (is_word INSERT) (shape.Keyword RUN) w rest (first_run s w h)
-no_insert s w rest (inr (inr (inr (inr (inr (h)))))) = begins_with (is_word INSERT) (shape.Keyword SHOW) w rest (first_show s w h)
+no_insert : (s : Statement) (w rest : List Shape) → from_update s w → begins (is_word_shape INSERT) (w ++ rest) ≡ false
+unfolding is_word_shape
+no_insert s w rest (inl h) = begins_with (is_word_shape INSERT) (shape.Keyword UPDATE) w rest (first_update s w h)
+no_insert s w rest (inr (inl h)) = begins_with (is_word_shape INSERT) (shape.Keyword DELETE) w rest (first_delete s w h)
+no_insert s w rest (inr (inr (inl h))) = begins_with (is_word_shape INSERT) (shape.Keyword PREPARE) w rest (first_prepare s w h)
+no_insert s w rest (inr (inr (inr (inl h)))) = begins_with (is_word_shape INSERT) (shape.Keyword EXPLAIN) w rest (first_explain s w h)
+no_insert s w rest (inr (inr (inr (inr (inl h))))) = begins_with (is_word_shape INSERT) (shape.Keyword RUN) w rest (first_run s w h)
+no_insert s w rest (inr (inr (inr (inr (inr (h)))))) = begins_with (is_word_shape INSERT) (shape.Keyword SHOW) w rest (first_show s w h)
 
-no_update : (s : Statement) (w rest : List Shape) → from_delete s w → begins (is_word UPDATE) (w ++ rest) ≡ false
-unfolding is_word
-no_update s w rest (inl h) = begins_with (is_word UPDATE) (shape.Keyword DELETE) w rest (first_delete s w h)
-no_update s w rest (inr (inl h)) = begins_with (is_word UPDATE) (shape.Keyword PREPARE) w rest (first_prepare s w h)
-no_update s w rest (inr (inr (inl h))) = begins_with (is_word UPDATE) (shape.Keyword EXPLAIN) w rest (first_explain s w h)
-no_update s w rest (inr (inr (inr (inl h)))) = begins_with (is_word UPDATE) (shape.Keyword RUN) w rest (first_run s w h)
-no_update s w rest (inr (inr (inr (inr (h))))) = begins_with (is_word UPDATE) (shape.Keyword SHOW) w rest (first_show s w h)
+no_update : (s : Statement) (w rest : List Shape) → from_delete s w → begins (is_word_shape UPDATE) (w ++ rest) ≡ false
+unfolding is_word_shape
+no_update s w rest (inl h) = begins_with (is_word_shape UPDATE) (shape.Keyword DELETE) w rest (first_delete s w h)
+no_update s w rest (inr (inl h)) = begins_with (is_word_shape UPDATE) (shape.Keyword PREPARE) w rest (first_prepare s w h)
+no_update s w rest (inr (inr (inl h))) = begins_with (is_word_shape UPDATE) (shape.Keyword EXPLAIN) w rest (first_explain s w h)
+no_update s w rest (inr (inr (inr (inl h)))) = begins_with (is_word_shape UPDATE) (shape.Keyword RUN) w rest (first_run s w h)
+no_update s w rest (inr (inr (inr (inr (h))))) = begins_with (is_word_shape UPDATE) (shape.Keyword SHOW) w rest (first_show s w h)
 
-no_delete : (s : Statement) (w rest : List Shape) → from_prepare s w → begins (is_word DELETE) (w ++ rest) ≡ false
-unfolding is_word
-no_delete s w rest (inl h) = begins_with (is_word DELETE) (shape.Keyword PREPARE) w rest (first_prepare s w h)
-no_delete s w rest (inr (inl h)) = begins_with (is_word DELETE) (shape.Keyword EXPLAIN) w rest (first_explain s w h)
-no_delete s w rest (inr (inr (inl h))) = begins_with (is_word DELETE) (shape.Keyword RUN) w rest (first_run s w h)
-no_delete s w rest (inr (inr (inr (h)))) = begins_with (is_word DELETE) (shape.Keyword SHOW) w rest (first_show s w h)
+no_delete : (s : Statement) (w rest : List Shape) → from_prepare s w → begins (is_word_shape DELETE) (w ++ rest) ≡ false
+unfolding is_word_shape
+no_delete s w rest (inl h) = begins_with (is_word_shape DELETE) (shape.Keyword PREPARE) w rest (first_prepare s w h)
+no_delete s w rest (inr (inl h)) = begins_with (is_word_shape DELETE) (shape.Keyword EXPLAIN) w rest (first_explain s w h)
+no_delete s w rest (inr (inr (inl h))) = begins_with (is_word_shape DELETE) (shape.Keyword RUN) w rest (first_run s w h)
+no_delete s w rest (inr (inr (inr (h)))) = begins_with (is_word_shape DELETE) (shape.Keyword SHOW) w rest (first_show s w h)
 
-no_prepare : (s : Statement) (w rest : List Shape) → from_explain s w → begins (is_word PREPARE) (w ++ rest) ≡ false
-unfolding is_word
-no_prepare s w rest (inl h) = begins_with (is_word PREPARE) (shape.Keyword EXPLAIN) w rest (first_explain s w h)
-no_prepare s w rest (inr (inl h)) = begins_with (is_word PREPARE) (shape.Keyword RUN) w rest (first_run s w h)
-no_prepare s w rest (inr (inr (h))) = begins_with (is_word PREPARE) (shape.Keyword SHOW) w rest (first_show s w h)
+no_prepare : (s : Statement) (w rest : List Shape) → from_explain s w → begins (is_word_shape PREPARE) (w ++ rest) ≡ false
+unfolding is_word_shape
+no_prepare s w rest (inl h) = begins_with (is_word_shape PREPARE) (shape.Keyword EXPLAIN) w rest (first_explain s w h)
+no_prepare s w rest (inr (inl h)) = begins_with (is_word_shape PREPARE) (shape.Keyword RUN) w rest (first_run s w h)
+no_prepare s w rest (inr (inr (h))) = begins_with (is_word_shape PREPARE) (shape.Keyword SHOW) w rest (first_show s w h)
 
-no_explain : (s : Statement) (w rest : List Shape) → from_run s w → begins (is_word EXPLAIN) (w ++ rest) ≡ false
-unfolding is_word
-no_explain s w rest (inl h) = begins_with (is_word EXPLAIN) (shape.Keyword RUN) w rest (first_run s w h)
-no_explain s w rest (inr (h)) = begins_with (is_word EXPLAIN) (shape.Keyword SHOW) w rest (first_show s w h)
+no_explain : (s : Statement) (w rest : List Shape) → from_run s w → begins (is_word_shape EXPLAIN) (w ++ rest) ≡ false
+unfolding is_word_shape
+no_explain s w rest (inl h) = begins_with (is_word_shape EXPLAIN) (shape.Keyword RUN) w rest (first_run s w h)
+no_explain s w rest (inr (h)) = begins_with (is_word_shape EXPLAIN) (shape.Keyword SHOW) w rest (first_show s w h)
 
-no_run : (s : Statement) (w rest : List Shape) → a_show s w → begins (is_word RUN) (w ++ rest) ≡ false
-unfolding is_word
-no_run s w rest h = begins_with (is_word RUN) (shape.Keyword SHOW) w rest (first_show s w h)
+no_run : (s : Statement) (w rest : List Shape) → a_show s w → begins (is_word_shape RUN) (w ++ rest) ≡ false
+unfolding is_word_shape
+no_run s w rest h = begins_with (is_word_shape RUN) (shape.Keyword SHOW) w rest (first_show s w h)
 
 -- what begins with a word
-opens_by : (k : ℕ) (w : List Shape) → first_of_list w ≡ Some (shape.Keyword k) → is_word k (shape.Keyword k) ≡ true → begins (is_word k) w ≡ true
+opens_by : (k : ℕ) (w : List Shape) → first_of_list w ≡ Some (shape.Keyword k) → is_word_shape k (shape.Keyword k) ≡ true → begins (is_word_shape k) w ≡ true
 opens_by k [] e is = absurd cc
-opens_by k (t ∷ w) e is = let same : t ≡ shape.Keyword k = cc in ap (is_word k) same ∙ is
+opens_by k (t ∷ w) e is = let same : t ≡ shape.Keyword k = cc in ap (is_word_shape k) same ∙ is
 
 statement_to : (s : Statement) (w : List Shape) → from_create s w → Spells s w
 statement_to s w (inl h) = subst (λ (v : Statement). Spells v w) h.1 h.2
@@ -349,16 +349,16 @@ wide : (S : Statement → List Shape → Type 0) (r : Reader Shape Statement) �
 wide S r h = wider_reads S never always r (λ rest e. begins-never rest) h
 
 pub statement_reads : Reads Spells always statement_at
-unfolding statement_at is_word
+unfolding statement_at is_word_shape
 statement_reads =
     same_set from_create Spells always statement_at statement_to statement_from
-    (choice_reads a_create from_insert (is_word CREATE) (map_at (λ d. Create d) create_at) _ always (wide a_create (map_at (λ d. Create d) create_at) (made_reads (λ d. Create d) create never create_at create_reads))
-    (choice_reads a_insert from_update (is_word INSERT) insert_at _ always (wide a_insert insert_at insert_reads)
-    (choice_reads a_update from_delete (is_word UPDATE) update_at _ always (wide a_update update_at update_reads)
-    (choice_reads a_delete from_prepare (is_word DELETE) delete_at _ always (wide a_delete delete_at delete_reads)
-    (choice_reads a_prepare from_explain (is_word PREPARE) prepare_at _ always prepare_reads
-    (choice_reads a_explain from_run (is_word EXPLAIN) explain_at _ always explain_reads
-    (choice_reads a_run a_show (is_word RUN) run_at _ always (wide a_run run_at run_reads) (wide a_show show_at show_reads)
+    (choice_reads a_create from_insert (is_word_shape CREATE) (map_at (λ d. Create d) create_at) _ always (wide a_create (map_at (λ d. Create d) create_at) (made_reads (λ d. Create d) create never create_at create_reads))
+    (choice_reads a_insert from_update (is_word_shape INSERT) insert_at _ always (wide a_insert insert_at insert_reads)
+    (choice_reads a_update from_delete (is_word_shape UPDATE) update_at _ always (wide a_update update_at update_reads)
+    (choice_reads a_delete from_prepare (is_word_shape DELETE) delete_at _ always (wide a_delete delete_at delete_reads)
+    (choice_reads a_prepare from_explain (is_word_shape PREPARE) prepare_at _ always prepare_reads
+    (choice_reads a_explain from_run (is_word_shape EXPLAIN) explain_at _ always explain_reads
+    (choice_reads a_run a_show (is_word_shape RUN) run_at _ always (wide a_run run_at run_reads) (wide a_show show_at show_reads)
     (λ s w h. opens_by RUN w (first_run s w h) refl) (λ s w rest h e. no_run s w rest h))
     (λ s w h. opens_by EXPLAIN w (first_explain s w h) refl) (λ s w rest h e. no_explain s w rest h))
     (λ s w h. opens_by PREPARE w (first_prepare s w h) refl) (λ s w rest h e. no_prepare s w rest h))

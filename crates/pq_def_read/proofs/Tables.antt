@@ -5,7 +5,7 @@ use Rattle.pq_grammar.specs.Reader.{begins, pair_at, skip_at, close_at}
 use Rattle.pq_grammar.proofs.Steps.{Reads, never}
 use Rattle.pq_grammar.proofs.Readers.{pair_reads, close_reads, map_reads}
 use Rattle.pq_grammar.proofs.Lists.{then_shuts, pair_free, skip_free, same_set, regroup, ungroup}
-use Rattle.pq_shape.specs.Front.{is_mark, is_name, word_at, mark_at, name_at}
+use Rattle.pq_shape.specs.Front.{is_mark_shape, is_name_shape, word_at, mark_at, name_at}
 use Rattle.pq_shape.specs.Parts.{word, mark, comma, name}
 use Rattle.pq_shape.proofs.Tokens.{word_reads, mark_reads, name_reads}
 use Rattle.pq_shape.specs.declared.shape.Shape.{Shape}
@@ -13,7 +13,7 @@ use Rattle.pq_shape.specs.declared.shape.Shape.TheVariants as shape
 use Rattle.pq_shape.specs.declared.keyword.TheConstants.{CREATE, KEY, PRIMARY, TABLE}
 use Rattle.pq_shape.specs.declared.mark.TheConstants.{CLOSE, COMMA, OPEN, SEMICOLON}
 use Rattle.pq_schema.specs.declared.definition.ColumnDef.{ColumnDef}
-use Rattle.pq_def_read.specs.Definitions.{cols_at, columns_at, constraints_at, stop_at, body_at, create_at}
+use Rattle.pq_def_read.specs.Definitions.{cols_at, columns_at, constraints_at, statement_end_at, body_at, create_at}
 use Rattle.pq_def_read.specs.Grammar.{cols, column, constraints, create}
 use Rattle.pq_def_read.specs.declared.definition.Constraints.{Constraints}
 use Rattle.pq_def_read.proofs.Parts.{cols_reads, columns_reads, constraints_reads}
@@ -21,13 +21,13 @@ use Rattle.pq_def_read.proofs.Parts.{cols_reads, columns_reads, constraints_read
 abbrev pub stop : List Shape → Type 0
 stop = mark CLOSE ⋅ mark SEMICOLON
 
-pub stop_reads : Reads (λ _. stop) never stop_at
-unfolding stop_at
+pub stop_reads : Reads (λ _. stop) never statement_end_at
+unfolding statement_end_at
 stop_reads = skip_free (mark CLOSE) (λ _. mark SEMICOLON) never (mark_at CLOSE) (mark_at SEMICOLON) (mark_reads CLOSE) (mark_reads SEMICOLON)
 
-pub stop_shuts : (w rest : List Shape) → stop w → begins (is_mark COMMA) (w ++ rest) ≡ false
-unfolding is_mark
-stop_shuts w rest h = then_shuts (is_mark COMMA) (shape.Mark CLOSE) (mark SEMICOLON) refl w rest h
+pub stop_shuts : (w rest : List Shape) → stop w → begins (is_mark_shape COMMA) (w ++ rest) ≡ false
+unfolding is_mark_shape
+stop_shuts w rest h = then_shuts (is_mark_shape COMMA) (shape.Mark CLOSE) (mark SEMICOLON) refl w rest h
 
 -- from the key on
 abbrev body : List (List ℕ) × Constraints → List Shape → Type 0
@@ -38,20 +38,20 @@ unfolding body_at
 body_reads =
     skip_free (word PRIMARY) (λ (y : List (List ℕ) × Constraints). word KEY ⋅ cols y.0 ⋅ constraints y.1 ⋅ stop) never (word_at PRIMARY) _ (word_reads PRIMARY)
     (skip_free (word KEY) (λ (y : List (List ℕ) × Constraints). cols y.0 ⋅ constraints y.1 ⋅ stop) never (word_at KEY) _ (word_reads KEY)
-    (pair_free cols (λ cs. constraints cs ⋅ stop) never cols_at (close_at constraints_at stop_at) cols_reads
-    (close_reads constraints stop (is_mark COMMA) never constraints_at stop_at constraints_reads stop_reads (λ v rest h e. stop_shuts v rest h))))
+    (pair_free cols (λ cs. constraints cs ⋅ stop) never cols_at (close_at constraints_at statement_end_at) cols_reads
+    (close_reads constraints stop (is_mark_shape COMMA) never constraints_at statement_end_at constraints_reads stop_reads (λ v rest h e. stop_shuts v rest h))))
 
 -- the columns with the comma behind them, and then the key
 abbrev from_columns : List ColumnDef × (List (List ℕ) × Constraints) → List Shape → Type 0
 from_columns y = separated_by comma column y.0 ⋅ comma ⋅ body y.1
 
 from_columns_reads : Reads from_columns never (pair_at columns_at body_at)
-unfolding is_name
+unfolding is_name_shape
 from_columns_reads =
     same_set (λ (y : List ColumnDef × (List (List ℕ) × Constraints)). (separated_by comma column y.0 ⋅ comma) ⋅ body y.1) from_columns never (pair_at columns_at body_at)
     (λ y w h. regroup (separated_by comma column y.0) comma (body y.1) w h) (λ y w h. ungroup (separated_by comma column y.0) comma (body y.1) w h)
-    (pair_reads (λ cs. separated_by comma column cs ⋅ comma) body is_name never columns_at body_at columns_reads body_reads
-    (λ y v rest h e. then_shuts is_name (shape.Keyword PRIMARY) (word KEY ⋅ cols y.0 ⋅ constraints y.1 ⋅ stop) refl v rest h))
+    (pair_reads (λ cs. separated_by comma column cs ⋅ comma) body is_name_shape never columns_at body_at columns_reads body_reads
+    (λ y v rest h e. then_shuts is_name_shape (shape.Keyword PRIMARY) (word KEY ⋅ cols y.0 ⋅ constraints y.1 ⋅ stop) refl v rest h))
 
 abbrev Table : Type 0
 Table = List ℕ × (List ColumnDef × (List (List ℕ) × Constraints))

@@ -5,7 +5,7 @@ use Rattle.pq_schema.specs.declared.definition.ColumnDef.{ColumnDef}
 use Rattle.pq_schema.specs.declared.definition.LimitDef.{LimitDef}
 use Rattle.pq_schema.specs.declared.definition.ForeignDef.{ForeignDef}
 use Rattle.pq_schema.specs.declared.definition.TableDef.{TableDef}
-use Rattle.pq_shape.specs.Front.{is_word, is_mark, is_name, word_at, mark_at, name_at, number_at}
+use Rattle.pq_shape.specs.Front.{is_word_shape, is_mark_shape, is_name_shape, word_at, mark_at, name_at, number_at}
 use Rattle.pq_shape.specs.declared.keyword.TheConstants.{BOOL, CARDINALITY, CREATE, FOREIGN, INT, KEY, LIMIT, PRIMARY, REFERENCES, TABLE, TEXT}
 use Rattle.pq_shape.specs.declared.mark.TheConstants.{CLOSE, COMMA, OPEN, SEMICOLON}
 use Rattle.pq_shape.specs.declared.shape.Shape.{Shape}
@@ -15,7 +15,7 @@ use Rattle.pq_def_read.specs.declared.definition.Constraints.{Constraints}
 use Rattle.pq_def_read.specs.declared.definition.Kind.{Kind}
 
 unfoldable pub names_at : Reader Shape (List (List ℕ))
-names_at = separated_at (is_mark COMMA) (mark_at COMMA) name_at
+names_at = separated_at (is_mark_shape COMMA) (mark_at COMMA) name_at
 
 unfoldable pub cols_at : Reader Shape (List (List ℕ))
 cols_at = skip_at (mark_at OPEN) (close_at names_at (mark_at CLOSE))
@@ -33,8 +33,8 @@ unfoldable pub text_kind_at : Reader Shape Kind
 text_kind_at = map_at text_kind (skip_at (word_at TEXT) (skip_at (mark_at OPEN) (close_at number_at (mark_at CLOSE))))
 
 unfoldable pub kind_at : Reader Shape Kind
-kind_at = choice_at (is_word TEXT) text_kind_at
-    (choice_at (is_word INT) (map_at (λ u. int_kind) (word_at INT)) (map_at (λ u. bool_kind) (word_at BOOL)))
+kind_at = choice_at (is_word_shape TEXT) text_kind_at
+    (choice_at (is_word_shape INT) (map_at (λ u. int_kind) (word_at INT)) (map_at (λ u. bool_kind) (word_at BOOL)))
 
 unfoldable pub column_at : Reader Shape ColumnDef
 column_at = map_at (λ x. record { name = x.0; kind = x.1.name; size = x.1.size }) (pair_at name_at kind_at)
@@ -44,10 +44,10 @@ ended_column_at = close_at column_at (mark_at COMMA)
 
 -- the columns, and the comma behind each
 unfoldable pub columns_at : Reader Shape (List ColumnDef)
-columns_at = ended_at is_name (mark_at COMMA) column_at
+columns_at = ended_at is_name_shape (mark_at COMMA) column_at
 
-unfoldable pub limit_at : Reader Shape LimitDef
-limit_at = map_at (λ x. record { n = x.0; cols = x.1 })
+unfoldable pub limit_clause_at : Reader Shape LimitDef
+limit_clause_at = map_at (λ x. record { n = x.0; cols = x.1 })
     (skip_at (word_at CARDINALITY) (skip_at (word_at LIMIT) (pair_at number_at cols_at)))
 
 unfoldable pub foreign_at : Reader Shape ForeignDef
@@ -55,8 +55,8 @@ foreign_at = map_at (λ x. record { cols = x.0; table = x.1 })
     (skip_at (word_at FOREIGN) (skip_at (word_at KEY) (pair_at cols_at (skip_at (word_at REFERENCES) name_at))))
 
 unfoldable pub constraint_at : Reader Shape Constraint
-constraint_at = choice_at (is_word FOREIGN) (map_at (λ f. constraint.Foreign f) foreign_at) (map_at
-    (λ l. constraint.Limit l) limit_at)
+constraint_at = choice_at (is_word_shape FOREIGN) (map_at (λ f. constraint.Foreign f) foreign_at) (map_at
+    (λ l. constraint.Limit l) limit_clause_at)
 
 unfoldable pub next_constraint_at : Reader Shape Constraint
 next_constraint_at = skip_at (mark_at COMMA) constraint_at
@@ -81,14 +81,14 @@ with_constraint held (constraint.Limit l) = record { limits = held.limits ++ l �
 with_constraint held (constraint.Foreign f) = record { limits = held.limits; foreign = held.foreign ++ f ∷ [] }
 
 unfoldable pub constraints_at : Reader Shape Constraints
-constraints_at = map_at parted_constraints (many_at (is_mark COMMA) next_constraint_at)
+constraints_at = map_at parted_constraints (many_at (is_mark_shape COMMA) next_constraint_at)
 
-unfoldable pub stop_at : Reader Shape (Unit {0})
-stop_at = skip_at (mark_at CLOSE) (mark_at SEMICOLON)
+unfoldable pub statement_end_at : Reader Shape (Unit {0})
+statement_end_at = skip_at (mark_at CLOSE) (mark_at SEMICOLON)
 
 -- from PRIMARY on
 unfoldable pub body_at : Reader Shape (List (List ℕ) × Constraints)
-body_at = skip_at (word_at PRIMARY) (skip_at (word_at KEY) (pair_at cols_at (close_at constraints_at stop_at)))
+body_at = skip_at (word_at PRIMARY) (skip_at (word_at KEY) (pair_at cols_at (close_at constraints_at statement_end_at)))
 
 unfoldable pub create_at : Reader Shape TableDef
 create_at =

@@ -24,12 +24,12 @@ abbrev pub cols : List (List ℕ) → List Shape → Type 0
 cols ns = mark OPEN ⋅ separated_by comma name ns ⋅ mark CLOSE
 
 -- TEXT "(" number ")"
-abbrev pub text_size : ℤ → List Shape → Type 0
-text_size n = word TEXT ⋅ mark OPEN ⋅ number n ⋅ mark CLOSE
+abbrev pub text_size_tokens : ℤ → List Shape → Type 0
+text_size_tokens n = word TEXT ⋅ mark OPEN ⋅ number n ⋅ mark CLOSE
 
 -- INT | BOOL | TEXT "(" number ")"
 abbrev pub kind : Kind → List Shape → Type 0
-kind k w = made_from text_kind text_size k w ⊎ (((k ≡ int_kind) × word INT w) ⊎ ((k ≡ bool_kind) × word BOOL w))
+kind k w = made_from text_kind text_size_tokens k w ⊎ (((k ≡ int_kind) × word INT w) ⊎ ((k ≡ bool_kind) × word BOOL w))
 
 -- name kind
 abbrev pub column : ColumnDef → List Shape → Type 0

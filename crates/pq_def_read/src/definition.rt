@@ -1,7 +1,7 @@
 //! Reading a table's definition.
 ghost use Rattle.std.specs.Prelude.{◌≡◌, IfOk, OnOk};
 ghost use Rattle.pq_grammar.specs.Answers.{Gives};
-ghost use Rattle.pq_def_read.specs.Definitions.{names_at, cols_at, text_kind_at, kind_at, column_at, ended_column_at, columns_at, limit_at, foreign_at, constraint_at, next_constraint_at, constraints_at, with_constraint, stop_at, body_at, create_at};
+ghost use Rattle.pq_def_read.specs.Definitions.{names_at, cols_at, text_kind_at, kind_at, column_at, ended_column_at, columns_at, limit_clause_at, foreign_at, constraint_at, next_constraint_at, constraints_at, with_constraint, statement_end_at, body_at, create_at};
 
 use pq_base::{List, NoMem, PText};
 use pq_grammar::ReadError;
@@ -113,9 +113,9 @@ fn columns(alloc: Global, c: &mut Cursor) -> Result<List<ColumnDef>, ReadError>
     Ok(columns)
 }
 
-#[tactic(auto, unfolding(crate::specs::Definitions::limit_at))]
+#[tactic(auto, unfolding(crate::specs::Definitions::limit_clause_at))]
 fn limit(alloc: Global, c: &mut Cursor) -> Result<LimitDef, ReadError>
-    ensures { Gives (λ x. (x, c.new)) result (limit_at c.old) }
+    ensures { Gives (λ x. (x, c.new)) result (limit_clause_at c.old) }
 {
     c.word(CARDINALITY)?;
     c.word(LIMIT)?;
@@ -195,9 +195,9 @@ fn all_constraints(alloc: Global, c: &mut Cursor) -> Result<Constraints, ReadErr
 }
 
 /// Reads what ends a list and the statement.
-#[tactic(auto, unfolding(crate::specs::Definitions::stop_at))]
+#[tactic(auto, unfolding(crate::specs::Definitions::statement_end_at))]
 pub fn stop(c: &mut Cursor) -> Result<(), ReadError>
-    ensures { Gives (λ x. (x, c.new)) result (stop_at c.old) }
+    ensures { Gives (λ x. (x, c.new)) result (statement_end_at c.old) }
 {
     c.mark(CLOSE)?;
     c.mark(SEMICOLON)

@@ -2,9 +2,9 @@
 ghost use Rattle.std.specs.Prelude.{◌≡◌, ◌-◌, ◌≤◌, ◌^◌, length, Ok, IfOk, IfErr, MatchResult, min};
 ghost use Rattle.pq_grammar.specs.Answers.{Gives};
 ghost use Rattle.pq_grammar.specs.Reader.{option_at};
-ghost use Rattle.pq_shape.specs.Front.{is_mark};
+ghost use Rattle.pq_shape.specs.Front.{is_mark_shape};
 ghost use Rattle.pq_def_read.specs.Definitions.{cols_at};
-ghost use Rattle.pq_def_read.specs.Reading.{assign_at, values_at, sets_at, key_at, insert_at, update_at, delete_at, prepare_at, explain_at, listed_values_at, arguments_at, after_at, run_at, show_at, statement_at, read_at, statement_of};
+ghost use Rattle.pq_def_read.specs.Reading.{assign_at, values_clause_at, sets_at, key_clause_at, insert_at, update_at, delete_at, prepare_at, explain_at, listed_values_at, arguments_at, after_at, run_at, show_at, statement_at, read_at, statement_of};
 ghost use Rattle.pq_shape.specs.Shapes.{shapes_of};
 ghost use Rattle.pq_shape.specs.Faults.{IsRefusalOf, IsNoMem};
 ghost use Rattle.pq_def_read.specs.Grammar.{Spells};
@@ -48,9 +48,9 @@ impl Part for Assign {
     ghost shrinks = { assign_shrinks };
 }
 
-#[tactic(auto, unfolding(crate::specs::Reading::values_at))]
+#[tactic(auto, unfolding(crate::specs::Reading::values_clause_at))]
 fn values(alloc: Global, c: &mut Cursor) -> Result<List<Value>, ReadError>
-    ensures { Gives (λ x. (x, c.new)) result (values_at c.old) }
+    ensures { Gives (λ x. (x, c.new)) result (values_clause_at c.old) }
 {
     separated(alloc, c, Between::Comma)
 }
@@ -62,15 +62,15 @@ fn sets(alloc: Global, c: &mut Cursor) -> Result<List<Assign>, ReadError>
     separated(alloc, c, Between::Comma)
 }
 
-#[tactic(auto, unfolding(crate::specs::Reading::key_at))]
+#[tactic(auto, unfolding(crate::specs::Reading::key_clause_at))]
 fn key(alloc: Global, c: &mut Cursor) -> Result<List<Assign>, ReadError>
-    ensures { Gives (λ x. (x, c.new)) result (key_at c.old) }
+    ensures { Gives (λ x. (x, c.new)) result (key_clause_at c.old) }
 {
     separated(alloc, c, Between::And)
 }
 
 fn option_cols(alloc: Global, c: &mut Cursor) -> Result<Option<List<PText>>, ReadError>
-    ensures { Gives (λ x. (x, c.new)) result (option_at (is_mark OPEN) cols_at c.old) }
+    ensures { Gives (λ x. (x, c.new)) result (option_at (is_mark_shape OPEN) cols_at c.old) }
 {
     if c.is_mark(OPEN) {
         let names = cols(alloc, c)?;
@@ -147,7 +147,7 @@ fn explain(c: &mut Cursor) -> Result<Statement, ReadError>
     Ok(Statement::Explain { from: 1 })
 }
 
-#[tactic(auto, unfolding(crate::specs::Reading::listed_values_at, crate::specs::Reading::values_at))]
+#[tactic(auto, unfolding(crate::specs::Reading::listed_values_at, crate::specs::Reading::values_clause_at))]
 fn listed_values(alloc: Global, c: &mut Cursor) -> Result<List<Value>, ReadError>
     ensures { Gives (λ x. (x, c.new)) result (listed_values_at c.old) }
 {

@@ -11,7 +11,7 @@ use Rattle.pq_schema.specs.Relations.{relation_at, no_relation}
 use Rattle.pq_schema.specs.Resolved.{IsResolved}
 use Rattle.pq_schema.specs.Sound.{AreMade}
 use Rattle.pq_plan.specs.Cost.{is_primary_access}
-use Rattle.pq_plan.specs.Nodes.{Node, lookup, limit_range, stop_scan, keep, sort, cut, project, step, run_of}
+use Rattle.pq_plan.specs.Nodes.{Node, lookup, limit_range, stop_scan, keep, sort, cut, project, node_step, run_of}
 use Rattle.pq_nodes.specs.Inverse.{IsNodeOf, IsLimited}
 use Rattle.pq_nodes.specs.Ordered.{after_node, after_nodes}
 
@@ -40,7 +40,7 @@ stop_few : (e z k : ℕ) (served : Bool) → 1 ≤ z → k ≤ e + z * k + (cond
 stop_few e z k true low = let more : 1 * k ≤ z * k = mul-le-mul_right k low in omega (arith, more)
 stop_few e z k false low = omega arith
 
-step_few : (count : ℕ) (r : ReachedCost) (node : Node) → GivesSome node → IsFew count r → IsFew (after_node count node) (step r node)
+step_few : (count : ℕ) (r : ReachedCost) (node : Node) → GivesSome node → IsFew count r → IsFew (after_node count node) (node_step r node)
 step_few count r (lookup rel) some few = let low = few.1 in (λ _. omega arith, omega arith)
 step_few count r (limit_range rel limit n access) some few = (λ _. range_few r.cost.entries r.inputs n (is_primary_access access), some_product r.inputs n few.1 some)
 step_few count r (stop_scan rel k access) some few = (λ _. stop_few r.cost.entries r.inputs k (is_primary_access access) few.1, some)
@@ -49,9 +49,9 @@ step_few count r sort some few = few
 step_few count r (cut k) some few = few
 step_few count r project some few = few
 
-list_few : (list : List Node) (count : ℕ) (r : ReachedCost) → AllByRecursion GivesSome list → IsFew count r → IsFew (after_nodes count list) (fold step r list)
+list_few : (list : List Node) (count : ℕ) (r : ReachedCost) → AllByRecursion GivesSome list → IsFew count r → IsFew (after_nodes count list) (fold node_step r list)
 list_few [] count r each few = few
-list_few (node ∷ rest) count r each few = list_few rest (after_node count node) (step r node) each.1 (step_few count r node each.0 few)
+list_few (node ∷ rest) count r each few = list_few rest (after_node count node) (node_step r node) each.1 (step_few count r node each.0 few)
 
 -- a limit is of at least one row, and a stop of at least one
 limit_some : (tables : List Table) (query : Query) (rel limit n : ℕ) (access : Access) → AreMade tables → IsResolved tables query → IsLimited tables query rel limit n access → 1 ≤ n

@@ -12,13 +12,13 @@ use Rattle.pq_content.specs.Pairs.{HoldsRows}
 use Rattle.pq_plan.specs.Answer.{Question}
 use Rattle.pq_plan.specs.Cost.{cost}
 use Rattle.pq_plan.specs.Executing.{Makes, Gives}
-use Rattle.pq_plan.specs.Nodes.{Node, lookup, limit_range, stop_scan, keep, sort, cut, project, nodes, step, run_of}
+use Rattle.pq_plan.specs.Nodes.{Node, lookup, limit_range, stop_scan, keep, sort, cut, project, nodes, node_step, run_of}
 use Rattle.pq_plan.specs.declared.physical.Physical.{Physical}
 use Rattle.pq_plan.proofs.PlanRows.{reach_nodes}
 use Rattle.pq_calls.specs.World.{World, Affords, Reads}
 use Rattle.pq_calls.proofs.Steps.{reads_then, reads_within, rest_left}
 use Rattle.pq_nodes.specs.Combos.{FitsTables}
-use Rattle.pq_nodes.specs.Operators.{IsReady, AffordsNode, ReadsNode, Answers}
+use Rattle.pq_nodes.specs.Operators.{IsReadyNode, AffordsNode, ReadsNode, AnswersNode}
 use Rattle.pq_nodes.specs.Ordered.{after_node, after_nodes, StandsAt}
 use Rattle.pq_nodes.specs.Paid.{node_cost, node_size, IsAtMost}
 use Rattle.pq_nodes.proofs.Paying.{at_most_itself, step_size, step_more}
@@ -117,7 +117,7 @@ module _ (tables : List Table) (query : Query) (tree input : Physical) (over : n
       let b = left.entries_left in
       record { ops_left = omega arith; entries_left = omega arith }
 
-  pub node_ready : IsReady tables query node
+  pub node_ready : IsReadyNode tables query node
   node_ready = record { is = parts.1.is; indexed = parts.1.indexed }
 
   input_rows : rows_before query node ≡ after_nodes 0 (nodes input)
@@ -151,12 +151,12 @@ module _ (tables : List Table) (query : Query) (tree input : Physical) (over : n
   pub tree_given : (inputs found : List (List (List Value))) → AreRun tables query (nodes input) inputs → AreGiven tables query (length inputs) node found → AreRun tables query (nodes tree) found
   tree_given inputs found first given =
       let all = run_of (nodes input ++ node ∷ []) in
-      let last : all ≡ step reached node = fold-append step start (nodes input) (node ∷ []) in
+      let last : all ≡ node_step reached node = fold-append node_step start (nodes input) (node ∷ []) in
       let more = step_more (record { inputs = length inputs; cost = reached.cost }) reached node (record { inputs = first.few; cost = at_most_itself reached.cost }) in
-      let size : (step (record { inputs = length inputs; cost = reached.cost }) node).inputs ≡ node_size (length inputs) node = step_size (record { inputs = length inputs; cost = reached.cost }) node in
-      let within : node_size (length inputs) node ≤ (step reached node).inputs = subst (λ n. n ≤ (step reached node).inputs) size more.inputs in
+      let size : (node_step (record { inputs = length inputs; cost = reached.cost }) node).inputs ≡ node_size (length inputs) node = step_size (record { inputs = length inputs; cost = reached.cost }) node in
+      let within : node_size (length inputs) node ≤ (node_step reached node).inputs = subst (λ n. n ≤ (node_step reached node).inputs) size more.inputs in
       let few = given.few in
-      let small : length found ≤ (step reached node).inputs = omega arith in
+      let small : length found ≤ (node_step reached node).inputs = omega arith in
       let rows : rows_behind query node ≡ after_nodes 0 (nodes input ++ node ∷ []) = rows_after query (after_nodes 0 (nodes input)) node parts.1.stands parts.1.whole ∙ sym (fold-append after_node 0 (nodes input) (node ∷ [])) in
       subst (λ list. AreRun tables query list found) (sym over) (record {
         few = subst (λ (r : ReachedCost). length found ≤ r.inputs) (sym last) small;
@@ -170,7 +170,7 @@ module _ (tables : List Table) (query : Query) (tree input : Physical) (over : n
           let same = ap length none in
           omega (arith, long, same)
 
-  pub tree_answers : (params : List Value) (cursor : Option (List Value)) (a b : World) (o e : ℕ) (inputs found : List (List (List Value))) → Reads a b o e → RunAnswers a.told tables query params cursor (nodes input) inputs → Answers b.told tables query params cursor inputs node found → RunAnswers a.told tables query params cursor (nodes tree) found
+  pub tree_answers : (params : List Value) (cursor : Option (List Value)) (a b : World) (o e : ℕ) (inputs found : List (List (List Value))) → Reads a b o e → RunAnswers a.told tables query params cursor (nodes input) inputs → AnswersNode b.told tables query params cursor inputs node found → RunAnswers a.told tables query params cursor (nodes tree) found
   tree_answers params cursor a b o e inputs found reads first answers rows others holds =
       let q : Question = record { tables = tables; query = query; rows = rows; params = params } in
       subst (λ list. Gives q cursor ([] ∷ []) list found) (sym over)

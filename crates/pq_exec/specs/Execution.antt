@@ -141,6 +141,6 @@ pub record RisesWithin (bound : Bound) (before after : Counts) : Type 0 where
   pub few_entries : after.entries ≤ before.entries + bound.entries
 
 -- and by just these numbers
-pub record RisesBy (used : Used) (before after : Counts) : Type 0 where
+pub record RisesByUsed (used : Used) (before after : Counts) : Type 0 where
   pub ops : after.ops ≡ before.ops + used.ops
   pub entries : after.entries ≡ before.entries + used.entries

@@ -10,7 +10,7 @@ ghost use Rattle.pq_plan.specs.Cost.{cost};
 ghost use Rattle.pq_nodes.specs.Combos.{FitsTables, position_types};
 ghost use Rattle.pq_nodes.specs.Operators.{IsAsked, IsCursor, ShowsRead, IsSoundOverRows};
 ghost use Rattle.pq_runnable.specs.Runnable.{IsRunnablePlan};
-ghost use Rattle.pq_exec.specs.Execution.{AnswersQuery, IsLastPosition, IsPage, RisesBy, RisesWithin};
+ghost use Rattle.pq_exec.specs.Execution.{AnswersQuery, IsLastPosition, IsPage, RisesByUsed, RisesWithin};
 
 use crate::request::Request;
 use crate::tree::run;
@@ -76,7 +76,7 @@ pub fn execute<S: Store<L>, L: Ledger>(
     ensures page { IfOk result (IsPage catalog.now.tables query.now plan.now) }
     ensures content { S.content store.new ≡ S.content store.old }
     ensures bound { RisesWithin (cost plan.now) meter.old meter.new }
-    ensures used { IfOk result (λ answer. RisesBy answer.used meter.old meter.new) }
+    ensures used { IfOk result (λ answer. RisesByUsed answer.used meter.old meter.new) }
     ensures cause { HasBrokeCause (S.faults store.old) (S.faults store.new) result }
     ensures damage { IfErr result (IfDamaged (where_told (ShowsRead catalog.now.tables) (S.content store.old))) }
     ensures undamaged { IfErr result (IsSoundOverRows (S.content store.old) catalog.now.tables) }

@@ -4,8 +4,8 @@ ghost use Rattle.std.specs.List.{AllByRecursion};
 ghost use Rattle.pq_calls.specs.World.{world};
 ghost use Rattle.pq_plan.specs.Nodes.{stop_scan};
 ghost use Rattle.pq_nodes.specs.Combos.{FitsTables};
-ghost use Rattle.pq_nodes.specs.Operators.{IsAsked, IsReady, AreFound, AreInputs, IsCursor, AffordsNode, ReadsNode};
-ghost use Rattle.pq_nodes.specs.Operators.{Answers, StopsReading, IsSoundOverRows};
+ghost use Rattle.pq_nodes.specs.Operators.{IsAsked, IsReadyNode, AreFound, AreInputs, IsCursor, AffordsNode, ReadsNode};
+ghost use Rattle.pq_nodes.specs.Operators.{AnswersNode, StopsReading, IsSoundOverRows};
 ghost use Rattle.pq_exec.specs.Execution.{top_node, rows_before, AreGiven, ArePastCursor, IsCutOf};
 ghost use Rattle.pq_local_ops.specs.Lists.{ArePart};
 
@@ -75,12 +75,12 @@ fn read_stop<S: Store<L>, L: Ledger>(
     meter: &mut Meter<L>,
 ) -> Result<List<Combo>, Broke>
     requires asked { IsAsked request.now.catalog.now.tables request.now.query.now request.now.params.now }
-    requires ready { IsReady request.now.catalog.now.tables request.now.query.now (stop_scan rel k access) }
+    requires ready { IsReadyNode request.now.catalog.now.tables request.now.query.now (stop_scan rel k access) }
     requires inputs { AreInputs request.now.catalog.now.tables request.now.query.now rel inputs }
     requires first { rel - 1 ≡ 0 → inputs ≡ [] ∷ [] }
     requires cursor { IsCursor request.now.catalog.now.tables request.now.query.now (option_copied request.now.after) }
     requires share { AffordsNode allowance.old (length inputs) (stop_scan rel k access) }
-    ensures answer { IfOk result (Answers (S.content store.old) request.now.catalog.now.tables
+    ensures answer { IfOk result (AnswersNode (S.content store.old) request.now.catalog.now.tables
         request.now.query.now request.now.params.now (option_copied request.now.after)
         inputs (stop_scan rel k access)) }
     ensures reads { ReadsNode (world (S.content store.old) (S.faults store.old) allowance.old meter.old)
@@ -121,14 +121,14 @@ pub(crate) fn run_node<S: Store<L>, L: Ledger>(
     meter: &mut Meter<L>,
 ) -> Result<List<Combo>, Broke>
     requires asked { IsAsked request.now.catalog.now.tables request.now.query.now request.now.params.now }
-    requires ready { IsReady request.now.catalog.now.tables request.now.query.now (top_node tree.now) }
+    requires ready { IsReadyNode request.now.catalog.now.tables request.now.query.now (top_node tree.now) }
     requires inputs { AllByRecursion
         (FitsTables request.now.catalog.now.tables request.now.query.now
         (rows_before request.now.query.now (top_node tree.now))) inputs }
     requires first { rows_before request.now.query.now (top_node tree.now) ≡ 0 → inputs ≡ [] ∷ [] }
     requires cursor { IsCursor request.now.catalog.now.tables request.now.query.now (option_copied request.now.after) }
     requires share { AffordsNode allowance.old (length inputs) (top_node tree.now) }
-    ensures answer { IfOk result (Answers (S.content store.old) request.now.catalog.now.tables
+    ensures answer { IfOk result (AnswersNode (S.content store.old) request.now.catalog.now.tables
         request.now.query.now request.now.params.now (option_copied request.now.after) inputs (top_node tree.now)) }
     ensures reads { ReadsNode (world (S.content store.old) (S.faults store.old) allowance.old meter.old)
         (world (S.content store.new) (S.faults store.new) allowance.new meter.new) (length inputs) (top_node tree.now) }

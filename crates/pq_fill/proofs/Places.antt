@@ -5,7 +5,7 @@ use Rattle.std.proofs.lemmas.List.{length-map}
 use Rattle.std.proofs.lemmas.List.FromFn.{length-map-range_with_len}
 use Rattle.std.proofs.lemmas.Option.{slice_get_past}
 use Rattle.std.specs.List.{range_with_len, slice_get}
-use Rattle.pq_fill.specs.Script.{below, definitions, users, followed_user, sub, subs, thought, thoughts, runs, items, fill_script, fill_kinds, item_text, kind_of}
+use Rattle.pq_fill.specs.Script.{below, definitions, users, followed_user, sub, subs, thought, thoughts, runs, items, fill_script, fill_kinds, item_text, item_kind}
 use Rattle.pq_fill.specs.declared.item.Item.TheVariants as item
 
 -- ---- a list behind another
@@ -130,7 +130,7 @@ pub statements_long : (n : ℕ) → length (fill_script n) ≡ 4 + n + n * follo
 statements_long n = length-map (items n) item_text ∙ script_long n
 
 pub kinds_long : (n : ℕ) → length (fill_kinds n) ≡ length (fill_script n)
-kinds_long n = length-map (items n) kind_of ∙ sym (length-map (items n) item_text)
+kinds_long n = length-map (items n) item_kind ∙ sym (length-map (items n) item_text)
 
 -- ---- the places, counted from the first of each part
 

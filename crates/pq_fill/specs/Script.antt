@@ -76,13 +76,13 @@ quoted_name i = codes "'" ++ user_name i ++ codes "'"
 unfoldable pub insert_into : List ℕ → ℕ → List ℕ
 insert_into table i = codes "INSERT INTO " ++ table ++ codes " VALUES (" ++ quoted_name i
 
-abbrev pub definition_text : Definition → List ℕ
-definition_text definition.Users = codes "CREATE TABLE users (name TEXT(16), city TEXT(16), PRIMARY KEY (name));"
-definition_text definition.Subs =
+abbrev pub script_definition : Definition → List ℕ
+script_definition definition.Users = codes "CREATE TABLE users (name TEXT(16), city TEXT(16), PRIMARY KEY (name));"
+script_definition definition.Subs =
     codes "CREATE TABLE subs (owner TEXT(16), target TEXT(16), approved BOOL, PRIMARY KEY (owner, target), CARDINALITY LIMIT 100 (owner), FOREIGN KEY (owner) REFERENCES users, FOREIGN KEY (target) REFERENCES users);"
-definition_text definition.Thoughts =
+script_definition definition.Thoughts =
     codes "CREATE TABLE thoughts (owner TEXT(16), ts INT, body TEXT(140), PRIMARY KEY (owner, ts), FOREIGN KEY (owner) REFERENCES users);"
-definition_text definition.Home =
+script_definition definition.Home =
     codes "PREPARE home AS SELECT t.owner, t.ts, t.body FROM subs s, thoughts t WHERE s.owner = [1: uname] AND s.approved = true AND t.owner = s.target ORDER BY t.ts DESC LIMIT 10;"
 
 -- a user has one of ten cities, by the last digit of the number
@@ -100,7 +100,7 @@ abbrev pub run_text : ℕ → List ℕ
 run_text i = codes "RUN home (" ++ quoted_name i ++ codes ");"
 
 abbrev pub item_text : Item → List ℕ
-item_text (item.Definition d) = definition_text d
+item_text (item.Definition d) = script_definition d
 item_text (item.User i) = user_text i
 item_text (item.Sub i j approved) = sub_text i j approved
 item_text (item.Thought i time) = thought_text i time
@@ -116,16 +116,16 @@ fill_statement n i = slice_get (fill_script n) i
 
 -- ---- what is counted of each
 
-abbrev pub kind_of : Item → Kind
-kind_of (item.Definition d) = kind.Definition
-kind_of (item.User i) = kind.User
-kind_of (item.Sub i j approved) = kind.Sub
-kind_of (item.Thought i time) = kind.Thought
-kind_of (item.Run i) = kind.Run
+abbrev pub item_kind : Item → Kind
+item_kind (item.Definition d) = kind.Definition
+item_kind (item.User i) = kind.User
+item_kind (item.Sub i j approved) = kind.Sub
+item_kind (item.Thought i time) = kind.Thought
+item_kind (item.Run i) = kind.Run
 
 -- the kinds of the statements in order
 abbrev pub fill_kinds : ℕ → List Kind
-fill_kinds n = map kind_of (items n)
+fill_kinds n = map item_kind (items n)
 
 -- the kind of the statement of this number, from 0
 abbrev pub fill_kind : ℕ → ℕ → Option Kind

@@ -52,16 +52,16 @@ end_count (end.Refused why) = 0
 abbrev pub answer_lines : Report → List Line
 answer_lines report = take (end_count report.end) report.lines
 
-abbrev pub number_in : Value → ℤ
-number_in (value.Int n) = n
-number_in (value.Bool b) = pos 0
-number_in (value.Text t) = pos 0
+abbrev pub value_number : Value → ℤ
+value_number (value.Int n) = n
+value_number (value.Bool b) = pos 0
+value_number (value.Text t) = pos 0
 
 -- the second value of a row, 0 where it is no number
 abbrev pub second_number : List Value → ℤ
 second_number [] = pos 0
 second_number (x ∷ []) = pos 0
-second_number (x ∷ y ∷ ys) = number_in y
+second_number (x ∷ y ∷ ys) = value_number y
 
 abbrev pub line_number : Line → ℤ
 line_number (line.Row row) = second_number row

@@ -1,6 +1,6 @@
 //! The statements of the generated script, before they are text.
 ghost use Rattle.std.specs.Prelude.{◌≡◌};
-ghost use Rattle.pq_fill.specs.Script.{definition_text, kind_of};
+ghost use Rattle.pq_fill.specs.Script.{script_definition, item_kind};
 
 /// A statement that defines a table or the query.
 #[derive(Clone, Copy, Debug, PartialEq, Eq)]
@@ -50,7 +50,7 @@ pub enum Kind {
 impl Definition {
     /// The statement's text.
     pub fn text(self) -> &'static str
-        ensures { result.now ≡ definition_text self }
+        ensures { result.now ≡ script_definition self }
     {
         match self {
             Definition::Users => {
@@ -72,7 +72,7 @@ impl Definition {
 impl Item {
     /// What the statement is counted as.
     pub fn kind(self) -> Kind
-        ensures { result ≡ kind_of self }
+        ensures { result ≡ item_kind self }
     {
         match self {
             Item::Definition(_) => Kind::Definition,

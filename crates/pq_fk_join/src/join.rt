@@ -9,7 +9,7 @@ ghost use Rattle.pq_calls.specs.World.{Affords, where_told, world};
 ghost use Rattle.pq_plan.specs.Nodes.{lookup};
 ghost use Rattle.pq_nodes.specs.Combos.{FitsTables};
 ghost use Rattle.pq_nodes.specs.Inverse.{IsLookup};
-ghost use Rattle.pq_nodes.specs.Operators.{IsAsked, IsReady, AreInputs, AffordsNode, ReadsNode, AreFound, Answers, ShowsRead, StopsReading, IsSoundOverRows};
+ghost use Rattle.pq_nodes.specs.Operators.{IsAsked, IsReadyNode, AreInputs, AffordsNode, ReadsNode, AreFound, AnswersNode, ShowsRead, StopsReading, IsSoundOverRows};
 ghost use Rattle.pq_fk_join.specs.Joined.{IsPartner, AddsLookedUp};
 
 use pq_base::{List, Row};
@@ -127,10 +127,10 @@ pub fn fk_join<S: Store<L>, L: Ledger>(
     meter: &mut Meter<L>,
 ) -> Result<List<Combo>, Broke>
     requires asked { IsAsked catalog.now.tables query.now params.now }
-    requires ready { IsReady catalog.now.tables query.now (lookup rel) }
+    requires ready { IsReadyNode catalog.now.tables query.now (lookup rel) }
     requires inputs { AreInputs catalog.now.tables query.now rel inputs }
     requires share { AffordsNode allowance.old (length inputs) (lookup rel) }
-    ensures answer { IfOk result (Answers (S.content store.old)
+    ensures answer { IfOk result (AnswersNode (S.content store.old)
         catalog.now.tables query.now params.now None inputs (lookup rel)) }
     ensures reads { ReadsNode (world (S.content store.old) (S.faults store.old) allowance.old meter.old)
         (world (S.content store.new) (S.faults store.new) allowance.new meter.new) (length inputs) (lookup rel) }

@@ -1,7 +1,7 @@
 -- Readers of one set or another, of lists that may be empty, and of what a function makes.
 use Rattle.std.proofs.Common.{◌≡◌, ℕ, Bool, true, false, cond, List, [], ◌∷◌, ◌++◌, Option, Some, None, Result, Ok, Err, ◌⊎◌, inl, inr, refl, ap, ◌∙◌}
 use Rattle.pq_grammar.specs.Language.{◌⋅◌, one, optional, separated_by, listed_by, made_from}
-use Rattle.pq_grammar.specs.Reader.{◌>>=◌, Reader, begins, test_of, test_at, map_at, choice_at, option_at, separated_at, items_of, listed_at}
+use Rattle.pq_grammar.specs.Reader.{◌>>=◌, Reader, begins, test_of, test_at, map_at, choice_at, option_at, separated_at, option_items, listed_at}
 use Rattle.pq_grammar.proofs.Steps.{Reads, never, first_of_list, begins-append}
 use Rattle.pq_grammar.proofs.Readers.{read, one_reads, same_reads, map_reads}
 use Rattle.pq_grammar.proofs.Options.{either_reads, option_reads, Either, either_at}
@@ -89,17 +89,17 @@ pub separated_opens : {T X : Type 0} (o : T → Bool) (B : List T → Type 0) (S
 separated_opens o B S opens [] w h = absurd h
 separated_opens o B S opens (x ∷ xs) w h = ap (begins o) h.parts ∙ begins-append o h.front h.back (opens x h.front h.fits_front)
 
-listed_to : {T X : Type 0} (B : List T → Type 0) (S : X → List T → Type 0) (x : Option (List X)) (w : List T) → optional (separated_by B S) x w → listed_by B S (items_of x) w
+listed_to : {T X : Type 0} (B : List T → Type 0) (S : X → List T → Type 0) (x : Option (List X)) (w : List T) → optional (separated_by B S) x w → listed_by B S (option_items x) w
 listed_to B S None w h = h
 listed_to B S (Some []) w h = absurd h
 listed_to B S (Some (x ∷ xs)) w h = h
 
-listed_from : {T X : Type 0} (B : List T → Type 0) (S : X → List T → Type 0) (y : List X) (w : List T) → listed_by B S y w → (x : Option (List X)) × (items_of x ≡ y) × optional (separated_by B S) x w
+listed_from : {T X : Type 0} (B : List T → Type 0) (S : X → List T → Type 0) (y : List X) (w : List T) → listed_by B S y w → (x : Option (List X)) × (option_items x ≡ y) × optional (separated_by B S) x w
 listed_from B S [] w h = (None, refl, h)
 listed_from B S (x ∷ xs) w h = (Some (x ∷ xs), refl, h)
 
 pub listed_reads : {T X : Type 0} (B : List T → Type 0) (S : X → List T → Type 0) (o p g : T → Bool) (s : Reader T (Unit {0})) (r : Reader T X) → Reads (separated_by B S) g (separated_at p s r)
     → ((x : X) (w : List T) → S x w → begins o w ≡ true) → ((rest : List T) → begins g rest ≡ false → begins o rest ≡ false) → Reads (listed_by B S) g (listed_at o p s r)
 listed_reads B S o p g s r h opens shuts =
-    map_reads (optional (separated_by B S)) (listed_by B S) g items_of (option_at o (separated_at p s r))
+    map_reads (optional (separated_by B S)) (listed_by B S) g option_items (option_at o (separated_at p s r))
     (option_reads (separated_by B S) o g (separated_at p s r) h (separated_opens o B S opens) shuts) (listed_to B S) (listed_from B S)

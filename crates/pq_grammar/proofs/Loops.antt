@@ -2,7 +2,7 @@
 use Rattle.std.proofs.Common.{◌≡◌, ℕ, zero, suc, ◌≤◌, Bool, true, false, List, [], ◌∷◌, ◌++◌, length, Result, Ok, Err, refl, sym, ap, ◌∙◌, append_assoc, arith}
 use Rattle.std.proofs.lemmas.List.{append-nil}
 use Rattle.pq_grammar.specs.Reader.{◌>>=◌, Reader, begins, pair_at, map_at, many_within, many_at}
-use Rattle.pq_grammar.specs.Answers.{Fails}
+use Rattle.pq_grammar.specs.Answers.{FailsReading}
 use Rattle.pq_grammar.specs.Shrinking.{Shrinks}
 use Rattle.pq_grammar.specs.declared.fault.ReadError.{ReadError}
 use Rattle.pq_grammar.specs.declared.fault.ReadError.TheVariants as errors
@@ -74,6 +74,6 @@ loop_starts p r s ts x rest e = rw e (one_front x (many_at p s rest))
 
 -- at an error of the part
 pub loop_ends : {T X : Type 0} (p : T → Bool) (r : Reader T X) (e : ReadError) (front : List X) (ts : List T) (total : Result (List X × List T) ℕ)
-    → with_front front (many_at p r ts) ≡ total → begins p ts ≡ true → Fails e (r ts) → Fails e total
+    → with_front front (many_at p r ts) ≡ total → begins p ts ≡ true → FailsReading e (r ts) → FailsReading e total
 loop_ends p r errors.NoMem front ts total so_far is h = tt
 loop_ends p r (errors.Stuck n) front ts total so_far is h = loop_fails p r front ts total n so_far is h

@@ -77,14 +77,14 @@ separated_at p s r = map_at (λ x. x.0 ∷ x.1) (pair_at r (many_at p (skip_at s
 abbrev pub ended_at : {T A : Type 0} → (T → Bool) → Reader T (Unit {0}) → Reader T A → Reader T (List A)
 ended_at p s r = map_at (λ x. x.0 ∷ x.1) (pair_at (close_at r s) (many_at p (close_at r s)))
 
-abbrev pub items_of : {A : Type 0} → Option (List A) → List A
-items_of None = []
-items_of (Some xs) = xs
+abbrev pub option_items : {A : Type 0} → Option (List A) → List A
+option_items None = []
+option_items (Some xs) = xs
 
 -- none, or one or more that begin with a token of the first test, with a part between them that begins with a
 -- token of the second
 abbrev pub listed_at : {T A : Type 0} → (T → Bool) → (T → Bool) → Reader T (Unit {0}) → Reader T A → Reader T (List A)
-listed_at o p s r = map_at items_of (option_at o (separated_at p s r))
+listed_at o p s r = map_at option_items (option_at o (separated_at p s r))
 
 -- what was read, if no token is left
 abbrev pub ended_read : {T X : Type 0} → X → List T → Result X ℕ

@@ -10,7 +10,7 @@ use Rattle.pq_schema.specs.Sequences.{index_sequence}
 use Rattle.pq_content.specs.Pairs.{Change, entry_pair, entries_from, pairs_of_row, entry_changes, puts, removals, update_changes}
 use Rattle.pq_content.specs.Standing.{change_of}
 use Rattle.pq_content.specs.Tables.{key_of, stored_code}
-use Rattle.pq_index_keep.specs.Moved.{entry_change}
+use Rattle.pq_index_keep.specs.Moved.{moved_entry_changes}
 
 each_from : (ℕ → Index → List Change) → ℕ → List Index → List Change
 each_from f i [] = []
@@ -85,7 +85,7 @@ module _ (t : ℕ) (table : Table) (row : List Value) where
 
   module _ (new : List Value) where
     abbrev moved : ℕ → Index → List Change
-    moved i index = entry_change t i table index row new
+    moved i index = moved_entry_changes t i table index row new
 
     moves_are : (i : ℕ) (xs : List Index) → each_from moved i xs ≡ entry_changes t i table xs row new
     unfolding each_from
@@ -93,7 +93,7 @@ module _ (t : ℕ) (table : Table) (row : List Value) where
     moves_are i (x ∷ xs) = ap (λ (l : List Change). moved i x ++ l) (moves_are (i + 1) xs)
 
     pub move_step : (xs : List Index) (k : ℕ) (x : Index) (first before after : List Coded) → k < length xs → x ≡ get_or xs k x
-        → map change_of before ≡ map change_of first ++ entry_changes t 1 table (take k xs) row new → map change_of after ≡ map change_of before ++ entry_change t (k + 1) table x row new
+        → map change_of before ≡ map change_of first ++ entry_changes t 1 table (take k xs) row new → map change_of after ≡ map change_of before ++ moved_entry_changes t (k + 1) table x row new
         → map change_of after ≡ map change_of first ++ entry_changes t 1 table (take (k + 1) xs) row new
     move_step xs k x first before after less at so_far more =
         stepped moved xs k x (map change_of first) (map change_of before) (map change_of after) less at

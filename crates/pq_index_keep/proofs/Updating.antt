@@ -25,7 +25,7 @@ use Rattle.pq_schema.specs.declared.table.Limit.{Limit}
 use Rattle.pq_schema.specs.declared.table.Table.{Table}
 use Rattle.pq_content.specs.Pairs.{Pair, Change, entry_changes, changed_content, content_pairs}
 use Rattle.pq_content.specs.Standing.{change_of}
-use Rattle.pq_content.specs.Tables.{Rows, Keeps, MayChange, MayRefer, types_of, value_of, cells, values_of, key_of, row_at, rows_without, same_values, stored_code}
+use Rattle.pq_content.specs.Tables.{Rows, Keeps, MayChangeRow, MayRefer, types_of, value_of, cells, values_of, key_of, row_at, rows_without, same_values, stored_code}
 use Rattle.pq_content.proofs.Keeping.{row_found}
 use Rattle.pq_content.proofs.KeepingWrites.{keeps_update}
 use Rattle.pq_base.specs.Members.{In}
@@ -94,11 +94,11 @@ kept_key table sets row each = all_untouched sets row table.key (λ c i j. other
 
 -- ---- the tests
 
-may_change : (rows : Rows) (t : ℕ) (sets : List SetCol) (old : List Value) (limit : Limit) → lacks_room rows (scope_of sets) (Some old) t (with_sets sets old) limit ≡ false → MayChange t rows old (with_sets sets old) limit
+may_change : (rows : Rows) (t : ℕ) (sets : List SetCol) (old : List Value) (limit : Limit) → lacks_room rows (scope_of sets) (Some old) t (with_sets sets old) limit ≡ false → MayChangeRow t rows old (with_sets sets old) limit
 may_change rows t sets old limit h = by (touches (scope_of sets) limit.cols) refl (same_values (cells limit.cols old) (cells limit.cols (with_sets sets old))) refl (is_full rows t (with_sets sets old) limit) refl h
   where
     by : (a : Bool) → touches (scope_of sets) limit.cols ≡ a → (b : Bool) → same_values (cells limit.cols old) (cells limit.cols (with_sets sets old)) ≡ b → (c : Bool) → is_full rows t (with_sets sets old) limit ≡ c
-        → (a && not b && c) ≡ false → MayChange t rows old (with_sets sets old) limit
+        → (a && not b && c) ≡ false → MayChangeRow t rows old (with_sets sets old) limit
     by false untouched b same c full h = inl (sym (kept_values sets old limit.cols untouched))
     by true touched true same c full h = inl (same_from_test (cells limit.cols old) (cells limit.cols (with_sets sets old)) same)
     by true touched false same false full h = inr (has_room rows t (with_sets sets old) limit full)
@@ -140,8 +140,8 @@ module _ (tables : List Table) (rows : Rows) (others : List Pair) (t : ℕ) (key
       let names : AllByRecursion (MayRefer tables rows old new) table.foreign =
       each_weaker (λ (f : Foreign). lacks_parent tables rows (scope_of sets) new f ≡ false) (MayRefer tables rows old new) (λ f h. may_refer tables rows sets old f h) table.foreign
       (none_passes (lacks_parent tables rows (scope_of sets) new) table.foreign (mapped_none (no_parent table) _ tests.0)) in
-      let changes_may : AllByRecursion (MayChange t rows old new) table.limits =
-      each_weaker (λ (l : Limit). lacks_room rows (scope_of sets) (Some old) t new l ≡ false) (MayChange t rows old new) (λ l h. may_change rows t sets old l h) table.limits
+      let changes_may : AllByRecursion (MayChangeRow t rows old new) table.limits =
+      each_weaker (λ (l : Limit). lacks_room rows (scope_of sets) (Some old) t new l ≡ false) (MayChangeRow t rows old new) (λ l h. may_change rows t sets old l h) table.limits
       (none_passes (lacks_room rows (scope_of sets) (Some old) t new) table.limits (mapped_none (no_room table) _ tests.1)) in
       let gone : List Value → Rows = λ (k : List Value). (t, new) ∷ rows_without tables t k rows in
       let makes : MakesRows tables rows others (write.Update t key sets) changes ((t, new) ∷ rows_without tables t key rows) = record {

@@ -46,7 +46,8 @@ tests of table = record {
 abbrev pub write_tests : List Table → Write → Bound
 write_tests tables (write.Insert t row) = tests scope.All (table_at tables t)
 write_tests tables (write.Update t key sets) = tests (scope_of sets) (table_at tables t)
-write_tests tables (write.Delete t key) = record { ops = 1 + referring_count tables t; entries = 1 + referring_count tables t }
+write_tests tables (write.Delete t key) =
+    record { ops = 1 + referring_count tables t; entries = 1 + referring_count tables t }
 
 -- the greatest number of pairs that change
 abbrev pub most_changes : List Table → Write → ℕ

@@ -42,7 +42,8 @@ pub record ArePlanned (most : ℕ) (changes : List Change) : Type 0 where
 pub record MakesRows (tables : List Table) (rows : Rows) (others : List Pair) (write : Write)
     (changes : List Change) (made : Rows) : Type 0 where
   pub changes_are : map change_of changes ≡ changes_of tables rows write
-  pub content : changed_content (map change_of changes) (content_pairs tables rows others) ≡ content_pairs tables made others
+  pub content : changed_content (map change_of changes) (content_pairs tables rows others)
+      ≡ content_pairs tables made others
   pub keeps : Keeps tables made
 
 -- over these rows, the changes where the write has an effect, and else its refusal

@@ -5,7 +5,7 @@ ghost use Rattle.pq_schema.specs.Sound.{AreColumns, AreParts};
 ghost use Rattle.pq_schema.specs.Sequences.{index_sequence};
 ghost use Rattle.pq_content.specs.Pairs.{entry_pair, entries_from, entry_changes, puts, removals};
 ghost use Rattle.pq_content.specs.Standing.{change_of};
-ghost use Rattle.pq_index_keep.specs.Moved.{entry_change};
+ghost use Rattle.pq_index_keep.specs.Moved.{moved_entry_changes};
 ghost use Rattle.pq_content.specs.Tables.{stored_code};
 
 use crate::groups::{index_prefix, index_sequence};
@@ -160,7 +160,7 @@ fn move_entry(
     requires key { AreColumns table.now.key }
     requires parts { AreParts index.now.cols }
     ensures { OnOk result (map change_of changes.new
-        ≡ map change_of changes.old ++ entry_change number place table.now index.now old.now new.now) }
+        ≡ map change_of changes.old ++ moved_entry_changes number place table.now index.now old.now new.now) }
 {
     let parts = index_sequence(alloc, table, index)?;
     let before = values_of(alloc, parts.items(), old)?;

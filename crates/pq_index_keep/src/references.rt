@@ -38,7 +38,8 @@ pub(crate) fn child_refusal<S: Store<L>, L: Ledger>(
     requires few { length tables.now ≤ 64 }
     requires sound { AreWritable tables.now }
     requires may { All (λ table. All (MayName table number key.now) table.foreign) tables.now }
-    requires share { Affords calls.old.allowance.now (referring_count tables.now number) (referring_count tables.now number) }
+    requires share { Affords calls.old.allowance.now (referring_count tables.now number)
+        (referring_count tables.now number) }
     ensures uses { Uses S.content S.faults calls.old calls.new (referring_count tables.now number)
         (referring_count tables.now number) }
     ensures cause { IfErr result (Fails no_damage S.content S.faults calls.old calls.new) }

@@ -25,7 +25,7 @@ use Rattle.pq_plan.specs.Answer.{Question, question}
 use Rattle.pq_plan.specs.Cost.{is_primary_access}
 use Rattle.pq_plan.specs.Running.{matching, ranged, limit_columns}
 use Rattle.pq_nodes.specs.Combos.{FitsTables}
-use Rattle.pq_nodes.specs.Operators.{AreInputs, AffordsNode, AreFound, Answers, StopsReading, IsSoundOverRows}
+use Rattle.pq_nodes.specs.Operators.{AreInputs, AffordsNode, AreFound, AnswersNode, StopsReading, IsSoundOverRows}
 use Rattle.pq_nodes.specs.Paid.{node_cost}
 use Rattle.pq_nodes.proofs.Undamaged.{read_undamaged}
 use Rattle.pq_index_scan.specs.declared.limit.LimitRange.{LimitRange}
@@ -147,7 +147,7 @@ module _ (tables : List Table) (query : Query) (range : LimitRange) (is : IsRang
       fit = subst (λ (r : ℕ). AllByRecursion (FitsTables tables query r) found) own_rel fit;
     }
 
-    pub node_answers : (told : Option Content) (params : List Value) (inputs : List (List (List Value))) (result : Result (List (List (List Value))) Broke) → IfOk result (AddsRanged told tables query params range.rel range.limit inputs []) → IfOk result (Answers told tables query params None inputs (limit_node tables query rel limit access))
+    pub node_answers : (told : Option Content) (params : List Value) (inputs : List (List (List Value))) (result : Result (List (List (List Value))) Broke) → IfOk result (AddsRanged told tables query params range.rel range.limit inputs []) → IfOk result (AnswersNode told tables query params None inputs (limit_node tables query rel limit access))
     node_answers told params inputs (Err error) h = tt
     node_answers told params inputs (Ok found) h = λ rows others holds.
         let q = question tables query rows params in

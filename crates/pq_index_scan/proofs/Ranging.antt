@@ -23,7 +23,7 @@ use Rattle.pq_schema.specs.Candidates.{no_limit}
 use Rattle.pq_schema.specs.Keys.{dirs_of}
 use Rattle.pq_schema.specs.Relations.{relation_at, table_of, no_relation}
 use Rattle.pq_schema.specs.Resolved.{IsResolved, IsRelation}
-use Rattle.pq_schema.specs.Rows.{Rows, IsTableNumber, IsWithin, agrees, group_of, rows_of, types_of}
+use Rattle.pq_schema.specs.Rows.{Rows, IsTableNumber, IsWithinLimit, agrees, group_of, rows_of, types_of}
 use Rattle.pq_schema.specs.Sequences.{ascending_part, columns_of, IsAccess, index_numbered, no_index, sequence_of}
 use Rattle.pq_schema.specs.Tables.{table_at}
 use Rattle.pq_store.specs.Content.{Content, pairs_within}
@@ -45,7 +45,7 @@ use Rattle.pq_operands.specs.Ties.{cells_tied}
 use Rattle.pq_entries.specs.Entries.{AreEnds, pair_of}
 use Rattle.pq_entries.proofs.Naming.{FindsFirst}
 use Rattle.pq_index_scan.specs.declared.limit.LimitRange.{LimitRange}
-use Rattle.pq_index_scan.specs.Ranged.{own_limit, start_of, IsRangeOf, AreMatching}
+use Rattle.pq_index_scan.specs.Ranged.{own_limit, first_of_range, IsRangeOf, AreMatching}
 
 -- ---- the relation, its table and its limit
 
@@ -138,7 +138,7 @@ module _ (tables : List Table) (query : Query) (params : List Value) (given : Is
       let table = table_of tables query range.rel in
       let low = is.ready.is.from_one in
       let high = is.ready.is.there in
-      let few = each_in (IsWithin t rows) table.limits (keeps.limits t number) own (at_in table.limits (range.limit - 1) no_limit (omega arith)) (tied_cells q range.rel own.cols input) in
+      let few = each_in (IsWithinLimit t rows) table.limits (keeps.limits t number) own (at_in table.limits (range.limit - 1) no_limit (omega arith)) (tied_cells q range.rel own.cols input) in
       let same = ap (λ (l : List (List Value)). length l) (matching_group tables query rows params given.resolved given.params_fit range.rel input fits keeps.schema own.cols (within_tied query range.rel own.cols is.ready.is.tied)) in
       omega (arith, few, same)
 
@@ -172,7 +172,7 @@ module _ (tables : List Table) (query : Query) (params : List Value) (given : Is
       found_permuted
 
 -- the rows of the range behind an input match
-pub range_matches : (tables : List Table) (query : Query) (params : List Value) (range : LimitRange) (input : List (List Value)) (told : Option Content) (low high : List ℕ) → IsAsked tables query params → IsRangeOf tables query range → FitsTables tables query (range.rel - 1) input → low ≡ start_of tables query params range input → high ≡ past_code low → (result : Result (List (List Value)) Broke) → IfOk result (FindsFirst tables range.number range.access low high range.n told) → IfOk result (AreMatching told tables query params range.rel range.limit input)
+pub range_matches : (tables : List Table) (query : Query) (params : List Value) (range : LimitRange) (input : List (List Value)) (told : Option Content) (low high : List ℕ) → IsAsked tables query params → IsRangeOf tables query range → FitsTables tables query (range.rel - 1) input → low ≡ first_of_range tables query params range input → high ≡ past_code low → (result : Result (List (List Value)) Broke) → IfOk result (FindsFirst tables range.number range.access low high range.n told) → IfOk result (AreMatching told tables query params range.rel range.limit input)
 range_matches tables query params range input told low high given is fits from upto (Err error) h = tt
 range_matches tables query params range input told low high given is fits from upto (Ok found) h = λ rows others holds.
     first_are_matching tables query params given range is input fits rows others holds.keeps holds.beside range.n found is.n (λ within there pairs.

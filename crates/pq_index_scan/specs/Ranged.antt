@@ -13,8 +13,8 @@ use Rattle.pq_content.specs.Pairs.{Pair, HoldsRows}
 use Rattle.pq_content.specs.Tables.{first_columns}
 use Rattle.pq_plan.specs.Nodes.{Node, limit_range}
 use Rattle.pq_plan.specs.Running.{matching, ranged, limit_columns}
-use Rattle.pq_nodes.specs.Inverse.{limit_at}
-use Rattle.pq_nodes.specs.Operators.{IsReady}
+use Rattle.pq_nodes.specs.Inverse.{node_limit_at}
+use Rattle.pq_nodes.specs.Operators.{IsReadyNode}
 use Rattle.pq_calls.specs.Keys.{sequence_key}
 use Rattle.pq_operands.specs.Ties.{cells_tied}
 use Rattle.pq_index_scan.specs.declared.limit.LimitRange.{LimitRange}
@@ -22,7 +22,7 @@ use Rattle.pq_plan.specs.Answer.{question}
 
 -- the limit of a relation's table
 abbrev pub own_limit : List Table → Query → ℕ → ℕ → Limit
-own_limit tables query rel limit = limit_at (table_of tables query rel) limit
+own_limit tables query rel limit = node_limit_at (table_of tables query rel) limit
 
 -- the node that reads a relation under a limit, with the limit's n
 abbrev pub limit_node : List Table → Query → ℕ → ℕ → Access → Node
@@ -30,15 +30,15 @@ limit_node tables query rel limit access = limit_range rel limit (own_limit tabl
 
 -- the range is that of such a node
 pub record IsRangeOf (tables : List Table) (query : Query) (range : LimitRange) : Type 0 where
-  pub ready : IsReady tables query (limit_node tables query range.rel range.limit range.access)
+  pub ready : IsReadyNode tables query (limit_node tables query range.rel range.limit range.access)
   pub number : range.number ≡ (relation_at query range.rel).table
   pub n : range.n ≡ (own_limit tables query range.rel range.limit).n
   pub first : range.first ≡ first_columns (sequence_of (table_of tables query range.rel) range.access)
       (own_limit tables query range.rel range.limit).cols
 
 -- the beginning of the keys of the range behind an input: the tied values of its first columns
-abbrev pub start_of : List Table → Query → List Value → LimitRange → List (List Value) → List ℕ
-start_of tables query params range input =
+abbrev pub first_of_range : List Table → Query → List Value → LimitRange → List (List Value) → List ℕ
+first_of_range tables query params range input =
     sequence_key range.number (table_of tables query range.rel) range.access
     (cells_tied query params range.rel input range.first)
 

@@ -12,9 +12,9 @@ ghost use Rattle.pq_calls.specs.World.{Affords, where_told, world};
 ghost use Rattle.pq_content.specs.Tables.{first_columns};
 ghost use Rattle.pq_plan.specs.Cost.{is_primary_access};
 ghost use Rattle.pq_nodes.specs.Combos.{FitsTables};
-ghost use Rattle.pq_nodes.specs.Operators.{IsAsked, IsReady, AreInputs, AffordsNode, ReadsNode, AreFound, Answers, ShowsRead, StopsReading, IsSoundOverRows};
+ghost use Rattle.pq_nodes.specs.Operators.{IsAsked, IsReadyNode, AreInputs, AffordsNode, ReadsNode, AreFound, AnswersNode, ShowsRead, StopsReading, IsSoundOverRows};
 ghost use Rattle.pq_nodes.specs.Paid.{node_cost};
-ghost use Rattle.pq_index_scan.specs.Ranged.{limit_node, start_of, IsRangeOf, AreMatching, AddsRanged};
+ghost use Rattle.pq_index_scan.specs.Ranged.{limit_node, first_of_range, IsRangeOf, AreMatching, AddsRanged};
 
 use pq_base::{Bytes, ColSet, List, NoMem, Row};
 use pq_calls::Calls;
@@ -65,7 +65,8 @@ fn range_of(
     access: Access,
 ) -> Result<LimitRange, NoMem>
     requires resolved { IsResolved catalog.now.tables query.now }
-    requires ready { IsReady catalog.now.tables query.now (limit_node catalog.now.tables query.now rel limit access) }
+    requires ready { IsReadyNode catalog.now.tables query.now
+        (limit_node catalog.now.tables query.now rel limit access) }
     ensures range { IfOk result (IsRangeOf catalog.now.tables query.now) }
     ensures rel { IfOk result (λ range. range.rel ≡ rel) }
     ensures limit { IfOk result (λ range. range.limit ≡ limit) }
@@ -96,7 +97,7 @@ fn range_start(
 ) -> Result<Bytes, NoMem>
     requires asked { IsAsked catalog.now.tables query.now params.now }
     requires range { IsRangeOf catalog.now.tables query.now range.now }
-    ensures { IfOk result (λ low. low ≡ start_of catalog.now.tables query.now params.now range.now input.now) }
+    ensures { IfOk result (λ low. low ≡ first_of_range catalog.now.tables query.now params.now range.now input.now) }
 {
     catalog.known();
     let table = table_of(catalog, query, range.rel);
@@ -249,7 +250,8 @@ fn run_range<S: Store<L>, L: Ledger>(
     calls: &mut Calls<S, L>,
 ) -> Result<List<Combo>, Broke>
     requires asked { IsAsked catalog.now.tables query.now params.now }
-    requires ready { IsReady catalog.now.tables query.now (limit_node catalog.now.tables query.now rel limit access) }
+    requires ready { IsReadyNode catalog.now.tables query.now
+        (limit_node catalog.now.tables query.now rel limit access) }
     requires inputs { AreInputs catalog.now.tables query.now rel inputs.now }
     requires share { AffordsNode calls.old.allowance.now (length inputs.now)
         (limit_node catalog.now.tables query.now rel limit access) }
@@ -260,7 +262,7 @@ fn run_range<S: Store<L>, L: Ledger>(
         calls.new) }
     ensures found { IfOk result (AreFound catalog.now.tables query.now rel (length inputs.now)
         (limit_node catalog.now.tables query.now rel limit access)) }
-    ensures answer { IfOk result (Answers (S.content calls.old.store.now) catalog.now.tables query.now
+    ensures answer { IfOk result (AnswersNode (S.content calls.old.store.now) catalog.now.tables query.now
         params.now None inputs.now (limit_node catalog.now.tables query.now rel limit access)) }
 {
     let range = range_of(alloc, catalog, query, rel, limit, access)?;
@@ -285,11 +287,12 @@ pub fn limit_range<S: Store<L>, L: Ledger>(
     meter: &mut Meter<L>,
 ) -> Result<List<Combo>, Broke>
     requires asked { IsAsked catalog.now.tables query.now params.now }
-    requires ready { IsReady catalog.now.tables query.now (limit_node catalog.now.tables query.now rel limit access) }
+    requires ready { IsReadyNode catalog.now.tables query.now
+        (limit_node catalog.now.tables query.now rel limit access) }
     requires inputs { AreInputs catalog.now.tables query.now rel inputs }
     requires share { AffordsNode allowance.old (length inputs)
         (limit_node catalog.now.tables query.now rel limit access) }
-    ensures answer { IfOk result (Answers (S.content store.old) catalog.now.tables query.now params.now None
+    ensures answer { IfOk result (AnswersNode (S.content store.old) catalog.now.tables query.now params.now None
         inputs (limit_node catalog.now.tables query.now rel limit access)) }
     ensures reads { ReadsNode (world (S.content store.old) (S.faults store.old) allowance.old meter.old)
         (world (S.content store.new) (S.faults store.new) allowance.new meter.new) (length inputs)

@@ -15,7 +15,7 @@ use Rattle.pq_content.specs.Standing.{change_of, AreIntended, IsIntent, SettlesT
 use Rattle.pq_key_code.specs.KeyCode.{intent_key}
 use Rattle.pq_content.proofs.Keys.{key_itself}
 use Rattle.pq_content.proofs.Settling.{settles_partway, settled_at_last, settles_again, settles_once, settles_to_itself, intent_found, no_intent_after}
-use Rattle.pq_intent.specs.Changing.{after, IsPartway, MayChange}
+use Rattle.pq_intent.specs.Changing.{content_after, IsPartway, MayChange}
 use Rattle.pq_intent.specs.Settling.{IsIntentOf, IsNoIntent, IsSettled, Settles, LeavesSettled}
 use Rattle.pq_intent.proofs.Steps.{after-append, take_split}
 
@@ -33,7 +33,7 @@ settles_itself new c told none = record { pairs = c; told = told; settles = sett
 
 -- ---- from the intent on
 
-after_removal : (cs : List Coded) (start : Content) → after (with_removal cs) (Some start) ≡ Some (remove (changed_content (map change_of cs) start) intent_key)
+after_removal : (cs : List Coded) (start : Content) → content_after (with_removal cs) (Some start) ≡ Some (remove (changed_content (map change_of cs) start) intent_key)
 after_removal cs start = after-append (map change_of cs) ((intent_key, None) ∷ []) (Some start)
 
 -- what is left partway settles to the goal, where it does so after some of the changes, and is the goal after all
@@ -42,8 +42,8 @@ through : (cs : List Coded) (start goal : Content) (new : Option Content)
     → IsPartway (with_removal cs) (Some start) new → Settles new goal
 through cs start goal new partway last none p =
     elim (take_split p.made (map change_of cs) (intent_key, None)) as (λ _. Settles new goal) [
-      | inl r ↦ record { pairs = changed_content (take r.0 (map change_of cs)) start; told = p.is ∙ ap (λ (l : List Change). after l (Some start)) r.1; settles = partway r.0 }
-      | inr r ↦ settles_itself new goal (p.is ∙ ap (λ (l : List Change). after l (Some start)) r ∙ after_removal cs start ∙ ap Some last) none
+      | inl r ↦ record { pairs = changed_content (take r.0 (map change_of cs)) start; told = p.is ∙ ap (λ (l : List Change). content_after l (Some start)) r.1; settles = partway r.0 }
+      | inr r ↦ settles_itself new goal (p.is ∙ ap (λ (l : List Change). content_after l (Some start)) r ∙ after_removal cs start ∙ ap Some last) none
     ]
 
 -- ---- a commit
@@ -59,8 +59,8 @@ module _ (c : Content) (cs : List Coded) (none : get c intent_key ≡ None) (cod
       inr (through cs start (changed_content (map change_of cs) c) new (λ n. settles_partway c cs n none coded intended) (settled_at_last c (map change_of cs) (changes_code cs) none intended) (no_intent_after c (map change_of cs) none intended)
       (subst (λ (o : Option Content). IsPartway (with_removal cs) o new) (is ∙ ap (λ (w : List ℕ). Some (insert c intent_key w)) code) p))
 
-  pub commit_made : (mid new : Option Content) (v : List ℕ) → mid ≡ Some (insert c intent_key v) → new ≡ after (with_removal cs) mid → new ≡ Some (changed_content (map change_of cs) c)
-  commit_made mid new v is made = made ∙ ap (after (with_removal cs)) is ∙ after_removal cs (insert c intent_key v) ∙ ap Some (settled_at_last c (map change_of cs) v none intended)
+  pub commit_made : (mid new : Option Content) (v : List ℕ) → mid ≡ Some (insert c intent_key v) → new ≡ content_after (with_removal cs) mid → new ≡ Some (changed_content (map change_of cs) c)
+  commit_made mid new v is made = made ∙ ap (content_after (with_removal cs)) is ∙ after_removal cs (insert c intent_key v) ∙ ap Some (settled_at_last c (map change_of cs) v none intended)
 
 -- the intent's key is there already
 some_of : (o : Option (List ℕ)) → is_none o ≡ false → (v : List ℕ) × (o ≡ Some v)
@@ -76,7 +76,7 @@ there_already (Some c) key k done is same refused answer =
 -- one change is made or not
 pub one_stopped : (c : Content) (x : Coded) (old new : Option Content) → IsSettled old c → AreIntended (map change_of (x ∷ [])) → MayChange (change_of x) old new → Settles new c ⊎ Settles new (changed_content (map change_of (x ∷ [])) c)
 one_stopped c x old new s intended (inl same) = inl (settles_itself new c (same ∙ s.told) s.no_intent)
-one_stopped c x old new s intended (inr made) = inr (settles_itself new (changed_content (map change_of (x ∷ [])) c) (made ∙ ap (after (change_of x ∷ [])) s.told) (no_intent_after c (map change_of (x ∷ [])) s.no_intent intended))
+one_stopped c x old new s intended (inr made) = inr (settles_itself new (changed_content (map change_of (x ∷ [])) c) (made ∙ ap (content_after (change_of x ∷ [])) s.told) (no_intent_after c (map change_of (x ∷ [])) s.no_intent intended))
 
 single : (cs : List Coded) (x : Coded) → 1 ≤ length cs → length cs < 2 → x ≡ get_or cs 0 x → cs ≡ x ∷ []
 single [] x some few is = absurd (omega arith)
@@ -102,11 +102,11 @@ module _ (c : Content) (value : List ℕ) (cs : List Coded) (found : get c inten
   unfolding SettlesTo
   settles_made = subst (λ (o : Option (List ℕ)). MatchOption o (remove (changed_content (map change_of cs) c) intent_key ≡ c) (IsIntent c (remove (changed_content (map change_of cs) c) intent_key))) (sym found) is_intent
 
-  pub settle_made : (old new : Option Content) → old ≡ Some c → new ≡ after (with_removal cs) old → LeavesSettled c new
+  pub settle_made : (old new : Option Content) → old ≡ Some c → new ≡ content_after (with_removal cs) old → LeavesSettled c new
   settle_made old new told made = record {
     settled = remove (changed_content (map change_of cs) c) intent_key;
     settles = settles_made;
-    stands = record { told = made ∙ ap (after (with_removal cs)) told ∙ after_removal cs c; no_intent = get_removed (changed_content (map change_of cs) c) };
+    stands = record { told = made ∙ ap (content_after (with_removal cs)) told ∙ after_removal cs c; no_intent = get_removed (changed_content (map change_of cs) c) };
   }
 
   pub settle_stopped : (old new : Option Content) (settled : Content) → old ≡ Some c → IsPartway (with_removal cs) old new → Settles old settled → Settles new settled
@@ -156,7 +156,7 @@ pub never_settles : (old : Option Content) (found : Option (List ℕ)) (value : 
 never_settles None found value read some never settled s = absurd (none-some s.pairs s.told)
 never_settles (Some c) found value read some never settled s = no_settling c settled value (Some c) refl (sym read.answer ∙ some) never s
 
-pub changes_made : (old mid new : Option Content) (found : Option (List ℕ)) (value : List ℕ) (cs : List Coded) → IsRead old found → found ≡ Some value → IsIntentOf cs value → mid ≡ old → new ≡ after (with_removal cs) mid → IfSome old (λ pairs. LeavesSettled pairs new)
+pub changes_made : (old mid new : Option Content) (found : Option (List ℕ)) (value : List ℕ) (cs : List Coded) → IsRead old found → found ≡ Some value → IsIntentOf cs value → mid ≡ old → new ≡ content_after (with_removal cs) mid → IfSome old (λ pairs. LeavesSettled pairs new)
 changes_made None mid new found value cs read some intent same made = tt
 changes_made (Some c) mid new found value cs read some intent same made = settle_made c value cs (sym read.answer ∙ some) intent mid new same made
 

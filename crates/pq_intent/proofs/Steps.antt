@@ -6,13 +6,13 @@ use Rattle.pq_row_code.specs.declared.changes.Change.{Change as Coded}
 use Rattle.pq_content.specs.Pairs.{Change, changed_content}
 use Rattle.pq_store.specs.Content.{Content, written_content}
 use Rattle.pq_content.specs.Standing.{change_of}
-use Rattle.pq_intent.specs.Changing.{after, IsPartway, MayChange}
+use Rattle.pq_intent.specs.Changing.{content_after, IsPartway, MayChange}
 
 pub on_err_holds : {A E P : Type 0} (r : Result A E) → P → OnErr r P
 on_err_holds (Ok _) p = tt
 on_err_holds (Err _) p = p
 
-pub after_none : (old : Option Content) → after [] old ≡ old
+pub after_none : (old : Option Content) → content_after [] old ≡ old
 after_none None = refl
 after_none (Some c) = refl
 
@@ -20,7 +20,7 @@ changed-append : (xs ys : List Change) (c : Content) → changed_content (xs ++ 
 changed-append [] ys c = refl
 changed-append (x ∷ xs) ys c = changed-append xs ys (written_content x.0 x.1 c)
 
-pub after-append : (xs ys : List Change) (old : Option Content) → after (xs ++ ys) old ≡ after ys (after xs old)
+pub after-append : (xs ys : List Change) (old : Option Content) → content_after (xs ++ ys) old ≡ content_after ys (content_after xs old)
 after-append xs ys None = refl
 after-append xs ys (Some c) = ap Some (changed-append xs ys c)
 
@@ -31,16 +31,16 @@ take_suc (y ∷ cs) (suc i) x h e = ap (λ (l : List Change). change_of y ∷ l)
 
 -- the changes up to the next one
 pub after_more : (cs : List Coded) (i : ℕ) (x : Coded) (old : Option Content) → i < length cs → x ≡ get_or cs i x
-    → after (take (i + 1) (map change_of cs)) old ≡ option_map (written_content x.key x.new) (after (take i (map change_of cs)) old)
-after_more cs i x old h e = rw add-one (ap (λ (l : List Change). after l old) (take_suc cs i x h e) ∙ after-append (take i (map change_of cs)) (change_of x ∷ []) old)
+    → content_after (take (i + 1) (map change_of cs)) old ≡ option_map (written_content x.key x.new) (content_after (take i (map change_of cs)) old)
+after_more cs i x old h e = rw add-one (ap (λ (l : List Change). content_after l old) (take_suc cs i x h e) ∙ after-append (take i (map change_of cs)) (change_of x ∷ []) old)
 
 pub made_more : (cs : List Coded) (i : ℕ) (x : Coded) (old mid new : Option Content) → i < length cs → x ≡ get_or cs i x
-    → mid ≡ after (take i (map change_of cs)) old → new ≡ option_map (written_content x.key x.new) mid → new ≡ after (take (i + 1) (map change_of cs)) old
+    → mid ≡ content_after (take i (map change_of cs)) old → new ≡ option_map (written_content x.key x.new) mid → new ≡ content_after (take (i + 1) (map change_of cs)) old
 made_more cs i x old mid new h e m made = made ∙ ap (option_map (written_content x.key x.new)) m ∙ sym (after_more cs i x old h e)
 
 -- the next one, made or not
 pub partway_more : (cs : List Coded) (i : ℕ) (x : Coded) (old mid new : Option Content) → i < length cs → x ≡ get_or cs i x
-    → mid ≡ after (take i (map change_of cs)) old → MayChange (change_of x) mid new → IsPartway (map change_of cs) old new
+    → mid ≡ content_after (take i (map change_of cs)) old → MayChange (change_of x) mid new → IsPartway (map change_of cs) old new
 partway_more cs i x old mid new h e m (inl same) = record { made = i; is = same ∙ m }
 partway_more cs i x old mid new h e m (inr made) = record { made = i + 1; is = made_more cs i x old mid new h e m made }
 
@@ -53,22 +53,22 @@ take_front (suc m) (x ∷ xs) ys = let r = take_front m xs ys in (suc r.0, ap (�
 pub partway_front : (xs ys : List Change) (old new : Option Content) → IsPartway xs old new → IsPartway (xs ++ ys) old new
 partway_front xs ys old new p =
     let t = take_front p.made xs ys in
-    record { made = t.0; is = p.is ∙ ap (λ (l : List Change). after l old) (sym t.1) }
+    record { made = t.0; is = p.is ∙ ap (λ (l : List Change). content_after l old) (sym t.1) }
 
 take_back : (m : ℕ) (xs ys : List Change) → (n : ℕ) × (take n (xs ++ ys) ≡ xs ++ take m ys)
 take_back m [] ys = (m, refl)
 take_back m (x ∷ xs) ys = let r = take_back m xs ys in (suc r.0, ap (λ (l : List Change). x ∷ l) r.1)
 
 -- all of the first, and the last one, made or not
-pub partway_last : (xs : List Change) (x : Change) (old mid new : Option Content) → mid ≡ after xs old → MayChange x mid new → IsPartway (xs ++ x ∷ []) old new
+pub partway_last : (xs : List Change) (x : Change) (old mid new : Option Content) → mid ≡ content_after xs old → MayChange x mid new → IsPartway (xs ++ x ∷ []) old new
 partway_last xs x old mid new m (inl same) =
     let t = take_back 0 xs (x ∷ []) in
-    record { made = t.0; is = same ∙ m ∙ sym (after_none (after xs old)) ∙ sym (after-append xs [] old) ∙ ap (λ (l : List Change). after l old) (sym t.1) }
+    record { made = t.0; is = same ∙ m ∙ sym (after_none (content_after xs old)) ∙ sym (after-append xs [] old) ∙ ap (λ (l : List Change). content_after l old) (sym t.1) }
 partway_last xs x old mid new m (inr made) =
     let t = take_back 1 xs (x ∷ []) in
-    record { made = t.0; is = made ∙ ap (option_map (written_content x.0 x.1)) m ∙ sym (after-append xs (x ∷ []) old) ∙ ap (λ (l : List Change). after l old) (sym t.1) }
+    record { made = t.0; is = made ∙ ap (option_map (written_content x.0 x.1)) m ∙ sym (after-append xs (x ∷ []) old) ∙ ap (λ (l : List Change). content_after l old) (sym t.1) }
 
-pub after_last : (xs : List Change) (x : Change) (old mid new : Option Content) → mid ≡ after xs old → new ≡ option_map (written_content x.0 x.1) mid → new ≡ after (xs ++ x ∷ []) old
+pub after_last : (xs : List Change) (x : Change) (old mid new : Option Content) → mid ≡ content_after xs old → new ≡ option_map (written_content x.0 x.1) mid → new ≡ content_after (xs ++ x ∷ []) old
 after_last xs x old mid new m made = made ∙ ap (option_map (written_content x.0 x.1)) m ∙ sym (after-append xs (x ∷ []) old)
 
 take_nil : (m : ℕ) → ◌≡◌ {A = List Change} (take m []) []

@@ -5,13 +5,13 @@ use Rattle.pq_content.specs.Pairs.{Change, changed_content}
 use Rattle.pq_store.specs.Content.{Content, written_content}
 
 -- the content after the changes, where it is told
-abbrev pub after : List Change → Option Content → Option Content
-after changes old = option_map (changed_content changes) old
+abbrev pub content_after : List Change → Option Content → Option Content
+content_after changes old = option_map (changed_content changes) old
 
 -- the content after some of the changes, from the first on
 pub record IsPartway (changes : List Change) (old new : Option Content) : Type 0 where
   pub made : ℕ
-  pub is : new ≡ after (take made changes) old
+  pub is : new ≡ content_after (take made changes) old
 
 -- the content as it was, or after this change
 abbrev pub MayChange : Change → Option Content → Option Content → Type 0

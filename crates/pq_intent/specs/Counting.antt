@@ -22,8 +22,8 @@ pub record CountsIntent (value : List ℕ) (settled : Settled) : Type 0 where
   pub counts : settled ≡ settled_changes (length changes)
 
 -- the numbers are those of what the content has at the intent's key
-abbrev pub Counts : Content → Settled → Type 0
-Counts content settled = MatchOption (get content intent_key) (settled ≡ nothing_settled)
+abbrev pub CountsChanges : Content → Settled → Type 0
+CountsChanges content settled = MatchOption (get content intent_key) (settled ≡ nothing_settled)
     (λ value. CountsIntent value settled)
 
 -- so many changes, where there are any, fit in an intent

@@ -94,7 +94,8 @@ pub fn commit<S: Store<L>, L: Ledger>(
         → S.content store.new ≡ Some (changed_content (map change_of changes) pairs)) }
     // Whichever call was the last one, the content settles to the old one or to the changed one.
     ensures stopped { OnErr result ((pairs : Content) → IsSettled (S.content store.old) pairs
-        → Settles (S.content store.new) pairs ⊎ Settles (S.content store.new) (changed_content (map change_of changes) pairs)) }
+        → Settles (S.content store.new) pairs
+        ⊎ Settles (S.content store.new) (changed_content (map change_of changes) pairs)) }
     ensures sound { IfErr result (λ broke. (pairs : Content) → IsSettled (S.content store.old) pairs
         → IsUndamaged broke) }
     ensures taken { 2 ≤ length changes → HasIntent (S.content store.old)

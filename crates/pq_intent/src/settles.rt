@@ -4,8 +4,8 @@ ghost use Rattle.pq_row_code.specs.declared.changes.Change.{Change as Coded};
 ghost use Rattle.pq_content.specs.Standing.{change_of};
 ghost use Rattle.pq_key_code.specs.KeyCode.{intent_key};
 ghost use Rattle.pq_store.specs.Content.{HasBrokeCause, Content};
-ghost use Rattle.pq_intent.specs.Changing.{after, IsPartway};
-ghost use Rattle.pq_intent.specs.Counting.{nothing_settled, settled_changes, Counts, CountsIntent, HasNumbers};
+ghost use Rattle.pq_intent.specs.Changing.{content_after, IsPartway};
+ghost use Rattle.pq_intent.specs.Counting.{nothing_settled, settled_changes, CountsChanges, CountsIntent, HasNumbers};
 ghost use Rattle.pq_store.specs.Breaks.{IsUndamaged};
 ghost use Rattle.pq_intent.specs.Errors.{ShowsNoIntent};
 ghost use Rattle.pq_intent.specs.Settling.{IsIntentOf, IsNoIntent, IsSettled, Settles, LeavesSettled};
@@ -46,7 +46,7 @@ fn settle_changes<S: Store<L>, L: Ledger>(
 ) -> Result<Settled, Broke>
     requires { length changes.now < 2 ^ 16 }
     ensures made { OnOk result (S.content store.new
-        ≡ after (map change_of changes.now ++ (key.now, None) ∷ []) (S.content store.old)) }
+        ≡ content_after (map change_of changes.now ++ (key.now, None) ∷ []) (S.content store.old)) }
     ensures stopped { OnErr result (IsPartway (map change_of changes.now ++ (key.now, None) ∷ [])
         (S.content store.old) (S.content store.new)) }
     ensures sound { IfErr result IsUndamaged }
@@ -89,7 +89,7 @@ pub fn settle<S: Store<L>, L: Ledger>(
     // Nothing is changed then.
     ensures damage { IfErr result (λ broke. IfSome (S.content store.old) (λ pairs. ShowsNoIntent pairs broke)) }
     ensures kept { IfErr result (λ broke. IsUndamaged broke ⊎ (S.content store.new ≡ S.content store.old)) }
-    ensures counts { IfOk result (λ settled. IfSome (S.content store.old) (λ pairs. Counts pairs settled)) }
+    ensures counts { IfOk result (λ settled. IfSome (S.content store.old) (λ pairs. CountsChanges pairs settled)) }
     // Over every store, told or not.
     ensures numbers { IfOk result HasNumbers }
     ensures ops { IfOk result (λ settled. meter.new.ops ≡ meter.old.ops + settled.used.ops) }

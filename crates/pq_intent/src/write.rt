@@ -3,7 +3,7 @@ ghost use Rattle.std.specs.Prelude.{◌≡◌, ◌≤◌, ◌+◌, ◌++◌, ◌
 ghost use Rattle.std.specs.Option.{option_map, option_copied};
 ghost use Rattle.pq_content.specs.Standing.{change_of};
 ghost use Rattle.pq_store.specs.Content.{HasBrokeCause, written_content};
-ghost use Rattle.pq_intent.specs.Changing.{after, IsPartway, MayChange};
+ghost use Rattle.pq_intent.specs.Changing.{content_after, IsPartway, MayChange};
 ghost use Rattle.pq_store.specs.Breaks.{IsUndamaged};
 ghost use Rattle.pq_intent.specs.Spending.{Spends};
 
@@ -71,7 +71,7 @@ pub fn write_changes<S: Store<L>, L: Ledger>(
     meter: &mut Meter<L>,
 ) -> Result<(), Broke>
     requires { length changes.now ≤ allowance.old.left.ops }
-    ensures made { OnOk result (S.content store.new ≡ after (map change_of changes.now) (S.content store.old)) }
+    ensures made { OnOk result (S.content store.new ≡ content_after (map change_of changes.now) (S.content store.old)) }
     ensures stopped { OnErr result (IsPartway (map change_of changes.now) (S.content store.old) (S.content store.new)) }
     ensures sound { IfErr result IsUndamaged }
     ensures spends { Spends (length changes.now) allowance.old allowance.new meter.old meter.new }
@@ -95,7 +95,7 @@ pub fn finish<S: Store<L>, L: Ledger>(
 ) -> Result<(), Broke>
     requires { length changes.now + 1 ≤ allowance.old.left.ops }
     ensures made { OnOk result (S.content store.new
-        ≡ after (map change_of changes.now ++ (key.now, None) ∷ []) (S.content store.old)) }
+        ≡ content_after (map change_of changes.now ++ (key.now, None) ∷ []) (S.content store.old)) }
     ensures stopped { OnErr result (IsPartway (map change_of changes.now ++ (key.now, None) ∷ [])
         (S.content store.old) (S.content store.new)) }
     ensures sound { IfErr result IsUndamaged }

@@ -9,7 +9,7 @@ use Rattle.pq_base.specs.declared.value.Dir.{Dir}
 use Rattle.pq_base.specs.declared.value.ColType.{ColType}
 use Rattle.pq_base.specs.declared.value.Value.{Value}
 use Rattle.pq_key_code.specs.KeyCode.{turned_byte}
-use Rattle.pq_key_code.specs.KeyReading.{◌>>=◌, behind, text_within, text_at, component_at, row_at}
+use Rattle.pq_key_code.specs.KeyReading.{◌>>=◌, value_behind, text_within, text_value_at, component_at, row_key_at}
 
 -- ---- texts
 
@@ -32,7 +32,7 @@ checked_answer n bs (Err e) le h = tt
 abbrev pub texts_behind : List ℕ → Option (List ℕ × List ℕ) → Option (List ℕ × List ℕ)
 texts_behind front read = read >>= λ x. Some (front ++ x.0, x.1)
 
-regroup : (front : List ℕ) (b : ℕ) (read : Option (List ℕ × List ℕ)) → texts_behind front (behind b read) ≡ texts_behind (front ++ b ∷ []) read
+regroup : (front : List ℕ) (b : ℕ) (read : Option (List ℕ × List ℕ)) → texts_behind front (value_behind b read) ≡ texts_behind (front ++ b ∷ []) read
 regroup front b None = refl
 regroup front b (Some x) = ap (λ (t : List ℕ). Some (t, x.1)) (simp append_assoc)
 
@@ -44,26 +44,26 @@ two_at : (bs : List ℕ) (i : ℕ) → i + 1 < length bs → drop i bs ≡ get_o
 two_at bs i lt = drop_more bs i 0 (omega arith) ∙ ap (λ (t : List ℕ). get_or bs i 0 ∷ t) (two_at' bs i lt)
 
 pub plain_byte : (d : Dir) (front new bs : List ℕ) (i b : ℕ) (total : Option (List ℕ × List ℕ)) → i + 1 < length bs → b ≡ turned_byte d (get_or bs i 0) → b ≢ 0 → new ≡ front ++ b ∷ []
-    → texts_behind front (text_at d (drop i bs)) ≡ total → texts_behind new (text_at d (drop (i + 1) bs)) ≡ total
-unfolding text_at
+    → texts_behind front (text_value_at d (drop i bs)) ≡ total → texts_behind new (text_value_at d (drop (i + 1) bs)) ≡ total
+unfolding text_value_at
 plain_byte d front new bs i b total lt is ne put so_far =
-    let one : text_at d (drop i bs) ≡ behind b (text_at d (drop (i + 1) bs)) = rw (two_at bs i lt, ← is, ne_eqb b 0 ne) (ap (λ (t : List ℕ). behind b (text_at d t)) (sym (two_at' bs i lt))) in
-    ap (λ (f : List ℕ). texts_behind f (text_at d (drop (i + 1) bs))) put ∙ sym (regroup front b (text_at d (drop (i + 1) bs))) ∙ ap (texts_behind front) (sym one) ∙ so_far
+    let one : text_value_at d (drop i bs) ≡ value_behind b (text_value_at d (drop (i + 1) bs)) = rw (two_at bs i lt, ← is, ne_eqb b 0 ne) (ap (λ (t : List ℕ). value_behind b (text_value_at d t)) (sym (two_at' bs i lt))) in
+    ap (λ (f : List ℕ). texts_behind f (text_value_at d (drop (i + 1) bs))) put ∙ sym (regroup front b (text_value_at d (drop (i + 1) bs))) ∙ ap (texts_behind front) (sym one) ∙ so_far
 
 pub zero_byte : (d : Dir) (front new bs : List ℕ) (i b c : ℕ) (total : Option (List ℕ × List ℕ)) → i + 1 < length bs → b ≡ turned_byte d (get_or bs i 0) → b ≡ 0 → c ≡ turned_byte d (get_or bs (i + 1) 0) → c ≡ 255 → new ≡ front ++ 0 ∷ []
-    → texts_behind front (text_at d (drop i bs)) ≡ total → texts_behind new (text_at d (drop (i + 2) bs)) ≡ total
-unfolding text_at
+    → texts_behind front (text_value_at d (drop i bs)) ≡ total → texts_behind new (text_value_at d (drop (i + 2) bs)) ≡ total
+unfolding text_value_at
 zero_byte d front new bs i b c total lt b-is e c-is f put so_far =
-    let one : text_at d (drop i bs) ≡ behind 0 (text_at d (drop (i + 2) bs)) = rw (two_at bs i lt, sym b-is ∙ e, sym c-is ∙ f) refl in
-    ap (λ (f : List ℕ). texts_behind f (text_at d (drop (i + 2) bs))) put ∙ sym (regroup front 0 (text_at d (drop (i + 2) bs))) ∙ ap (texts_behind front) (sym one) ∙ so_far
+    let one : text_value_at d (drop i bs) ≡ value_behind 0 (text_value_at d (drop (i + 2) bs)) = rw (two_at bs i lt, sym b-is ∙ e, sym c-is ∙ f) refl in
+    ap (λ (f : List ℕ). texts_behind f (text_value_at d (drop (i + 2) bs))) put ∙ sym (regroup front 0 (text_value_at d (drop (i + 2) bs))) ∙ ap (texts_behind front) (sym one) ∙ so_far
 
-short_none : (d : Dir) (bs : List ℕ) → length bs ≤ 1 → text_at d bs ≡ None
-unfolding text_at
+short_none : (d : Dir) (bs : List ℕ) → length bs ≤ 1 → text_value_at d bs ≡ None
+unfolding text_value_at
 short_none d [] le = refl
 short_none d (b ∷ []) le = refl
 short_none d (b ∷ c ∷ bs) le = absurd (omega arith)
 
-pub text_short : (d : Dir) (front bs : List ℕ) (i : ℕ) (total : Option (List ℕ × List ℕ)) → length bs ≤ i + 1 → texts_behind front (text_at d (drop i bs)) ≡ total → None ≡ total
+pub text_short : (d : Dir) (front bs : List ℕ) (i : ℕ) (total : Option (List ℕ × List ℕ)) → length bs ≤ i + 1 → texts_behind front (text_value_at d (drop i bs)) ≡ total → None ≡ total
 text_short d front bs i total le so_far =
     ap (texts_behind front) (sym (short_none d (drop i bs) (omega (arith, length-drop i bs)))) ∙ so_far
 
@@ -78,23 +78,23 @@ rows_regroup front x (Some y) = ap (λ (t : List Value). Some (t, y.1)) (simp ap
 
 pub row_more : (front new : List Value) (ts : List ColType) (ds : List Dir) (i : ℕ) (t : ColType) (d : Dir) (bs : List ℕ) (x : Value) (after : List ℕ) (total : Option (List Value × List ℕ)) → i < length ts → i < length ds
     → component_at (get_or ts i t) (get_or ds i d) bs ≡ Some (x, after) → new ≡ front ++ x ∷ []
-    → rows_behind front (row_at (drop i ts) (drop i ds) bs) ≡ total → rows_behind new (row_at (drop (i + 1) ts) (drop (i + 1) ds) after) ≡ total
-unfolding row_at
+    → rows_behind front (row_key_at (drop i ts) (drop i ds) bs) ≡ total → rows_behind new (row_key_at (drop (i + 1) ts) (drop (i + 1) ds) after) ≡ total
+unfolding row_key_at
 row_more front new ts ds i t d bs x after total lt ld e put so_far =
-    let one : row_at (drop i ts) (drop i ds) bs ≡ (row_at (drop (i + 1) ts) (drop (i + 1) ds) after >>= λ y. Some (x ∷ y.0, y.1)) = rw (drop_more ts i t lt, drop_more ds i d ld, e) refl in
-    ap (λ (f : List Value). rows_behind f (row_at (drop (i + 1) ts) (drop (i + 1) ds) after)) put ∙ sym (rows_regroup front x (row_at (drop (i + 1) ts) (drop (i + 1) ds) after)) ∙ ap (rows_behind front) (sym one) ∙ so_far
+    let one : row_key_at (drop i ts) (drop i ds) bs ≡ (row_key_at (drop (i + 1) ts) (drop (i + 1) ds) after >>= λ y. Some (x ∷ y.0, y.1)) = rw (drop_more ts i t lt, drop_more ds i d ld, e) refl in
+    ap (λ (f : List Value). rows_behind f (row_key_at (drop (i + 1) ts) (drop (i + 1) ds) after)) put ∙ sym (rows_regroup front x (row_key_at (drop (i + 1) ts) (drop (i + 1) ds) after)) ∙ ap (rows_behind front) (sym one) ∙ so_far
 
 pub row_stop : (front : List Value) (ts : List ColType) (ds : List Dir) (i : ℕ) (t : ColType) (d : Dir) (bs : List ℕ) (total : Option (List Value × List ℕ)) → i < length ts → i < length ds
     → component_at (get_or ts i t) (get_or ds i d) bs ≡ None
-    → rows_behind front (row_at (drop i ts) (drop i ds) bs) ≡ total → None ≡ total
-unfolding row_at
+    → rows_behind front (row_key_at (drop i ts) (drop i ds) bs) ≡ total → None ≡ total
+unfolding row_key_at
 row_stop front ts ds i t d bs total lt ld e so_far =
-    let one : row_at (drop i ts) (drop i ds) bs ≡ None = rw (drop_more ts i t lt, drop_more ds i d ld, e) refl in
+    let one : row_key_at (drop i ts) (drop i ds) bs ≡ None = rw (drop_more ts i t lt, drop_more ds i d ld, e) refl in
     ap (rows_behind front) (sym one) ∙ so_far
 
 pub row_end : (front : List Value) (ts : List ColType) (ds : List Dir) (i : ℕ) (bs : List ℕ) (total : Option (List Value × List ℕ)) → length ts ≤ i
-    → rows_behind front (row_at (drop i ts) (drop i ds) bs) ≡ total → Some (front, bs) ≡ total
-unfolding row_at
+    → rows_behind front (row_key_at (drop i ts) (drop i ds) bs) ≡ total → Some (front, bs) ≡ total
+unfolding row_key_at
 row_end front ts ds i bs total le so_far =
-    let one : row_at (drop i ts) (drop i ds) bs ≡ Some ([], bs) = rw (drop_all i ts le) refl in
+    let one : row_key_at (drop i ts) (drop i ds) bs ≡ Some ([], bs) = rw (drop_all i ts le) refl in
     ap (λ (t : List Value). Some (t, bs)) (sym (append-nil front)) ∙ ap (rows_behind front) (sym one) ∙ so_far

@@ -17,7 +17,7 @@ use Rattle.pq_base.specs.declared.value.Value.{Value}
 use Rattle.pq_base.specs.declared.value.Value.TheVariants as values
 use Rattle.pq_base.specs.Values.{FitsType, AllFit}
 use Rattle.pq_key_code.specs.KeyCode.{IsBytes, above_least, escaped_text, payload, turned_byte, component, code_of}
-use Rattle.pq_key_code.specs.KeyReading.{◌>>=◌, from_least, number_at, truth_at, behind, text_at, text_within, payload_at, component_at, row_at, key_at}
+use Rattle.pq_key_code.specs.KeyReading.{◌>>=◌, from_least, number_at, truth_at, value_behind, text_value_at, text_within, payload_at, component_at, row_key_at, key_at}
 use Rattle.pq_key_code.proofs.Bytes.{IsBytes-to_be}
 use Rattle.pq_key_code.proofs.Order.{utf8_bytes, above_least_below}
 
@@ -165,18 +165,18 @@ escaped_plain : (b : ℕ) (t : List ℕ) → b ≢ 0 → escaped_text (b ∷ t) 
 escaped_plain zero t ne = absurd (ne refl)
 escaped_plain (suc b) t ne = refl
 
-text_takes : (d : Dir) (bs t rest : List ℕ) → IsBytes bs → text_at d bs ≡ Some (t, rest) → Takes bs (map (turned_byte d) (payload (values.Text t))) rest
-unfolding text_at
+text_takes : (d : Dir) (bs t rest : List ℕ) → IsBytes bs → text_value_at d bs ≡ Some (t, rest) → Takes bs (map (turned_byte d) (payload (values.Text t))) rest
+unfolding text_value_at
 text_takes d [] t rest f e = none_some _ e
 text_takes d (b ∷ []) t rest f e = none_some _ e
 text_takes d (b ∷ c ∷ bs) t rest f e =
-    elim (chosen (eqb (turned_byte d b) 0) (cond (eqb (turned_byte d c) 1) (Some ([], bs)) (cond (eqb (turned_byte d c) 255) (behind 0 (text_at d bs)) None)) (behind (turned_byte d b) (text_at d (c ∷ bs))) (Some (t, rest)) e) [
-      | inl h ↦ elim (chosen (eqb (turned_byte d c) 1) (Some ([], bs)) (cond (eqb (turned_byte d c) 255) (behind 0 (text_at d bs)) None) (Some (t, rest)) h.1) [
+    elim (chosen (eqb (turned_byte d b) 0) (cond (eqb (turned_byte d c) 1) (Some ([], bs)) (cond (eqb (turned_byte d c) 255) (value_behind 0 (text_value_at d bs)) None)) (value_behind (turned_byte d b) (text_value_at d (c ∷ bs))) (Some (t, rest)) e) [
+      | inl h ↦ elim (chosen (eqb (turned_byte d c) 1) (Some ([], bs)) (cond (eqb (turned_byte d c) 255) (value_behind 0 (text_value_at d bs)) None) (Some (t, rest)) h.1) [
         | inl k ↦ subst (λ (x : List ℕ × List ℕ). Takes (b ∷ c ∷ bs) (map (turned_byte d) (payload (values.Text x.0))) x.1) (same_Some _ _ k.1)
             (record { parts = ap (λ (m : ℕ). m ∷ c ∷ bs) (turned_is d b 0 f.0 (eqb-true _ _ h.0)) ∙ ap (λ (m : ℕ). turned_byte d 0 ∷ m ∷ bs) (turned_is d c 1 f.1.0 (eqb-true _ _ k.0)); rest_fits = f.1.1 })
-        | inr k ↦ elim (chosen (eqb (turned_byte d c) 255) (behind 0 (text_at d bs)) None (Some (t, rest)) k.1) [
+        | inr k ↦ elim (chosen (eqb (turned_byte d c) 255) (value_behind 0 (text_value_at d bs)) None (Some (t, rest)) k.1) [
           | inl l ↦
-              let y = bind_some (text_at d bs) (λ x. Some (0 ∷ x.0, x.1)) (t, rest) l.1 in
+              let y = bind_some (text_value_at d bs) (λ x. Some (0 ∷ x.0, x.1)) (t, rest) l.1 in
               let more = text_takes d bs y.0.0 y.0.1 f.1.1 y.1 in
               subst (λ (x : List ℕ × List ℕ). Takes (b ∷ c ∷ bs) (map (turned_byte d) (payload (values.Text x.0))) x.1) (same_Some _ _ y.2)
               (record { parts = ap (λ (m : ℕ). m ∷ c ∷ bs) (turned_is d b 0 f.0 (eqb-true _ _ h.0)) ∙ ap (λ (m : ℕ). turned_byte d 0 ∷ m ∷ bs) (turned_is d c 255 f.1.0 (eqb-true _ _ l.0)) ∙ ap (λ (r : List ℕ). turned_byte d 0 ∷ turned_byte d 255 ∷ r) more.parts; rest_fits = more.rest_fits })
@@ -184,28 +184,28 @@ text_takes d (b ∷ c ∷ bs) t rest f e =
         ]
       ]
       | inr h ↦
-          let y = bind_some (text_at d (c ∷ bs)) (λ x. Some (turned_byte d b ∷ x.0, x.1)) (t, rest) h.1 in
+          let y = bind_some (text_value_at d (c ∷ bs)) (λ x. Some (turned_byte d b ∷ x.0, x.1)) (t, rest) h.1 in
           let more = text_takes d (c ∷ bs) y.0.0 y.0.1 f.1 y.1 in
           subst (λ (x : List ℕ × List ℕ). Takes (b ∷ c ∷ bs) (map (turned_byte d) (payload (values.Text x.0))) x.1) (same_Some _ _ y.2)
           (record { parts = ap (λ (m : ℕ). m ∷ c ∷ bs) (sym (turned_back d b f.0)) ∙ ap (λ (r : List ℕ). turned_byte d (turned_byte d b) ∷ r) more.parts ∙ ap (λ (q : List ℕ). map (turned_byte d) (q ++ 0 ∷ 1 ∷ []) ++ y.0.1) (sym (escaped_plain (turned_byte d b) y.0.0 (eqb-false _ _ h.0))); rest_fits = more.rest_fits })
     ]
 
-text_plain : (d : Dir) (b : ℕ) (bs : List ℕ) → turned_byte d b ≢ 0 → 0 < length bs → text_at d (b ∷ bs) ≡ behind (turned_byte d b) (text_at d bs)
-unfolding text_at
+text_plain : (d : Dir) (b : ℕ) (bs : List ℕ) → turned_byte d b ≢ 0 → 0 < length bs → text_value_at d (b ∷ bs) ≡ value_behind (turned_byte d b) (text_value_at d bs)
+unfolding text_value_at
 text_plain d b [] ne lt = absurd (omega arith)
 text_plain d b (c ∷ bs) ne lt = rw (ne_eqb (turned_byte d b) 0 ne) refl
 
-text_again : (d : Dir) (t rest : List ℕ) → IsBytes t → text_at d (map (turned_byte d) (payload (values.Text t)) ++ rest) ≡ Some (t, rest)
-unfolding text_at
+text_again : (d : Dir) (t rest : List ℕ) → IsBytes t → text_value_at d (map (turned_byte d) (payload (values.Text t)) ++ rest) ≡ Some (t, rest)
+unfolding text_value_at
 text_again Asc [] rest f = refl
 text_again Desc [] rest f = refl
-text_again Asc (zero ∷ t) rest f = ap (behind 0) (text_again Asc t rest f.1)
-text_again Desc (zero ∷ t) rest f = ap (behind 0) (text_again Desc t rest f.1)
+text_again Asc (zero ∷ t) rest f = ap (value_behind 0) (text_again Asc t rest f.1)
+text_again Desc (zero ∷ t) rest f = ap (value_behind 0) (text_again Desc t rest f.1)
 text_again d (suc b ∷ t) rest f =
     let back : turned_byte d (turned_byte d (suc b)) ≡ suc b = turned_back d (suc b) f.0 in
     text_plain d (turned_byte d (suc b)) (map (turned_byte d) (payload (values.Text t)) ++ rest) (λ e. absurd (omega (arith, back))) (omega (arith, length-append (map (turned_byte d) (payload (values.Text t))) rest, length-map (payload (values.Text t)) (turned_byte d), length-append (escaped_text t) (0 ∷ 1 ∷ [])))
-    ∙ ap (λ (m : ℕ). behind m (text_at d (map (turned_byte d) (payload (values.Text t)) ++ rest))) back
-    ∙ ap (behind (suc b)) (text_again d t rest f.1)
+    ∙ ap (λ (m : ℕ). value_behind m (text_value_at d (map (turned_byte d) (payload (values.Text t)) ++ rest))) back
+    ∙ ap (value_behind (suc b)) (text_again d t rest f.1)
 
 -- ---- components
 
@@ -233,7 +233,7 @@ payload_takes types.Bool d bs x rest f e =
     let t = truth_takes d bs y.0.0 y.0.1 f y.1 in
     subst (λ (x : Value × List ℕ). FitsType types.Bool x.0 × Takes bs (map (turned_byte d) (payload x.0)) x.1) (same_Some _ _ y.2) (tt, t)
 payload_takes (types.Text n) d bs x rest f e =
-    let y = bind_some (text_at d bs) (λ x. text_within n x.0 >>= λ t. Some (values.Text t, x.1)) (x, rest) e in
+    let y = bind_some (text_value_at d bs) (λ x. text_within n x.0 >>= λ t. Some (values.Text t, x.1)) (x, rest) e in
     let z = bind_some (text_within n y.0.0) (λ t. Some (values.Text t, y.0.1)) (x, rest) y.2 in
     let t = text_takes d bs y.0.0 y.0.1 f y.1 in
     let c = checked_is n y.0.0 z.0 z.1 in
@@ -267,36 +267,36 @@ component_again ty d x rest fits = payload_again ty d x rest fits
 
 -- ---- rows
 
-row_takes : (ts : List ColType) (ds : List Dir) (bs : List ℕ) (xs : List Value) (rest : List ℕ) → length ts ≡ length ds → IsBytes bs → row_at ts ds bs ≡ Some (xs, rest) → AllFit ts xs × Takes bs (code_of ds xs) rest
-unfolding row_at
+row_takes : (ts : List ColType) (ds : List Dir) (bs : List ℕ) (xs : List Value) (rest : List ℕ) → length ts ≡ length ds → IsBytes bs → row_key_at ts ds bs ≡ Some (xs, rest) → AllFit ts xs × Takes bs (code_of ds xs) rest
+unfolding row_key_at
 row_takes [] [] bs xs rest len f e = subst (λ (x : List Value × List ℕ). AllFit [] x.0 × Takes bs (code_of [] x.0) x.1) (same_Some _ _ e) (tt, record { parts = refl; rest_fits = f })
 row_takes [] (d ∷ ds) bs xs rest len f e = absurd (omega arith)
 row_takes (t ∷ ts) [] bs xs rest len f e = absurd (omega arith)
 row_takes (t ∷ ts) (d ∷ ds) bs xs rest len f e =
-    let y = bind_some (component_at t d bs) (λ x. row_at ts ds x.1 >>= λ y. Some (x.0 ∷ y.0, y.1)) (xs, rest) e in
-    let z = bind_some (row_at ts ds y.0.1) (λ z. Some (y.0.0 ∷ z.0, z.1)) (xs, rest) y.2 in
+    let y = bind_some (component_at t d bs) (λ x. row_key_at ts ds x.1 >>= λ y. Some (x.0 ∷ y.0, y.1)) (xs, rest) e in
+    let z = bind_some (row_key_at ts ds y.0.1) (λ z. Some (y.0.0 ∷ z.0, z.1)) (xs, rest) y.2 in
     let first = component_takes t d bs y.0.0 y.0.1 f y.1 in
     let others = row_takes ts ds y.0.1 z.0.0 z.0.1 (omega arith) first.1.rest_fits z.1 in
     let at : AllFit (t ∷ ts) (y.0.0 ∷ z.0.0) × Takes bs (code_of (d ∷ ds) (y.0.0 ∷ z.0.0)) z.0.1 =
     ((first.0, others.0), record { parts = first.1.parts ∙ ap (λ (r : List ℕ). component d y.0.0 ++ r) others.1.parts ∙ sym (append_assoc (component d y.0.0) (code_of ds z.0.0) z.0.1); rest_fits = others.1.rest_fits }) in
     subst (λ (x : List Value × List ℕ). AllFit (t ∷ ts) x.0 × Takes bs (code_of (d ∷ ds) x.0) x.1) (same_Some _ _ z.2) at
 
-row_again : (ts : List ColType) (ds : List Dir) (xs : List Value) (rest : List ℕ) → length ts ≡ length ds → AllFit ts xs → row_at ts ds (code_of ds xs ++ rest) ≡ Some (xs, rest)
-unfolding row_at
+row_again : (ts : List ColType) (ds : List Dir) (xs : List Value) (rest : List ℕ) → length ts ≡ length ds → AllFit ts xs → row_key_at ts ds (code_of ds xs ++ rest) ≡ Some (xs, rest)
+unfolding row_key_at
 row_again [] [] [] rest len fits = refl
 row_again [] ds (x ∷ xs) rest len fits = absurd fits
 row_again [] (d ∷ ds) [] rest len fits = absurd (omega arith)
 row_again (t ∷ ts) [] xs rest len fits = absurd (omega arith)
 row_again (t ∷ ts) (d ∷ ds) [] rest len fits = absurd fits
 row_again (t ∷ ts) (d ∷ ds) (x ∷ xs) rest len fits =
-    ap (row_at (t ∷ ts) (d ∷ ds)) (append_assoc (component d x) (code_of ds xs) rest)
-    ∙ ap (λ (o : Option (Value × List ℕ)). o >>= λ x. row_at ts ds x.1 >>= λ y. Some (x.0 ∷ y.0, y.1)) (component_again t d x (code_of ds xs ++ rest) fits.0)
+    ap (row_key_at (t ∷ ts) (d ∷ ds)) (append_assoc (component d x) (code_of ds xs) rest)
+    ∙ ap (λ (o : Option (Value × List ℕ)). o >>= λ x. row_key_at ts ds x.1 >>= λ y. Some (x.0 ∷ y.0, y.1)) (component_again t d x (code_of ds xs ++ rest) fits.0)
     ∙ ap (λ (o : Option (List Value × List ℕ)). o >>= λ y. Some (x ∷ y.0, y.1)) (row_again ts ds xs rest (omega arith) fits.1)
 
 pub key_takes : (ts : List ColType) (ds : List Dir) (bs : List ℕ) (xs : List Value) → length ts ≡ length ds → IsBytes bs → key_at ts ds bs ≡ Some xs → AllFit ts xs × (code_of ds xs ≡ bs)
 unfolding key_at
 key_takes ts ds bs xs len f e =
-    let y = bind_some (row_at ts ds bs) (λ x. cond (eqb (length x.1) 0) (Some x.0) None) xs e in
+    let y = bind_some (row_key_at ts ds bs) (λ x. cond (eqb (length x.1) 0) (Some x.0) None) xs e in
     let t = row_takes ts ds bs y.0.0 y.0.1 len f y.1 in
     elim (chosen (eqb (length y.0.1) 0) (Some y.0.0) None (Some xs) y.2) [
       | inl h ↦

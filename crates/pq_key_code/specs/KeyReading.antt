@@ -28,16 +28,16 @@ truth_at d (b ∷ rest) = if turned_byte d b == 0 then Some (false, rest) else i
     then Some (true, rest) else None
 
 -- a byte in front of a text that is read
-abbrev pub behind : ℕ → Option (List ℕ × List ℕ) → Option (List ℕ × List ℕ)
-behind b read = read >>= λ x. Some (b ∷ x.0, x.1)
+abbrev pub value_behind : ℕ → Option (List ℕ × List ℕ) → Option (List ℕ × List ℕ)
+value_behind b read = read >>= λ x. Some (b ∷ x.0, x.1)
 
-unfoldable pub text_at : Dir → List ℕ → Option (List ℕ × List ℕ)
-text_at d [] = None
-text_at d (b ∷ []) = None
-text_at d (b ∷ c ∷ rest) =
+unfoldable pub text_value_at : Dir → List ℕ → Option (List ℕ × List ℕ)
+text_value_at d [] = None
+text_value_at d (b ∷ []) = None
+text_value_at d (b ∷ c ∷ rest) =
     if turned_byte d b == 0 then (if turned_byte d c == 1 then Some ([], rest) else if turned_byte d c == 255
-    then behind 0 (text_at d rest) else None)
-    else behind (turned_byte d b) (text_at d (c ∷ rest))
+    then value_behind 0 (text_value_at d rest) else None)
+    else value_behind (turned_byte d b) (text_value_at d (c ∷ rest))
 
 -- a text of at most n bytes
 abbrev pub text_within : ℕ → List ℕ → Option (List ℕ)
@@ -46,17 +46,17 @@ text_within n t = if nat_lt n (length t) then None else if is_utf8 t then Some t
 unfoldable pub payload_at : ColType → Dir → List ℕ → Option (Value × List ℕ)
 payload_at types.Int d bytes = number_at d bytes >>= λ x. Some (values.Int x.0, x.1)
 payload_at types.Bool d bytes = truth_at d bytes >>= λ x. Some (values.Bool x.0, x.1)
-payload_at (types.Text n) d bytes = text_at d bytes >>= λ x. text_within n x.0 >>= λ t. Some (values.Text t, x.1)
+payload_at (types.Text n) d bytes = text_value_at d bytes >>= λ x. text_within n x.0 >>= λ t. Some (values.Text t, x.1)
 
 unfoldable pub component_at : ColType → Dir → List ℕ → Option (Value × List ℕ)
 component_at t d [] = None
 component_at t d (m ∷ bytes) = if m == 16 then payload_at t d bytes else None
 
-unfoldable pub row_at : List ColType → List Dir → List ℕ → Option (List Value × List ℕ)
-row_at [] ds bytes = Some ([], bytes)
-row_at (t ∷ ts) [] bytes = Some ([], bytes)
-row_at (t ∷ ts) (d ∷ ds) bytes = component_at t d bytes >>= λ x. row_at ts ds x.1 >>= λ y. Some (x.0 ∷ y.0, y.1)
+unfoldable pub row_key_at : List ColType → List Dir → List ℕ → Option (List Value × List ℕ)
+row_key_at [] ds bytes = Some ([], bytes)
+row_key_at (t ∷ ts) [] bytes = Some ([], bytes)
+row_key_at (t ∷ ts) (d ∷ ds) bytes = component_at t d bytes >>= λ x. row_key_at ts ds x.1 >>= λ y. Some (x.0 ∷ y.0, y.1)
 
 -- all of the bytes
 unfoldable pub key_at : List ColType → List Dir → List ℕ → Option (List Value)
-key_at ts ds bytes = row_at ts ds bytes >>= λ x. if length x.1 == 0 then Some x.0 else None
+key_at ts ds bytes = row_key_at ts ds bytes >>= λ x. if length x.1 == 0 then Some x.0 else None

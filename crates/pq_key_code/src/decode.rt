@@ -4,7 +4,7 @@ ghost use Rattle.std.specs.Option.{option_map};
 ghost use Rattle.pq_base.specs.declared.value.Value.{Value};
 ghost use Rattle.pq_base.specs.Values.{AllFit};
 ghost use Rattle.pq_key_code.specs.KeyCode.{code_of};
-ghost use Rattle.pq_key_code.specs.KeyReading.{from_least, number_at, truth_at, text_at, text_within, payload_at, component_at, row_at, key_at};
+ghost use Rattle.pq_key_code.specs.KeyReading.{from_least, number_at, truth_at, text_value_at, text_within, payload_at, component_at, row_key_at, key_at};
 
 use crate::encode::turn;
 use pq_base::{Bytes, ColType, Dir, NoMem, PText, Row, Value};
@@ -49,9 +49,9 @@ fn truth_of(dir: Dir, bytes: &[u8]) -> Option<(bool, &[u8])>
     }
 }
 
-#[tactic(auto, unfolding(crate::specs::KeyReading::text_at))]
+#[tactic(auto, unfolding(crate::specs::KeyReading::text_value_at))]
 fn text_of(alloc: Global, dir: Dir, bytes: &[u8]) -> Result<Option<(Bytes, &[u8])>, NoMem>
-    ensures { IfOk result (λ read. option_map (λ x. (x.0, x.1.now)) read ≡ text_at dir bytes.now) }
+    ensures { IfOk result (λ read. option_map (λ x. (x.0, x.1.now)) read ≡ text_value_at dir bytes.now) }
 {
     let mut text = Bytes::new(alloc);
     let mut i = 0;
@@ -136,7 +136,7 @@ fn row_of<'a>(
     bytes: &'a [u8],
 ) -> Result<Option<(Row, &'a [u8])>, NoMem>
     requires { length types.now ≡ length dirs.now }
-    ensures { IfOk result (λ read. option_map (λ x. (x.0, x.1.now)) read ≡ row_at types.now dirs.now bytes.now) }
+    ensures { IfOk result (λ read. option_map (λ x. (x.0, x.1.now)) read ≡ row_key_at types.now dirs.now bytes.now) }
 {
     let mut row = Row::new(alloc);
     let mut rest = bytes;

@@ -12,8 +12,8 @@ use Rattle.pq_plan.specs.Meaning.{keeps}
 use Rattle.pq_nodes.specs.Combos.{FitsTables}
 
 -- the combinations at which the predicates of the relation hold
-abbrev pub AreMatching : Query → List Value → ℕ → List (List (List Value)) → List (List (List Value)) → Type 0
-AreMatching query params rel combos kept =
+abbrev pub AreKept : Query → List Value → ℕ → List (List (List Value)) → List (List (List Value)) → Type 0
+AreKept query params rel combos kept =
     (tables : List Table) (rows : Rows) → kept ≡ filter (keeps (question tables query rows params) rel) combos
 
 -- the combinations in the order of their positions

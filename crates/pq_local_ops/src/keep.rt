@@ -6,7 +6,7 @@ ghost use Rattle.pq_schema.specs.Resolved.{IsResolved};
 ghost use Rattle.pq_plan.specs.Answer.{holds};
 ghost use Rattle.pq_nodes.specs.Combos.{FitsTables, position_types};
 ghost use Rattle.pq_local_ops.specs.Codes.{is_above};
-ghost use Rattle.pq_local_ops.specs.Lists.{AreMatching, ArePast, ArePart, meets_all};
+ghost use Rattle.pq_local_ops.specs.Lists.{AreKept, ArePast, ArePart, meets_all};
 
 use crate::position::{code_at, places_of};
 use pq_base::{Dir, List, NoMem, Row};
@@ -47,7 +47,7 @@ pub fn keep_matching(
     rel: u8,
     combos: List<Combo>,
 ) -> Result<List<Combo>, NoMem>
-    ensures kept { IsOkAnd result (AreMatching query.now params.now rel combos) }
+    ensures kept { IsOkAnd result (AreKept query.now params.now rel combos) }
     ensures part { IsOkAnd result (ArePart combos) }
 {
     let mut kept = combos.into_vec();

@@ -13,7 +13,7 @@ use Rattle.pq_schema.specs.Sound.{IsQuery}
 use Rattle.pq_plan.specs.Nodes.{Node, lookup, limit_range, stop_scan, keep, sort, cut, project, read_nodes, range_nodes, stop_access, choice_nodes, plan_nodes}
 use Rattle.pq_plan.proofs.Choices.{Has}
 use Rattle.pq_plan.proofs.PlanMeaning.{range_more}
-use Rattle.pq_nodes.specs.Ordered.{relation_read, relations_of, after_node, after_nodes, StandsAt, StandInOrder}
+use Rattle.pq_nodes.specs.Ordered.{relation_read, node_relations, after_node, after_nodes, StandsAt, StandInOrder}
 use Rattle.pq_nodes.proofs.Inverse.{Bounded, read_cases, front_bounded, later_bounded, before_bounded}
 
 pub stand_both : (count : ℕ) (xs ys : List Node) → StandInOrder count xs → StandInOrder (after_nodes count xs) ys → StandInOrder count (xs ++ ys)
@@ -32,14 +32,14 @@ front_stands count (x ∷ front) back all = (all.0, front_stands (after_node cou
 -- they read just these
 pub record ReadsRelations (count : ℕ) (list : List Node) : Type 0 where
   pub more : ℕ
-  pub relations : relations_of list ≡ range_with_len (count + 1) more
+  pub relations : node_relations list ≡ range_with_len (count + 1) more
   pub after : after_nodes count list ≡ count + more
 
-first_read : (count rel : ℕ) (list : List Node) → rel ≡ suc count → (rest : ReadsRelations (suc count) list) → rel ∷ relations_of list ≡ range_with_len (count + 1) (suc rest.more)
+first_read : (count rel : ℕ) (list : List Node) → rel ≡ suc count → (rest : ReadsRelations (suc count) list) → rel ∷ node_relations list ≡ range_with_len (count + 1) (suc rest.more)
 first_read count rel list is rest =
     let first : rel ≡ count + 1 = omega (arith, is) in
     let next : suc count + 1 ≡ count + 1 + 1 = omega arith in
-    let others : relations_of list ≡ range_with_len (count + 1 + 1) rest.more = rest.relations ∙ ap (λ a. range_with_len a rest.more) next in
+    let others : node_relations list ≡ range_with_len (count + 1 + 1) rest.more = rest.relations ∙ ap (λ a. range_with_len a rest.more) next in
     λ i. first i ∷ others i
 
 one_after : (count : ℕ) (list : List Node) (rest : ReadsRelations (suc count) list) → after_nodes (suc count) list ≡ count + suc rest.more
@@ -116,7 +116,7 @@ module _ (tables : List Table) (query : Query) (sound : IsQuery tables query) wh
       ((tt, tt), refl)
 
   -- the nodes before one that reads a relation read those before it, in their order
-  pub before_read : (choice : Choice) → Has tables query choice → (front : List Node) (node : Node) (back : List Node) (rel : ℕ) → plan_nodes tables query choice ≡ front ++ node ∷ back → relation_read node ≡ rel ∷ [] → (relations_of front ≡ range_with_len 1 (rel - 1)) × (after_nodes 0 front ≡ rel - 1) × StandInOrder 0 front
+  pub before_read : (choice : Choice) → Has tables query choice → (front : List Node) (node : Node) (back : List Node) (rel : ℕ) → plan_nodes tables query choice ≡ front ++ node ∷ back → relation_read node ≡ rel ∷ [] → (node_relations front ≡ range_with_len 1 (rel - 1)) × (after_nodes 0 front ≡ rel - 1) × StandInOrder 0 front
   before_read choice h front node back rel is reads =
       let all : StandInOrder 0 (front ++ node ∷ back) = subst (StandInOrder 0) is (plan_runs choice h).0 in
       let stands = front_stands 0 front (node ∷ back) all in

@@ -4,7 +4,7 @@ use Rattle.std.specs.Prelude.{IfSome, unwrap_or}
 use Rattle.std.specs.Option.{option_map_or}
 use Rattle.std.specs.List.{AllByRecursion, range_with_len}
 use Rattle.std.proofs.lemmas.Bool.{and_parts, false≢true}
-use Rattle.pq_base.specs.Columns.{is_within, set_of}
+use Rattle.pq_base.specs.Columns.{is_column_within, set_of}
 use Rattle.pq_base.specs.Members.{In}
 use Rattle.pq_base.specs.declared.number.Choice.{Choice}
 use Rattle.pq_base.specs.declared.number.Choice.TheVariants.{Whole, Stop}
@@ -73,7 +73,7 @@ module _ (tables : List Table) (query : Query) (sound : IsQuery tables query) wh
       let limit = get_or table.limits place no_limit in
       limit_range i (place + 1) limit.n (unwrap_or (group_access table (set_of limit.cols)) Primary) ∷ keep i ∷ []
 
-  limited_is : (i place : ℕ) → 1 ≤ i → i ≤ m → is_lookup (table_of tables query i) (tied_set query i) ≡ false → limit_place (table_of tables query i) (tied_set query i) ≡ Some place → place < length (table_of tables query i).limits → is_within (set_of (get_or (table_of tables query i).limits place no_limit).cols) (tied_set query i) ≡ true → data_bound (table_of tables query i) (tied_set query i) ≡ Some (get_or (table_of tables query i).limits place no_limit).n → IsLimited tables query i (place + 1) (get_or (table_of tables query i).limits place no_limit).n (unwrap_or (group_access (table_of tables query i) (set_of (get_or (table_of tables query i).limits place no_limit).cols)) Primary)
+  limited_is : (i place : ℕ) → 1 ≤ i → i ≤ m → is_lookup (table_of tables query i) (tied_set query i) ≡ false → limit_place (table_of tables query i) (tied_set query i) ≡ Some place → place < length (table_of tables query i).limits → is_column_within (set_of (get_or (table_of tables query i).limits place no_limit).cols) (tied_set query i) ≡ true → data_bound (table_of tables query i) (tied_set query i) ≡ Some (get_or (table_of tables query i).limits place no_limit).n → IsLimited tables query i (place + 1) (get_or (table_of tables query i).limits place no_limit).n (unwrap_or (group_access (table_of tables query i) (set_of (get_or (table_of tables query i).limits place no_limit).cols)) Primary)
   limited_is i place low high no_lookup taken within applied size =
       let table = table_of tables query i in
       let limit = get_or table.limits place no_limit in
@@ -90,7 +90,7 @@ module _ (tables : List Table) (query : Query) (sound : IsQuery tables query) wh
         size = ap (λ (l : Limit). l.n) (sym same);
         most = all_member (λ (l : Limit). l.n ≤ 10000) table.limits (table_is i low high).sizes limit here;
         bound = size;
-        tied = ap (λ (l : Limit). is_within (set_of l.cols) (tied_set query i)) same ∙ applied;
+        tied = ap (λ (l : Limit). is_column_within (set_of l.cols) (tied_set query i)) same ∙ applied;
         group =
             ap (λ (l : Limit). group_access table (set_of l.cols)) same
             ∙ some_unwrapped (group_access table (set_of limit.cols)) Primary (all_member (λ (l : Limit). is_some (group_access table (set_of l.cols)) ≡ true) table.limits groups limit here);

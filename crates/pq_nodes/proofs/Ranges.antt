@@ -5,7 +5,7 @@ use Rattle.std.specs.List.{AllByRecursion}
 use Rattle.std.proofs.lemmas.Bool.{eqb-true}
 use Rattle.std.proofs.lemmas.List.{length-map, length-take, take_min, take-map}
 use Rattle.std.proofs.lemmas.List.Sorted.{IsPermutation-refl, IsPermutation-map, IsPermutation-append}
-use Rattle.pq_base.specs.Columns.{is_within, set_of}
+use Rattle.pq_base.specs.Columns.{is_column_within, set_of}
 use Rattle.pq_base.specs.Values.{AllFit}
 use Rattle.pq_base.specs.declared.value.ColType.{ColType}
 use Rattle.pq_base.specs.declared.value.Value.{Value}
@@ -29,7 +29,7 @@ use Rattle.pq_nodes.proofs.Tied.{tied_kinds, matching_group, within_tied}
 taken_again : {X : Type 0} (n : ℕ) (xs : List X) → take (length (take n xs)) xs ≡ take n xs
 taken_again n xs = ap (λ k. take k xs) (length-take n xs) ∙ take_min n xs
 
-module _ (tables : List Table) (query : Query) (rows : Rows) (params : List Value) (resolved : IsResolved tables query) (given : AllFit query.params params) (rel : ℕ) (combo : List (List Value)) (fits : FitsTables tables query (rel - 1) combo) (kept : KeepsSchema tables rows) (cols : List ℕ) (within : is_within (set_of cols) (tied_set query rel) ≡ true) (access : Access) (begins : begins_with (sequence_of (table_of tables query rel) access) (set_of cols) ≡ true) where
+module _ (tables : List Table) (query : Query) (rows : Rows) (params : List Value) (resolved : IsResolved tables query) (given : AllFit query.params params) (rel : ℕ) (combo : List (List Value)) (fits : FitsTables tables query (rel - 1) combo) (kept : KeepsSchema tables rows) (cols : List ℕ) (within : is_column_within (set_of cols) (tied_set query rel) ≡ true) (access : Access) (begins : begins_with (sequence_of (table_of tables query rel) access) (set_of cols) ≡ true) where
   abbrev q : Question
   q = record { tables = tables; query = query; rows = rows; params = params }
 
@@ -42,8 +42,8 @@ module _ (tables : List Table) (query : Query) (rows : Rows) (params : List Valu
   abbrev prefix : List Value
   prefix = range_prefix q rel cols access combo
 
-  first_within : is_within (set_of first) (tied_set query rel) ≡ true
-  first_within = subst (λ (s : ℕ). is_within s (tied_set query rel) ≡ true) (sym (eqb-true (set_of first) (set_of cols) begins)) within
+  first_within : is_column_within (set_of first) (tied_set query rel) ≡ true
+  first_within = subst (λ (s : ℕ). is_column_within s (tied_set query rel) ≡ true) (sym (eqb-true (set_of first) (set_of cols) begins)) within
 
   as_long : length prefix ≡ length first
   as_long = length-map first (λ col. unwrap_or (tied_value q rel combo col) no_value)

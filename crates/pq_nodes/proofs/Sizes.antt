@@ -28,7 +28,7 @@ use Rattle.pq_plan.proofs.Fixed.{both_are}
 use Rattle.pq_plan.proofs.Kept.{limit_kept}
 use Rattle.pq_base.proofs.Members.{at_in}
 use Rattle.pq_plan.proofs.ValueOrder.{row_total}
-use Rattle.pq_nodes.specs.Inverse.{limit_at, IsNodeOf}
+use Rattle.pq_nodes.specs.Inverse.{node_limit_at, IsNodeOf}
 use Rattle.pq_nodes.specs.Paid.{node_size}
 
 few_taken : {X : Type 0} (k : ℕ) (xs : List X) → length (take k xs) ≤ k
@@ -109,12 +109,12 @@ module _ (tables : List Table) (query : Query) (rows : List (ℕ × List Value))
   q = asked tables query rows params sound kept
 
   -- at most n rows of the relation agree on the limit's columns
-  limit_few : (rel limit n : ℕ) → 1 ≤ rel → rel ≤ length query.relations → 1 ≤ limit → limit ≤ length (table_of tables query rel).limits → n ≡ (limit_at (table_of tables query rel) limit).n → (values : List Value) → length (filter (λ row. eq_by_cmp row_cmp (cells (limit_at (table_of tables query rel) limit).cols row) values) (rows_at q rel)) ≤ n
+  limit_few : (rel limit n : ℕ) → 1 ≤ rel → rel ≤ length query.relations → 1 ≤ limit → limit ≤ length (table_of tables query rel).limits → n ≡ (node_limit_at (table_of tables query rel) limit).n → (values : List Value) → length (filter (λ row. eq_by_cmp row_cmp (cells (node_limit_at (table_of tables query rel) limit).cols row) values) (rows_at q rel)) ≤ n
   limit_few rel limit n low high one there size values =
       let table = table_of tables query rel in
       let number = number_at tables query rows params sound kept rel low high in
-      let here : In (limit_at table limit) table.limits = at_in table.limits (limit - 1) no_limit (omega arith) in
-      let few = limit_kept tables rows kept (relation_at query rel).table number (limit_at table limit) here values in
+      let here : In (node_limit_at table limit) table.limits = at_in table.limits (limit - 1) no_limit (omega arith) in
+      let few = limit_kept tables rows kept (relation_at query rel).table number (node_limit_at table limit) here values in
       omega (arith, few, size)
 
   pub apply_few : (after : Option (List Value)) (node : Node) (inputs : List (List (List Value))) → IsNodeOf tables query node → length (apply q after inputs node) ≤ node_size (length inputs) node

@@ -3,7 +3,7 @@ use Rattle.std.proofs.Common.{◌≡◌, Option, Some, None, ℕ, suc, ◌-◌, 
 use Rattle.std.specs.Prelude.{unwrap_or}
 use Rattle.std.proofs.lemmas.Bool.{and_parts, and_from, eqb-true, eq-eqb, ltb-true, false≢true}
 use Rattle.std.proofs.lemmas.List.{length-map}
-use Rattle.pq_base.specs.Columns.{is_within, set_of}
+use Rattle.pq_base.specs.Columns.{is_column_within, set_of}
 use Rattle.pq_base.specs.Members.{In}
 use Rattle.pq_base.specs.Values.{FitsType, AllFit, same_kind}
 use Rattle.pq_base.specs.declared.value.ColType.{ColType}
@@ -183,5 +183,5 @@ module _ (tables : List Table) (query : Query) (rows : Rows) (params : List Valu
         ∙ one_taken (row_at tables rows t key)
 
 -- columns whose set lies in the fixed ones are tied
-pub within_tied : (query : Query) (rel : ℕ) (cols : List ℕ) → is_within (set_of cols) (tied_set query rel) ≡ true → (col : ℕ) → In col cols → In col (tied_columns query rel)
+pub within_tied : (query : Query) (rel : ℕ) (cols : List ℕ) → is_column_within (set_of cols) (tied_set query rel) ≡ true → (col : ℕ) → In col cols → In col (tied_columns query rel)
 within_tied query rel cols h = within_members cols (tied_columns query rel) h

@@ -29,7 +29,7 @@ pub record IsAsked (tables : List Table) (query : Query) (params : List Value) :
   pub params_fit : AllFit query.params params
 
 -- a node of a plan for the query, whose sequence is there
-pub record IsReady (tables : List Table) (query : Query) (node : Node) : Type 0 where
+pub record IsReadyNode (tables : List Table) (query : Query) (node : Node) : Type 0 where
   pub is : IsNodeOf tables query node
   pub indexed : HasIndex tables query node
 
@@ -56,9 +56,9 @@ pub record AreFound (tables : List Table) (query : Query) (rel inputs : ℕ) (no
   pub fit : AllByRecursion (FitsTables tables query rel) found
 
 -- over a content that holds rows, the combinations are what the node makes of the inputs
-abbrev pub Answers : Option Content → List Table → Query → List Value → Option (List Value)
+abbrev pub AnswersNode : Option Content → List Table → Query → List Value → Option (List Value)
     → List (List (List Value)) → Node → List (List (List Value)) → Type 0
-Answers told tables query params after inputs node found =
+AnswersNode told tables query params after inputs node found =
     (rows : Rows) (others : List Pair) → HoldsRows told tables rows others →
     Makes (record { tables = tables; query = query; rows = rows; params = params }) after inputs node found
 

@@ -1,7 +1,7 @@
 //! What the definitions promise by themselves.
 ghost use Rattle.std.specs.Prelude.{◌≡◌, ℕ, ◌-◌, ◌≤◌, true, List, [], ◌∷◌, ◌++◌, length, map, flat_map, take, option_to_list, Option, IsPermutation};
 ghost use Rattle.std.specs.List.{AllByRecursion, range_with_len};
-ghost use Rattle.pq_base.specs.Columns.{is_within, set_of};
+ghost use Rattle.pq_base.specs.Columns.{is_column_within, set_of};
 ghost use Rattle.pq_base.specs.Values.{AllFit};
 ghost use Rattle.pq_base.specs.declared.number.Bound.{Bound};
 ghost use Rattle.pq_base.specs.declared.number.Choice.{Choice};
@@ -22,13 +22,13 @@ ghost use Rattle.pq_store.specs.declared.damage.Broke.{Broke};
 ghost use Rattle.pq_calls.specs.World.{World};
 ghost use Rattle.pq_plan.specs.Answer.{Question, position, selected_values};
 ghost use Rattle.pq_plan.specs.Executing.{Makes, Gives};
-ghost use Rattle.pq_plan.specs.Nodes.{Node, plan_nodes, step, run_of};
+ghost use Rattle.pq_plan.specs.Nodes.{Node, plan_nodes, node_step, run_of};
 ghost use Rattle.pq_plan.specs.Plans.{HasChoice, IsPlanNode};
 ghost use Rattle.pq_plan.specs.Running.{apply, matching, ranged};
 ghost use Rattle.pq_nodes.specs.Combos.{IsCombo, FitsTables, position_types, selected_types};
 ghost use Rattle.pq_nodes.specs.Inverse.{IsNodeOf};
 ghost use Rattle.pq_nodes.specs.Operators.{StopsReading, IsSoundOverRows};
-ghost use Rattle.pq_nodes.specs.Ordered.{relation_read, relations_of, after_node, after_nodes, StandsAt, StandInOrder};
+ghost use Rattle.pq_nodes.specs.Ordered.{relation_read, node_relations, after_node, after_nodes, StandsAt, StandInOrder};
 ghost use Rattle.pq_nodes.specs.Paid.{node_cost, node_size, IsAtMost, IsUpTo};
 ghost use Rattle.pq_nodes.specs.Tied.{tied_cells, HasRange};
 
@@ -49,18 +49,18 @@ pub fn order_laws()
     ensures before { (tables : List Table) (query : Query) (choice : Choice) (front : List Node) (node : Node)
         (back : List Node) (rel : ℕ) → IsQuery tables query → HasChoice tables query choice
         → plan_nodes tables query choice ≡ front ++ node ∷ back → relation_read node ≡ rel ∷ []
-        → (relations_of front ≡ range_with_len 1 (rel - 1)) × (after_nodes 0 front ≡ rel - 1)
+        → (node_relations front ≡ range_with_len 1 (rel - 1)) × (after_nodes 0 front ≡ rel - 1)
         × StandInOrder 0 front }
 {}
 
 /// What nodes cost.
 pub fn cost_laws()
-    ensures costs { (r : ReachedCost) (node : Node) → (step r node).cost ≡ plus r.cost (node_cost r.inputs node) }
+    ensures costs { (r : ReachedCost) (node : Node) → (node_step r node).cost ≡ plus r.cost (node_cost r.inputs node) }
 
-    ensures size { (r : ReachedCost) (node : Node) → (step r node).inputs ≡ node_size r.inputs node }
+    ensures size { (r : ReachedCost) (node : Node) → (node_step r node).inputs ≡ node_size r.inputs node }
 
     // More inputs cost and give no less.
-    ensures more { (a b : ReachedCost) (node : Node) → IsUpTo a b → IsUpTo (step a node) (step b node) }
+    ensures more { (a b : ReachedCost) (node : Node) → IsUpTo a b → IsUpTo (node_step a node) (node_step b node) }
 
     // The nodes up to one cost at most what all do.
     ensures front { (front back : List Node) → IsAtMost (run_of front).cost (run_of (front ++ back)).cost }
@@ -132,7 +132,7 @@ pub fn tied_laws()
     // Columns that lie in the fixed ones have tied values, which are of their kinds.
     ensures kinds { (tables : List Table) (query : Query) (rows : Rows) (params : List Value) (rel : ℕ)
         (combo : List (List Value)) (cols : List ℕ) → IsResolved tables query → AllFit query.params params
-        → FitsTables tables query (rel - 1) combo → is_within (set_of cols) (tied_set query rel) ≡ true
+        → FitsTables tables query (rel - 1) combo → is_column_within (set_of cols) (tied_set query rel) ≡ true
         → AllOfKinds (types_at (table_of tables query rel) cols)
         (tied_cells (record { tables = tables; query = query; rows = rows; params = params }) rel cols combo) }
 
@@ -140,7 +140,7 @@ pub fn tied_laws()
     ensures group { (tables : List Table) (query : Query) (rows : Rows) (params : List Value) (rel : ℕ)
         (combo : List (List Value)) (cols : List ℕ) → IsResolved tables query → AllFit query.params params
         → FitsTables tables query (rel - 1) combo → KeepsSchema tables rows
-        → is_within (set_of cols) (tied_set query rel) ≡ true
+        → is_column_within (set_of cols) (tied_set query rel) ≡ true
         → matching (record { tables = tables; query = query; rows = rows; params = params }) rel cols combo
         ≡ group_of (relation_at query rel).table cols
         (tied_cells (record { tables = tables; query = query; rows = rows; params = params }) rel cols combo)
@@ -162,7 +162,7 @@ pub fn tied_laws()
     ensures range { (tables : List Table) (query : Query) (rows : Rows) (params : List Value) (rel : ℕ)
         (combo : List (List Value)) (cols : List ℕ) (access : Access) → IsResolved tables query
         → AllFit query.params params → FitsTables tables query (rel - 1) combo → KeepsSchema tables rows
-        → is_within (set_of cols) (tied_set query rel) ≡ true
+        → is_column_within (set_of cols) (tied_set query rel) ≡ true
         → begins_with (sequence_of (table_of tables query rel) access) (set_of cols) ≡ true
         → HasRange (record { tables = tables; query = query; rows = rows; params = params }) rel cols access
         combo }

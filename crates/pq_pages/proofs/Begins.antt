@@ -17,7 +17,7 @@ use Rattle.pq_schema.specs.Resolved.{ref_type}
 use Rattle.pq_schema.specs.declared.query.OrderItem.{OrderItem}
 use Rattle.pq_schema.specs.declared.query.Query.{Query}
 use Rattle.pq_schema.specs.declared.table.Table.{Table}
-use Rattle.pq_pages.specs.Running.{page_size, position_dirs, behind, begins_after, or_begins, params_refusal, begins}
+use Rattle.pq_pages.specs.Running.{page_size, position_dirs, page_start, begins_after, or_begins, params_refusal, cursor_start}
 
 -- each position column has a type and a direction
 pub same_long : (tables : List Table) (query : Query) → length (position_types tables query) ≡ length (position_dirs tables query)
@@ -26,7 +26,7 @@ same_long tables query =
     ∙ sym (length-map (position_columns tables query) (λ (item : OrderItem). item.dir))
 
 module _ (tables : List Table) (number : ℕ) (query : Query) (text : List ℕ) where
-  paged_behind : (size : Option ℕ) (position : List Value) → is_some size ≡ true → behind size (Some position) ≡ Ok (Some position)
+  paged_behind : (size : Option ℕ) (position : List Value) → is_some size ≡ true → page_start size (Some position) ≡ Ok (Some position)
   paged_behind None position paged = absurd cc
   paged_behind (Some k) position paged = refl
 
@@ -36,19 +36,19 @@ module _ (tables : List Table) (number : ℕ) (query : Query) (text : List ℕ) 
       let read : position_in number (position_types tables query) (position_dirs tables query) text ≡ Some position =
       ap (position_in number (position_types tables query) (position_dirs tables query)) is.is
       ∙ cursor_again number (position_types tables query) (position_dirs tables query) (same_long tables query) position is.fits in
-      ap (behind (page_size query.stop)) read ∙ paged_behind (page_size query.stop) position paged
+      ap (page_start (page_size query.stop)) read ∙ paged_behind (page_size query.stop) position paged
 
 -- ---- with the parameters
 
 module _ (tables : List Table) (number : ℕ) (query : Query) (params : List Value) (after : Option (List ℕ)) where
   -- where they are not refused, at the cursor's
-  pub begins_passed : params_refusal query.params params ≡ None → begins tables number query params after ≡ begins_after tables number query after
-  unfolding begins
+  pub begins_passed : params_refusal query.params params ≡ None → cursor_start tables number query params after ≡ begins_after tables number query after
+  unfolding cursor_start
   begins_passed none = ap (λ (refusal : Option Refusal). or_begins refusal (begins_after tables number query after)) none
 
   -- and otherwise nowhere
-  pub begins_refused : (stopped : Stopped) → Passes {A = Unit {0}} (Err stopped) (params_refusal query.params params) → Answers {A = Option (List Value)} (Err stopped) (begins tables number query params after)
-  unfolding begins
+  pub begins_refused : (stopped : Stopped) → Passes {A = Unit {0}} (Err stopped) (params_refusal query.params params) → Answers {A = Option (List Value)} (Err stopped) (cursor_start tables number query params after)
+  unfolding cursor_start
   begins_refused (stopped.Refused why) is = ap (λ (refusal : Option Refusal). or_begins refusal (begins_after tables number query after)) is
   begins_refused stopped.NoMem is = tt
 

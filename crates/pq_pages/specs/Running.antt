@@ -68,24 +68,26 @@ abbrev pub position_dirs : List Table → Query → List Dir
 position_dirs tables query = map (λ item. item.dir) (position_columns tables query)
 
 -- the position of a cursor, which a query without pages has none of
-abbrev pub behind : Option ℕ → Option (List Value) → Result (Option (List Value)) Refusal
-behind None position = Err refusal.NotPaged
-behind (Some k) None = Err refusal.Cursor
-behind (Some k) (Some at) = Ok (Some at)
+abbrev pub page_start : Option ℕ → Option (List Value) → Result (Option (List Value)) Refusal
+page_start None position = Err refusal.NotPaged
+page_start (Some k) None = Err refusal.Cursor
+page_start (Some k) (Some at) = Ok (Some at)
 
 -- where a page begins: at the front where there is no cursor
 abbrev pub begins_after : List Table → ℕ → Query → Option (List ℕ) → Result (Option (List Value)) Refusal
 begins_after tables number query None = Ok None
 begins_after tables number query (Some text) =
-    behind (page_size query.stop) (position_in number (position_types tables query) (position_dirs tables query) text)
+    page_start (page_size query.stop)
+    (position_in number (position_types tables query) (position_dirs tables query) text)
 
 abbrev pub or_begins : Option Refusal → Result (Option (List Value)) Refusal → Result (Option (List Value)) Refusal
 or_begins None start = start
 or_begins (Some why) start = Err why
 
 -- the parameters' refusal comes before those of the cursor
-unfoldable pub begins : List Table → ℕ → Query → List Value → Option (List ℕ) → Result (Option (List Value)) Refusal
-begins tables number query params after =
+unfoldable pub cursor_start : List Table → ℕ → Query → List Value → Option (List ℕ)
+    → Result (Option (List Value)) Refusal
+cursor_start tables number query params after =
     or_begins (params_refusal query.params params) (begins_after tables number query after)
 
 abbrev pub running_as : ℕ → Query → List Value → Result (Option (List Value)) Refusal → Result Running Refusal
@@ -96,7 +98,7 @@ abbrev pub running_at : Schema → List ℕ → List Value → Option (List ℕ)
 running_at schema name params after None = Err (refusal.NoQuery name)
 running_at schema name params after (Some number) =
     running_as number (query_at schema number) params
-    (begins schema.tables number (query_at schema number) params after)
+    (cursor_start schema.tables number (query_at schema number) params after)
 
 -- what runs under a name, or the first refusal
 unfoldable pub running_of : Schema → List ℕ → List Value → Option (List ℕ) → Result Running Refusal

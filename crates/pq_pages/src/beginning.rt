@@ -7,7 +7,7 @@ ghost use Rattle.pq_schema.specs.Schema.{query_at};
 ghost use Rattle.pq_schema.specs.Sound.{IsQuery};
 ghost use Rattle.pq_nodes.specs.Combos.{position_types};
 ghost use Rattle.pq_nodes.specs.Operators.{IsCursor};
-ghost use Rattle.pq_pages.specs.Running.{IsQueryNumber, misfit, params_refusal, page_size, position_dirs, begins_after, begins};
+ghost use Rattle.pq_pages.specs.Running.{IsQueryNumber, misfit, params_refusal, page_size, position_dirs, begins_after, cursor_start};
 
 use pq_base::{ColType, Dir, List, NoMem, PText, Refusal, Row, Stopped, Value, fits};
 use pq_cursor::read_cursor;
@@ -133,7 +133,7 @@ pub fn begin(
     after: Option<&PText>,
 ) -> Result<Option<Row>, Stopped>
     requires { IsQueryNumber catalog.now number }
-    ensures answer { Answers result (begins catalog.now.tables number (query_at catalog.now number) params.now
+    ensures answer { Answers result (cursor_start catalog.now.tables number (query_at catalog.now number) params.now
         (option_copied after.entry)) }
     ensures fits { IfOk result (λ _. AllFit (query_at catalog.now number).params params.now) }
     ensures cursor { IfOk result (IsCursor catalog.now.tables (query_at catalog.now number)) }

@@ -6,7 +6,7 @@ ghost use Rattle.pq_store.specs.Breaks.{IfDamaged};
 ghost use Rattle.pq_store.specs.Content.{HasBrokeCause};
 ghost use Rattle.pq_calls.specs.World.{where_told};
 ghost use Rattle.pq_nodes.specs.Operators.{IsCursor, ShowsRead, IsSoundOverRows};
-ghost use Rattle.pq_exec.specs.Execution.{RisesBy, RisesWithin};
+ghost use Rattle.pq_exec.specs.Execution.{RisesByUsed, RisesWithin};
 ghost use Rattle.pq_plan.specs.Cost.{cost};
 ghost use Rattle.pq_runnable.specs.Runnable.{IsRunnablePlan};
 ghost use Rattle.pq_cursor.specs.Cursors.{cursor_text};
@@ -99,7 +99,7 @@ pub fn run_page<S: Store<L>, L: Ledger>(
     // Over every store.
     ensures few { IfOk result (λ page. length page.rows < 4294967296) }
     ensures bound { IfOk result (λ page. page.bound ≡ query_bound catalog.now.tables (query_at catalog.now number)) }
-    ensures used { IfOk result (λ page. RisesBy page.used meter.old meter.new) }
+    ensures used { IfOk result (λ page. RisesByUsed page.used meter.old meter.new) }
     ensures within { RisesWithin (query_bound catalog.now.tables (query_at catalog.now number)) meter.old meter.new }
     ensures content { S.content store.new ≡ S.content store.old }
     ensures damage { IfErr result (IfDamaged (where_told (ShowsRead catalog.now.tables) (S.content store.old))) }

@@ -8,8 +8,8 @@ use Rattle.pq_store.specs.declared.store.Pair.{Pair}
 use Rattle.pq_store.specs.declared.store.StoreErr.{StoreErr}
 use Rattle.pq_store.specs.Content.{Content, key_cmp, entry, is_within, pairs_within, IsPartOf}
 use Rattle.pq_store.proofs.Places.{Pairs, turned, same_key, below_below}
-use Rattle.pq_parts.specs.Clips.{is_before}
-use Rattle.pq_parts.specs.Spans.{Span, is_of, meets, own, own_of, IsPieceOf}
+use Rattle.pq_parts.specs.Clips.{is_key_before}
+use Rattle.pq_parts.specs.Spans.{Span, is_of, span_meets, own_content, own_of, IsPieceOf}
 
 -- the later of two first keys
 abbrev pub later : List ℕ → List ℕ → List ℕ
@@ -39,7 +39,7 @@ later_le low from key le =
       | false ↦ λ _. refl
     ] refl
 
-earlier_lt : (high key : List ℕ) (until : Option (List ℕ)) → is_before key until ≡ true → is_lt (key_cmp key (earlier high until)) ≡ is_lt (key_cmp key high)
+earlier_lt : (high key : List ℕ) (until : Option (List ℕ)) → is_key_before key until ≡ true → is_lt (key_cmp key (earlier high until)) ≡ is_lt (key_cmp key high)
 earlier_lt high key None before = refl
 earlier_lt high key (Some end) before =
     elim (is_lt (key_cmp end high)) as (λ b. is_lt (key_cmp end high) ≡ b → is_lt (key_cmp key (cond b end high)) ≡ is_lt (key_cmp key high)) [
@@ -78,7 +78,7 @@ own_is span P (Some content) shows =
 -- a node that is asked between the clipped ends answers what the part has of the range
 pub own_met : (span : Span) (low high : List ℕ) (P : Pairs → Type 0)
     → IfSome span.held (λ content. P (pairs_within content (later low span.from) (earlier high span.until)))
-    → IfSome (own span) (λ mine. P (filter (is_within low high) mine))
+    → IfSome (own_content span) (λ mine. P (filter (is_within low high) mine))
 own_met span low high P asked = own_is span (λ mine. P (filter (is_within low high) mine)) span.held (clipped span.held asked)
   where
     clipped : (held : Option Content)
@@ -99,18 +99,18 @@ second_of_two true b is = is
 second_of_two false b is = absurd (cc)
 
 -- a part that has a pair of the range meets it
-met_by : (span : Span) (low high : List ℕ) (pair : List ℕ × List ℕ) → is_of span pair.0 ≡ true → is_within low high pair ≡ true → meets low high span ≡ true
+met_by : (span : Span) (low high : List ℕ) (pair : List ℕ × List ℕ) → is_of span pair.0 ≡ true → is_within low high pair ≡ true → span_meets low high span ≡ true
 met_by span low high pair of is =
     let from_low : is_le (key_cmp low pair.0) ≡ true = first_of_two _ _ is in
     let to_high : is_lt (key_cmp pair.0 high) ≡ true = second_of_two _ _ is in
     let from_part : is_le (key_cmp span.from pair.0) ≡ true = first_of_two _ _ of in
     three _ _ _ (le_lt low pair.0 high from_low to_high) (le_lt span.from pair.0 high from_part to_high) (ends span.until (second_of_two _ _ of) from_low)
   where
-    ends : (until : Option (List ℕ)) → is_before pair.0 until ≡ true → is_le (key_cmp low pair.0) ≡ true → is_before low until ≡ true
+    ends : (until : Option (List ℕ)) → is_key_before pair.0 until ≡ true → is_le (key_cmp low pair.0) ≡ true → is_key_before low until ≡ true
     ends None before from_low = refl
     ends (Some end) before from_low = le_lt low pair.0 end from_low before
 
-unmet_is : (span : Span) (low high : List ℕ) → meets low high span ≡ false → (pair : List ℕ × List ℕ) → is_of span pair.0 ≡ true → is_within low high pair ≡ false
+unmet_is : (span : Span) (low high : List ℕ) → span_meets low high span ≡ false → (pair : List ℕ × List ℕ) → is_of span pair.0 ≡ true → is_within low high pair ≡ false
 unmet_is span low high unmet pair of =
     elim (is_within low high pair) as (λ b. is_within low high pair ≡ b → b ≡ false) [
       | true ↦ λ is. sym (met_by span low high pair of is) ∙ unmet
@@ -118,7 +118,7 @@ unmet_is span low high unmet pair of =
     ] refl
 
 -- and has nothing of a range that it doesn't meet
-pub own_unmet : (span : Span) (low high : List ℕ) (P : Pairs → Type 0) → meets low high span ≡ false → P [] → IfSome (own span) (λ mine. P (filter (is_within low high) mine))
+pub own_unmet : (span : Span) (low high : List ℕ) (P : Pairs → Type 0) → span_meets low high span ≡ false → P [] → IfSome (own_content span) (λ mine. P (filter (is_within low high) mine))
 own_unmet span low high P unmet none = own_is span (λ mine. P (filter (is_within low high) mine)) span.held (nothing span.held)
   where
     nothing : (held : Option Content) → IfSome held (λ content. list_all (λ pair. is_of span pair.0) (entries content) ≡ true → P (filter (is_within low high) (entries content)))
@@ -128,13 +128,13 @@ own_unmet span low high P unmet none = own_is span (λ mine. P (filter (is_withi
 -- ---- what a node that was asked between the clipped ends has answered
 pub counted_within : (span : Span) (low high lo hi : List ℕ) (cap : ℕ) (result : Result ℕ StoreErr) → lo ≡ later low span.from → hi ≡ earlier high span.until
     → IfOk result (λ n. IfSome span.held (λ pairs. n ≡ min cap (length (pairs_within pairs lo hi))))
-    → IfOk result (λ n. IfSome (own span) (λ mine. n ≡ min cap (length (filter (is_within low high) mine))))
+    → IfOk result (λ n. IfSome (own_content span) (λ mine. n ≡ min cap (length (filter (is_within low high) mine))))
 counted_within span low high lo hi cap (Ok n) l h answer = own_met span low high (λ pairs. n ≡ min cap (length pairs)) (rw (← l, ← h) answer)
 counted_within span low high lo hi cap (Err e) l h answer = tt
 
 pub ranged_within : (span : Span) (low high lo hi : List ℕ) (limit : ℕ) (result : Result (List Pair) StoreErr) → lo ≡ later low span.from → hi ≡ earlier high span.until
     → IfOk result (λ found. IfSome span.held (λ pairs. map entry found ≡ take limit (pairs_within pairs lo hi)))
-    → IfOk result (λ found. IfSome (own span) (λ mine. map entry found ≡ take limit (filter (is_within low high) mine)))
+    → IfOk result (λ found. IfSome (own_content span) (λ mine. map entry found ≡ take limit (filter (is_within low high) mine)))
 ranged_within span low high lo hi limit (Ok found) l h answer = own_met span low high (λ pairs. map entry found ≡ take limit pairs) (rw (← l, ← h) answer)
 ranged_within span low high lo hi limit (Err e) l h answer = tt
 
@@ -148,7 +148,7 @@ from_later low from key =
       | false ↦ λ other le. (le, le_le from low key (not_lt low from other) le)
     ] refl
 
-before_earlier : (high key : List ℕ) (until : Option (List ℕ)) → is_lt (key_cmp key (earlier high until)) ≡ true → (is_lt (key_cmp key high) ≡ true) × (is_before key until ≡ true)
+before_earlier : (high key : List ℕ) (until : Option (List ℕ)) → is_lt (key_cmp key (earlier high until)) ≡ true → (is_lt (key_cmp key high) ≡ true) × (is_key_before key until ≡ true)
 before_earlier high key None lt = (lt, refl)
 before_earlier high key (Some end) lt =
     elim (is_lt (key_cmp end high)) as (λ b. is_lt (key_cmp end high) ≡ b → is_lt (key_cmp key (cond b end high)) ≡ true → (is_lt (key_cmp key high) ≡ true) × (is_lt (key_cmp key end) ≡ true)) [

@@ -13,8 +13,8 @@ use Rattle.pq_store.specs.Content.{Content, entry, ranged_entries, counted_entri
 use Rattle.pq_store.proofs.Places.{Pairs, is_below_all}
 use Rattle.pq_store.proofs.Views.{seen, seen_within}
 use Rattle.pq_parts.specs.declared.part.Part.{Part}
-use Rattle.pq_parts.specs.Clips.{is_before}
-use Rattle.pq_parts.specs.Spans.{Span, is_of, span_of, spans, first_from, meets, own, concatenation, joined_content, number_met, IsPieceOf, IsPlacement}
+use Rattle.pq_parts.specs.Clips.{is_key_before}
+use Rattle.pq_parts.specs.Spans.{Span, is_of, span_of, spans, first_from, span_meets, own_content, concatenation, joined_content, number_met, IsPieceOf, IsPlacement}
 use Rattle.pq_parts.specs.Tally.{TalliedCalls, HasAsked}
 use Rattle.pq_parts.specs.Gathered.{begin_of, LinkedSpans, HasCome, LeavesRange, IsGathered, IsPieceAt, IsCountAt}
 use Rattle.pq_parts.proofs.Clips.{lt_le, lt_is_le, second_of_two, first_of_two}
@@ -30,7 +30,7 @@ linked_drop (span ∷ list) links zero = links
 linked_drop (span ∷ list) (link _ _ until ahead links) (suc at) = linked_drop list links at
 
 -- how the part at the place is linked
-ahead_of : (span : Span) (list : List Span) → LinkedSpans (span ∷ list) → (span.until ≡ begin_of list) × (is_before span.from span.until ≡ true)
+ahead_of : (span : Span) (list : List Span) → LinkedSpans (span ∷ list) → (span.until ≡ begin_of list) × (is_key_before span.from span.until ≡ true)
 ahead_of span list (link _ _ until ahead links) = (until, ahead)
 
 -- ---- the nodes that were called
@@ -38,7 +38,7 @@ zero_more : (a b : ℕ) → a + b ≡ 0 + a + b
 zero_more a b = omega arith
 
 met_cons : (low high : List ℕ) (span : Span) (rest : List Span) → number_met low high (span ∷ rest) ≡ number_met low high (span ∷ []) + number_met low high rest
-met_cons low high span rest = sum_by-cons (λ s. cond (meets low high s) 1 0) span rest ∙ zero_more (cond (meets low high span) 1 0) (number_met low high rest)
+met_cons low high span rest = sum_by-cons (λ s. cond (span_meets low high s) 1 0) span rest ∙ zero_more (cond (span_meets low high span) 1 0) (number_met low high rest)
 
 come_more : (list : List Span) (before mid now : TalliedCalls) (at : ℕ) (low high : List ℕ) (n more limit : ℕ) (span : Span) {A : Type 0} (x : A) → drop at list ≡ span ∷ drop (at + 1) list
     → HasCome list before mid at low high n → HasAsked {A = A} mid now (number_met low high (span ∷ [])) limit more (Ok x) → HasCome list before now (at + 1) low high (n + more)
@@ -79,35 +79,35 @@ take_more (suc n) (x ∷ xs) ys =
 -- what is found stands before what the part at the place has
 passed_apart : (span : Span) (found piece : Pairs) → list_all (λ pair. is_lt (key_cmp pair.0 span.from)) found ≡ true → All (λ pair. is_of span pair.0 ≡ true) piece
     → IsTrue (list_all (λ pair. is_below_all pair.0 piece) found)
-passed_apart span [] piece passed own = refl
-passed_apart span (x ∷ found) piece passed own =
-    let here = below piece own in
-    let rest = passed_apart span found piece (second_of_two _ _ passed) own in
+passed_apart span [] piece passed own_content = refl
+passed_apart span (x ∷ found) piece passed own_content =
+    let here = below piece own_content in
+    let rest = passed_apart span found piece (second_of_two _ _ passed) own_content in
     rw (here, rest) refl
   where
     below : (piece : Pairs) → All (λ pair. is_of span pair.0 ≡ true) piece → IsTrue (is_below_all x.0 piece)
-    below [] own = refl
-    below (y ∷ piece) own =
-        let one : is_of span y.0 ≡ true = own zero y (omega arith) in
+    below [] own_content = refl
+    below (y ∷ piece) own_content =
+        let one : is_of span y.0 ≡ true = own_content zero y (omega arith) in
         let less : is_lt (key_cmp x.0 y.0) ≡ true = lt_le x.0 span.from y.0 (first_of_two _ _ passed) (first_of_two _ _ one) in
-        let rest = below piece (λ k d lt. own (suc k) d (omega arith)) in
+        let rest = below piece (λ k d lt. own_content (suc k) d (omega arith)) in
         rw (less, rest) refl
 
-passed_on : (span : Span) (next : Option (List ℕ)) → span.until ≡ next → is_before span.from span.until ≡ true → (found piece : Pairs)
+passed_on : (span : Span) (next : Option (List ℕ)) → span.until ≡ next → is_key_before span.from span.until ≡ true → (found piece : Pairs)
     → list_all (λ pair. is_lt (key_cmp pair.0 span.from)) found ≡ true → All (λ pair. is_of span pair.0 ≡ true) piece
-    → list_all (λ pair. is_before pair.0 next) (found ++ piece) ≡ true
-passed_on span next until ahead [] [] passed own = refl
-passed_on span next until ahead [] (y ∷ piece) passed own =
-    let one : is_of span y.0 ≡ true = own zero y (omega arith) in
-    let here : is_before y.0 next ≡ true = rw (← until) (second_of_two _ _ one) in
-    let rest = passed_on span next until ahead [] piece refl (λ k d lt. own (suc k) d (omega arith)) in
+    → list_all (λ pair. is_key_before pair.0 next) (found ++ piece) ≡ true
+passed_on span next until ahead [] [] passed own_content = refl
+passed_on span next until ahead [] (y ∷ piece) passed own_content =
+    let one : is_of span y.0 ≡ true = own_content zero y (omega arith) in
+    let here : is_key_before y.0 next ≡ true = rw (← until) (second_of_two _ _ one) in
+    let rest = passed_on span next until ahead [] piece refl (λ k d lt. own_content (suc k) d (omega arith)) in
     rw (here, rest) refl
-passed_on span next until ahead (x ∷ found) piece passed own =
-    let here : is_before x.0 next ≡ true = rw (← until) (past x.0 span.until (first_of_two _ _ passed) ahead) in
-    let rest = passed_on span next until ahead found piece (second_of_two _ _ passed) own in
+passed_on span next until ahead (x ∷ found) piece passed own_content =
+    let here : is_key_before x.0 next ≡ true = rw (← until) (past x.0 span.until (first_of_two _ _ passed) ahead) in
+    let rest = passed_on span next until ahead found piece (second_of_two _ _ passed) own_content in
     rw (here, rest) refl
   where
-    past : (key : List ℕ) (until : Option (List ℕ)) → is_lt (key_cmp key span.from) ≡ true → is_before span.from until ≡ true → is_before key until ≡ true
+    past : (key : List ℕ) (until : Option (List ℕ)) → is_lt (key_cmp key span.from) ≡ true → is_key_before span.from until ≡ true → is_key_before key until ≡ true
     past key None less ahead = refl
     past key (Some end) less ahead = lt_le key span.from end less (lt_is_le span.from end ahead)
 
@@ -115,7 +115,7 @@ pub gather_more : (list : List Span) → LinkedSpans list → (before mid now : 
     → drop at list ≡ span ∷ drop (at + 1) list → IsGathered list before mid at low high limit found
     → HasAsked {A = A} mid now (number_met low high (span ∷ [])) (limit - length found) (length piece) (Ok x)
     → IsPieceOf span low high (limit - length found) piece
-    → IfSome (own span) (λ mine. piece ≡ take (limit - length found) (filter (is_within low high) mine))
+    → IfSome (own_content span) (λ mine. piece ≡ take (limit - length found) (filter (is_within low high) mine))
     → IsGathered list before now (at + 1) low high limit (found ++ piece)
 gather_more list links before mid now at low high limit found piece span x cut gathered asked pieces answered =
     let passed : list_all (λ pair. is_lt (key_cmp pair.0 span.from)) found ≡ true = rw cut at gathered.passed in
@@ -133,7 +133,7 @@ gather_more list links before mid now at low high limit found piece span x cut g
   where
     more : (pairs : Pairs) → LeavesRange list at low high limit found pairs → LeavesRange list (at + 1) low high limit (found ++ piece) pairs
     more pairs leaves =
-        let parts = both (own span) (concatenation (drop (at + 1) list)) leaves.rest (rw cut at leaves.behind) in
+        let parts = both (own_content span) (concatenation (drop (at + 1) list)) leaves.rest (rw cut at leaves.behind) in
         let mine : piece ≡ take (limit - length found) (filter (is_within low high) parts.front) = rw parts.first_is at answered in
         record {
           rest = parts.behind;
@@ -192,7 +192,7 @@ pub record IsCounted (spans : List Span) (before now : TalliedCalls) (at : ℕ) 
 pub count_more : (list : List Span) → (before mid now : TalliedCalls) (at : ℕ) (low high : List ℕ) (cap n more : ℕ) (span : Span) {A : Type 0} (x : A)
     → drop at list ≡ span ∷ drop (at + 1) list → IsCounted list before mid at low high cap n
     → HasAsked {A = A} mid now (number_met low high (span ∷ [])) (cap - n) more (Ok x) → more ≤ cap - n
-    → IfSome (own span) (λ mine. more ≡ min (cap - n) (length (filter (is_within low high) mine)))
+    → IfSome (own_content span) (λ mine. more ≡ min (cap - n) (length (filter (is_within low high) mine)))
     → IsCounted list before now (at + 1) low high cap (n + more)
 count_more list before mid now at low high cap n more span x cut counted asked few answered = record {
   come = come_more list before mid now at low high n more (cap - n) span x cut counted.come asked;
@@ -202,7 +202,7 @@ count_more list before mid now at low high cap n more span x cut counted asked f
   where
     next : (pairs : Pairs) → LeavesCount list at low high cap n pairs → LeavesCount list (at + 1) low high cap (n + more) pairs
     next pairs leaves =
-        let parts = both (own span) (concatenation (drop (at + 1) list)) leaves.rest (rw cut at leaves.behind) in
+        let parts = both (own_content span) (concatenation (drop (at + 1) list)) leaves.rest (rw cut at leaves.behind) in
         let mine : more ≡ min (cap - n) (length (filter (is_within low high) parts.front)) = rw parts.first_is at answered in
         let lengths : length (filter (is_within low high) leaves.rest) ≡ length (filter (is_within low high) parts.front) + length (filter (is_within low high) parts.behind) =
         ap (λ rest. length (filter (is_within low high) rest)) parts.all_is ∙ ap length (filter-append (is_within low high) parts.front parts.behind) ∙ length-append _ _ in
@@ -272,14 +272,14 @@ module _ {S : Type 0} (content : S → Option Content) (parts : List (Part S)) (
   pub piece_here : (low high : List ℕ) (limit : ℕ) (before now : TalliedCalls) (result : Result (List Pair) StoreErr)
       → HasAsked before now (number_met low high (span_of content part until ∷ [])) limit (ranged_entries result) result
       → IfOk result (λ found. IsPieceOf (span_of content part until) low high limit (map entry found))
-      → IfOk result (λ found. IfSome (own (span_of content part until)) (λ mine. map entry found ≡ take limit (filter (is_within low high) mine)))
+      → IfOk result (λ found. IfSome (own_content (span_of content part until)) (λ mine. map entry found ≡ take limit (filter (is_within low high) mine)))
       → IsPieceAt (spans content parts) at low high limit before now result
   piece_here low high limit before now result asked piece answer = record { links = linked content parts placed.rising; span = span_of content part until; cut = cut_here; asked = asked; piece = piece; answer = answer }
 
   pub count_here : (low high : List ℕ) (cap : ℕ) (before now : TalliedCalls) (result : Result ℕ StoreErr)
       → HasAsked before now (number_met low high (span_of content part until ∷ [])) cap (counted_entries result) result
       → IfOk result (λ n. n ≤ cap)
-      → IfOk result (λ n. IfSome (own (span_of content part until)) (λ mine. n ≡ min cap (length (filter (is_within low high) mine))))
+      → IfOk result (λ n. IfSome (own_content (span_of content part until)) (λ mine. n ≡ min cap (length (filter (is_within low high) mine))))
       → IsCountAt (spans content parts) at low high cap before now result
   count_here low high cap before now result asked few answer = record { span = span_of content part until; cut = cut_here; asked = asked; few = few; answer = answer }
 

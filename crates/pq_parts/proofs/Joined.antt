@@ -11,8 +11,8 @@ use Rattle.pq_store.proofs.Places.{Pairs, is_below_all, first_below, rest_rises}
 use Rattle.pq_store.proofs.Views.{seen, seen_get}
 use Rattle.pq_store.proofs.Uses.{rises}
 use Rattle.pq_parts.specs.declared.part.Part.{Part}
-use Rattle.pq_parts.specs.Clips.{is_before}
-use Rattle.pq_parts.specs.Spans.{Span, is_of, spans, own, own_of, followed_by, concatenation, joined_content, first_from, firsts, are_rising, has_key}
+use Rattle.pq_parts.specs.Clips.{is_key_before}
+use Rattle.pq_parts.specs.Spans.{Span, is_of, spans, own_content, own_of, followed_by, concatenation, joined_content, first_from, firsts, are_rising, part_has_key}
 use Rattle.pq_parts.specs.Gathered.{begin_of, LinkedSpans}
 use Rattle.pq_parts.specs.Gathered.LinkedSpans.{none, link}
 use Rattle.pq_parts.proofs.Clips.{lt_le, lt_is_le, first_of_two, second_of_two}
@@ -28,7 +28,7 @@ linked {S = S} content (part ∷ parts) up =
     link _ (spans content parts) (sym (begins_first content parts)) (ahead parts (first_below (part.from, []) (firsts parts) up))
     (linked content parts (rest_rises (part.from, []) (firsts parts) up))
   where
-    ahead : (rest : List (Part S)) → IsTrue (is_below_all part.from (firsts rest)) → is_before part.from (first_from rest) ≡ true
+    ahead : (rest : List (Part S)) → IsTrue (is_below_all part.from (firsts rest)) → is_key_before part.from (first_from rest) ≡ true
     ahead [] below = refl
     ahead (next ∷ rest) below = first_of_two _ _ below
 
@@ -51,26 +51,26 @@ pub record Owns (span : Span) (mine : Pairs) : Type 0 where
   pub mine_is : mine ≡ map.entries content
   pub all : list_all (λ pair. is_of span pair.0) (map.entries content) ≡ true
 
-pub owns : (span : Span) (mine : Pairs) → own span ≡ Some mine → Owns span mine
+pub owns : (span : Span) (mine : Pairs) → own_content span ≡ Some mine → Owns span mine
 owns span mine is = go span.held refl is
   where
     go : (held : Option Content) → span.held ≡ held → option_and_then (own_of span) held ≡ Some mine → Owns span mine
     go None held is = absurd (cc)
     go (Some content) held is =
         elim (list_all (λ pair. is_of span pair.0) (map.entries content)) as (λ b. list_all (λ pair. is_of span pair.0) (map.entries content) ≡ b → cond b (Some (map.entries content)) None ≡ Some mine → Owns span mine) [
-          | true ↦ λ all own. record { content = content; held_is = held; mine_is = cc; all = all }
-          | false ↦ λ all own. absurd (cc)
+          | true ↦ λ all own_content. record { content = content; held_is = held; mine_is = cc; all = all }
+          | false ↦ λ all own_content. absurd (cc)
         ] refl is
 
 -- a key below where the parts begin is below all that they hold
-pub behind_all : (key : List ℕ) (list : List Span) → LinkedSpans list → is_before key (begin_of list) ≡ true → (pairs : Pairs) → concatenation list ≡ Some pairs → IsTrue (is_below_all key pairs)
+pub behind_all : (key : List ℕ) (list : List Span) → LinkedSpans list → is_key_before key (begin_of list) ≡ true → (pairs : Pairs) → concatenation list ≡ Some pairs → IsTrue (is_below_all key pairs)
 behind_all key [] none before pairs is = let e : pairs ≡ [] = cc in rw e refl
 behind_all key (span ∷ list) (link _ _ until ahead linked) before pairs is =
-    let parts = both (own span) (concatenation list) pairs is in
+    let parts = both (own_content span) (concatenation list) pairs is in
     let mine = owns span parts.front parts.first_is in
     rw (parts.all_is, mine.mine_is) (over (map.entries mine.content) parts.behind mine.all (behind_all key list linked (past span.until ahead until) parts.behind parts.rest_is))
   where
-    past : (until : Option (List ℕ)) → is_before span.from until ≡ true → until ≡ begin_of list → is_before key (begin_of list) ≡ true
+    past : (until : Option (List ℕ)) → is_key_before span.from until ≡ true → until ≡ begin_of list → is_key_before key (begin_of list) ≡ true
     past None ahead until = rw (← until) refl
     past (Some end) ahead until = rw (← until) (lt_le key span.from end before (lt_is_le span.from end ahead))
 
@@ -82,12 +82,12 @@ behind_all key (span ∷ list) (link _ _ until ahead linked) before pairs is =
 pub all_rise : (list : List Span) → LinkedSpans list → (pairs : Pairs) → concatenation list ≡ Some pairs → IsTrue (is_rising pairs)
 all_rise [] none pairs is = let e : pairs ≡ [] = cc in rw e refl
 all_rise (span ∷ list) (link _ _ until ahead linked) pairs is =
-    let parts = both (own span) (concatenation list) pairs is in
+    let parts = both (own_content span) (concatenation list) pairs is in
     let mine = owns span parts.front parts.first_is in
     rw (parts.all_is, mine.mine_is) (rising_both (map.entries mine.content) parts.behind (rises mine.content) (all_rise list linked parts.behind parts.rest_is)
     (apart (map.entries mine.content) parts.behind mine.all (λ key before. behind_all key list linked (rw (← until) before) parts.behind parts.rest_is)))
   where
-    apart : (xs ys : Pairs) → list_all (λ pair. is_of span pair.0) xs ≡ true → ((key : List ℕ) → is_before key span.until ≡ true → IsTrue (is_below_all key ys)) → IsTrue (list_all (λ pair. is_below_all pair.0 ys) xs)
+    apart : (xs ys : Pairs) → list_all (λ pair. is_of span pair.0) xs ≡ true → ((key : List ℕ) → is_key_before key span.until ≡ true → IsTrue (is_below_all key ys)) → IsTrue (list_all (λ pair. is_below_all pair.0 ys) xs)
     apart [] ys all below = refl
     apart (x ∷ xs) ys all below =
         let here = below x.0 (second_of_two _ _ (first_of_two _ _ all)) in
@@ -98,7 +98,7 @@ all_rise (span ∷ list) (link _ _ until ahead linked) pairs is =
 front_before : (span : Span) (key end : List ℕ) → span.until ≡ Some end → is_le (key_cmp end key) ≡ true → (xs : Pairs) → list_all (λ pair. is_of span pair.0) xs ≡ true → IsTrue (are_before key xs)
 front_before span key end until le [] all = refl
 front_before span key end until le (x ∷ xs) all =
-    let before : is_lt (key_cmp x.0 end) ≡ true = subst (λ until. is_before x.0 until ≡ true) until (second_of_two _ _ (first_of_two _ _ all)) in
+    let before : is_lt (key_cmp x.0 end) ≡ true = subst (λ until. is_key_before x.0 until ≡ true) until (second_of_two _ _ (first_of_two _ _ all)) in
     let here : is_lt (key_cmp x.0 key) ≡ true = lt_le x.0 end key before le in
     let rest = front_before span key end until le xs (second_of_two _ _ all) in
     rw (here, rest) refl
@@ -110,7 +110,7 @@ has_at [] at key = false
 has_at (span ∷ list) zero key = is_of span key
 has_at (span ∷ list) (suc at) key = has_at list at key
 
-pub has_span : {S : Type 0} (content : S → Option Content) (parts : List (Part S)) (at : ℕ) (key : List ℕ) → IsTrue (has_key parts at key) → IsTrue (has_at (spans content parts) at key)
+pub has_span : {S : Type 0} (content : S → Option Content) (parts : List (Part S)) (at : ℕ) (key : List ℕ) → IsTrue (part_has_key parts at key) → IsTrue (has_at (spans content parts) at key)
 has_span content [] at key has = has
 has_span content (part ∷ parts) zero key has = has
 has_span content (part ∷ parts) (suc at) key has = has_span content parts at key has
@@ -121,7 +121,7 @@ begins_until [] none at key has until is = absurd (cc)
 begins_until (span ∷ list) (link _ _ ends ahead linked) zero key has until is = (span.from, is, first_of_two _ _ has)
 begins_until (span ∷ list) (link _ _ ends ahead linked) (suc at) key has until is =
     let next = begins_until list linked at key has span.until ends in
-    let less : is_lt (key_cmp span.from next.0) ≡ true = subst (λ until. is_before span.from until ≡ true) next.1 ahead in
+    let less : is_lt (key_cmp span.from next.0) ≡ true = subst (λ until. is_key_before span.from until ≡ true) next.1 ahead in
     (span.from, is, lt_is_le span.from key (lt_le span.from next.0 key less next.2))
 
 -- what the part has at the key is what all have
@@ -129,7 +129,7 @@ pub found_at : (list : List Span) → LinkedSpans list → (at : ℕ) (key : Lis
     → (pairs : Pairs) → concatenation list ≡ Some pairs → (content : Content) × (span.held ≡ Some content) × (find key_cmp key pairs ≡ map.get content key)
 found_at [] none at key has span here pairs is = absurd (cc)
 found_at (first ∷ list) (link _ _ until ahead linked) zero key has span here pairs is =
-    let parts = both (own first) (concatenation list) pairs is in
+    let parts = both (own_content first) (concatenation list) pairs is in
     let mine = owns first parts.front parts.first_is in
     let below = behind_all key list linked (rw (← until) (second_of_two _ _ has)) parts.behind parts.rest_is in (
       mine.content,
@@ -137,7 +137,7 @@ found_at (first ∷ list) (link _ _ until ahead linked) zero key has span here p
       ap (find key_cmp key) (parts.all_is ∙ ap (λ front. front ++ parts.behind) mine.mine_is) ∙ find_over key (map.entries mine.content) parts.behind below ∙ sym (map.get-entries mine.content key),
     )
 found_at (first ∷ list) (link _ _ until ahead linked) (suc at) key has span here pairs is =
-    let parts = both (own first) (concatenation list) pairs is in
+    let parts = both (own_content first) (concatenation list) pairs is in
     let mine = owns first parts.front parts.first_is in
     let ends = begins_until list linked at key has first.until until in
     let next = found_at list linked at key has span here parts.behind parts.rest_is in (
@@ -184,7 +184,7 @@ module _ (guard : Guard) (key : List ℕ) (new : Option (List ℕ)) where
       ap Some (sym (changed_over guard key new front behind (behind_all key list linked (rw (← until) (second_of_two _ _ of)) behind is)))
 
   written_behind : (span : Span) (list : List Span) → LinkedSpans (span ∷ list) → (at : ℕ) → IsTrue (has_at list at key)
-      → (mine : Option Pairs) → own span ≡ mine → (rest : Option Pairs)
+      → (mine : Option Pairs) → own_content span ≡ mine → (rest : Option Pairs)
       → followed_by mine (option_map (changed guard key new) rest) ≡ option_map (changed guard key new) (followed_by mine rest)
   written_behind span list links at has None is rest = refl
   written_behind span list links at has (Some front) is None = refl
@@ -199,10 +199,10 @@ module _ (guard : Guard) (key : List ℕ) (new : Option (List ℕ)) where
       → concatenation (with_held list at held) ≡ option_map (changed guard key new) (concatenation list)
   written_at [] none at has span here held is = absurd (cc)
   written_at (first ∷ list) links zero has span here held is =
-      ap (λ own. followed_by own (concatenation list)) (ap (option_and_then (own_of first)) (is ∙ ap (λ s. option_map (after_write guard key new) s.held) here) ∙ own_written first has first.held)
-      ∙ written_first first list links has (own first) (concatenation list) refl
+      ap (λ own_content. followed_by own_content (concatenation list)) (ap (option_and_then (own_of first)) (is ∙ ap (λ s. option_map (after_write guard key new) s.held) here) ∙ own_written first has first.held)
+      ∙ written_first first list links has (own_content first) (concatenation list) refl
   written_at (first ∷ list) (link _ _ until ahead linked) (suc at) has span here held is =
-      ap (followed_by (own first)) (written_at list linked at has span here held is) ∙ written_behind first list (link first list until ahead linked) at has (own first) refl (concatenation list)
+      ap (followed_by (own_content first)) (written_at list linked at has span here held is) ∙ written_behind first list (link first list until ahead linked) at has (own_content first) refl (concatenation list)
 
   pub joined_written : (list : List Span) → LinkedSpans list → (at : ℕ) → IsTrue (has_at list at key) → (span : Span) → span ≡ get_or list at span
       → (held : Option Content) → held ≡ option_map (after_write guard key new) span.held

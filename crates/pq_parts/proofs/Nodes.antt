@@ -10,7 +10,7 @@ use Rattle.pq_store.specs.declared.store.StoreErr.{StoreErr}
 use Rattle.pq_store.specs.Content.{Content, after_write, HasRisen, HasCause}
 use Rattle.pq_parts.specs.declared.part.Part.{Part}
 use Rattle.pq_parts.specs.Tally.{raised_number}
-use Rattle.pq_parts.specs.Spans.{span_of, spans, joined_content, first_from, firsts, has_key, IsPlacement, faults_of}
+use Rattle.pq_parts.specs.Spans.{span_of, spans, joined_content, first_from, firsts, part_has_key, IsPlacement, faults_of}
 use Rattle.pq_parts.proofs.Joined.{linked, has_span, answer_at, with_held, joined_written}
 
 -- the part with another node
@@ -97,7 +97,7 @@ span_here content [] at part within here = absurd (omega arith)
 span_here content (first ∷ parts) zero part within here = (first_from parts, ap (λ p. span_of content p (first_from parts)) here)
 span_here content (first ∷ parts) (suc at) part within here = span_here content parts at part (omega arith) here
 
-module _ {S : Type 0} (content : S → Option Content) (parts : List (Part S)) (placed : IsPlacement parts) (at : ℕ) (key : List ℕ) (has : IsTrue (has_key parts at key))
+module _ {S : Type 0} (content : S → Option Content) (parts : List (Part S)) (placed : IsPlacement parts) (at : ℕ) (key : List ℕ) (has : IsTrue (part_has_key parts at key))
     (within : at < length parts) (part : Part S) (here : part ≡ get_or parts at part) where
   -- an answer of the node that has the key is one of the whole
   pub answer_set : {A : Type 0} (P : A → Option (List ℕ) → Type 0) (result : Result A StoreErr) → IfOk result (λ x. IfSome (content part.store) (λ c. P x (get c key)))

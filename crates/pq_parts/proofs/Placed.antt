@@ -5,7 +5,7 @@ use Rattle.std.specs.List.Sorted.{IsPartitionedBy}
 use Rattle.pq_store.specs.Content.{key_cmp}
 use Rattle.pq_store.proofs.Places.{is_below_all, turned, first_below, rest_rises}
 use Rattle.pq_parts.specs.declared.part.Part.{Part}
-use Rattle.pq_parts.specs.Spans.{first_from, firsts, are_rising, has_key}
+use Rattle.pq_parts.specs.Spans.{first_from, firsts, are_rising, part_has_key}
 use Rattle.pq_parts.proofs.Clips.{lt_le, lt_is_le}
 
 -- the parts behind begin above a smaller key
@@ -33,7 +33,7 @@ not_le a b above = grind (arith, above, turned b a)
 has_at : {S : Type 0} (key : List ℕ) (parts : List (Part S)) (at : ℕ) → at < length parts
     → ((d : Part S) → is_le (key_cmp (get_or parts at d).from key) ≡ true)
     → ((k : ℕ) (d : Part S) → k ≡ at + 1 → k < length parts → is_le (key_cmp (get_or parts k d).from key) ≡ false)
-    → IsTrue (has_key parts at key)
+    → IsTrue (part_has_key parts at key)
 has_at key [] at within from behind = absurd (omega arith)
 has_at key (part ∷ []) zero within from behind = rw (from part) refl
 has_at key (part ∷ next ∷ parts) zero within from behind = rw (from part, not_le next.from key (behind (suc zero) part (omega arith) (omega arith))) refl
@@ -53,7 +53,7 @@ some_begins key (part ∷ parts) (suc at) first after = omega arith
 pub place_has : {S : Type 0} (key : List ℕ) (parts : List (Part S)) (at : ℕ) → at ≤ length parts → first_from parts ≡ Some []
     → ((j : ℕ) (d : Part S) → j < at → is_le (key_cmp (get_or parts j d).from key) ≡ true)
     → ((j : ℕ) (d : Part S) → at ≤ j → j < length parts → is_le (key_cmp (get_or parts j d).from key) ≡ false)
-    → IsTrue (has_key parts (at - 1) key)
+    → IsTrue (part_has_key parts (at - 1) key)
 place_has key parts at within first before after =
     let some = some_begins key parts at first after in
     has_at key parts (at - 1) (omega arith) (λ d. before (at - 1) d (omega arith)) (λ k d e lt. after k d (omega arith) lt)

@@ -4,6 +4,6 @@ use Rattle.std.specs.Ordering.{is_lt}
 use Rattle.pq_store.specs.Content.{key_cmp}
 
 -- the key stands before the end, where there is one
-abbrev pub is_before : List ℕ → Option (List ℕ) → Bool
-is_before key None = true
-is_before key (Some end) = is_lt (key_cmp key end)
+abbrev pub is_key_before : List ℕ → Option (List ℕ) → Bool
+is_key_before key None = true
+is_key_before key (Some end) = is_lt (key_cmp key end)

@@ -4,8 +4,8 @@ use Rattle.std.specs.List.{list_all}
 use Rattle.pq_store.specs.declared.store.Pair.{Pair}
 use Rattle.pq_store.specs.declared.store.StoreErr.{StoreErr}
 use Rattle.pq_store.specs.Content.{entry, is_within, ranged_entries, counted_entries, IsPartOf}
-use Rattle.pq_parts.specs.Clips.{is_before}
-use Rattle.pq_parts.specs.Spans.{Span, number_met, own, concatenation, IsPieceOf}
+use Rattle.pq_parts.specs.Clips.{is_key_before}
+use Rattle.pq_parts.specs.Spans.{Span, number_met, own_content, concatenation, IsPieceOf}
 use Rattle.pq_parts.specs.Tally.{TalliedCalls, HasCalled, HasAsked}
 
 -- where the first of the parts begins
@@ -16,11 +16,12 @@ begin_of (span ∷ spans) = Some span.from
 -- each part ends where the next one begins, behind where it begins itself
 pub data LinkedSpans : List Span → Type 0 where
   none : LinkedSpans []
-  link : (span : Span) (spans : List Span) → span.until ≡ begin_of spans → is_before span.from span.until ≡ true
+  link : (span : Span) (spans : List Span) → span.until ≡ begin_of spans → is_key_before span.from span.until ≡ true
       → LinkedSpans spans → LinkedSpans (span ∷ spans)
 
 -- nodes of the parts before the place were called
-pub record HasCome (spans : List Span) (before now : TalliedCalls) (at : ℕ) (low high : List ℕ) (found : ℕ) : Type 0 where
+pub record HasCome (spans : List Span) (before now : TalliedCalls) (at : ℕ) (low high : List ℕ) (found : ℕ) :
+    Type 0 where
   pub met : ℕ
   pub left : met + number_met low high (drop at spans) ≡ number_met low high spans
   pub called : HasCalled before now met found
@@ -33,7 +34,7 @@ pub record IsPieceAt (spans : List Span) (at : ℕ) (low high : List ℕ) (limit
   pub cut : drop at spans ≡ span ∷ drop (at + 1) spans
   pub asked : HasAsked before now (number_met low high (span ∷ [])) limit (ranged_entries result) result
   pub piece : IfOk result (λ found. IsPieceOf span low high limit (map entry found))
-  pub answer : IfOk result (λ found. IfSome (own span)
+  pub answer : IfOk result (λ found. IfSome (own_content span)
       (λ mine. map entry found ≡ take limit (filter (is_within low high) mine)))
 
 -- and to a count
@@ -43,7 +44,8 @@ pub record IsCountAt (spans : List Span) (at : ℕ) (low high : List ℕ) (cap :
   pub cut : drop at spans ≡ span ∷ drop (at + 1) spans
   pub asked : HasAsked before now (number_met low high (span ∷ [])) cap (counted_entries result) result
   pub few : IfOk result (λ n. n ≤ cap)
-  pub answer : IfOk result (λ n. IfSome (own span) (λ mine. n ≡ min cap (length (filter (is_within low high) mine))))
+  pub answer : IfOk result (λ n. IfSome (own_content span)
+      (λ mine. n ≡ min cap (length (filter (is_within low high) mine))))
 
 -- the parts from the place on have the rest of the range
 pub record LeavesRange (spans : List Span) (at : ℕ) (low high : List ℕ) (limit : ℕ)
@@ -58,6 +60,6 @@ pub record IsGathered (spans : List Span) (before now : TalliedCalls) (at : ℕ)
     (found : List (List ℕ × List ℕ)) : Type 0 where
   pub come : HasCome spans before now at low high (length found)
   pub part : IsPartOf low high limit found
-  pub passed : list_all (λ pair. is_before pair.0 (begin_of (drop at spans))) found ≡ true
+  pub passed : list_all (λ pair. is_key_before pair.0 (begin_of (drop at spans))) found ≡ true
   pub answer : (pairs : List (List ℕ × List ℕ)) → concatenation spans ≡ Some pairs
       → LeavesRange spans at low high limit found pairs

@@ -7,7 +7,7 @@ use Rattle.std.specs.Ordering.{is_lt, is_le}
 use Rattle.std.specs.FinMap.{entries, from_sorted}
 use Rattle.pq_store.specs.Content.{Content, key_cmp, is_rising, IsPartOf}
 use Rattle.pq_parts.specs.declared.part.Part.{Part}
-use Rattle.pq_parts.specs.Clips.{is_before}
+use Rattle.pq_parts.specs.Clips.{is_key_before}
 use Rattle.pq_parts.specs.Tally.{TalliedCalls, raised_number}
 
 -- the keys of one part, and what its node tells
@@ -18,15 +18,15 @@ pub record Span : Type 0 where
 
 -- the key is one of the part
 abbrev pub is_of : Span → List ℕ → Bool
-is_of span key = is_le (key_cmp span.from key) && is_before key span.until
+is_of span key = is_le (key_cmp span.from key) && is_key_before key span.until
 
 -- the part has a key of the range
-abbrev pub meets : List ℕ → List ℕ → Span → Bool
-meets low high span = is_lt (key_cmp low high) && (is_lt (key_cmp span.from high) && is_before low span.until)
+abbrev pub span_meets : List ℕ → List ℕ → Span → Bool
+span_meets low high span = is_lt (key_cmp low high) && (is_lt (key_cmp span.from high) && is_key_before low span.until)
 
 -- how many parts have keys of the range
 abbrev pub number_met : List ℕ → List ℕ → List Span → ℕ
-number_met low high spans = count_by (meets low high) spans
+number_met low high spans = count_by (span_meets low high) spans
 
 -- where the first part begins
 abbrev pub first_from : {S : Type 0} → List (Part S) → Option (List ℕ)
@@ -42,17 +42,17 @@ spans content [] = []
 spans content (part ∷ parts) = span_of content part (first_from parts) ∷ spans content parts
 
 -- the key is one of the part at this place
-abbrev pub has_key : {S : Type 0} → List (Part S) → ℕ → List ℕ → Bool
-has_key [] at key = false
-has_key (part ∷ parts) zero key = is_le (key_cmp part.from key) && is_before key (first_from parts)
-has_key (part ∷ parts) (suc at) key = has_key parts at key
+abbrev pub part_has_key : {S : Type 0} → List (Part S) → ℕ → List ℕ → Bool
+part_has_key [] at key = false
+part_has_key (part ∷ parts) zero key = is_le (key_cmp part.from key) && is_key_before key (first_from parts)
+part_has_key (part ∷ parts) (suc at) key = part_has_key parts at key
 
 abbrev pub own_of : Span → Content → Option (List (List ℕ × List ℕ))
 own_of span content = if list_all (λ pair. is_of span pair.0) (entries content) then Some (entries content) else None
 
 -- the node's pairs, where it tells them and all are of its part
-abbrev pub own : Span → Option (List (List ℕ × List ℕ))
-own span = option_and_then (own_of span) span.held
+abbrev pub own_content : Span → Option (List (List ℕ × List ℕ))
+own_content span = option_and_then (own_of span) span.held
 
 abbrev pub followed_by : Option (List (List ℕ × List ℕ)) → Option (List (List ℕ × List ℕ))
     → Option (List (List ℕ × List ℕ))
@@ -63,7 +63,7 @@ followed_by (Some pairs) (Some rest) = Some (pairs ++ rest)
 -- the pairs of all parts in order, where each has its own
 abbrev pub concatenation : List Span → Option (List (List ℕ × List ℕ))
 concatenation [] = Some []
-concatenation (span ∷ spans) = followed_by (own span) (concatenation spans)
+concatenation (span ∷ spans) = followed_by (own_content span) (concatenation spans)
 
 -- pairs of the part that lie in the range, in order and at most so many
 pub record IsPieceOf (span : Span) (low high : List ℕ) (limit : ℕ) (pairs : List (List ℕ × List ℕ)) : Type 0 where

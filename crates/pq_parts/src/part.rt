@@ -20,11 +20,11 @@ pub struct Part<S> {
 }
 
 impl<S> Part<S> {
-    ghost use Rattle.pq_parts.specs.Spans.{span_of, meets, own, number_met, IsPieceOf};
+    ghost use Rattle.pq_parts.specs.Spans.{span_of, span_meets, own_content, number_met, IsPieceOf};
 
     // Whether the part, which ends before the next one's first key, has keys of the range.
     fn meets(&self, low: &[u8], high: &[u8], until: &Option<Bytes>) -> bool
-        ensures { (content : _) → result ≡ meets low.now high.now (span_of content self.now until.now) }
+        ensures { (content : _) → result ≡ span_meets low.now high.now (span_of content self.now until.now) }
     {
         if !low.cmp(high).is_lt() || !self.from.items().cmp(high).is_lt() {
             return false;
@@ -47,7 +47,7 @@ impl<S> Part<S> {
     ) -> Result<List<Pair>, StoreErr>
     where
         S: Store<N>,
-        ensures answer { IfOk result (λ found. IfSome (own (span_of S.content self.old until.now)) (λ mine.
+        ensures answer { IfOk result (λ found. IfSome (own_content (span_of S.content self.old until.now)) (λ mine.
             map entry found ≡ take limit (filter (is_within low.now high.now) mine))) }
         ensures part { IfOk result
             (λ found. IsPieceOf (span_of S.content self.old until.now) low.now high.now limit
@@ -79,7 +79,7 @@ impl<S> Part<S> {
     ) -> Result<u32, StoreErr>
     where
         S: Store<N>,
-        ensures answer { IfOk result (λ n. IfSome (own (span_of S.content self.old until.now)) (λ mine.
+        ensures answer { IfOk result (λ n. IfSome (own_content (span_of S.content self.old until.now)) (λ mine.
             n ≡ min cap (length (filter (is_within low.now high.now) mine)))) }
         ensures few { IfOk result (λ n. n ≤ cap) }
         ensures from { self.new.from ≡ self.old.from }

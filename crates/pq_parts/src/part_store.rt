@@ -5,7 +5,7 @@ ghost use Rattle.std.specs.FinMap.{get as value_at};
 ghost use Rattle.pq_store.specs.Counts.{charged_counts};
 ghost use Rattle.pq_store.specs.Content.{entry, pairs_within, after_write, admits, got_entries, ranged_entries, counted_entries, IsPartOf, HasCause};
 ghost use Rattle.pq_parts.specs.Tally.{counted_call, HasAsked};
-ghost use Rattle.pq_parts.specs.Spans.{IsPlacement, are_rising, has_key, first_from, firsts, spans, joined_content, number_met, faults_of};
+ghost use Rattle.pq_parts.specs.Spans.{IsPlacement, are_rising, part_has_key, first_from, firsts, spans, joined_content, number_met, faults_of};
 ghost use Rattle.pq_parts.specs.Gathered.{IsGathered, IsPieceAt, IsCountAt};
 
 use crate::part::Part;
@@ -98,7 +98,7 @@ impl<S, N: Ledger> PartStore<S, N> {
     // The place of the part that has the key.
     fn place(&self, key: &[u8]) -> usize
         ensures within { result < length self.now.parts }
-        ensures has { IsTrue (has_key self.now.parts result key.now) }
+        ensures has { IsTrue (part_has_key self.now.parts result key.now) }
     {
         self.parts
             .as_slice()
@@ -312,7 +312,8 @@ impl<S: Store<N>, N: Ledger, L: Ledger> Store<L> for PartStore<S, N> {
     ) -> Result<Option<Bytes>, StoreErr>
         ensures answer { IfOk result (λ found. IfSome (joined_content (spans S.content self.old.parts))
             (λ pairs. found ≡ value_at pairs key.now)) }
-        ensures same { joined_content (spans S.content self.new.parts) ≡ joined_content (spans S.content self.old.parts) }
+        ensures same { joined_content (spans S.content self.new.parts)
+            ≡ joined_content (spans S.content self.old.parts) }
         ensures cause { HasCause (faults_of S.faults self.old.parts) (faults_of S.faults self.new.parts) result }
         ensures meter { meter.new ≡ charged_counts meter.old (got_entries result) }
         ensures places { firsts self.new.parts ≡ firsts self.old.parts }
@@ -340,7 +341,8 @@ impl<S: Store<N>, N: Ledger, L: Ledger> Store<L> for PartStore<S, N> {
         ensures answer { IfOk result (λ found. IfSome (joined_content (spans S.content self.old.parts)) (λ pairs.
             map entry found ≡ take limit (pairs_within pairs low.now high.now))) }
         ensures part { IfOk result (λ found. IsPartOf low.now high.now limit (map entry found)) }
-        ensures same { joined_content (spans S.content self.new.parts) ≡ joined_content (spans S.content self.old.parts) }
+        ensures same { joined_content (spans S.content self.new.parts)
+            ≡ joined_content (spans S.content self.old.parts) }
         ensures cause { HasCause (faults_of S.faults self.old.parts) (faults_of S.faults self.new.parts) result }
         ensures meter { meter.new ≡ charged_counts meter.old (ranged_entries result) }
         ensures places { firsts self.new.parts ≡ firsts self.old.parts }
@@ -372,7 +374,8 @@ impl<S: Store<N>, N: Ledger, L: Ledger> Store<L> for PartStore<S, N> {
         ensures answer { IfOk result (λ n. IfSome (joined_content (spans S.content self.old.parts)) (λ pairs.
             n ≡ min cap (length (pairs_within pairs low.now high.now)))) }
         ensures few { IfOk result (λ n. n ≤ cap) }
-        ensures same { joined_content (spans S.content self.new.parts) ≡ joined_content (spans S.content self.old.parts) }
+        ensures same { joined_content (spans S.content self.new.parts)
+            ≡ joined_content (spans S.content self.old.parts) }
         ensures cause { HasCause (faults_of S.faults self.old.parts) (faults_of S.faults self.new.parts) result }
         ensures meter { meter.new ≡ charged_counts meter.old (counted_entries result) }
         ensures places { firsts self.new.parts ≡ firsts self.old.parts }

@@ -7,7 +7,7 @@ use Rattle.std.specs.List.{AllByRecursion, range_with_len}
 use Rattle.std.proofs.lemmas.Bool.{and_parts}
 use Rattle.std.proofs.lemmas.List.{same_from_push}
 use Rattle.std.proofs.lemmas.List.Sorted.{IsPermutation-sym}
-use Rattle.pq_base.specs.Columns.{is_within, set_of}
+use Rattle.pq_base.specs.Columns.{is_column_within, set_of}
 use Rattle.pq_base.specs.declared.value.Value.{Value}
 use Rattle.pq_base.specs.declared.number.Choice.{Choice}
 use Rattle.pq_base.specs.declared.number.Choice.TheVariants.{Whole, Stop}
@@ -88,7 +88,7 @@ module _ (tables : List Table) (query : Query) (rows : List (ℕ × List Value))
       each [] h = tt
       each (r ∷ rs) h = (one r rs h.0, each rs h.1)
 
-  abbrev tied : (i : ℕ) (cols : List ℕ) → is_within (set_of cols) (tied_set query i) ≡ true → (k : ℕ) → In k cols → In k (fixed_columns tables query rows params sound kept i)
+  abbrev tied : (i : ℕ) (cols : List ℕ) → is_column_within (set_of cols) (tied_set query i) ≡ true → (k : ℕ) → In k cols → In k (fixed_columns tables query rows params sound kept i)
   tied i cols h = within_members cols (fixed_columns tables query rows params sound kept i) h
 
   abbrev of_limit : ℕ → ℕ → List Node

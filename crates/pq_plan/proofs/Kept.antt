@@ -13,7 +13,7 @@ use Rattle.pq_base.specs.declared.value.Value.{Value}
 use Rattle.pq_schema.specs.declared.table.Foreign.{Foreign}
 use Rattle.pq_schema.specs.declared.table.Limit.{Limit}
 use Rattle.pq_schema.specs.declared.table.Table.{Table}
-use Rattle.pq_schema.specs.Rows.{Rows, rows_of, cells, types_of, key_of, same_value, same_values, agrees, has_key, row_at, group_of, IsTableNumber, AreApart, IsWithin, HasParent, KeepsSchema}
+use Rattle.pq_schema.specs.Rows.{Rows, rows_of, cells, types_of, key_of, same_value, same_values, agrees, has_key, row_at, group_of, IsTableNumber, AreApart, IsWithinLimit, HasParent, KeepsSchema}
 use Rattle.pq_schema.specs.Tables.{table_at}
 use Rattle.pq_plan.specs.Kept.{row_cmp}
 use Rattle.pq_plan.proofs.Apart.{equal, same_test}
@@ -101,7 +101,7 @@ module _ (tables : List Table) (rows : Rows) (kept : KeepsSchema tables rows) wh
   limit_kept t number limit here values =
       let same : filter (λ row. eq_by_cmp row_cmp (cells limit.cols row) values) (rows_of t rows) ≡ group_of t limit.cols values rows =
       filter_same (λ row. eq_by_cmp row_cmp (cells limit.cols row) values) (agrees limit.cols values) (rows_of t rows) (each_by_in _ (rows_of t rows) (λ row _. tests_alike (cells limit.cols row) values)) in
-      subst (λ (l : List (List Value)). length l ≤ limit.n) (sym same) (each_in (IsWithin t rows) (table_at tables t).limits (kept.limits t number) limit here values)
+      subst (λ (l : List (List Value)). length l ≤ limit.n) (sym same) (each_in (IsWithinLimit t rows) (table_at tables t).limits (kept.limits t number) limit here values)
 
   -- each foreign key of a row names the key of a row
   pub parent_kept : (t : ℕ) (foreign : Foreign) → In foreign (table_at tables t).foreign → (row : List Value) → In row (rows_of t rows) → (parent : List Value) × In parent (rows_of foreign.table rows) × (cells (table_at tables foreign.table).key parent ≡ cells foreign.cols row)

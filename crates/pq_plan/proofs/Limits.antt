@@ -4,7 +4,7 @@ use Rattle.std.specs.List.{position_or_len}
 use Rattle.std.specs.Option.{option_map_or}
 use Rattle.std.proofs.lemmas.Bool.{and_parts, and_from, eqb-true, eq-eqb, lt-ltb, false≢true}
 use Rattle.std.proofs.lemmas.List.Quantifiers.{position-Some}
-use Rattle.pq_base.specs.Columns.{is_within, set_of}
+use Rattle.pq_base.specs.Columns.{is_column_within, set_of}
 use Rattle.pq_schema.specs.declared.table.Table.{Table}
 use Rattle.pq_schema.specs.declared.table.Limit.{Limit}
 use Rattle.pq_schema.specs.Tables.{is_lookup, applies, least_limit, data_bound, is_least, is_primary, first_limit, limit_place}
@@ -31,7 +31,7 @@ found_position p xs d x here h =
 pub record IsTaken (table : Table) (set place : ℕ) : Type 0 where
   pub taken : limit_place table set ≡ Some place
   pub within : place < length table.limits
-  pub applied : is_within (set_of (get_or table.limits place no_limit).cols) set ≡ true
+  pub applied : is_column_within (set_of (get_or table.limits place no_limit).cols) set ≡ true
   pub size : data_bound table set ≡ Some (get_or table.limits place no_limit).n
 
 -- a relation that is no lookup and has a data bound has a limit taken

@@ -5,7 +5,7 @@ use Rattle.std.specs.Option.{option_map_or}
 use Rattle.std.specs.List.{AllByRecursion, range_with_len}
 use Rattle.std.proofs.lemmas.List.Sums.{fold-append}
 use Rattle.std.proofs.lemmas.List.Concat.{flat_map-append}
-use Rattle.pq_base.specs.Columns.{is_within, set_of}
+use Rattle.pq_base.specs.Columns.{is_column_within, set_of}
 use Rattle.pq_base.specs.declared.value.Value.{Value}
 use Rattle.pq_base.specs.declared.number.Choice.{Choice}
 use Rattle.pq_base.specs.declared.number.Choice.TheVariants.{Whole, Stop}
@@ -60,7 +60,7 @@ module _ (tables : List Table) (query : Query) (rows : List (ℕ × List Value))
   abbrev step : Combinations → Node → Combinations
   step = apply q after
 
-  abbrev tied : (i : ℕ) (cols : List ℕ) → is_within (set_of cols) (tied_set query i) ≡ true → (k : ℕ) → In k cols → In k (fixed_columns tables query rows params sound kept i)
+  abbrev tied : (i : ℕ) (cols : List ℕ) → is_column_within (set_of cols) (tied_set query i) ≡ true → (k : ℕ) → In k cols → In k (fixed_columns tables query rows params sound kept i)
   tied i cols h = within_members cols (fixed_columns tables query rows params sound kept i) h
 
   -- the nodes of a bounded relation read it

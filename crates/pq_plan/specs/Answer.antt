@@ -122,4 +122,9 @@ selected_values query combo = values_at combo query.select
 -- the answer over these tables: the schema's tables, the query, the rows, the parameters and the cursor
 abbrev pub answer : List Table → Query → List (ℕ × List Value) → List Value → Option (List Value) → List (List Value)
 answer tables query rows params after =
-    map (selected_values query) (answered (record { tables = tables; query = query; rows = rows; params = params }) after)
+    map (selected_values query) (answered (record {
+      tables = tables;
+      query = query;
+      rows = rows;
+      params = params;
+    }) after)

@@ -39,17 +39,17 @@ nodes (tree.Cut' p input k) = nodes input ++ cut k ∷ []
 nodes (tree.Project' p input) = nodes input ++ project ∷ []
 
 -- what one node costs and gives
-abbrev pub step : ReachedCost → Node → ReachedCost
-step before (lookup rel) = read_each 1 (bound 1 1) before
-step before (limit_range rel limit n access) = read_each n (limit_cost (is_primary_access access) n) before
-step before (stop_scan rel k access) = read_stop k (is_primary_access access) before
-step before (keep rel) = before
-step before sort = before
-step before (cut k) = before
-step before project = before
+abbrev pub node_step : ReachedCost → Node → ReachedCost
+node_step before (lookup rel) = read_each 1 (bound 1 1) before
+node_step before (limit_range rel limit n access) = read_each n (limit_cost (is_primary_access access) n) before
+node_step before (stop_scan rel k access) = read_stop k (is_primary_access access) before
+node_step before (keep rel) = before
+node_step before sort = before
+node_step before (cut k) = before
+node_step before project = before
 
 abbrev pub run_of : List Node → ReachedCost
-run_of list = fold step start list
+run_of list = fold node_step start list
 
 -- the nodes that read a relation: a lookup, or the range of the limit taken, and then the filter
 abbrev pub read_nodes : List Table → Query → ℕ → List Node

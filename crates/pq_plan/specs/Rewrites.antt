@@ -33,7 +33,8 @@ placed_stops bounds (Project input) = Project (placed_stops bounds input)
 abbrev pub pushed_tree : ℕ → ℕ → Tree → Tree
 pushed_tree p k Unit = Unit
 pushed_tree p k (Read input rel) = cond (rel == p) (StopRead input rel k) (Read (pushed_tree p k input) rel)
-pushed_tree p k (DataStop input rel n) = cond (rel == p) (pushed_tree p k input) (DataStop (pushed_tree p k input) rel n)
+pushed_tree p k (DataStop input rel n) =
+    cond (rel == p) (pushed_tree p k input) (DataStop (pushed_tree p k input) rel n)
 pushed_tree p k (StopRead input rel j) = StopRead (pushed_tree p k input) rel j
 pushed_tree p k (Order input) = Order (pushed_tree p k input)
 pushed_tree p k (Cut input j) = Cut (pushed_tree p k input) j

@@ -29,12 +29,12 @@ use Rattle.pq_print.specs.Values.{value_text}
 use Rattle.pq_print.specs.Report.{dir_text}
 
 -- what stands at a place that no column has
-abbrev pub no_column : Column
-no_column = record { name = []; ty = type.Int }
+abbrev pub absent_column : Column
+absent_column = record { name = []; ty = type.Int }
 
 -- the name of the column of this place, from 0
 abbrev pub column_name : List Column → ℕ → List ℕ
-column_name columns col = (slice_index_or columns col no_column).name
+column_name columns col = (slice_index_or columns col absent_column).name
 
 abbrev pub type_text : ColType → List ℕ
 type_text type.Int = codes "INT"
@@ -59,7 +59,8 @@ foreign_text tables columns foreign =
 -- the columns, the key, all limits, all foreign keys
 unfoldable pub items_text : List Table → Table → List ℕ
 items_text tables table =
-    separate_texts (codes ", ") column_text table.columns ++ codes ", PRIMARY KEY " ++ columns_text table.columns table.key
+    separate_texts (codes ", ") column_text table.columns ++ codes ", PRIMARY KEY "
+    ++ columns_text table.columns table.key
     ++ each_after (codes ", ") (limit_text table.columns) table.limits
     ++ each_after (codes ", ") (foreign_text tables table.columns) table.foreign
 

@@ -35,39 +35,40 @@ refusal_number (refusal.Cardinality table number n) = codes "E507"
 refusal_number (refusal.RowLong table length) = codes "E508"
 refusal_number refusal.NotBuilt = codes "E100"
 
-abbrev pub field : List ℕ → List ℕ
-field text = codes " " ++ text
+abbrev pub refusal_field : List ℕ → List ℕ
+refusal_field text = codes " " ++ text
 
 -- a count's word is printed by its place
 abbrev pub refusal_fields : Refusal → List ℕ
 refusal_fields refusal.NotUtf8 = []
 refusal_fields refusal.Unfinished = []
 refusal_fields refusal.StatementLong = []
-refusal_fields (refusal.Syntax at) = field (decimal at)
-refusal_fields (refusal.NameTaken name) = field name
-refusal_fields (refusal.NoTable name) = field name
-refusal_fields (refusal.NoColumn name) = field name
-refusal_fields (refusal.Repeated name) = field name
-refusal_fields (refusal.ForeignShape number) = field (decimal number)
-refusal_fields (refusal.Count word) = field (slice_index_or counts word [])
-refusal_fields (refusal.TooManyRows table) = field table
-refusal_fields (refusal.Alias name) = field name
-refusal_fields (refusal.OperandKind pred) = field (decimal pred)
+refusal_fields (refusal.Syntax at) = refusal_field (decimal at)
+refusal_fields (refusal.NameTaken name) = refusal_field name
+refusal_fields (refusal.NoTable name) = refusal_field name
+refusal_fields (refusal.NoColumn name) = refusal_field name
+refusal_fields (refusal.Repeated name) = refusal_field name
+refusal_fields (refusal.ForeignShape number) = refusal_field (decimal number)
+refusal_fields (refusal.Count word) = refusal_field (slice_index_or counts word [])
+refusal_fields (refusal.TooManyRows table) = refusal_field table
+refusal_fields (refusal.Alias name) = refusal_field name
+refusal_fields (refusal.OperandKind pred) = refusal_field (decimal pred)
 refusal_fields refusal.Params = []
-refusal_fields (refusal.NoBound alias) = field alias
-refusal_fields (refusal.BoundLarge ops entries) = field (decimal ops) ++ field (decimal entries)
-refusal_fields (refusal.NoQuery name) = field name
-refusal_fields (refusal.ParamValue number) = field (decimal number)
+refusal_fields (refusal.NoBound alias) = refusal_field alias
+refusal_fields (refusal.BoundLarge ops entries) = refusal_field (decimal ops) ++ refusal_field (decimal entries)
+refusal_fields (refusal.NoQuery name) = refusal_field name
+refusal_fields (refusal.ParamValue number) = refusal_field (decimal number)
 refusal_fields refusal.Cursor = []
 refusal_fields refusal.NotPaged = []
-refusal_fields (refusal.ValueKind table column) = field table ++ field column
-refusal_fields (refusal.WrongColumns table) = field table
-refusal_fields (refusal.DuplicateKey table) = field table
-refusal_fields (refusal.NoRow table) = field table
-refusal_fields (refusal.NoParent table number) = field table ++ field (decimal number)
-refusal_fields (refusal.Referenced table number) = field table ++ field (decimal number)
-refusal_fields (refusal.Cardinality table number n) = field table ++ field (decimal number) ++ field (decimal n)
-refusal_fields (refusal.RowLong table length) = field table ++ field (decimal length)
+refusal_fields (refusal.ValueKind table column) = refusal_field table ++ refusal_field column
+refusal_fields (refusal.WrongColumns table) = refusal_field table
+refusal_fields (refusal.DuplicateKey table) = refusal_field table
+refusal_fields (refusal.NoRow table) = refusal_field table
+refusal_fields (refusal.NoParent table number) = refusal_field table ++ refusal_field (decimal number)
+refusal_fields (refusal.Referenced table number) = refusal_field table ++ refusal_field (decimal number)
+refusal_fields (refusal.Cardinality table number n) =
+    refusal_field table ++ refusal_field (decimal number) ++ refusal_field (decimal n)
+refusal_fields (refusal.RowLong table length) = refusal_field table ++ refusal_field (decimal length)
 refusal_fields refusal.NotBuilt = []
 
 abbrev pub refusal_text : Refusal → List ℕ

@@ -1,7 +1,7 @@
 //! Refusals as text: the number, and then the fields.
 ghost use Rattle.std.specs.Prelude.{◌≡◌, ◌<◌, ◌++◌, [], length, OnOk, string_bytes, slice_index_or};
 ghost use Rattle.pq_base.specs.Words.{refusals, counts};
-ghost use Rattle.pq_print.specs.Refusals.{field, refusal_number, refusal_fields, refusal_text};
+ghost use Rattle.pq_print.specs.Refusals.{refusal_field, refusal_number, refusal_fields, refusal_text};
 
 use crate::number::put_number;
 use itoa::Integer;
@@ -63,20 +63,20 @@ fn number_of(refusal: &Refusal) -> &'static str
 }
 
 fn put_field(text: &str, out: &mut String) -> Result<(), AllocError>
-    ensures { OnOk result (string_bytes out.new ≡ string_bytes out.old ++ field text.now) }
+    ensures { OnOk result (string_bytes out.new ≡ string_bytes out.old ++ refusal_field text.now) }
 {
     out.push_str(" ")?;
     out.push_str(text)
 }
 
 fn put_name(name: &PText, out: &mut String) -> Result<(), AllocError>
-    ensures { OnOk result (string_bytes out.new ≡ string_bytes out.old ++ field name.now) }
+    ensures { OnOk result (string_bytes out.new ≡ string_bytes out.old ++ refusal_field name.now) }
 {
     put_field(name.as_str(), out)
 }
 
 fn put_count<I: Integer>(number: I, out: &mut String) -> Result<(), AllocError>
-    ensures { OnOk result (string_bytes out.new ≡ string_bytes out.old ++ field (I.text number)) }
+    ensures { OnOk result (string_bytes out.new ≡ string_bytes out.old ++ refusal_field (I.text number)) }
 {
     out.push_str(" ")?;
     put_number(out, number)

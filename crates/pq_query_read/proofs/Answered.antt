@@ -14,24 +14,24 @@ use Rattle.pq_shape.specs.Shapes.{shapes_of}
 use Rattle.pq_shape.specs.Faults.{offset_at, IsRefusalOf, IsNoMem, IsFaultFrom}
 use Rattle.pq_shape.specs.declared.shape.Shape.{Shape}
 use Rattle.pq_query_read.specs.Grammar.{SpellsSelect}
-use Rattle.pq_query_read.specs.Reading.{select_at, read_at, select_of}
+use Rattle.pq_query_read.specs.Reading.{select_at, select_read_at, select_of}
 use Rattle.pq_query_read.specs.declared.select.SelectDef.{SelectDef}
 use Rattle.pq_query_read.proofs.Selects.{select_reads}
 
-read_found : (ts : List Shape) (s : SelectDef) → read_at ts ≡ Ok s → SpellsSelect s ts
-unfolding read_at
+read_found : (ts : List Shape) (s : SelectDef) → select_read_at ts ≡ Ok s → SpellsSelect s ts
+unfolding select_read_at
 read_found ts s e = whole_found SpellsSelect never select_at select_reads ts s e
 
-read_only : (ts : List Shape) (s u : SelectDef) → read_at ts ≡ Ok s → SpellsSelect u ts → s ≡ u
-unfolding read_at
+read_only : (ts : List Shape) (s u : SelectDef) → select_read_at ts ≡ Ok s → SpellsSelect u ts → s ≡ u
+unfolding select_read_at
 read_only ts s u e h = ok_is s u (sym e ∙ whole_again SpellsSelect never select_at select_reads ts u h)
 
-read_none : (ts : List Shape) (n : ℕ) (u : SelectDef) → read_at ts ≡ Err n → SpellsSelect u ts → ⊥
-unfolding read_at
+read_none : (ts : List Shape) (n : ℕ) (u : SelectDef) → select_read_at ts ≡ Err n → SpellsSelect u ts → ⊥
+unfolding select_read_at
 read_none ts n u e h = ok_not_err u n (sym (whole_again SpellsSelect never select_at select_reads ts u h) ∙ e)
 
-read_place : (ts : List Shape) (n : ℕ) → read_at ts ≡ Err n → (n ≤ length ts) × IsFaultPlace SpellsSelect ts (length ts - n)
-unfolding read_at
+read_place : (ts : List Shape) (n : ℕ) → select_read_at ts ≡ Err n → (n ≤ length ts) × IsFaultPlace SpellsSelect ts (length ts - n)
+unfolding select_read_at
 read_place ts n e = whole_place SpellsSelect never select_at select_reads ts n e
 
 abbrev pub rest : List ℕ → List Token → ℕ → List Shape

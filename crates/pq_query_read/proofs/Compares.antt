@@ -38,7 +38,7 @@ use Rattle.pq_query_read.proofs.Spelled.{IsOperandDef, IsPredDef}
 use Rattle.pq_query_read.specs.Trying.{◌>>=◌, or_refused, passed_unless, each_after}
 use Rattle.pq_query_read.proofs.Trying.{SameOk, both, there, not_so, same_answer, each_keeps}
 use Rattle.pq_query_read.specs.Columns.{IsIn, ref_of, type_of}
-use Rattle.pq_query_read.specs.Resolving.{operand_of, is_comparable, pred_with, pred_of, has_ref, ref_name, item_of, stop_size, stop_of}
+use Rattle.pq_query_read.specs.Resolving.{operand_of, is_comparable, pred_with, pred_of, has_ref, ref_name, item_of, limit_size, stop_of}
 use Rattle.pq_query_read.specs.Parameters.{param_number}
 use Rattle.pq_query_read.proofs.Refs.{push_each, distinct_push, nothing_distinct, ref_found}
 
@@ -171,7 +171,7 @@ module _ (tables : List Table) (relations : List Relation) where
 no_size : Refusal
 no_size = refusal.Count count_word.STOP
 
-sized : (z : ℤ) (k : ℕ) → stop_size z ≡ Some k → (1 ≤ k) × (k ≤ 1000)
+sized : (z : ℤ) (k : ℕ) → limit_size z ≡ Some k → (1 ≤ k) × (k ≤ 1000)
 sized (pos n) k is =
     elim (nat_le 1 n && nat_le n 1000) as (λ b. (nat_le 1 n && nat_le n 1000) ≡ b → (if b then Some n else None) ≡ Some k → (1 ≤ k) × (k ≤ 1000)) [
       | true ↦ λ within is. let parts = and_parts (nat_le 1 n) (nat_le n 1000) within in subst (λ k. (1 ≤ k) × (k ≤ 1000)) (same_Some n k is) (leb-true 1 n parts.0, leb-true n 1000 parts.1)
@@ -183,8 +183,8 @@ pub stop_sized : (def : StopDef) (s : Stop) → stop_of def ≡ Ok s → IfSome 
 unfolding no_size
 stop_sized stop_def.All s is = subst (λ s. IfSome (size_of s) (λ k. (1 ≤ k) × (k ≤ 1000))) (same_answer stop.All s is) tt
 stop_sized (stop_def.Limit z) s is =
-    let parts = both (or_refused no_size (stop_size z)) (λ k. Ok (stop.Limit k)) s is in
-    subst (λ s. IfSome (size_of s) (λ k. (1 ≤ k) × (k ≤ 1000))) (same_answer (stop.Limit parts.0) s parts.2) (sized z parts.0 (there no_size (stop_size z) parts.0 parts.1))
+    let parts = both (or_refused no_size (limit_size z)) (λ k. Ok (stop.Limit k)) s is in
+    subst (λ s. IfSome (size_of s) (λ k. (1 ≤ k) × (k ≤ 1000))) (same_answer (stop.Limit parts.0) s parts.2) (sized z parts.0 (there no_size (limit_size z) parts.0 parts.1))
 stop_sized (stop_def.Paginate z) s is =
-    let parts = both (or_refused no_size (stop_size z)) (λ k. Ok (stop.Paginate k)) s is in
-    subst (λ s. IfSome (size_of s) (λ k. (1 ≤ k) × (k ≤ 1000))) (same_answer (stop.Paginate parts.0) s parts.2) (sized z parts.0 (there no_size (stop_size z) parts.0 parts.1))
+    let parts = both (or_refused no_size (limit_size z)) (λ k. Ok (stop.Paginate k)) s is in
+    subst (λ s. IfSome (size_of s) (λ k. (1 ≤ k) × (k ≤ 1000))) (same_answer (stop.Paginate parts.0) s parts.2) (sized z parts.0 (there no_size (limit_size z) parts.0 parts.1))

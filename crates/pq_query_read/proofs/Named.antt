@@ -7,7 +7,7 @@ use Rattle.pq_text.specs.declared.token.Kind.{Kind}
 use Rattle.pq_text.specs.declared.token.Kind.TheVariants as kind
 use Rattle.pq_text.specs.declared.token.Token.{Token}
 use Rattle.pq_schema.specs.Names.{IsName}
-use Rattle.pq_shape.specs.Numbers.{number_of}
+use Rattle.pq_shape.specs.Numbers.{digits_number}
 use Rattle.pq_shape.specs.Parts.{name as a_name}
 use Rattle.pq_shape.specs.Shapes.{shape_of, shapes_of, kind_shape, utf8_text, between_quotes, text_shape, number_or_other}
 use Rattle.pq_shape.specs.declared.shape.Shape.{Shape}
@@ -32,7 +32,7 @@ text_no_name (Some t) n e = absurd cc
 
 named_kind : (k : Kind) (w : List ℕ) → IsTrue (has_form k w) → IsNamed (kind_shape k w)
 named_kind kind.Word w form n e = name_of_word w n form e
-named_kind kind.Number w form n e = number_no_name (number_of w) n e
+named_kind kind.Number w form n e = number_no_name (digits_number w) n e
 named_kind kind.Text w form n e = text_no_name (utf8_text (between_quotes w)) n e
 named_kind kind.Mark w form n e = absurd cc
 named_kind kind.Other w form n e = absurd cc

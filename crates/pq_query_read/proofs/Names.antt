@@ -15,8 +15,8 @@ use Rattle.pq_schema.specs.Names.{is_letter, is_name_byte, is_keyword, is_name, 
 use Rattle.pq_schema.specs.Names.{is_word as is_name_word}
 use Rattle.pq_text.specs.Bytes.{is_word_byte}
 use Rattle.pq_text.specs.Bytes.{is_letter as is_text_letter}
-use Rattle.pq_text.specs.Forms.{is_word}
-use Rattle.pq_shape.specs.Shapes.{place_of, lowercase_bytes, utf8_text, named_shape, name_shape, keyword_or, word_shape}
+use Rattle.pq_text.specs.Forms.{is_word_form}
+use Rattle.pq_shape.specs.Shapes.{word_place, lowercase_bytes, utf8_text, named_shape, name_shape, keyword_or, word_shape}
 use Rattle.pq_shape.specs.declared.shape.Shape.TheVariants as shape
 
 -- what a name is
@@ -24,7 +24,7 @@ record NameParts (name : List ℕ) : Type 0 where
   letters : list_all is_name_byte name ≡ true
   short : nat_le (length name) 32 ≡ true
   free : is_keyword name ≡ false
-  word : is_word name ≡ true
+  word : is_word_form name ≡ true
 
 not_true : (b : Bool) → not b ≡ true → b ≡ false
 not_true true e = absurd cc
@@ -45,7 +45,7 @@ all_word_bytes (b ∷ bs) all =
     let parts = and_parts (is_name_byte b) (list_all is_name_byte bs) all in
     rw (name_word_byte b parts.0, all_word_bytes bs parts.1) refl
 
-of_word : (name : List ℕ) → is_name_word name ≡ true → (list_all is_name_byte name ≡ true) × (is_word name ≡ true)
+of_word : (name : List ℕ) → is_name_word name ≡ true → (list_all is_name_byte name ≡ true) × (is_word_form name ≡ true)
 of_word [] is = absurd cc
 of_word (b ∷ bs) is =
     let parts = and_parts (is_letter b) (list_all is_name_byte bs) is in
@@ -76,23 +76,23 @@ neither : (a b : Bool) → (a || b) ≡ false → (a ≡ false) × (b ≡ false)
 neither true b e = absurd cc
 neither false b e = (refl, e)
 
-place_none : (vs : List (List ℕ)) (w : List ℕ) → list_any (bytes_eq w) vs ≡ false → place_of vs w ≡ None
-unfolding place_of
+place_none : (vs : List (List ℕ)) (w : List ℕ) → list_any (bytes_eq w) vs ≡ false → word_place vs w ≡ None
+unfolding word_place
 place_none [] w e = refl
 place_none (v ∷ vs) w e =
     let parts = neither (bytes_eq w v) (list_any (bytes_eq w) vs) e in
     rw (turned v w (bytes_eq v w) parts.0 refl) (ap (option_map suc) (place_none vs w parts.1))
 
-unplaced_by : (vs : List (List ℕ)) (w : List ℕ) (b : Bool) → cond b (Some 0) (option_map suc (place_of vs w)) ≡ None → (b ≡ false) × (place_of vs w ≡ None)
+unplaced_by : (vs : List (List ℕ)) (w : List ℕ) (b : Bool) → cond b (Some 0) (option_map suc (word_place vs w)) ≡ None → (b ≡ false) × (word_place vs w ≡ None)
 unplaced_by vs w true e = absurd cc
-unplaced_by vs w false e = (refl, by_option (place_of vs w) e)
+unplaced_by vs w false e = (refl, by_option (word_place vs w) e)
   where
     by_option : (o : Option ℕ) → option_map suc o ≡ None → o ≡ None
     by_option None e = refl
     by_option (Some n) e = absurd cc
 
-unplaced : (vs : List (List ℕ)) (w : List ℕ) → place_of vs w ≡ None → list_any (bytes_eq w) vs ≡ false
-unfolding place_of
+unplaced : (vs : List (List ℕ)) (w : List ℕ) → word_place vs w ≡ None → list_any (bytes_eq w) vs ≡ false
+unfolding word_place
 unplaced [] w e = refl
 unplaced (v ∷ vs) w e =
     let parts = unplaced_by vs w (bytes_eq v w) e in
@@ -121,7 +121,7 @@ checked_name : (bs : List ℕ) → list_all is_name_byte bs ≡ true → utf8_te
 unfolding utf8_text
 checked_name bs all = rw (is_utf8-from_IsUtf8 bs (IsUtf8-from_ascii bs (all_ascii bs all))) refl
 
-pub name_is_word : (name : List ℕ) → IsName name → is_word name ≡ true
+pub name_is_word : (name : List ℕ) → IsName name → is_word_form name ≡ true
 name_is_word name is = (parts_of name is).word
 
 pub word_is_name : (name : List ℕ) → IsName name → word_shape name ≡ shape.Name name
@@ -151,7 +151,7 @@ lower_bytes (b ∷ bs) all =
     let parts = and_parts (is_word_byte b) (list_all is_word_byte bs) all in
     rw (lower_word_byte b parts.0, lower_bytes bs parts.1) refl
 
-lowered_name : (w : List ℕ) → is_word w ≡ true → nat_le (length w) 32 ≡ true → place_of keywords (map uppercase_byte w) ≡ None → IsName (lowercase_bytes w)
+lowered_name : (w : List ℕ) → is_word_form w ≡ true → nat_le (length w) 32 ≡ true → word_place keywords (map uppercase_byte w) ≡ None → IsName (lowercase_bytes w)
 lowered_name [] is short none = absurd cc
 lowered_name (b ∷ bs) is short none =
     let parts = and_parts (is_text_letter b) (list_all is_word_byte bs) is in
@@ -163,17 +163,17 @@ by_checked : (v name : List ℕ) (b : Bool) → IsName v → named_shape (cond b
 by_checked v name true is e = let f : v ≡ name = cc in subst (λ (u : List ℕ). IsName u) f is
 by_checked v name false is e = absurd cc
 
-by_length : (w name : List ℕ) (b : Bool) → nat_le (length w) 32 ≡ b → is_word w ≡ true → place_of keywords (map uppercase_byte w) ≡ None → cond b (named_shape (utf8_text (lowercase_bytes w))) shape.Other ≡ shape.Name name → IsName name
+by_length : (w name : List ℕ) (b : Bool) → nat_le (length w) 32 ≡ b → is_word_form w ≡ true → word_place keywords (map uppercase_byte w) ≡ None → cond b (named_shape (utf8_text (lowercase_bytes w))) shape.Other ≡ shape.Name name → IsName name
 unfolding utf8_text
 by_length w name true short is none e = by_checked (lowercase_bytes w) name (is_utf8 (lowercase_bytes w)) (lowered_name w is short none) e
 by_length w name false long is none e = absurd cc
 
-by_place : (w name : List ℕ) (o : Option ℕ) → place_of keywords (map uppercase_byte w) ≡ o → is_word w ≡ true → keyword_or (name_shape w) o ≡ shape.Name name → IsName name
+by_place : (w name : List ℕ) (o : Option ℕ) → word_place keywords (map uppercase_byte w) ≡ o → is_word_form w ≡ true → keyword_or (name_shape w) o ≡ shape.Name name → IsName name
 by_place w name None none is e = by_length w name (nat_le (length w) 32) refl is none e
 by_place w name (Some k) found is e = absurd cc
 
-pub name_of_word : (w name : List ℕ) → is_word w ≡ true → word_shape w ≡ shape.Name name → IsName name
-name_of_word w name is e = by_place w name (place_of keywords (map uppercase_byte w)) refl is e
+pub name_of_word : (w name : List ℕ) → is_word_form w ≡ true → word_shape w ≡ shape.Name name → IsName name
+name_of_word w name is e = by_place w name (word_place keywords (map uppercase_byte w)) refl is e
 
 pub name_short : (name : List ℕ) → IsName name → length name ≤ 32
 name_short name is = leb-true _ _ (parts_of name is).short

@@ -20,7 +20,7 @@ use Rattle.pq_schema.specs.declared.table.Table.{Table}
 use Rattle.pq_base.specs.Members.{In}
 use Rattle.pq_base.proofs.Members.{all_at, any_at, any_from, found, in_map, map_in}
 use Rattle.pq_query_read.specs.Columns.{type_of}
-use Rattle.pq_query_read.specs.Parameters.{use_in, uses, has_number, is_numbered, agrees, are_params, param_count, param_type_of, params_of}
+use Rattle.pq_query_read.specs.Parameters.{use_in, uses, has_number, has_param_number, same_use, are_params, param_count, param_type_of, params_of}
 use Rattle.pq_query_read.specs.declared.params.ParamUse.{ParamUse}
 use Rattle.pq_query_read.specs.Trying.{passed_unless}
 use Rattle.pq_query_read.proofs.Trying.{both, not_so, same_answer}
@@ -81,11 +81,11 @@ param_types (type.Text m) (type.Text n) is = refl
 -- ---- the uses of parameters
 
 module _ (used : List (ParamUse)) (fit : are_params used ≡ true) where
-  numbered : (u : ParamUse) → In u used → is_numbered used u ≡ true
-  numbered u i = all_at (is_numbered used) used (and_parts (list_all (is_numbered used) used) (list_all (λ param. list_all (agrees param) used) used) fit).0 u i
+  numbered : (u : ParamUse) → In u used → has_param_number used u ≡ true
+  numbered u i = all_at (has_param_number used) used (and_parts (list_all (has_param_number used) used) (list_all (λ param. list_all (same_use param) used) used) fit).0 u i
 
-  agreed : (u v : ParamUse) → In u used → In v used → agrees u v ≡ true
-  agreed u v i j = all_at (agrees u) used (all_at (λ param. list_all (agrees param) used) used (and_parts (list_all (is_numbered used) used) (list_all (λ param. list_all (agrees param) used) used) fit).1 u i) v j
+  agreed : (u v : ParamUse) → In u used → In v used → same_use u v ≡ true
+  agreed u v i j = all_at (same_use u) used (all_at (λ param. list_all (same_use param) used) used (and_parts (list_all (has_param_number used) used) (list_all (λ param. list_all (same_use param) used) used) fit).1 u i) v j
 
   pub from_one : (u : ParamUse) → In u used → 1 ≤ u.number
   from_one u i = elim (or_cases (u.number == 1) (nat_lt 1 u.number && list_any (has_number (u.number - 1)) used) (numbered u i)) [

@@ -8,7 +8,7 @@ use Rattle.pq_grammar.proofs.Readers.{pair_reads, close_reads, map_reads}
 use Rattle.pq_grammar.proofs.Options.{option_reads}
 use Rattle.pq_grammar.proofs.Lists.{one_opens, then_opens, one_shuts, then_shuts, pair_free, skip_free, same_set}
 use Rattle.pq_grammar.proofs.Choices.{made_reads, choice_reads, one_or_other}
-use Rattle.pq_shape.specs.Front.{is_mark, is_name, is_value, mark_at, name_at, number_at, value_at}
+use Rattle.pq_shape.specs.Front.{is_mark_shape, is_name_shape, is_value, mark_at, name_at, number_at, value_shape_at}
 use Rattle.pq_shape.specs.Parts.{mark, name, number, a_value}
 use Rattle.pq_shape.proofs.Tokens.{mark_reads, name_reads, number_reads, value_reads, value_opens}
 use Rattle.pq_shape.specs.declared.shape.Shape.{Shape}
@@ -28,12 +28,12 @@ use Rattle.pq_query_read.proofs.Elements.{wide, ref_reads, ref_opens}
 abbrev labelled : ℤ × Option (List ℕ) → List Shape → Type 0
 labelled x = number x.0 ⋅ optional (λ n. mark COLON ⋅ name n) x.1
 
-label_reads : Reads (optional (λ n. mark COLON ⋅ name n)) (is_mark COLON) label_at
-unfolding label_at is_mark
+label_reads : Reads (optional (λ n. mark COLON ⋅ name n)) (is_mark_shape COLON) label_at
+unfolding label_at is_mark_shape
 label_reads =
-    option_reads (λ n. mark COLON ⋅ name n) (is_mark COLON) (is_mark COLON) (skip_at (mark_at COLON) name_at)
-    (wide (λ n. mark COLON ⋅ name n) (is_mark COLON) _ (skip_free (mark COLON) name never (mark_at COLON) name_at (mark_reads COLON) name_reads))
-    (λ n w h. then_opens (is_mark COLON) (shape.Mark COLON) (name n) refl w h) (λ rest e. e)
+    option_reads (λ n. mark COLON ⋅ name n) (is_mark_shape COLON) (is_mark_shape COLON) (skip_at (mark_at COLON) name_at)
+    (wide (λ n. mark COLON ⋅ name n) (is_mark_shape COLON) _ (skip_free (mark COLON) name never (mark_at COLON) name_at (mark_reads COLON) name_reads))
+    (λ n w h. then_opens (is_mark_shape COLON) (shape.Mark COLON) (name n) refl w h) (λ rest e. e)
 
 abbrev bracketed : ℤ × Option (List ℕ) → List Shape → Type 0
 bracketed x = mark OPEN_SQUARE ⋅ labelled x ⋅ mark CLOSE_SQUARE
@@ -42,13 +42,13 @@ abbrev param_made : OperandDef → List Shape → Type 0
 param_made = made_from (λ (x : ℤ × Option (List ℕ)). operand.Param x.0) bracketed
 
 param_reads : Reads param_made never param_at
-unfolding param_at is_mark
+unfolding param_at is_mark_shape
 param_reads =
     made_reads (λ (x : ℤ × Option (List ℕ)). operand.Param x.0) bracketed never _
     (skip_free (mark OPEN_SQUARE) (λ x. labelled x ⋅ mark CLOSE_SQUARE) never (mark_at OPEN_SQUARE) _ (mark_reads OPEN_SQUARE)
-    (close_reads labelled (mark CLOSE_SQUARE) (is_mark COLON) never (pair_at number_at label_at) (mark_at CLOSE_SQUARE)
-    (pair_free number (optional (λ n. mark COLON ⋅ name n)) (is_mark COLON) number_at label_at number_reads label_reads) (mark_reads CLOSE_SQUARE)
-    (λ v rest h e. one_shuts (is_mark COLON) (shape.Mark CLOSE_SQUARE) refl v rest h)))
+    (close_reads labelled (mark CLOSE_SQUARE) (is_mark_shape COLON) never (pair_at number_at label_at) (mark_at CLOSE_SQUARE)
+    (pair_free number (optional (λ n. mark COLON ⋅ name n)) (is_mark_shape COLON) number_at label_at number_reads label_reads) (mark_reads CLOSE_SQUARE)
+    (λ v rest h e. one_shuts (is_mark_shape COLON) (shape.Mark CLOSE_SQUARE) refl v rest h)))
 
 abbrev const_made : OperandDef → List Shape → Type 0
 const_made = made_from (λ v. operand.Const v) a_value
@@ -56,8 +56,8 @@ const_made = made_from (λ v. operand.Const v) a_value
 abbrev plain : OperandDef → List Shape → Type 0
 plain = one_or_other param_made const_made
 
-value_apart : (t : Shape) → is_value t ≡ true → is_mark OPEN_SQUARE t ≡ false
-unfolding is_value is_mark
+value_apart : (t : Shape) → is_value t ≡ true → is_mark_shape OPEN_SQUARE t ≡ false
+unfolding is_value is_mark_shape
 value_apart (shape.Number z) e = refl
 value_apart (shape.Text u) e = refl
 value_apart (shape.Keyword k) e = refl
@@ -65,12 +65,12 @@ value_apart (shape.Name n) e = refl
 value_apart (shape.Mark c) e = absurd cc
 value_apart shape.Other e = refl
 
-shut_by_value : (w rest : List Shape) → begins is_value w ≡ true → begins (is_mark OPEN_SQUARE) (w ++ rest) ≡ false
+shut_by_value : (w rest : List Shape) → begins is_value w ≡ true → begins (is_mark_shape OPEN_SQUARE) (w ++ rest) ≡ false
 shut_by_value [] rest e = absurd cc
 shut_by_value (t ∷ w) rest e = value_apart t e
 
-value_apart_name : (t : Shape) → is_value t ≡ true → is_name t ≡ false
-unfolding is_value is_name
+value_apart_name : (t : Shape) → is_value t ≡ true → is_name_shape t ≡ false
+unfolding is_value is_name_shape
 value_apart_name (shape.Number z) e = refl
 value_apart_name (shape.Text u) e = refl
 value_apart_name (shape.Keyword k) e = refl
@@ -78,19 +78,19 @@ value_apart_name (shape.Name n) e = absurd cc
 value_apart_name (shape.Mark c) e = refl
 value_apart_name shape.Other e = refl
 
-no_name_by_value : (w rest : List Shape) → begins is_value w ≡ true → begins is_name (w ++ rest) ≡ false
+no_name_by_value : (w rest : List Shape) → begins is_value w ≡ true → begins is_name_shape (w ++ rest) ≡ false
 no_name_by_value [] rest e = absurd cc
 no_name_by_value (t ∷ w) rest e = value_apart_name t e
 
 plain_reads : Reads plain never plain_at
-unfolding plain_at is_mark
+unfolding plain_at is_mark_shape
 plain_reads =
-    choice_reads param_made const_made (is_mark OPEN_SQUARE) param_at _ never param_reads (made_reads (λ v. operand.Const v) a_value never value_at value_reads)
-    (λ x w h. then_opens (is_mark OPEN_SQUARE) (shape.Mark OPEN_SQUARE) _ refl w h.2) (λ x w rest h e. shut_by_value w rest (value_opens h.0 w h.2))
+    choice_reads param_made const_made (is_mark_shape OPEN_SQUARE) param_at _ never param_reads (made_reads (λ v. operand.Const v) a_value never value_shape_at value_reads)
+    (λ x w h. then_opens (is_mark_shape OPEN_SQUARE) (shape.Mark OPEN_SQUARE) _ refl w h.2) (λ x w rest h e. shut_by_value w rest (value_opens h.0 w h.2))
 
-plain_no_name : (x : OperandDef) (w rest : List Shape) → plain x w → begins is_name (w ++ rest) ≡ false
-unfolding is_name
-plain_no_name x w rest (inl h) = then_shuts is_name (shape.Mark OPEN_SQUARE) _ refl w rest h.2
+plain_no_name : (x : OperandDef) (w rest : List Shape) → plain x w → begins is_name_shape (w ++ rest) ≡ false
+unfolding is_name_shape
+plain_no_name x w rest (inl h) = then_shuts is_name_shape (shape.Mark OPEN_SQUARE) _ refl w rest h.2
 plain_no_name x w rest (inr h) = no_name_by_value w rest (value_opens h.0 w h.2)
 
 abbrev ref_made : OperandDef → List Shape → Type 0
@@ -99,10 +99,10 @@ ref_made = made_from (λ r. operand.Ref r) ref
 abbrev any_operand : OperandDef → List Shape → Type 0
 any_operand = one_or_other ref_made plain
 
-operand_reads : Reads any_operand (is_mark POINT) operand_at
+operand_reads : Reads any_operand (is_mark_shape POINT) operand_at
 unfolding operand_at
 operand_reads =
-    choice_reads ref_made plain is_name _ plain_at (is_mark POINT) (made_reads (λ r. operand.Ref r) ref (is_mark POINT) ref_at ref_reads) (wide plain (is_mark POINT) plain_at plain_reads)
+    choice_reads ref_made plain is_name_shape _ plain_at (is_mark_shape POINT) (made_reads (λ r. operand.Ref r) ref (is_mark_shape POINT) ref_at ref_reads) (wide plain (is_mark_shape POINT) plain_at plain_reads)
     (λ x w h. ref_opens h.0 w h.2) (λ x w rest h e. plain_no_name x w rest h)
 
 -- ---- operators
@@ -126,44 +126,44 @@ abbrev others : Op → List Shape → Type 0
 others = one_or_other (op_made op.Ne) from_less
 
 -- such an operator is not this mark
-other_mark : (c : ℕ) (o x : Op) (w rest : List Shape) → is_mark c (shape.Mark (operator o)) ≡ false → op_made o x w → begins (is_mark c) (w ++ rest) ≡ false
-other_mark c o x w rest e h = one_shuts (is_mark c) (shape.Mark (operator o)) e w rest h.2
+other_mark : (c : ℕ) (o x : Op) (w rest : List Shape) → is_mark_shape c (shape.Mark (operator o)) ≡ false → op_made o x w → begins (is_mark_shape c) (w ++ rest) ≡ false
+other_mark c o x w rest e h = one_shuts (is_mark_shape c) (shape.Mark (operator o)) e w rest h.2
 
-no_less_equal : (x : Op) (w rest : List Shape) → from_greater x w → begins (is_mark LESS_EQUAL) (w ++ rest) ≡ false
-unfolding is_mark
+no_less_equal : (x : Op) (w rest : List Shape) → from_greater x w → begins (is_mark_shape LESS_EQUAL) (w ++ rest) ≡ false
+unfolding is_mark_shape
 no_less_equal x w rest (inl h) = other_mark LESS_EQUAL op.Gt x w rest refl h
 no_less_equal x w rest (inr h) = other_mark LESS_EQUAL op.Ge x w rest refl h
 
-no_less : (x : Op) (w rest : List Shape) → from_less_equal x w → begins (is_mark LESS) (w ++ rest) ≡ false
-unfolding is_mark
+no_less : (x : Op) (w rest : List Shape) → from_less_equal x w → begins (is_mark_shape LESS) (w ++ rest) ≡ false
+unfolding is_mark_shape
 no_less x w rest (inl h) = other_mark LESS op.Le x w rest refl h
 no_less x w rest (inr (inl h)) = other_mark LESS op.Gt x w rest refl h
 no_less x w rest (inr (inr h)) = other_mark LESS op.Ge x w rest refl h
 
-no_unequal : (x : Op) (w rest : List Shape) → from_less x w → begins (is_mark UNEQUAL) (w ++ rest) ≡ false
-unfolding is_mark
+no_unequal : (x : Op) (w rest : List Shape) → from_less x w → begins (is_mark_shape UNEQUAL) (w ++ rest) ≡ false
+unfolding is_mark_shape
 no_unequal x w rest (inl h) = other_mark UNEQUAL op.Lt x w rest refl h
 no_unequal x w rest (inr (inl h)) = other_mark UNEQUAL op.Le x w rest refl h
 no_unequal x w rest (inr (inr (inl h))) = other_mark UNEQUAL op.Gt x w rest refl h
 no_unequal x w rest (inr (inr (inr h))) = other_mark UNEQUAL op.Ge x w rest refl h
 
-others_shut : (c : ℕ) → ((o : Op) → (o ≡ op.Eq → ⊥) → is_mark c (shape.Mark (operator o)) ≡ false) → (x : Op) (w rest : List Shape) → others x w → begins (is_mark c) (w ++ rest) ≡ false
+others_shut : (c : ℕ) → ((o : Op) → (o ≡ op.Eq → ⊥) → is_mark_shape c (shape.Mark (operator o)) ≡ false) → (x : Op) (w rest : List Shape) → others x w → begins (is_mark_shape c) (w ++ rest) ≡ false
 others_shut c e x w rest (inl h) = other_mark c op.Ne x w rest (e op.Ne (λ q. absurd cc)) h
 others_shut c e x w rest (inr (inl h)) = other_mark c op.Lt x w rest (e op.Lt (λ q. absurd cc)) h
 others_shut c e x w rest (inr (inr (inl h))) = other_mark c op.Le x w rest (e op.Le (λ q. absurd cc)) h
 others_shut c e x w rest (inr (inr (inr (inl h)))) = other_mark c op.Gt x w rest (e op.Gt (λ q. absurd cc)) h
 others_shut c e x w rest (inr (inr (inr (inr h)))) = other_mark c op.Ge x w rest (e op.Ge (λ q. absurd cc)) h
 
-opens_op : (o x : Op) (w : List Shape) → is_mark (operator o) (shape.Mark (operator o)) ≡ true → op_made o x w → begins (is_mark (operator o)) w ≡ true
-opens_op o x w e h = one_opens (is_mark (operator o)) (shape.Mark (operator o)) e w h.2
+opens_op : (o x : Op) (w : List Shape) → is_mark_shape (operator o) (shape.Mark (operator o)) ≡ true → op_made o x w → begins (is_mark_shape (operator o)) w ≡ true
+opens_op o x w e h = one_opens (is_mark_shape (operator o)) (shape.Mark (operator o)) e w h.2
 
 op_reads : Reads others never op_at
-unfolding op_at is_mark
+unfolding op_at is_mark_shape
 op_reads =
-    choice_reads (op_made op.Ne) from_less (is_mark UNEQUAL) _ _ never (op_made_reads op.Ne)
-    (choice_reads (op_made op.Lt) from_less_equal (is_mark LESS) _ _ never (op_made_reads op.Lt)
-    (choice_reads (op_made op.Le) from_greater (is_mark LESS_EQUAL) _ _ never (op_made_reads op.Le)
-    (choice_reads (op_made op.Gt) (op_made op.Ge) (is_mark GREATER) _ _ never (op_made_reads op.Gt) (op_made_reads op.Ge)
+    choice_reads (op_made op.Ne) from_less (is_mark_shape UNEQUAL) _ _ never (op_made_reads op.Ne)
+    (choice_reads (op_made op.Lt) from_less_equal (is_mark_shape LESS) _ _ never (op_made_reads op.Lt)
+    (choice_reads (op_made op.Le) from_greater (is_mark_shape LESS_EQUAL) _ _ never (op_made_reads op.Le)
+    (choice_reads (op_made op.Gt) (op_made op.Ge) (is_mark_shape GREATER) _ _ never (op_made_reads op.Gt) (op_made_reads op.Ge)
     (λ x w h. opens_op op.Gt x w refl h) (λ x w rest h e. other_mark GREATER op.Ge x w rest refl h))
     (λ x w h. opens_op op.Le x w refl h) (λ x w rest h e. no_less_equal x w rest h))
     (λ x w h. opens_op op.Lt x w refl h) (λ x w rest h e. no_less x w rest h))
@@ -281,8 +281,8 @@ compare_from_at op.Le x w h = inr (other_from op.Le x w (λ q. absurd cc) h)
 compare_from_at op.Gt x w h = inr (other_from op.Gt x w (λ q. absurd cc) h)
 compare_from_at op.Ge x w h = inr (other_from op.Ge x w (λ q. absurd cc) h)
 
-not_equal : (o : Op) → (o ≡ op.Eq → ⊥) → is_mark EQUAL (shape.Mark (operator o)) ≡ false
-unfolding is_mark
+not_equal : (o : Op) → (o ≡ op.Eq → ⊥) → is_mark_shape EQUAL (shape.Mark (operator o)) ≡ false
+unfolding is_mark_shape
 not_equal op.Eq n = absurd (n refl)
 not_equal op.Ne n = refl
 not_equal op.Lt n = refl
@@ -290,20 +290,20 @@ not_equal op.Le n = refl
 not_equal op.Gt n = refl
 not_equal op.Ge n = refl
 
-pair_shuts : (y : Op × OperandDef) (w rest : List Shape) → other_pair y w → begins (is_mark EQUAL) (w ++ rest) ≡ false
-pair_shuts y w rest h = ap (λ (v : List Shape). begins (is_mark EQUAL) (v ++ rest)) h.parts ∙ ap (begins (is_mark EQUAL)) (append_assoc h.front h.back rest) ∙ others_shut EQUAL not_equal y.0 h.front (h.back ++ rest) h.fits_front
+pair_shuts : (y : Op × OperandDef) (w rest : List Shape) → other_pair y w → begins (is_mark_shape EQUAL) (w ++ rest) ≡ false
+pair_shuts y w rest h = ap (λ (v : List Shape). begins (is_mark_shape EQUAL) (v ++ rest)) h.parts ∙ ap (begins (is_mark_shape EQUAL)) (append_assoc h.front h.back rest) ∙ others_shut EQUAL not_equal y.0 h.front (h.back ++ rest) h.fits_front
 
-compare_reads : Reads compares (is_mark POINT) compare_at
-unfolding compare_at equality_at is_mark
+compare_reads : Reads compares (is_mark_shape POINT) compare_at
+unfolding compare_at equality_at is_mark_shape
 compare_reads =
-    same_set (one_or_other eq_made other_pair) compares (is_mark POINT) compare_at compare_to (λ y w h. compare_from_at y.0 y.1 w h)
-    (choice_reads eq_made other_pair (is_mark EQUAL) equality_at (pair_at op_at plain_at) (is_mark POINT)
-    (made_reads (λ (o : OperandDef). (op.Eq, o)) equality (is_mark POINT) _ (skip_free (mark EQUAL) any_operand (is_mark POINT) (mark_at EQUAL) operand_at (mark_reads EQUAL) operand_reads))
-    (wide other_pair (is_mark POINT) (pair_at op_at plain_at) (pair_free others plain never op_at plain_at op_reads plain_reads))
-    (λ y w h. then_opens (is_mark EQUAL) (shape.Mark EQUAL) _ refl w h.2) (λ y w rest h e. pair_shuts y w rest h))
+    same_set (one_or_other eq_made other_pair) compares (is_mark_shape POINT) compare_at compare_to (λ y w h. compare_from_at y.0 y.1 w h)
+    (choice_reads eq_made other_pair (is_mark_shape EQUAL) equality_at (pair_at op_at plain_at) (is_mark_shape POINT)
+    (made_reads (λ (o : OperandDef). (op.Eq, o)) equality (is_mark_shape POINT) _ (skip_free (mark EQUAL) any_operand (is_mark_shape POINT) (mark_at EQUAL) operand_at (mark_reads EQUAL) operand_reads))
+    (wide other_pair (is_mark_shape POINT) (pair_at op_at plain_at) (pair_free others plain never op_at plain_at op_reads plain_reads))
+    (λ y w h. then_opens (is_mark_shape EQUAL) (shape.Mark EQUAL) _ refl w h.2) (λ y w rest h e. pair_shuts y w rest h))
 
-no_point : (o : Op) → is_mark POINT (shape.Mark (operator o)) ≡ false
-unfolding is_mark
+no_point : (o : Op) → is_mark_shape POINT (shape.Mark (operator o)) ≡ false
+unfolding is_mark_shape
 no_point op.Eq = refl
 no_point op.Ne = refl
 no_point op.Lt = refl
@@ -311,20 +311,20 @@ no_point op.Le = refl
 no_point op.Gt = refl
 no_point op.Ge = refl
 
-compare_shuts : (o : Op) (x : OperandDef) (w rest : List Shape) → compare o x w → begins (is_mark POINT) (w ++ rest) ≡ false
-unfolding is_mark
-compare_shuts o (operand.Const v) w rest h = then_shuts (is_mark POINT) (shape.Mark (operator o)) (a_value v) (no_point o) w rest h
-compare_shuts o (operand.Param z) w rest h = then_shuts (is_mark POINT) (shape.Mark (operator o)) (param z) (no_point o) w rest h
-compare_shuts op.Eq (operand.Ref r) w rest h = then_shuts (is_mark POINT) (shape.Mark EQUAL) (ref r) refl w rest h
+compare_shuts : (o : Op) (x : OperandDef) (w rest : List Shape) → compare o x w → begins (is_mark_shape POINT) (w ++ rest) ≡ false
+unfolding is_mark_shape
+compare_shuts o (operand.Const v) w rest h = then_shuts (is_mark_shape POINT) (shape.Mark (operator o)) (a_value v) (no_point o) w rest h
+compare_shuts o (operand.Param z) w rest h = then_shuts (is_mark_shape POINT) (shape.Mark (operator o)) (param z) (no_point o) w rest h
+compare_shuts op.Eq (operand.Ref r) w rest h = then_shuts (is_mark_shape POINT) (shape.Mark EQUAL) (ref r) refl w rest h
 compare_shuts op.Ne (operand.Ref r) w rest h = absurd h
 compare_shuts op.Lt (operand.Ref r) w rest h = absurd h
 compare_shuts op.Le (operand.Ref r) w rest h = absurd h
 compare_shuts op.Gt (operand.Ref r) w rest h = absurd h
 compare_shuts op.Ge (operand.Ref r) w rest h = absurd h
 
-pub pred_reads : Reads pred (is_mark POINT) pred_at
+pub pred_reads : Reads pred (is_mark_shape POINT) pred_at
 unfolding pred_at
 pred_reads =
-    map_reads (λ (x : RefDef × (Op × OperandDef)). ref x.0 ⋅ compares x.1) pred (is_mark POINT) (λ x. record { left = x.0; op = x.1.0; right = x.1.1 }) (pair_at ref_at compare_at)
-    (pair_reads ref compares (is_mark POINT) (is_mark POINT) ref_at compare_at ref_reads compare_reads (λ y v rest h e. compare_shuts y.0 y.1 v rest h))
+    map_reads (λ (x : RefDef × (Op × OperandDef)). ref x.0 ⋅ compares x.1) pred (is_mark_shape POINT) (λ x. record { left = x.0; op = x.1.0; right = x.1.1 }) (pair_at ref_at compare_at)
+    (pair_reads ref compares (is_mark_shape POINT) (is_mark_shape POINT) ref_at compare_at ref_reads compare_reads (λ y v rest h e. compare_shuts y.0 y.1 v rest h))
     (λ x w h. h) (λ p w h. ((p.left, (p.op, p.right)), refl, h))

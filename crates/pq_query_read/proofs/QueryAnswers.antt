@@ -13,7 +13,7 @@ use Rattle.pq_schema.specs.Schema.{Schema}
 use Rattle.pq_schema.specs.Valid.{IsValid}
 use Rattle.pq_schema.specs.declared.query.Query.{Query}
 use Rattle.pq_query_read.specs.Grammar.{SpellsSelect}
-use Rattle.pq_query_read.specs.Queries.{or_syntax, query_of, IsQueryRefusal}
+use Rattle.pq_query_read.specs.Queries.{or_syntax, read_query_of, IsQueryRefusal}
 use Rattle.pq_query_read.specs.Reading.{select_of}
 use Rattle.pq_query_read.specs.Resolving.{resolved_select}
 use Rattle.pq_query_read.specs.Trying.{◌>>=◌}
@@ -25,8 +25,8 @@ use Rattle.pq_query_read.proofs.SpelledQueries.{select_spelled}
 module _ (schema : Schema) (name text : List ℕ) (tokens : List Token) (from : ℕ) where
   -- ---- where a query's text was read
 
-  pub reads_ok : (def : SelectDef) (r : Result Query Stopped) → select_of text tokens from ≡ Ok def → Answers r (resolved_select schema name def) → Answers r (query_of schema name text tokens from)
-  unfolding query_of
+  pub reads_ok : (def : SelectDef) (r : Result Query Stopped) → select_of text tokens from ≡ Ok def → Answers r (resolved_select schema name def) → Answers r (read_query_of schema name text tokens from)
+  unfolding read_query_of
   reads_ok def r is h = subst (λ s. Answers r (or_syntax text tokens s >>= resolved_select schema name)) (sym is) h
 
   pub only_ok : (def : SelectDef) (r : Result Query Stopped) → ((s : SelectDef) → SpellsSelect s (drop from (shapes_of text tokens)) → def ≡ s) → Answers r (resolved_select schema name def)
@@ -45,8 +45,8 @@ module _ (schema : Schema) (name text : List ℕ) (tokens : List Token) (from : 
 
   -- ---- where none was read
 
-  pub reads_err : (e : Stopped) → IsRefusalOf text tokens (select_of text tokens from) e → Answers {A = Query} (Err e) (query_of schema name text tokens from)
-  unfolding query_of
+  pub reads_err : (e : Stopped) → IsRefusalOf text tokens (select_of text tokens from) e → Answers {A = Query} (Err e) (read_query_of schema name text tokens from)
+  unfolding read_query_of
   reads_err NoMem h = tt
   reads_err (Refused why) h =
       ap (λ s. or_syntax text tokens s >>= resolved_select schema name) h.1 ∙ ap Err (sym (refused_is why (refusal.Syntax (offset_at text tokens (length tokens - h.0))) h.2))

@@ -35,7 +35,7 @@ use Rattle.pq_query_read.specs.declared.select.Selected.{Selected}
 use Rattle.pq_query_read.specs.declared.select.Selected.TheVariants as selected
 use Rattle.pq_query_read.specs.Columns.{columns_at, numbers, ref_of, type_of, all_of, selected_of, IsIn}
 use Rattle.pq_query_read.specs.Parameters.{use_in, uses, params_of}
-use Rattle.pq_query_read.specs.Resolving.{counts_refusal, is_outside_selected, relation_of, pred_of, item_of, stop_of, resolved_select}
+use Rattle.pq_query_read.specs.Resolving.{clause_counts_refusal, is_outside_selected, relation_of, pred_of, item_of, stop_of, resolved_select}
 use Rattle.pq_query_read.proofs.Spelled.{IsSelectDef}
 use Rattle.pq_query_read.specs.Trying.{◌>>=◌, passed_unless, each_after}
 use Rattle.pq_query_read.proofs.Trying.{both, no_refusal, same_answer, each_long}
@@ -56,7 +56,7 @@ pub record AreFew (def : SelectDef) : Type 0 where
   pub order : length def.order ≤ 4
   pub selected : is_outside_selected def.selected ≡ false
 
-few : (def : SelectDef) → counts_refusal def ≡ None → AreFew def
+few : (def : SelectDef) → clause_counts_refusal def ≡ None → AreFew def
 few def none =
     let relations = refused_if (is_outside (length def.relations) 6) (refusal.Count count_word.RELATIONS) in
     let preds = refused_if (nat_lt 16 (length def.preds)) (refusal.Count count_word.PREDICATES) in
@@ -138,7 +138,7 @@ module _ (schema : Schema) (name : List ℕ) (def : SelectDef) where
   from_relations relations = selected_of schema.tables relations def.selected >>= from_select relations
 
   record Parts (query : Query) : Type 0 where
-    few : counts_refusal def ≡ None
+    few : clause_counts_refusal def ≡ None
     relations : List Relation
     relations_is : each_after (relation_of schema) [] def.relations ≡ Ok relations
     select : List ColRef
@@ -156,7 +156,7 @@ module _ (schema : Schema) (name : List ℕ) (def : SelectDef) where
   parts_of : (query : Query) → resolved_select schema name def ≡ Ok query → Parts query
   unfolding resolved_select
   parts_of query is =
-      let counted = both (passed_unless (counts_refusal def)) (λ counted. each_after (relation_of schema) [] def.relations >>= from_relations) query is in
+      let counted = both (passed_unless (clause_counts_refusal def)) (λ counted. each_after (relation_of schema) [] def.relations >>= from_relations) query is in
       let relations = both (each_after (relation_of schema) [] def.relations) from_relations query counted.2 in
       let select = both (selected_of schema.tables relations.0 def.selected) (from_select relations.0) query relations.2 in
       let preds = both (each_after (pred_of schema.tables relations.0) [] def.preds) (from_preds relations.0 select.0) query select.2 in
@@ -164,7 +164,7 @@ module _ (schema : Schema) (name : List ℕ) (def : SelectDef) where
       let stopped = both (stop_of def.stop) (from_stop relations.0 select.0 preds.0 order.0) query order.2 in
       let params = both (params_of (uses schema.tables relations.0 preds.0)) (λ params. Ok (query_of relations.0 select.0 preds.0 order.0 stopped.0 params)) query stopped.2 in
       record {
-        few = no_refusal (counts_refusal def) counted.0 counted.1;
+        few = no_refusal (clause_counts_refusal def) counted.0 counted.1;
         relations = relations.0;
         relations_is = relations.1;
         select = select.0;

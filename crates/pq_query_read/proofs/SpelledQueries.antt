@@ -22,7 +22,7 @@ use Rattle.pq_shape.specs.Front.{truth_of, value_in}
 use Rattle.pq_shape.specs.Numbers.{has_64_bits, fitting_number, signed_number}
 use Rattle.pq_shape.specs.Parts.{word, name as a_name, a_value}
 use Rattle.pq_base.specs.Words.{keywords, uppercase_byte}
-use Rattle.pq_shape.specs.Shapes.{shape_of, shapes_of, kind_shape, utf8_text, between_quotes, text_shape, number_or_other, keyword_or, named_shape, name_shape, place_of, lowercase_bytes, mark_code}
+use Rattle.pq_shape.specs.Shapes.{shape_of, shapes_of, kind_shape, utf8_text, between_quotes, text_shape, number_or_other, keyword_or, named_shape, name_shape, word_place, lowercase_bytes, mark_code}
 use Rattle.pq_shape.specs.declared.keyword.TheConstants.{AND, FALSE, TRUE}
 use Rattle.pq_shape.specs.declared.shape.Shape.{Shape}
 use Rattle.pq_shape.specs.declared.shape.Shape.TheVariants as shape
@@ -32,7 +32,7 @@ use Rattle.pq_schema.specs.declared.query.Op.TheVariants as op
 use Rattle.pq_query_read.proofs.Named.{IsNamed, AreNamed, named_tokens}
 use Rattle.pq_query_read.proofs.Within.{GivesWithin, both_within, separated_gives}
 use Rattle.pq_query_read.specs.Grammar.{alias, relation, comma_or_join, compare, pred, conditions, SpellsSelect}
-use Rattle.pq_query_read.specs.Reading.{select_at, read_at, select_of}
+use Rattle.pq_query_read.specs.Reading.{select_at, select_read_at, select_of}
 use Rattle.pq_query_read.specs.declared.select.OperandDef.{OperandDef}
 use Rattle.pq_query_read.specs.declared.select.OperandDef.TheVariants as operand
 use Rattle.pq_query_read.specs.declared.select.SelectDef.{SelectDef}
@@ -107,7 +107,7 @@ module _ where
 
 kind_valued : (k : Kind) (w : List ℕ) → IsValued (kind_shape k w)
 kind_valued kind.Word w =
-    keyword_or_valued (name_shape w) (place_of keywords (map uppercase_byte w))
+    keyword_or_valued (name_shape w) (word_place keywords (map uppercase_byte w))
     (name_valued (nat_le (length w) 32) (utf8_text (lowercase_bytes w)))
 kind_valued kind.Number w = number_valued (signed_number w)
 kind_valued kind.Text w = text_valued (between_quotes w)
@@ -186,7 +186,7 @@ select_gives s w h known =
 -- ---- texts
 
 pub select_spelled : (text : List ℕ) (from : ℕ) (def : SelectDef) → select_of text (tokens_of text) from ≡ Ok def → IsSelectDef def
-unfolding read_at
+unfolding select_read_at
 select_spelled text from def is =
     select_gives def (drop from (shapes_of text (tokens_of text))) (whole_found SpellsSelect never select_at select_reads (drop from (shapes_of text (tokens_of text))) def is)
     (known_drop from (shapes_of text (tokens_of text)) (known_tokens text (tokens_of text) (named_tokens text (tokens_of text) (tokens_have_forms text))))

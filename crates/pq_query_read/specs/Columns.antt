@@ -38,13 +38,13 @@ only (ref ∷ []) = Some ref
 only (ref ∷ other ∷ refs) = None
 
 -- the columns of the relation's table
-abbrev pub columns_of : List Table → Relation → List Column
-columns_of tables relation = (table_at tables relation.table).columns
+abbrev pub relation_columns : List Table → Relation → List Column
+relation_columns tables relation = (table_at tables relation.table).columns
 
 -- the column of this name in the relation, which has this number
 abbrev pub column_named : List Table → List ℕ → ℕ → Relation → Option ColRef
 column_named tables name rel relation =
-    option_map (λ col. record { rel = rel; col = col }) (find_column (columns_of tables relation) name)
+    option_map (λ col. record { rel = rel; col = col }) (find_column (relation_columns tables relation) name)
 
 module _ (tables : List Table) (relations : List Relation) where
   -- the relation of this number, from 1
@@ -52,7 +52,7 @@ module _ (tables : List Table) (relations : List Relation) where
   relation_at rel = slice_index_or relations (rel - 1) no_relation
 
   abbrev pub columns_at : ℕ → List Column
-  columns_at rel = columns_of tables (relation_at rel)
+  columns_at rel = relation_columns tables (relation_at rel)
 
   -- a column of one of the relations
   pub record IsIn (ref : ColRef) : Type 0 where

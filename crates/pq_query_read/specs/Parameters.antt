@@ -44,19 +44,20 @@ abbrev pub has_number : ℕ → ParamUse → Bool
 has_number number param = param.number == number
 
 -- each number is 1, or the number below it is used too
-abbrev pub is_numbered : List ParamUse → ParamUse → Bool
-is_numbered uses param = param.number == 1 || nat_lt 1 param.number && list_any (has_number (param.number - 1)) uses
+abbrev pub has_param_number : List ParamUse → ParamUse → Bool
+has_param_number uses param = param.number == 1 || nat_lt 1 param.number
+    && list_any (has_number (param.number - 1)) uses
 
 -- the same parameter is compared with columns of one kind
-abbrev pub agrees : ParamUse → ParamUse → Bool
-agrees param other = not (param.number == other.number) || same_kind param.ty other.ty
+abbrev pub same_use : ParamUse → ParamUse → Bool
+same_use param other = not (param.number == other.number) || same_kind param.ty other.ty
 
 abbrev pub agrees_with_all : List ParamUse → ParamUse → Bool
-agrees_with_all uses param = list_all (agrees param) uses
+agrees_with_all uses param = list_all (same_use param) uses
 
 -- the numbers are exactly 1 to n, and each has one kind
 abbrev pub are_params : List ParamUse → Bool
-are_params uses = list_all (is_numbered uses) uses && list_all (agrees_with_all uses) uses
+are_params uses = list_all (has_param_number uses) uses && list_all (agrees_with_all uses) uses
 
 -- n, the greatest number
 abbrev pub param_count : List ParamUse → ℕ

@@ -22,8 +22,9 @@ or_syntax text tokens (Ok read) = Ok read
 or_syntax text tokens (Err left) = Err (refusal.Syntax (offset_at text tokens (length tokens - left)))
 
 -- the query of this name that the tokens of a text spell from a place on, or the first refusal
-unfoldable pub query_of : Schema → List ℕ → List ℕ → List Token → ℕ → Result Query Refusal
-query_of schema name text tokens from = or_syntax text tokens (select_of text tokens from) >>= resolved_select schema name
+unfoldable pub read_query_of : Schema → List ℕ → List ℕ → List Token → ℕ → Result Query Refusal
+read_query_of schema name text tokens from =
+    or_syntax text tokens (select_of text tokens from) >>= resolved_select schema name
 
 -- the tokens spell what stands for the query
 pub record IsQueryOf (schema : Schema) (name : List ℕ) (shapes : List Shape) (query : Query) : Type 0 where

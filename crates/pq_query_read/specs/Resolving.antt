@@ -45,8 +45,8 @@ is_outside_selected selected.Star = false
 is_outside_selected (selected.Refs refs) = is_outside (length refs) 192
 
 -- relations, predicates, order, selected
-abbrev pub counts_refusal : SelectDef → Option Refusal
-counts_refusal def =
+abbrev pub clause_counts_refusal : SelectDef → Option Refusal
+clause_counts_refusal def =
     or_else (refused_if (is_outside (length def.relations) 6) (refusal.Count count_word.RELATIONS))
     (or_else (refused_if (nat_lt 16 (length def.preds)) (refusal.Count count_word.PREDICATES))
     (or_else (refused_if (nat_lt 4 (length def.order)) (refusal.Count count_word.ORDER))
@@ -123,7 +123,8 @@ module _ (tables : List Table) (relations : List Relation) where
   abbrev pub item_of : List OrderItem → ItemDef → Result OrderItem Refusal
   item_of before def =
       ref_of tables relations def.col >>= λ ref.
-      passed_unless (refused_if (list_any (has_ref ref) before) (repeated_name (ref_name def.col.first def.col.second))) >>= λ new.
+      passed_unless (refused_if (list_any (has_ref ref) before)
+      (repeated_name (ref_name def.col.first def.col.second))) >>= λ new.
       Ok (record { col = ref; dir = def.dir })
 
   abbrev pub items_of : List ItemDef → Result (List OrderItem) Refusal
@@ -132,15 +133,15 @@ module _ (tables : List Table) (relations : List Relation) where
 -- ---- LIMIT and PAGINATE
 
 -- k from 1 to 1,000
-abbrev pub stop_size : ℤ → Option ℕ
-stop_size (pos k) = if nat_le 1 k && nat_le k 1000 then Some k else None
-stop_size (negsuc k) = None
+abbrev pub limit_size : ℤ → Option ℕ
+limit_size (pos k) = if nat_le 1 k && nat_le k 1000 then Some k else None
+limit_size (negsuc k) = None
 
 abbrev pub stop_of : StopDef → Result Stop Refusal
 stop_of stop_def.All = Ok stop.All
-stop_of (stop_def.Limit number) = or_refused (refusal.Count count_word.STOP) (stop_size number) >>=
+stop_of (stop_def.Limit number) = or_refused (refusal.Count count_word.STOP) (limit_size number) >>=
     λ k. Ok (stop.Limit k)
-stop_of (stop_def.Paginate number) = or_refused (refusal.Count count_word.STOP) (stop_size number) >>=
+stop_of (stop_def.Paginate number) = or_refused (refusal.Count count_word.STOP) (limit_size number) >>=
     λ k. Ok (stop.Paginate k)
 
 -- ---- the query
@@ -148,7 +149,7 @@ stop_of (stop_def.Paginate number) = or_refused (refusal.Count count_word.STOP) 
 -- the query of this name, or the first refusal
 unfoldable pub resolved_select : Schema → List ℕ → SelectDef → Result Query Refusal
 resolved_select schema name def =
-    passed_unless (counts_refusal def) >>= λ counted.
+    passed_unless (clause_counts_refusal def) >>= λ counted.
     relations_of schema def.relations >>= λ relations.
     selected_of schema.tables relations def.selected >>= λ select.
     preds_of schema.tables relations def.preds >>= λ preds.

@@ -5,17 +5,17 @@ use Rattle.pq_grammar.specs.Reader.{pair_at, skip_at, close_at, map_at, nothing_
 use Rattle.pq_grammar.specs.Shrinking.{Shrinks, Keeps, token_shrinks, shrinks_keeps, nothing_keeps, pair_shrinks, pair_keeps, close_shrinks, skip_shrinks, map_shrinks, map_keeps, option_keeps, choice_keeps}
 use Rattle.pq_schema.specs.declared.query.Op.{Op}
 use Rattle.pq_schema.specs.declared.query.Op.TheVariants as op
-use Rattle.pq_shape.specs.Front.{is_word, is_mark, is_name, word_at, mark_at, name_of, name_at, number_in, number_at, value_in, value_at}
+use Rattle.pq_shape.specs.Front.{is_word_shape, is_mark_shape, is_name_shape, word_at, mark_at, name_of, name_at, number_in, number_at, value_in, value_shape_at}
 use Rattle.pq_shape.specs.declared.keyword.TheConstants.{AS, ASC, DESC}
 use Rattle.pq_shape.specs.declared.mark.TheConstants.{CLOSE_SQUARE, COLON, EQUAL, GREATER, GREATER_EQUAL, LESS, LESS_EQUAL, OPEN_SQUARE, POINT, UNEQUAL}
-use Rattle.pq_query_read.specs.Reading.{part_at, ref_at, is_alias, alias_at, relation_at, op_at, label_at, param_at, plain_at, operand_at, equality_at, compare_at, pred_at, dir_at, item_at}
+use Rattle.pq_query_read.specs.Reading.{part_at, ref_at, is_alias, alias_at, relation_clause_at, op_at, label_at, param_at, plain_at, operand_at, equality_at, compare_at, pred_at, dir_at, item_at}
 use Rattle.pq_query_read.specs.declared.select.OperandDef.TheVariants as operand
 
 word_shrinks : (k : ℕ) → Shrinks (word_at k)
-word_shrinks k = token_shrinks (test_of (is_word k))
+word_shrinks k = token_shrinks (test_of (is_word_shape k))
 
 mark_shrinks : (k : ℕ) → Shrinks (mark_at k)
-mark_shrinks k = token_shrinks (test_of (is_mark k))
+mark_shrinks k = token_shrinks (test_of (is_mark_shape k))
 
 name_keeps : Keeps name_at
 name_keeps = shrinks_keeps name_at (token_shrinks name_of)
@@ -25,15 +25,15 @@ unfolding ref_at part_at
 ref_shrinks =
     map_shrinks _ (pair_at name_at part_at)
     (pair_shrinks name_at part_at (token_shrinks name_of)
-    (option_keeps (is_mark POINT) (skip_at (mark_at POINT) name_at)
+    (option_keeps (is_mark_shape POINT) (skip_at (mark_at POINT) name_at)
     (shrinks_keeps _ (skip_shrinks (mark_at POINT) name_at (mark_shrinks POINT) name_keeps))))
 
-pub relation_shrinks : Shrinks relation_at
-unfolding relation_at alias_at
+pub relation_shrinks : Shrinks relation_clause_at
+unfolding relation_clause_at alias_at
 relation_shrinks =
     map_shrinks _ (pair_at name_at alias_at)
     (pair_shrinks name_at alias_at (token_shrinks name_of)
-    (option_keeps is_alias _ (choice_keeps (is_word AS) (skip_at (word_at AS) name_at) name_at
+    (option_keeps is_alias _ (choice_keeps (is_word_shape AS) (skip_at (word_at AS) name_at) name_at
     (shrinks_keeps _ (skip_shrinks (word_at AS) name_at (word_shrinks AS) name_keeps)) name_keeps)))
 
 param_keeps : Keeps param_at
@@ -44,18 +44,18 @@ param_keeps =
     (close_at (pair_at number_at label_at) (mark_at CLOSE_SQUARE)) (mark_shrinks OPEN_SQUARE)
     (shrinks_keeps _ (close_shrinks (pair_at number_at label_at) (mark_at CLOSE_SQUARE)
     (pair_shrinks number_at label_at (token_shrinks number_in)
-    (option_keeps (is_mark COLON) (skip_at (mark_at COLON) name_at)
+    (option_keeps (is_mark_shape COLON) (skip_at (mark_at COLON) name_at)
     (shrinks_keeps _ (skip_shrinks (mark_at COLON) name_at (mark_shrinks COLON) name_keeps))))
     (shrinks_keeps _ (mark_shrinks CLOSE_SQUARE))))))
 
 plain_keeps : Keeps plain_at
 unfolding plain_at
-plain_keeps = choice_keeps (is_mark OPEN_SQUARE) param_at _ param_keeps (map_keeps
-    (λ v. operand.Const v) value_at (shrinks_keeps value_at (token_shrinks value_in)))
+plain_keeps = choice_keeps (is_mark_shape OPEN_SQUARE) param_at _ param_keeps (map_keeps
+    (λ v. operand.Const v) value_shape_at (shrinks_keeps value_shape_at (token_shrinks value_in)))
 
 operand_keeps : Keeps operand_at
 unfolding operand_at
-operand_keeps = choice_keeps is_name _ plain_at (map_keeps
+operand_keeps = choice_keeps is_name_shape _ plain_at (map_keeps
     (λ r. operand.Ref r) ref_at (shrinks_keeps ref_at ref_shrinks)) plain_keeps
 
 mark_keeps : (o : Op) (k : ℕ) → Keeps (map_at (λ u. o) (mark_at k))
@@ -64,15 +64,15 @@ mark_keeps o k = map_keeps (λ u. o) (mark_at k) (shrinks_keeps _ (mark_shrinks 
 op_keeps : Keeps op_at
 unfolding op_at
 op_keeps =
-    choice_keeps (is_mark UNEQUAL) _ _ (mark_keeps op.Ne UNEQUAL)
-    (choice_keeps (is_mark LESS) _ _ (mark_keeps op.Lt LESS)
-    (choice_keeps (is_mark LESS_EQUAL) _ _ (mark_keeps op.Le LESS_EQUAL)
-    (choice_keeps (is_mark GREATER) _ _ (mark_keeps op.Gt GREATER) (mark_keeps op.Ge GREATER_EQUAL))))
+    choice_keeps (is_mark_shape UNEQUAL) _ _ (mark_keeps op.Ne UNEQUAL)
+    (choice_keeps (is_mark_shape LESS) _ _ (mark_keeps op.Lt LESS)
+    (choice_keeps (is_mark_shape LESS_EQUAL) _ _ (mark_keeps op.Le LESS_EQUAL)
+    (choice_keeps (is_mark_shape GREATER) _ _ (mark_keeps op.Gt GREATER) (mark_keeps op.Ge GREATER_EQUAL))))
 
 compare_keeps : Keeps compare_at
 unfolding compare_at equality_at
 compare_keeps =
-    choice_keeps (is_mark EQUAL) equality_at (pair_at op_at plain_at)
+    choice_keeps (is_mark_shape EQUAL) equality_at (pair_at op_at plain_at)
     (map_keeps (λ o. (op.Eq, o)) (skip_at (mark_at EQUAL) operand_at)
     (shrinks_keeps _ (skip_shrinks (mark_at EQUAL) operand_at (mark_shrinks EQUAL) operand_keeps)))
     (pair_keeps op_at plain_at op_keeps plain_keeps)
@@ -84,8 +84,9 @@ pred_shrinks = map_shrinks _ (pair_at ref_at compare_at) (pair_shrinks ref_at co
 dir_keeps : Keeps dir_at
 unfolding dir_at
 dir_keeps =
-    choice_keeps (is_word DESC) _ _ (map_keeps (λ u. dir.Desc) (word_at DESC) (shrinks_keeps _ (word_shrinks DESC)))
-    (choice_keeps (is_word ASC) _ _ (map_keeps
+    choice_keeps (is_word_shape DESC) _ _ (map_keeps
+    (λ u. dir.Desc) (word_at DESC) (shrinks_keeps _ (word_shrinks DESC)))
+    (choice_keeps (is_word_shape ASC) _ _ (map_keeps
     (λ u. dir.Asc) (word_at ASC) (shrinks_keeps _ (word_shrinks ASC))) (map_keeps
     (λ u. dir.Asc) nothing_at nothing_keeps))
 

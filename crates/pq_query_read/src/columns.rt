@@ -2,7 +2,7 @@
 ghost use Rattle.std.specs.Prelude.{◌≡◌, ◌≤◌, ◌<◌, ◌++◌, IfOk, OnOk, All, filter_map, flat_map, map, length, position};
 ghost use Rattle.std.specs.List.{range_with_len};
 ghost use Rattle.pq_base.specs.Answers.{Answers};
-ghost use Rattle.pq_query_read.specs.Columns.{HasTable, AreRelations, IsIn, has_alias, only, columns_of, columns_at, column_named, named_in, numbers, unqualified, qualified, ref_of, type_of, all_of, refs_of, selected_of};
+ghost use Rattle.pq_query_read.specs.Columns.{HasTable, AreRelations, IsIn, has_alias, only, relation_columns, columns_at, column_named, named_in, numbers, unqualified, qualified, ref_of, type_of, all_of, refs_of, selected_of};
 
 use crate::select::{RefDef, Selected};
 use pq_base::{ColType, List, NoMem, PText, Refusal, Stopped};
@@ -12,7 +12,7 @@ use std::alloc::Global;
 /// The columns of the relation's table, of which there are at most 32.
 fn columns_of<'a>(catalog: &'a Catalog, relation: &Relation) -> &'a [Column]
     requires { HasTable catalog.now.tables relation.now }
-    ensures columns { result.now ≡ columns_of catalog.now.tables relation.now }
+    ensures columns { result.now ≡ relation_columns catalog.now.tables relation.now }
     ensures few { length result.now ≤ 32 }
 {
     catalog.known();

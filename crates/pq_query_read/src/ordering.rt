@@ -3,7 +3,7 @@ ghost use Rattle.std.specs.Prelude.{◌≡◌};
 ghost use Rattle.std.specs.List.{list_any};
 ghost use Rattle.pq_base.specs.Answers.{Answers};
 ghost use Rattle.pq_query_read.specs.Columns.{AreRelations};
-ghost use Rattle.pq_query_read.specs.Resolving.{has_ref, ref_name, item_of, items_of, stop_size, stop_of};
+ghost use Rattle.pq_query_read.specs.Resolving.{has_ref, ref_name, item_of, items_of, limit_size, stop_of};
 
 use crate::columns::column;
 use crate::select::{ItemDef, RefDef, StopDef};
@@ -71,7 +71,7 @@ pub fn order(
 
 /// The number of rows, where it is from 1 to 1,000.
 fn stop_size(number: i64) -> Option<u16>
-    ensures { result ≡ stop_size number }
+    ensures { result ≡ limit_size number }
 {
     if 1 <= number && number <= ROWS {
         Some(number as u16)

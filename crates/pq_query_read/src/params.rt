@@ -4,7 +4,7 @@ ghost use Rattle.std.specs.List.{list_all, list_any};
 ghost use Rattle.pq_base.specs.Answers.{Answers};
 ghost use Rattle.pq_query_read.specs.Columns.{AreRelations};
 ghost use Rattle.pq_query_read.specs.Compared.{IsLeftIn};
-ghost use Rattle.pq_query_read.specs.Parameters.{use_in, uses, has_number, is_numbered, agrees_with_all, are_params, param_count, param_type_of, param_types, params_of};
+ghost use Rattle.pq_query_read.specs.Parameters.{use_in, uses, has_number, has_param_number, agrees_with_all, are_params, param_count, param_type_of, param_types, params_of};
 
 use crate::columns::type_of;
 use crate::conditions::param_type;
@@ -62,7 +62,7 @@ fn has_number(uses: &[ParamUse], number: u8) -> bool
 
 /// Whether the number is 1, or the number below it is used too.
 fn is_numbered(uses: &[ParamUse], param: &ParamUse) -> bool
-    ensures { result ≡ is_numbered uses.now param.now }
+    ensures { result ≡ has_param_number uses.now param.now }
 {
     param.number == 1 || 1 < param.number && has_number(uses, param.number - 1)
 }
@@ -75,7 +75,7 @@ fn agrees_with_all(uses: &[ParamUse], param: &ParamUse) -> bool
 }
 
 fn are_numbered(uses: &[ParamUse]) -> bool
-    ensures { result ≡ list_all (is_numbered uses.now) uses.now }
+    ensures { result ≡ list_all (has_param_number uses.now) uses.now }
 {
     uses.iter().all(|param| is_numbered(uses, param))
 }

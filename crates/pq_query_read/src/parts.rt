@@ -1,7 +1,7 @@
 //! Reading the parts of a query.
 ghost use Rattle.std.specs.Prelude.{◌≡◌, Ok};
 ghost use Rattle.pq_grammar.specs.Answers.{Gives};
-ghost use Rattle.pq_query_read.specs.Reading.{part_at, ref_at, alias_at, relation_at, op_at, label_at, param_at, plain_at, operand_at, equality_at, compare_at, pred_at, dir_at, item_at, stop_at};
+ghost use Rattle.pq_query_read.specs.Reading.{part_at, ref_at, alias_at, relation_clause_at, op_at, label_at, param_at, plain_at, operand_at, equality_at, compare_at, pred_at, dir_at, item_at, stop_clause_at};
 
 use crate::select::{ItemDef, OperandDef, PredDef, RefDef, RelationDef, StopDef};
 use pq_base::{Dir, PText};
@@ -63,9 +63,9 @@ fn alias(alloc: Global, c: &mut Cursor) -> Result<Option<PText>, ReadError>
     Ok(None)
 }
 
-#[tactic(auto, unfolding(crate::specs::Reading::relation_at))]
+#[tactic(auto, unfolding(crate::specs::Reading::relation_clause_at))]
 fn relation(alloc: Global, c: &mut Cursor) -> Result<RelationDef, ReadError>
-    ensures { Gives (λ x. (x, c.new)) result (relation_at c.old) }
+    ensures { Gives (λ x. (x, c.new)) result (relation_clause_at c.old) }
 {
     let table = c.name(alloc)?;
     let alias = alias(alloc, c)?;
@@ -73,10 +73,10 @@ fn relation(alloc: Global, c: &mut Cursor) -> Result<RelationDef, ReadError>
 }
 
 impl Part for RelationDef {
-    ghost use Rattle.pq_query_read.specs.Reading.{relation_at};
+    ghost use Rattle.pq_query_read.specs.Reading.{relation_clause_at};
     ghost use Rattle.pq_query_read.specs.Shrinking.{relation_shrinks};
 
-    ghost reads = { relation_at };
+    ghost reads = { relation_clause_at };
 
     fn part(alloc: Global, c: &mut Cursor) -> Result<RelationDef, ReadError> {
         relation(alloc, c)
@@ -235,9 +235,9 @@ impl Part for ItemDef {
 }
 
 /// Reads LIMIT or PAGINATE and a number, or nothing.
-#[tactic(auto, unfolding(crate::specs::Reading::stop_at))]
+#[tactic(auto, unfolding(crate::specs::Reading::stop_clause_at))]
 pub fn stop(c: &mut Cursor) -> Result<StopDef, ReadError>
-    ensures { Gives (λ x. (x, c.new)) result (stop_at c.old) }
+    ensures { Gives (λ x. (x, c.new)) result (stop_clause_at c.old) }
 {
     if c.is_word(LIMIT) {
         c.word(LIMIT)?;

@@ -6,8 +6,8 @@ ghost use Rattle.pq_schema.specs.Resolved.{IsResolved};
 ghost use Rattle.pq_shape.specs.Shapes.{shapes_of};
 ghost use Rattle.pq_text.specs.Tokens.{tokens_of};
 ghost use Rattle.pq_query_read.specs.Grammar.{SpellsSelect};
-ghost use Rattle.pq_query_read.specs.Queries.{query_of, IsQueryOf, IsQueryRefusal};
-ghost use Rattle.pq_query_read.specs.Resolving.{is_outside_selected, counts_refusal, resolved_select};
+ghost use Rattle.pq_query_read.specs.Queries.{read_query_of, IsQueryOf, IsQueryRefusal};
+ghost use Rattle.pq_query_read.specs.Resolving.{is_outside_selected, clause_counts_refusal, resolved_select};
 ghost use Rattle.pq_query_read.specs.declared.select.SelectDef as declared;
 
 use crate::columns::selected;
@@ -45,7 +45,7 @@ fn is_outside_selected(selected: &Selected) -> bool
 
 /// Refuses no relation, and a relation, a predicate, an order column or a selected column too many.
 fn check_counts(def: &SelectDef) -> Result<(), Stopped>
-    ensures refusal { Passes result (counts_refusal def.now) }
+    ensures refusal { Passes result (clause_counts_refusal def.now) }
     ensures relations { IfOk result (λ _. length def.now.relations ≤ 6) }
     ensures preds { IfOk result (λ _. length def.now.preds ≤ 16) }
 {
@@ -116,7 +116,7 @@ pub fn read_query(
     // A refusal is the first one of what the tokens spell, or the place of the fault where they spell nothing.
     ensures refused { IfErr result (IsQueryRefusal catalog.now name text.now tokens.now from) }
     // The query that reading from left to right and resolving gives.
-    ensures reads { Answers result (query_of catalog.now name text.now tokens.now from) }
+    ensures reads { Answers result (read_query_of catalog.now name text.now tokens.now from) }
     // The query is one that planning takes, under the name that was asked.
     ensures sound { IfOk result (λ query. IsResolved catalog.now.tables query × query.name ≡ name) }
 {

@@ -5,7 +5,7 @@ ghost use Rattle.pq_shape.specs.Faults.{IsRefusalOf, IsNoMem, IsFaultFrom};
 ghost use Rattle.pq_shape.specs.Shapes.{shapes_of};
 ghost use Rattle.pq_query_read.specs.Grammar.{SpellsSelect};
 ghost use Rattle.pq_query_read.specs.declared.select.SelectDef as declared;
-ghost use Rattle.pq_query_read.specs.Reading.{refs_at, relations_at, preds_at, items_at, where_at, order_at, selected_at, select_at, read_at, select_of};
+ghost use Rattle.pq_query_read.specs.Reading.{refs_at, relations_at, preds_at, items_at, where_at, order_at, selected_at, select_at, select_read_at, select_of};
 
 use crate::parts::stop;
 use crate::select::{ItemDef, PredDef, RefDef, RelationDef, SelectDef, Selected};
@@ -102,9 +102,9 @@ fn query(alloc: Global, c: &mut Cursor) -> Result<SelectDef, ReadError>
     })
 }
 
-#[tactic(auto, unfolding(crate::specs::Reading::read_at))]
+#[tactic(auto, unfolding(crate::specs::Reading::select_read_at))]
 fn whole(alloc: Global, tokens: &[Shape]) -> Result<SelectDef, ReadError>
-    ensures { Gives (λ x. x) result (read_at tokens.now) }
+    ensures { Gives (λ x. x) result (select_read_at tokens.now) }
 {
     let mut c = Cursor::new(tokens);
     let select = query(alloc, &mut c)?;

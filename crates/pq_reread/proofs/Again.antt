@@ -16,8 +16,8 @@ use Rattle.pq_def_read.specs.Reading.{statement_of}
 use Rattle.pq_def_read.specs.declared.statement.Statement.TheVariants.{Prepare}
 use Rattle.pq_print.specs.Canonical.{query_text}
 use Rattle.pq_query_read.specs.Grammar.{SpellsSelect}
-use Rattle.pq_query_read.specs.Queries.{or_syntax, query_of}
-use Rattle.pq_query_read.specs.Reading.{select_at, read_at}
+use Rattle.pq_query_read.specs.Queries.{or_syntax, read_query_of}
+use Rattle.pq_query_read.specs.Reading.{select_at, select_read_at}
 use Rattle.pq_query_read.specs.Resolving.{resolved_select}
 use Rattle.pq_query_read.specs.Trying.{◌>>=◌}
 use Rattle.pq_query_read.specs.declared.select.SelectDef.{SelectDef}
@@ -46,12 +46,12 @@ module _ (schema : Schema) (query : Query) (are : AreOrderly schema.tables) (nam
   pub spelled_again : SpellsSelect (said_query schema.tables query) (drop 3 (shapes_of (query_text schema.tables query) (tokens_of (query_text schema.tables query))))
   spelled_again = parts.1
 
-  select_again : read_at (drop 3 (shapes_of text (tokens_of text))) ≡ Ok (said_query schema.tables query)
-  unfolding read_at
+  select_again : select_read_at (drop 3 (shapes_of text (tokens_of text))) ≡ Ok (said_query schema.tables query)
+  unfolding select_read_at
   select_again = whole_again SpellsSelect never select_at select_reads (drop 3 (shapes_of text (tokens_of text))) (said_query schema.tables query) parts.1
 
-  pub reads_again : query_of schema query.name (query_text schema.tables query) (tokens_of (query_text schema.tables query)) 3 ≡ Ok query
-  unfolding query_of
+  pub reads_again : read_query_of schema query.name (query_text schema.tables query) (tokens_of (query_text schema.tables query)) 3 ≡ Ok query
+  unfolding read_query_of
   reads_again =
       ap (λ (r : Result SelectDef ℕ). or_syntax text (tokens_of text) r >>= resolved_select schema query.name) select_again ∙ query_again schema query are is
 

@@ -20,7 +20,7 @@ use Rattle.pq_text.proofs.Runs.{while_true, while_false}
 use Rattle.pq_text.proofs.TextEnds.{text_other_at, text_double_at, text_ends_at, text_last_at}
 use Rattle.pq_shape.specs.Shapes.{shape_of, shapes_of, kind_shape, word_shape, number_or_other, utf8_text, undoubled_quotes, between_quotes}
 use Rattle.pq_shape.specs.Shapes.{text_shape as quoted_shape}
-use Rattle.pq_shape.specs.Numbers.{number_of}
+use Rattle.pq_shape.specs.Numbers.{digits_number}
 use Rattle.pq_shape.specs.declared.shape.Shape.{Shape}
 use Rattle.pq_shape.specs.declared.shape.Shape.TheVariants as shape
 use Rattle.pq_print.specs.Values.{doubled_quotes, quoted_text}
@@ -108,7 +108,7 @@ cut_word b bs rest letter all e =
     cut_run kind.Word b bs rest (token_front b (bs ++ rest) (length bs + 1) kind.Word (simp (letter_not_white b letter, letter_not_dash b letter))
     (simp letter (ap (λ (v : List ℕ). let t : Kind × ℕ = (kind.Word, length v + 1) in t) (while_exact is_word_byte bs rest all e))))
 
-pub cut_number : (b : ℕ) (bs rest : List ℕ) → is_digit b ≡ true → list_all is_digit bs ≡ true → next_is is_digit rest ≡ false → cut 0 (b ∷ (bs ++ rest)) ≡ number_or_other (number_of (b ∷ bs)) ∷ cut 0 rest
+pub cut_number : (b : ℕ) (bs rest : List ℕ) → is_digit b ≡ true → list_all is_digit bs ≡ true → next_is is_digit rest ≡ false → cut 0 (b ∷ (bs ++ rest)) ≡ number_or_other (digits_number (b ∷ bs)) ∷ cut 0 rest
 unfolding left_out first_token
 cut_number b bs rest digit all e =
     cut_run kind.Number b bs rest (token_front b (bs ++ rest) (length bs + 1) kind.Number (simp (digit_not_white b digit, digit_not_dash b digit))
@@ -139,7 +139,7 @@ negative_token : (bs : List ℕ) → next_is is_digit bs ≡ true → first_toke
 unfolding first_token
 negative_token bs digit = rw digit refl
 
-pub cut_negative : (d : ℕ) (ds rest : List ℕ) → is_digit d ≡ true → list_all is_digit (d ∷ ds) ≡ true → next_is is_digit rest ≡ false → cut 0 (45 ∷ (d ∷ (ds ++ rest))) ≡ number_or_other (number_of (45 ∷ d ∷ ds)) ∷ cut 0 rest
+pub cut_negative : (d : ℕ) (ds rest : List ℕ) → is_digit d ≡ true → list_all is_digit (d ∷ ds) ≡ true → next_is is_digit rest ≡ false → cut 0 (45 ∷ (d ∷ (ds ++ rest))) ≡ number_or_other (digits_number (45 ∷ d ∷ ds)) ∷ cut 0 rest
 cut_negative d ds rest digit all e =
     cut_run kind.Number 45 (d ∷ ds) rest (token_front 45 (d ∷ (ds ++ rest)) (length (d ∷ ds) + 1) kind.Number (negative_out (d ∷ (ds ++ rest)) (digit_not_dash d digit))
     (negative_token (d ∷ (ds ++ rest)) digit ∙ ap (λ (v : List ℕ). let t : Kind × ℕ = (kind.Number, length v + 1) in t) (while_exact is_digit (d ∷ ds) rest all e)))

@@ -6,9 +6,9 @@ use Rattle.std.proofs.lemmas.Bool.{and_parts, eqb-true, ltb-true}
 use Rattle.pq_base.specs.Words.{keywords, uppercase_byte}
 use Rattle.pq_base.proofs.Members.{all_at, range_in}
 use Rattle.pq_text.specs.Bytes.{is_word_byte}
-use Rattle.pq_text.specs.Forms.{is_word, is_at}
+use Rattle.pq_text.specs.Forms.{is_word_form, is_at}
 use Rattle.pq_shape.specs.Parts.{word}
-use Rattle.pq_shape.specs.Shapes.{place_of, word_shape, keyword_or, name_shape}
+use Rattle.pq_shape.specs.Shapes.{word_place, word_shape, keyword_or, name_shape}
 use Rattle.pq_shape.specs.declared.keyword.TheConstants.{FALSE, TRUE}
 use Rattle.pq_shape.specs.declared.shape.Shape.TheVariants as shape
 use Rattle.pq_reread.specs.Printed.{joins_none}
@@ -20,10 +20,10 @@ keyword_text k = slice_index_or keywords k []
 
 -- it is a word, and found at its place
 abbrev is_placed : ℕ → Bool
-is_placed k = is_word (keyword_text k) && is_at (place_of keywords (map uppercase_byte (keyword_text k))) k
+is_placed k = is_word_form (keyword_text k) && is_at (word_place keywords (map uppercase_byte (keyword_text k))) k
 
 all_placed : list_all is_placed (range_with_len 0 35) ≡ true
-unfolding place_of
+unfolding word_place
 all_placed = refl
 
 placed_at : (o : Option ℕ) (k : ℕ) → is_at o k ≡ true → o ≡ Some k
@@ -33,15 +33,15 @@ placed_at (Some m) k is = ap (λ (n : ℕ). Some n) (eqb-true m k is)
 pub keyword_prints : (k : ℕ) → nat_lt k 35 ≡ true → Prints (word k) joins_none (keyword_text k) is_word_byte
 keyword_prints k below =
     let w : List ℕ = keyword_text k in
-    let parts = and_parts (is_word w) (is_at (place_of keywords (map uppercase_byte w)) k) (all_at is_placed (range_with_len 0 35) all_placed k (range_in k 0 35 (omega arith) (omega (arith, ltb-true k 35 below)))) in
-    word_prints w (shape.Keyword k) parts.0 (ap (keyword_or (name_shape w)) (placed_at (place_of keywords (map uppercase_byte w)) k parts.1))
+    let parts = and_parts (is_word_form w) (is_at (word_place keywords (map uppercase_byte w)) k) (all_at is_placed (range_with_len 0 35) all_placed k (range_in k 0 35 (omega arith) (omega (arith, ltb-true k 35 below)))) in
+    word_prints w (shape.Keyword k) parts.0 (ap (keyword_or (name_shape w)) (placed_at (word_place keywords (map uppercase_byte w)) k parts.1))
 
 true_word : word_shape (codes "true") ≡ shape.Keyword TRUE
-unfolding place_of
+unfolding word_place
 true_word = refl
 
 false_word : word_shape (codes "false") ≡ shape.Keyword FALSE
-unfolding place_of
+unfolding word_place
 false_word = refl
 
 pub true_prints : Prints (word TRUE) joins_none (codes "true") is_word_byte

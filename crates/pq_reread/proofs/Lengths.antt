@@ -17,7 +17,7 @@ use Rattle.pq_schema.specs.declared.table.Foreign.{Foreign}
 use Rattle.pq_schema.specs.declared.table.Limit.{Limit}
 use Rattle.pq_schema.specs.declared.table.Table.{Table}
 use Rattle.pq_schema.specs.ColumnNames.{names_refusal}
-use Rattle.pq_schema.specs.Definitions.{type_of, has_type, column_of, refused_if, is_outside, name_refusal, counts_refusal, columns_refusal, key_refusal, limit_refusal, limits_refusal, reference_refusal, foreign_refusal, foreigns_refusal, groups_refusal, table_refusal, table_of_def, new_table}
+use Rattle.pq_schema.specs.Definitions.{column_type, has_type, column_of, refused_if, is_outside, name_refusal, counts_refusal, columns_refusal, key_refusal, limit_refusal, limits_refusal, reference_refusal, foreign_refusal, foreigns_refusal, groups_refusal, table_refusal, table_of_def, new_table}
 use Rattle.pq_schema.specs.Names.{IsName, IsKind, IsColumnDef, IsLimitDef, IsForeignDef, IsTableDef}
 use Rattle.pq_schema.specs.Schema.{Schema, find_table}
 use Rattle.pq_schema.specs.Tables.{table_at}
@@ -56,7 +56,7 @@ number_short n small = length-decimal-le 20 n (omega arith) (omega arith) (omega
 -- ---- columns
 
 abbrev KindShort : List ℕ → ℤ → Type 0
-KindShort kind size = has_type (kind_column kind size) ≡ true → length (type_text (unwrap_or (type_of (kind_column kind size)) type.Int)) ≤ 26
+KindShort kind size = has_type (kind_column kind size) ≡ true → length (type_text (unwrap_or (column_type (kind_column kind size)) type.Int)) ≤ 26
 
 sized_short : (n : ℕ) → n < 2 ^ 63 → length (codes "TEXT(" ++ decimal n ++ codes ")") ≤ 26
 sized_short n small = omega (arith, length-append (codes "TEXT(" ++ decimal n) (codes ")"), length-append (codes "TEXT(") (decimal n), number_short n small)

@@ -23,7 +23,7 @@ use Rattle.pq_schema.specs.declared.query.Pred.{Pred}
 use Rattle.pq_schema.specs.declared.query.Query.{Query}
 use Rattle.pq_schema.specs.declared.table.Table.{Table}
 use Rattle.pq_query_read.specs.Columns.{type_of}
-use Rattle.pq_query_read.specs.Parameters.{use_in, uses, has_number, is_numbered, agrees, agrees_with_all, are_params, param_count, param_type_of, param_types, params_of}
+use Rattle.pq_query_read.specs.Parameters.{use_in, uses, has_number, has_param_number, same_use, agrees_with_all, are_params, param_count, param_type_of, param_types, params_of}
 use Rattle.pq_query_read.specs.Trying.{◌>>=◌, passed_unless}
 use Rattle.pq_query_read.specs.declared.params.ParamUse.{ParamUse}
 use Rattle.pq_query_read.proofs.Parameters.{in_found, made_in, within, all_used, typed, use_typed}
@@ -116,7 +116,7 @@ module _ (tables : List Table) (query : Query) (is : IsResolved tables query) wh
           (made_in (λ (p : Pred). use_in tables query.relations p.left p.right) pred (record { number = n; ty = param_type (type_of tables query.relations pred.left) }) query.preds i (ap (use_in tables query.relations pred.left) same)) e
       by pred (operand.Col ref) same i e = absurd cc
 
-  numbered : (u : ParamUse) → In u used → is_numbered used u ≡ true
+  numbered : (u : ParamUse) → In u used → has_param_number used u ≡ true
   numbered u i =
       let known = use_known u i in
       let low = known.from_one in
@@ -130,7 +130,7 @@ module _ (tables : List Table) (query : Query) (is : IsResolved tables query) wh
             rw (other, above, below) refl
       ]
 
-  agreed : (u v : ParamUse) → In u used → In v used → agrees u v ≡ true
+  agreed : (u v : ParamUse) → In u used → In v used → same_use u v ≡ true
   agreed u v i j =
       elim (cases_eq u.number v.number) [
         | inl same ↦
@@ -148,8 +148,8 @@ module _ (tables : List Table) (query : Query) (is : IsResolved tables query) wh
 
   are_again : are_params used ≡ true
   are_again =
-      and_from (list_all (is_numbered used) used) (list_all (agrees_with_all used) used) (all_from (is_numbered used) used numbered)
-      (all_from (agrees_with_all used) used (λ u i. all_from (agrees u) used (λ v j. agreed u v i j)))
+      and_from (list_all (has_param_number used) used) (list_all (agrees_with_all used) used) (all_from (has_param_number used) used numbered)
+      (all_from (agrees_with_all used) used (λ u i. all_from (same_use u) used (λ v j. agreed u v i j)))
 
   count_again : param_count used ≡ length query.params
   count_again = elim (cases_lt (param_count used) (length query.params)) [

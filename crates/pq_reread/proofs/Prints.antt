@@ -15,11 +15,11 @@ use Rattle.std.proofs.lemmas.Bool.{eqb-true}
 use Rattle.std.proofs.lemmas.List.{drop_at}
 use Rattle.std.proofs.lemmas.Bool.Decides.{nat_tests}
 use Rattle.pq_text.specs.Bytes.{next_is, is_digit, is_letter, is_word_byte, is_mark, is_double_mark}
-use Rattle.pq_text.specs.Forms.{is_word}
+use Rattle.pq_text.specs.Forms.{is_word_form}
 use Rattle.pq_text.specs.Tokens.{tokens_of}
 use Rattle.pq_grammar.specs.Language.{◌⋅◌, nothing, one, each, separated_by}
 use Rattle.pq_shape.specs.Shapes.{shapes_of, word_shape, number_or_other}
-use Rattle.pq_shape.specs.Numbers.{digits_after, fitting_number, number_of}
+use Rattle.pq_shape.specs.Numbers.{digits_after, fitting_number, digits_number}
 use Rattle.pq_shape.specs.Parts.{mark, number, text}
 use Rattle.pq_shape.specs.declared.shape.Shape.{Shape}
 use Rattle.pq_shape.specs.declared.shape.Shape.TheVariants as shape
@@ -163,7 +163,7 @@ two_marks_print b c t is double apart = record {
 }
 
 -- a word
-pub word_prints : (w : List ℕ) (s : Shape) → is_word w ≡ true → word_shape w ≡ s → Prints (one s) joins_none w is_word_byte
+pub word_prints : (w : List ℕ) (s : Shape) → is_word_form w ≡ true → word_shape w ≡ s → Prints (one s) joins_none w is_word_byte
 word_prints [] s is e = absurd cc
 word_prints (b ∷ bs) s is e =
     let parts = both (is_letter b) (list_all is_word_byte bs) is in
@@ -222,7 +222,7 @@ number_by : (n : ℕ) (ds : List ℕ) → n < 2 ^ 63 → 0 < length ds → Digit
 number_by n [] small some d = absurd (omega arith)
 number_by n (b ∷ bs) small some d =
     let parts = both (is_digit b) (list_all is_digit bs) d.all in
-    let value : number_of (b ∷ bs) ≡ Some (pos n) = rw (digit_not_dash b parts.0) (ap (λ (m : ℕ). fitting_number (pos m)) d.value ∙ fitting_pos n small) in
+    let value : digits_number (b ∷ bs) ≡ Some (pos n) = rw (digit_not_dash b parts.0) (ap (λ (m : ℕ). fitting_number (pos m)) d.value ∙ fitting_pos n small) in
     record {
       shapes = shape.Number (pos n) ∷ [];
       spells = refl;
@@ -235,7 +235,7 @@ negative_by : (n : ℕ) (ds : List ℕ) → n < 2 ^ 63 → 0 < length ds → Dig
 negative_by n [] small some d = absurd (omega arith)
 negative_by n (b ∷ bs) small some d =
     let parts = both (is_digit b) (list_all is_digit bs) d.all in
-    let value : number_of (45 ∷ b ∷ bs) ≡ Some (negsuc n) = ap (λ (m : ℕ). fitting_number (neg_ℤ (pos m))) d.value ∙ fitting_neg (suc n) (omega arith) in
+    let value : digits_number (45 ∷ b ∷ bs) ≡ Some (negsuc n) = ap (λ (m : ℕ). fitting_number (neg_ℤ (pos m))) d.value ∙ fitting_neg (suc n) (omega arith) in
     record {
       shapes = shape.Number (negsuc n) ∷ [];
       spells = refl;

@@ -32,11 +32,11 @@ use Rattle.pq_schema.specs.declared.query.Query.{Query}
 use Rattle.pq_schema.specs.declared.query.Relation.{Relation}
 use Rattle.pq_schema.specs.declared.query.Stop.{Stop}
 use Rattle.pq_schema.specs.declared.query.Stop.TheVariants as stop
-use Rattle.pq_print.specs.Canonical.{no_column, column_name}
+use Rattle.pq_print.specs.Canonical.{absent_column, column_name}
 use Rattle.pq_query_read.specs.Columns.{has_alias, named_in, ref_of, refs_of}
 use Rattle.pq_query_read.specs.Parameters.{param_number}
-use Rattle.pq_query_read.specs.Resolving.{counts_refusal, relation_of, relations_of, operand_of, is_comparable, pred_with, pred_between, pred_of, preds_of, has_ref, ref_name, item_of, items_of, stop_of, resolved_select}
-use Rattle.pq_query_read.specs.Resolving.{stop_size as size_of}
+use Rattle.pq_query_read.specs.Resolving.{clause_counts_refusal, relation_of, relations_of, operand_of, is_comparable, pred_with, pred_between, pred_of, preds_of, has_ref, ref_name, item_of, items_of, stop_of, resolved_select}
+use Rattle.pq_query_read.specs.Resolving.{limit_size as size_of}
 use Rattle.pq_query_read.specs.Trying.{◌>>=◌, or_refused, passed_unless, each_after}
 use Rattle.pq_reread.specs.Orderly.{AreOrderly}
 use Rattle.pq_reread.proofs.SaidQuery.{said_relation, said_stop, said_ref, said_operand, said_pred, said_item, said_query}
@@ -144,7 +144,7 @@ module _ (schema : Schema) (query : Query) (are : AreOrderly schema.tables) (is 
       let number : place + 1 ≡ ref.rel = (let low = i.from_one in omega (arith, low)) in
       let columns = (table_of schema.tables query ref.rel).columns in
       let name : List ℕ = column_name columns ref.col in
-      let column : find_column columns name ≡ Some ref.col = column_found (table_of schema.tables query ref.rel) ref.col no_column (table_of_known schema.tables query are is ref i) i.inside in
+      let column : find_column columns name ≡ Some ref.col = column_found (table_of schema.tables query ref.rel) ref.col absent_column (table_of_known schema.tables query are is ref i) i.inside in
       ap (λ (o : Option ℕ). or_refused (refusal.Alias relation.alias) o >>= λ p. or_refused (unknown name) (named_in schema.tables query.relations name (p + 1))) found
       ∙ ap (λ (n : ℕ). or_refused (unknown name) (named_in schema.tables query.relations name n)) number
       ∙ ap (λ (o : Option ℕ). or_refused (unknown name) (option_map (at_column ref.rel) o)) column
@@ -215,7 +215,7 @@ module _ (schema : Schema) (query : Query) (are : AreOrderly schema.tables) (is 
   items_again = each_again (item_of schema.tables query.relations) (said_item schema.tables query) query.order item_again [] query.order refl
 
   -- nothing is refused for its number
-  counts_pass : counts_refusal (said_query schema.tables query) ≡ None
+  counts_pass : clause_counts_refusal (said_query schema.tables query) ≡ None
   counts_pass =
       let relations : is_outside (length (map (said_relation schema.tables) query.relations)) 6 ≡ false =
       (let long = length-map query.relations (said_relation schema.tables) in let some = is.some_relations in let few = is.few_relations in outside_not (length (map (said_relation schema.tables) query.relations)) 6 (omega (arith, long, some)) (omega (arith, long, few))) in

@@ -34,7 +34,7 @@ use Rattle.pq_text.specs.Bytes.{is_letter, is_digit, is_word_byte, is_double_mar
 use Rattle.pq_shape.specs.Parts.{word, mark, comma, name as a_name, number, a_value}
 use Rattle.pq_shape.specs.declared.keyword.TheConstants.{AND, AS, BY, DESC, FROM, LIMIT, ORDER, PAGINATE, PREPARE, SELECT, WHERE}
 use Rattle.pq_shape.specs.declared.shape.Shape.{Shape}
-use Rattle.pq_print.specs.Canonical.{no_column, column_name, ref_text, relation_text, op_text, operand_text, pred_text, order_text, stop_text, select_text, query_text}
+use Rattle.pq_print.specs.Canonical.{absent_column, column_name, ref_text, relation_text, op_text, operand_text, pred_text, order_text, stop_text, select_text, query_text}
 use Rattle.pq_print.specs.Lists.{separate_texts as separated_texts, clause}
 use Rattle.pq_print.specs.Report.{dir_text}
 use Rattle.pq_print.specs.Values.{value_text}
@@ -151,7 +151,7 @@ module _ (tables : List Table) (query : Query) (are : AreOrderly tables) (is : I
   table_of_known ref i = table_known (relation_at query ref.rel) (relation_known ref.rel i.from_one i.there)
 
   pub column_known : (ref : ColRef) → IsColumnOf tables query ref → IsName (column_name (table_of tables query ref.rel).columns ref.col)
-  column_known ref i = each_place (λ (column : Column). IsName column.name) (table_of tables query ref.rel).columns (table_of_known ref i).columns ref.col no_column i.inside
+  column_known ref i = each_place (λ (column : Column). IsName column.name) (table_of tables query ref.rel).columns (table_of_known ref i).columns ref.col absent_column i.inside
 
   ref_prints : (ref : ColRef) → IsColumnOf tables query ref → Prints (a_ref (said_ref tables query ref)) joins_none (ref_text tables query ref) is_word_byte
   unfolding ref_text

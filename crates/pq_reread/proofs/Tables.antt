@@ -7,7 +7,7 @@ use Rattle.std.specs.Option.{is_some, option_map, unwrap_or}
 use Rattle.std.specs.List.{All, AllByRecursion}
 use Rattle.std.proofs.lemmas.Bool.Decides.{nat_tests}
 use Rattle.pq_base.specs.declared.value.ColType.TheVariants as type
-use Rattle.pq_schema.specs.Definitions.{text_size, type_of, has_type, column_of}
+use Rattle.pq_schema.specs.Definitions.{text_size, column_type, has_type, column_of}
 use Rattle.pq_schema.specs.Names.{IsName, IsKind, IsColumnDef, IsLimitDef, IsForeignDef, IsTableDef}
 use Rattle.pq_schema.specs.Tables.{table_at}
 use Rattle.pq_schema.specs.declared.definition.ColumnDef.{ColumnDef}
@@ -27,7 +27,7 @@ use Rattle.pq_shape.specs.declared.keyword.TheConstants.{BOOL, CARDINALITY, CREA
 use Rattle.pq_shape.specs.declared.shape.Shape.{Shape}
 use Rattle.pq_shape.specs.declared.shape.Shape.TheVariants as shape
 use Rattle.pq_def_read.specs.Definitions.{int_kind, bool_kind, text_kind, limits_of, foreign_of}
-use Rattle.pq_def_read.specs.Grammar.{cols, kind as a_kind, text_size as sized_text, column, limit, foreign, a_constraint, constraints, create}
+use Rattle.pq_def_read.specs.Grammar.{cols, kind as a_kind, text_size_tokens as sized_text, column, limit, foreign, a_constraint, constraints, create}
 use Rattle.pq_def_read.specs.Reading.{statement_of}
 use Rattle.pq_def_read.specs.declared.definition.Constraint.{Constraint}
 use Rattle.pq_def_read.specs.declared.definition.Constraint.TheVariants as constraint
@@ -74,7 +74,7 @@ kind_column kind size = record { name = []; kind = kind; size = size }
 
 -- how a kind prints, where it has a type
 abbrev KindPrints : List ℕ → ℤ → Type 0
-KindPrints kind size = has_type (kind_column kind size) ≡ true → Prints (a_kind (record { name = kind; size = size })) joins_none (type_text (unwrap_or (type_of (kind_column kind size)) type.Int)) is_word_byte
+KindPrints kind size = has_type (kind_column kind size) ≡ true → Prints (a_kind (record { name = kind; size = size })) joins_none (type_text (unwrap_or (column_type (kind_column kind size)) type.Int)) is_word_byte
 
 text_kind_prints : (size : ℤ) → KindPrints (codes "TEXT") size
 text_kind_prints size typed =

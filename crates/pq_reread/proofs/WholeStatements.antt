@@ -17,10 +17,10 @@ use Rattle.pq_def_read.specs.declared.statement.Statement.TheVariants as stateme
 use Rattle.pq_def_read.proofs.Statements.{statement_reads}
 use Rattle.pq_query_read.specs.Grammar.{SpellsSelect}
 use Rattle.pq_query_read.specs.Reading.{select_at as one_select_at}
-use Rattle.pq_query_read.specs.Reading.{read_at as select_at}
+use Rattle.pq_query_read.specs.Reading.{select_read_at as select_at}
 use Rattle.pq_query_read.specs.declared.select.SelectDef.{SelectDef}
 use Rattle.pq_query_read.proofs.Selects.{select_reads}
-use Rattle.pq_reread.specs.WholeStatements.{WholeStatement, Plain, Prepares, Explains, HasNoQuery, SpellsWhole, with_query, whole_of}
+use Rattle.pq_reread.specs.WholeStatements.{WholeStatement, Plain, Prepares, Explains, HasNoQuery, SpellsWhole, with_query_read, whole_of}
 
 -- ---- what the two readers give
 
@@ -118,7 +118,7 @@ explain_found w from def h e =
 same_whole : (x y : WholeStatement) (w : List Shape) → ◌≡◌ {A = Result WholeStatement ℕ} (Ok x) (Ok y) → SpellsWhole x w → SpellsWhole y w
 same_whole x y w e h = subst (λ z. SpellsWhole z w) (ok_is x y e) h
 
-with_found : (w : List Shape) (s : Statement) (whole : WholeStatement) → Spells s w → with_query w s ≡ Ok whole → SpellsWhole whole w
+with_found : (w : List Shape) (s : Statement) (whole : WholeStatement) → Spells s w → with_query_read w s ≡ Ok whole → SpellsWhole whole w
 with_found w (statement.Prepare n from) whole h e =
     let def = bind_ok (select_at (drop from w)) (λ def. Ok (Prepares n def)) whole e in
     same_whole (Prepares n def.0) whole w def.2 (prepare_found w n from def.0 h def.1)
@@ -134,12 +134,12 @@ with_found w statement.Show whole h e = same_whole (Plain statement.Show) whole 
 
 pub whole_is_spelled : (w : List Shape) (whole : WholeStatement) → whole_of w ≡ Ok whole → SpellsWhole whole w
 whole_is_spelled w whole e =
-    let s = bind_ok (read_at w) (with_query w) whole e in
+    let s = bind_ok (read_at w) (with_query_read w) whole e in
     with_found w s.0 whole (head_found w s.0 s.1) s.2
 
 -- ---- what is spelled is read
 
-plain_with : (w : List Shape) (s : Statement) → HasNoQuery s → with_query w s ≡ Ok (Plain s)
+plain_with : (w : List Shape) (s : Statement) → HasNoQuery s → with_query_read w s ≡ Ok (Plain s)
 plain_with w (statement.Prepare n from) none = absurd none
 plain_with w (statement.Explain from) none = absurd none
 plain_with w (statement.Create d) none = refl
@@ -150,16 +150,16 @@ plain_with w (statement.Run n v a) none = refl
 plain_with w statement.Show none = refl
 
 pub spelled_is_whole : (w : List Shape) (whole : WholeStatement) → SpellsWhole whole w → whole_of w ≡ Ok whole
-spelled_is_whole w (Plain s) h = ap (λ r. r >>= with_query w) (head_again w s h.1) ∙ plain_with w s h.0
+spelled_is_whole w (Plain s) h = ap (λ r. r >>= with_query_read w) (head_again w s h.1) ∙ plain_with w s h.0
 spelled_is_whole w (Prepares n def) h =
     let parts = prepare_parts (SpellsSelect def) n w h in
     subst (λ v. whole_of v ≡ Ok (Prepares n def)) (sym parts.2)
-    (ap (λ r. r >>= with_query (preparing n parts.0)) (head_again (preparing n parts.0) (statement.Prepare n 3) (is_preparing n parts.0))
+    (ap (λ r. r >>= with_query_read (preparing n parts.0)) (head_again (preparing n parts.0) (statement.Prepare n 3) (is_preparing n parts.0))
     ∙ ap (λ r. r >>= λ def. Ok (Prepares n def)) (select_again parts.0 def parts.1))
 spelled_is_whole w (Explains def) h =
     let parts = explain_parts (SpellsSelect def) w h in
     subst (λ v. whole_of v ≡ Ok (Explains def)) (sym parts.2)
-    (ap (λ r. r >>= with_query (explaining parts.0)) (head_again (explaining parts.0) (statement.Explain 1) (is_explaining parts.0))
+    (ap (λ r. r >>= with_query_read (explaining parts.0)) (head_again (explaining parts.0) (statement.Explain 1) (is_explaining parts.0))
     ∙ ap (λ r. r >>= λ def. Ok (Explains def)) (select_again parts.0 def parts.1))
 
 -- ---- where reading stops
@@ -325,7 +325,7 @@ explain_stop w from left h e =
     subst (λ v. (left ≤ length v) × IsFaultPlace SpellsWhole v (length v - left)) (sym parts.2)
     ((let le = f.0 in omega (arith, le)), subst (IsFaultPlace SpellsWhole (explaining parts.0)) place (explain_fault parts.0 (length parts.0 - left) f.1))
 
-with_stop : (w : List Shape) (s : Statement) (left : ℕ) → Spells s w → with_query w s ≡ Err left → IsStop w left
+with_stop : (w : List Shape) (s : Statement) (left : ℕ) → Spells s w → with_query_read w s ≡ Err left → IsStop w left
 with_stop w (statement.Prepare n from) left h e = prepare_stop w n from left h (select_err (drop from w) left (Prepares n) e)
 with_stop w (statement.Explain from) left h e = explain_stop w from left h (select_err (drop from w) left Explains e)
 with_stop w (statement.Create d) left h e = absurd (ok_not_err (Plain (statement.Create d)) left e)
@@ -337,7 +337,7 @@ with_stop w statement.Show left h e = absurd (ok_not_err (Plain statement.Show) 
 
 pub whole_stops : (w : List Shape) (left : ℕ) → whole_of w ≡ Err left → (left ≤ length w) × IsFaultPlace SpellsWhole w (length w - left)
 unfolding IsStop
-whole_stops w left e = elim (bind_err (read_at w) (with_query w) left e) [
+whole_stops w left e = elim (bind_err (read_at w) (with_query_read w) left e) [
   | inl head ↦ let f = head_place w left head in (f.0, head_fault w (length w - left) f.1 (λ s h. ok_not_err s left (sym (head_again w s h) ∙ head)))
   | inr s ↦ with_stop w s.0 left (head_found w s.0 s.1) s.2
 ]

@@ -3,7 +3,7 @@ use Rattle.std.specs.Prelude.{◌≡◌, ℕ, ℤ, ◌==◌, true, false, Bool, 
 use Rattle.std.specs.Int.{w64}
 use Rattle.std.specs.Fmt.{signed_decimal}
 use Rattle.pq_text.specs.Bytes.{next_is, is_digit, is_word_byte, is_double_mark}
-use Rattle.pq_text.specs.Forms.{is_word, is_whole_mark}
+use Rattle.pq_text.specs.Forms.{is_word_form, is_whole_mark}
 use Rattle.pq_shape.specs.Shapes.{word_shape, mark_code}
 use Rattle.pq_shape.specs.declared.shape.Shape.{Shape}
 use Rattle.pq_shape.specs.declared.shape.Shape.TheVariants as shape
@@ -59,7 +59,7 @@ joins Space b = false
 
 -- a word, a number of 64 bits, a text of UTF-8 bytes, a mark or a space
 abbrev pub IsPiece : Piece → Type 0
-IsPiece (Word w) = is_word w ≡ true
+IsPiece (Word w) = is_word_form w ≡ true
 IsPiece (Number z) = FitsSigned w64 z
 IsPiece (Text t) = IsUtf8 t
 IsPiece (Mark m) = is_whole_mark m ≡ true

@@ -13,7 +13,7 @@ use Rattle.pq_text.specs.Tokens.{text_limit, tokens_of}
 use Rattle.pq_def_read.specs.Reading.{statement_of}
 use Rattle.pq_def_read.specs.declared.statement.Statement.TheVariants.{Prepare}
 use Rattle.pq_print.specs.Canonical.{column_name, query_text, definition_text}
-use Rattle.pq_query_read.specs.Queries.{query_of}
+use Rattle.pq_query_read.specs.Queries.{read_query_of}
 use Rattle.pq_reread.specs.Orderly.{AreOrderly}
 
 -- a query that reading may give over the schema, under a name
@@ -27,7 +27,7 @@ pub record IsReadBack (schema : Schema) (query : Query) (text : List ℕ) : Type
   pub utf8 : is_utf8 text ≡ true
   pub short : length text ≤ text_limit
   pub head : statement_of text (tokens_of text) ≡ Ok (Prepare query.name 3)
-  pub rest : query_of schema query.name text (tokens_of text) 3 ≡ Ok query
+  pub rest : read_query_of schema query.name text (tokens_of text) 3 ≡ Ok query
 
 -- the column of this place in the table of this number has its name still
 abbrev pub KeepsColumn : List Table → List Table → ℕ → ℕ → Type 0

@@ -10,7 +10,7 @@ use Rattle.pq_def_read.specs.Reading.{read_at}
 use Rattle.pq_def_read.specs.declared.statement.Statement.{Statement}
 use Rattle.pq_def_read.specs.declared.statement.Statement.TheVariants as statement
 use Rattle.pq_query_read.specs.Grammar.{SpellsSelect}
-use Rattle.pq_query_read.specs.Reading.{read_at as select_at}
+use Rattle.pq_query_read.specs.Reading.{select_read_at as select_at}
 use Rattle.pq_query_read.specs.declared.select.SelectDef.{SelectDef}
 
 pub data WholeStatement : Type 0 where
@@ -31,16 +31,16 @@ SpellsWhole (Prepares n def) w = (word PREPARE ⋅ name n ⋅ word AS ⋅ Spells
 SpellsWhole (Explains def) w = (word EXPLAIN ⋅ SpellsSelect def) w
 
 -- a statement with the query that follows its head
-abbrev pub with_query : List Shape → Statement → Result WholeStatement ℕ
-with_query w (statement.Prepare n from) = select_at (drop from w) >>= λ def. Ok (Prepares n def)
-with_query w (statement.Explain from) = select_at (drop from w) >>= λ def. Ok (Explains def)
-with_query w (statement.Create def) = Ok (Plain (statement.Create def))
-with_query w (statement.Insert table cols values) = Ok (Plain (statement.Insert table cols values))
-with_query w (statement.Update table sets key) = Ok (Plain (statement.Update table sets key))
-with_query w (statement.Delete table key) = Ok (Plain (statement.Delete table key))
-with_query w (statement.Run n values after) = Ok (Plain (statement.Run n values after))
-with_query w statement.Show = Ok (Plain statement.Show)
+abbrev pub with_query_read : List Shape → Statement → Result WholeStatement ℕ
+with_query_read w (statement.Prepare n from) = select_at (drop from w) >>= λ def. Ok (Prepares n def)
+with_query_read w (statement.Explain from) = select_at (drop from w) >>= λ def. Ok (Explains def)
+with_query_read w (statement.Create def) = Ok (Plain (statement.Create def))
+with_query_read w (statement.Insert table cols values) = Ok (Plain (statement.Insert table cols values))
+with_query_read w (statement.Update table sets key) = Ok (Plain (statement.Update table sets key))
+with_query_read w (statement.Delete table key) = Ok (Plain (statement.Delete table key))
+with_query_read w (statement.Run n values after) = Ok (Plain (statement.Run n values after))
+with_query_read w statement.Show = Ok (Plain statement.Show)
 
 -- the whole statement of these tokens, head first, or how many tokens are left where reading stopped
 abbrev pub whole_of : List Shape → Result WholeStatement ℕ
-whole_of w = read_at w >>= with_query w
+whole_of w = read_at w >>= with_query_read w

@@ -20,7 +20,7 @@ use Rattle.pq_key_code.proofs.Reading.{IsBytes-drop, bind_some, chosen, none_som
 use Rattle.pq_key_code.proofs.StoreKeys.{length_from_fits}
 use Rattle.pq_row_code.specs.RowCode.{field, fields, row_code}
 use Rattle.pq_row_code.proofs.Widths.{Takes-then, wide16, wide64, bits_takes, bits_again}
-use Rattle.pq_row_code.specs.RowReading.{bits_at, flag_at, string_at, field_at, fields_at, row_of}
+use Rattle.pq_row_code.specs.RowReading.{bits_at, flag_at, string_at, field_at, fields_at, row_decoded}
 
 signed_fits : (n : ℕ) → n < 2 ^ 64 → FitsSigned w64 (cast_signed w64 n)
 signed_fits n lt = omega (arith, ints)
@@ -129,8 +129,8 @@ fields_again (t ∷ ts) (x ∷ xs) rest w fits =
     ∙ ap (λ (o : Option (Value × List ℕ)). o >>= λ x. fields_at ts x.1 >>= λ y. Some (x.0 ∷ y.0, y.1)) (field_again t x (fields xs ++ rest) (All-head IsType t ts w) fits.0)
     ∙ ap (λ (o : Option (List Value × List ℕ)). o >>= λ y. Some (x ∷ y.0, y.1)) (fields_again ts xs rest (All-tail IsType t ts w) fits.1)
 
-pub row_takes : (ts : List ColType) (bs : List ℕ) (xs : List Value) → IsBytes bs → row_of ts bs ≡ Some xs → AllFit ts xs × (row_code xs ≡ bs)
-unfolding row_of
+pub row_takes : (ts : List ColType) (bs : List ℕ) (xs : List Value) → IsBytes bs → row_decoded ts bs ≡ Some xs → AllFit ts xs × (row_code xs ≡ bs)
+unfolding row_decoded
 row_takes ts [] xs f e = none_some _ e
 row_takes ts (k ∷ bs) xs f e =
     elim (chosen (eqb k (length ts)) (fields_at ts bs >>= λ x. cond (eqb (length x.1) 0) (Some x.0) None) None (Some xs) e) [
@@ -148,8 +148,8 @@ row_takes ts (k ∷ bs) xs f e =
       | inr h ↦ none_some _ h.1
     ]
 
-pub row_again : (ts : List ColType) (xs : List Value) → All IsType ts → AllFit ts xs → row_of ts (row_code xs) ≡ Some xs
-unfolding row_of
+pub row_again : (ts : List ColType) (xs : List Value) → All IsType ts → AllFit ts xs → row_decoded ts (row_code xs) ≡ Some xs
+unfolding row_decoded
 row_again ts xs w fits =
     let same : eqb (length xs) (length ts) ≡ true = eq-eqb _ _ (length_from_fits ts xs fits) in
     let read : fields_at ts (fields xs) ≡ Some (xs, []) = ap (fields_at ts) (sym (append-nil (fields xs))) ∙ fields_again ts xs [] w fits in
@@ -159,7 +159,7 @@ row_again ts xs w fits =
 
 -- the row code tells the row among the rows that fit
 pub row_code_injective : (ts : List ColType) (xs ys : List Value) → All IsType ts → AllFit ts xs → AllFit ts ys → row_code xs ≡ row_code ys → xs ≡ ys
-row_code_injective ts xs ys w f g e = same_Some xs ys (sym (row_again ts xs w f) ∙ ap (row_of ts) e ∙ row_again ts ys w g)
+row_code_injective ts xs ys w f g e = same_Some xs ys (sym (row_again ts xs w f) ∙ ap (row_decoded ts) e ∙ row_again ts ys w g)
 
 -- ---- as the loop and the calls do it
 
@@ -185,12 +185,12 @@ field_end front ts i bs total le so_far =
     let one : fields_at (drop i ts) bs ≡ Some ([], bs) = rw (drop_all i ts le) refl in
     ap (λ (t : List Value). Some (t, bs)) (sym (append-nil front)) ∙ ap (rows_behind front) (sym one) ∙ so_far
 
-pub is_found : {E : Type 0} (ts : List ColType) (bs : List ℕ) (r : Result (Option (List Value)) E) → IsBytes bs → IfOk r (λ o. o ≡ row_of ts bs) → IfOk r (λ o. IfSome o (λ v. AllFit ts v × (row_code v ≡ bs)))
+pub is_found : {E : Type 0} (ts : List ColType) (bs : List ℕ) (r : Result (Option (List Value)) E) → IsBytes bs → IfOk r (λ o. o ≡ row_decoded ts bs) → IfOk r (λ o. IfSome o (λ v. AllFit ts v × (row_code v ≡ bs)))
 is_found ts bs (Ok (Some v)) fits h = row_takes ts bs v fits (sym h)
 is_found ts bs (Ok None) fits h = tt
 is_found ts bs (Err e) fits h = tt
 
-pub is_none_left : {E : Type 0} (ts : List ColType) (bs : List ℕ) (r : Result (Option (List Value)) E) → All IsType ts → IfOk r (λ o. o ≡ row_of ts bs) → IfOk r (λ o. IfNone o ((xs : List Value) → AllFit ts xs → row_code xs ≡ bs → ⊥))
+pub is_none_left : {E : Type 0} (ts : List ColType) (bs : List ℕ) (r : Result (Option (List Value)) E) → All IsType ts → IfOk r (λ o. o ≡ row_decoded ts bs) → IfOk r (λ o. IfNone o ((xs : List Value) → AllFit ts xs → row_code xs ≡ bs → ⊥))
 is_none_left ts bs (Ok (Some v)) w h = tt
-is_none_left ts bs (Ok None) w h = λ xs fits e. none_some xs (h ∙ ap (row_of ts) (sym e) ∙ row_again ts xs w fits)
+is_none_left ts bs (Ok None) w h = λ xs fits e. none_some xs (h ∙ ap (row_decoded ts) (sym e) ∙ row_again ts xs w fits)
 is_none_left ts bs (Err e) w h = tt

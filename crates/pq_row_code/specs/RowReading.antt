@@ -31,7 +31,7 @@ fields_at [] bytes = Some ([], bytes)
 fields_at (t ∷ ts) bytes = field_at t bytes >>= λ x. fields_at ts x.1 >>= λ y. Some (x.0 ∷ y.0, y.1)
 
 -- all of the bytes
-unfoldable pub row_of : List ColType → List ℕ → Option (List Value)
-row_of ts [] = None
-row_of ts (k ∷ bytes) = if k == length ts then (fields_at ts bytes >>= λ x. if length x.1 == 0 then Some x.0
+unfoldable pub row_decoded : List ColType → List ℕ → Option (List Value)
+row_decoded ts [] = None
+row_decoded ts (k ∷ bytes) = if k == length ts then (fields_at ts bytes >>= λ x. if length x.1 == 0 then Some x.0
     else None) else None

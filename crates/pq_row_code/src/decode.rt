@@ -5,7 +5,7 @@ ghost use Rattle.std.specs.Int.{w16, w64};
 ghost use Rattle.pq_base.specs.declared.value.Value.{Value};
 ghost use Rattle.pq_base.specs.Values.{AllFit};
 ghost use Rattle.pq_row_code.specs.RowCode.{row_code};
-ghost use Rattle.pq_row_code.specs.RowReading.{bits_at, flag_at, string_at, field_at, fields_at, row_of};
+ghost use Rattle.pq_row_code.specs.RowReading.{bits_at, flag_at, string_at, field_at, fields_at, row_decoded};
 
 use pq_base::{ColType, NoMem, PText, Row, Value, known_types};
 use pq_key_code::checked_text;
@@ -104,9 +104,9 @@ fn fields_of<'a>(
     Ok(Some((row, rest)))
 }
 
-#[tactic(auto, unfolding(crate::specs::RowReading::row_of))]
+#[tactic(auto, unfolding(crate::specs::RowReading::row_decoded))]
 fn row_read(alloc: Global, bytes: &[u8], types: &[ColType]) -> Result<Option<Row>, NoMem>
-    ensures { IfOk result (λ row. row ≡ row_of types.now bytes.now) }
+    ensures { IfOk result (λ row. row ≡ row_decoded types.now bytes.now) }
 {
     let [count, rest @ ..] = bytes else {
         return Ok(None);

@@ -14,7 +14,7 @@ use Rattle.pq_schema.specs.Sequences.{serving_access}
 use Rattle.pq_schema.specs.Sound.{IsQuery}
 use Rattle.pq_plan.specs.Nodes.{stop_scan, read_nodes, stop_access, plan_nodes}
 use Rattle.pq_plan.proofs.Choices.{Has}
-use Rattle.pq_nodes.specs.Inverse.{limit_at, HasIndex}
+use Rattle.pq_nodes.specs.Inverse.{node_limit_at, HasIndex}
 use Rattle.pq_nodes.proofs.Inverse.{Bounded, some_unwrapped, read_cases, plan_all}
 use Rattle.pq_runnable.proofs.Indexes.{group_found, serving_found}
 
@@ -36,7 +36,7 @@ module _ (tables : List Table) (query : Query) (sound : IsQuery tables query) wh
   read_indexed i low high bounded =
       read_cases tables query sound (AllByRecursion (HasIndex tables query)) i low high bounded
       (λ _. (tt, (tt, tt)))
-      (λ limit n access is. (group_found (table_of tables query i) (set_of (limit_at (table_of tables query i) limit).cols) access is.group, (tt, tt)))
+      (λ limit n access is. (group_found (table_of tables query i) (set_of (node_limit_at (table_of tables query i) limit).cols) access is.group, (tt, tt)))
 
   pub plan_indexed : (choice : Choice) → Has tables query choice → IsServed tables query choice → AllByRecursion (HasIndex tables query) (plan_nodes tables query choice)
   plan_indexed choice h served =

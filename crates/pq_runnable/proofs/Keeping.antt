@@ -3,7 +3,7 @@ use Rattle.std.proofs.Common.{◌≡◌, ℕ, ◌+◌, ◌-◌, ◌≤◌, true,
 use Rattle.std.specs.Prelude.{unwrap_or, Contains}
 use Rattle.std.specs.Option.{option_map_or}
 use Rattle.std.specs.List.{AllByRecursion, range_with_len}
-use Rattle.pq_base.specs.Columns.{is_within, set_of}
+use Rattle.pq_base.specs.Columns.{is_column_within, set_of}
 use Rattle.pq_base.specs.declared.number.Bound.{Bound}
 use Rattle.pq_base.specs.declared.number.Choice.{Choice}
 use Rattle.pq_base.specs.declared.number.Choice.TheVariants.{Whole, Stop}
@@ -34,7 +34,7 @@ use Rattle.pq_plan.proofs.Choices.{Has, choice_has}
 use Rattle.pq_plan.proofs.PlanRows.{reach_nodes}
 use Rattle.pq_compile.specs.declared.compiler.Compiled.{Compiled}
 use Rattle.pq_compile.specs.Chosen.{IsCompiled}
-use Rattle.pq_nodes.specs.Inverse.{limit_at, IsNodeOf, HasIndex, IsLimited, IsStopped}
+use Rattle.pq_nodes.specs.Inverse.{node_limit_at, IsNodeOf, HasIndex, IsLimited, IsStopped}
 use Rattle.pq_nodes.specs.Ordered.{StandInOrder}
 use Rattle.pq_nodes.specs.Paid.{IsAtMost}
 use Rattle.pq_nodes.proofs.InOrder.{plan_runs}
@@ -150,10 +150,10 @@ module _ (before now : List Table) (query : Query) (grown : HaveGrown before now
 
   -- ---- what each of them has
 
-  still_found : (rel limit : ℕ) (access : Access) → group_access (old rel) (set_of (limit_at (old rel) limit).cols) ≡ Some access → group_access (table_of now query rel) (set_of (limit_at (table_of now query rel) limit).cols) ≡ Some access
+  still_found : (rel limit : ℕ) (access : Access) → group_access (old rel) (set_of (node_limit_at (old rel) limit).cols) ≡ Some access → group_access (table_of now query rel) (set_of (node_limit_at (table_of now query rel) limit).cols) ≡ Some access
   still_found rel limit access is =
-      ap (λ (t : Table). group_access t (set_of (limit_at t limit).cols)) (grows rel).is
-      ∙ group_stays (old rel) (grows rel).more (set_of (limit_at (old rel) limit).cols) access is
+      ap (λ (t : Table). group_access t (set_of (node_limit_at t limit).cols)) (grows rel).is
+      ∙ group_stays (old rel) (grows rel).more (set_of (node_limit_at (old rel) limit).cols) access is
 
   limited_stays : (rel limit n : ℕ) (access : Access) → IsLimited before query rel limit n access → IsLimited now query rel limit n access
   limited_stays rel limit n access is =
@@ -165,10 +165,10 @@ module _ (before now : List Table) (query : Query) (grown : HaveGrown before now
         taken = ap (λ (t : Table). limit_of t set) same ∙ is.taken;
         from_one = is.from_one;
         there = subst (λ m. limit ≤ m) (sym (ap (λ (t : Table). length t.limits) same)) is.there;
-        size = is.size ∙ sym (ap (λ (t : Table). (limit_at t limit).n) same);
+        size = is.size ∙ sym (ap (λ (t : Table). (node_limit_at t limit).n) same);
         most = is.most;
         bound = ap (λ (t : Table). data_bound t set) same ∙ is.bound;
-        tied = ap (λ (t : Table). is_within (set_of (limit_at t limit).cols) set) same ∙ is.tied;
+        tied = ap (λ (t : Table). is_column_within (set_of (node_limit_at t limit).cols) set) same ∙ is.tied;
         group = still_found rel limit access is.group;
       }
 
@@ -189,7 +189,7 @@ module _ (before now : List Table) (query : Query) (grown : HaveGrown before now
   run_stays : (node : Node) → IsRun before query node → IsRun now query node
   run_stays (lookup rel) is = (record { relation = is.0.relation; tied = ap (λ (t : Table). is_lookup t (tied_set query rel)) (grows rel).is ∙ is.0.tied }, tt)
   run_stays (limit_range rel limit n access) is =
-      (limited_stays rel limit n access is.0, group_found (table_of now query rel) (set_of (limit_at (table_of now query rel) limit).cols) access (still_found rel limit access is.0.group))
+      (limited_stays rel limit n access is.0, group_found (table_of now query rel) (set_of (node_limit_at (table_of now query rel) limit).cols) access (still_found rel limit access is.0.group))
   run_stays (stop_scan rel k access) is =
       let stays = stopped_stays rel k access is.0 is.1.0 in
       (stays.0, serving_found (table_of now query rel) (tied_set query rel) (order_rest query rel) access stays.1)

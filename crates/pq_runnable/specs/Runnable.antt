@@ -36,8 +36,8 @@ pub record IsRunnable (tables : List Table) (query : Query) (granted : Bound) (l
   pub paid : IsAtMost (run_of list).cost granted
 
 -- after so much was spent on so many inputs at most, what is granted suffices for the node
-abbrev pub Suffices : Bound → List Node → Node → Type 0
-Suffices granted front node =
+abbrev pub SufficesFor : Bound → List Node → Node → Type 0
+SufficesFor granted front node =
     (inputs : ℕ) (spent : Bound) → inputs ≤ (run_of front).inputs → IsAtMost spent (run_of front).cost →
     IsAtMost (plus spent (node_cost inputs node)) granted
 
@@ -48,7 +48,7 @@ pub record IsRunnableNode (tables : List Table) (query : Query) (granted : Bound
   pub indexed : HasIndex tables query node
   pub stands : StandsAt (after_nodes 0 front) node
   pub whole : IsWholeAt (length query.relations) (after_nodes 0 front) node
-  pub affords : Suffices granted front node
+  pub affords : SufficesFor granted front node
 
 -- a tree that is a plan for the query, whose nodes can be run within its own cost, and that cost can be granted
 pub record IsRunnablePlan (tables : List Table) (query : Query) (tree : Physical) : Type 0 where

@@ -84,7 +84,8 @@ pub fn compiled_laws()
 
     // Nor is it refused, but for want of memory.
     ensures unrefused { (s : Schema) (n : ℕ) (stopped : Stopped) → IsValid s
-        → IsQueryDefinition (definition_at s n) → Refuses {A = ChosenCandidate} stopped (chosen_candidate s.tables (query_at s n))
+        → IsQueryDefinition (definition_at s n)
+        → Refuses {A = ChosenCandidate} stopped (chosen_candidate s.tables (query_at s n))
         → stopped ≡ NoMem }
 
     // The nodes of its plan are those at its definition.

@@ -4,7 +4,7 @@ use Rattle.std.specs.Option.{option_to_list}
 use Rattle.pq_base.specs.declared.value.Dir.{Dir}
 use Rattle.pq_base.specs.declared.value.Value.{Value}
 use Rattle.pq_schema.specs.declared.query.Pred.{Pred}
-use Rattle.pq_serving.specs.Keys.{bound_key, higher, lesser, highest, lowest}
+use Rattle.pq_serving.specs.Keys.{bound_key, higher, lesser_key, highest, lowest}
 use Rattle.pq_serving.specs.Starts.{Bound, under}
 use Rattle.pq_scan.specs.declared.keys.End.{End}
 use Rattle.pq_scan.specs.declared.keys.End.TheVariants.{Low, High}
@@ -22,7 +22,7 @@ module _ (end : End) (ds : List Dir) (e : List Value) (k : List ℕ) where
   one_key : (x : List ℕ) (b : Bound) (rest : List Bound) → x ≡ bound_key ds (under e b) → farther end x (from rest) ≡ from (b ∷ rest)
   one_key x b rest h = elim end as (λ end. farther end x (farthest end ds k (map (under e) rest)) ≡ farthest end ds k (map (under e) (b ∷ rest))) [
     | Low ↦ ap (λ y. higher y (highest ds k (map (under e) rest))) h
-    | High ↦ ap (λ y. lesser y (lowest ds k (map (under e) rest))) h
+    | High ↦ ap (λ y. lesser_key y (lowest ds k (map (under e) rest))) h
   ]
 
   some_keys : (found : Option (List ℕ)) (bs rest : List Bound) → option_to_list found ≡ keys bs → with_key end found (from rest) ≡ from (bs ++ rest)

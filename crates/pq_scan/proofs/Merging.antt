@@ -21,7 +21,7 @@ use Rattle.pq_scan.specs.declared.candidates.Candidate.{Candidate}
 use Rattle.pq_scan.specs.declared.merge.Numbered.{Numbered}
 use Rattle.pq_scan.specs.declared.merge.Rising.{Rising}
 use Rattle.pq_scan.specs.Candidates.{place_of_candidate}
-use Rattle.pq_scan.specs.Merging.{turn_cmp, turn_total, turn_of, candidate_of, numbered_from, head_cmp, numbered_items, waiting_heads, IsUpTo, Falls, IsRising, IsMerge, merged_lists, PutsBack}
+use Rattle.pq_scan.specs.Merging.{turn_cmp, turn_total, turn_of, candidate_of, numbered_from, head_cmp, numbered_items, waiting_heads, IsUpToNumbered, Falls, IsRisingList, IsMerge, merged_lists, PutsBack}
 use Rattle.pq_scan.proofs.Permuted.{IsPermutation-flat_map}
 
 -- ---- turns
@@ -104,24 +104,24 @@ each_split : {X : Type 0} (P : X → Type 0) (xs : List X) (x : X) → AllByRecu
 each_split P [] x h = (tt, h.0)
 each_split P (y ∷ ys) x h = let r = each_split P ys x h.1 in ((h.0, r.0), r.1)
 
-falls_behind : (xs : List Numbered) (x : Numbered) → Falls xs → AllByRecursion (IsUpTo x) xs → Falls (xs ++ x ∷ [])
+falls_behind : (xs : List Numbered) (x : Numbered) → Falls xs → AllByRecursion (IsUpToNumbered x) xs → Falls (xs ++ x ∷ [])
 falls_behind [] x h u = (tt, tt)
-falls_behind (y ∷ ys) x h u = (each_append (λ z. IsUpTo z y) ys (x ∷ []) h.0 (u.0, tt), falls_behind ys x h.1 u.1)
+falls_behind (y ∷ ys) x h u = (each_append (λ z. IsUpToNumbered z y) ys (x ∷ []) h.0 (u.0, tt), falls_behind ys x h.1 u.1)
 
-falls_front : (xs : List Numbered) (x : Numbered) → Falls (xs ++ x ∷ []) → Falls xs × AllByRecursion (IsUpTo x) xs
+falls_front : (xs : List Numbered) (x : Numbered) → Falls (xs ++ x ∷ []) → Falls xs × AllByRecursion (IsUpToNumbered x) xs
 falls_front [] x h = (tt, tt)
 falls_front (y ∷ ys) x h =
-    let front = each_split (λ z. IsUpTo z y) ys x h.0 in
+    let front = each_split (λ z. IsUpToNumbered z y) ys x h.0 in
     let rest = falls_front ys x h.1 in
     ((front.0, rest.0), (front.1, rest.1))
 
-up_through : (x y : Numbered) (zs : List Numbered) → IsUpTo x y → AllByRecursion (IsUpTo y) zs → AllByRecursion (IsUpTo x) zs
-up_through x y zs h all = each_weaker (IsUpTo y) (IsUpTo x) (λ z k. upto turn_total (turn_of x) (turn_of y) (turn_of z) h k) zs all
+up_through : (x y : Numbered) (zs : List Numbered) → IsUpToNumbered x y → AllByRecursion (IsUpToNumbered y) zs → AllByRecursion (IsUpToNumbered x) zs
+up_through x y zs h all = each_weaker (IsUpToNumbered y) (IsUpToNumbered x) (λ z k. upto turn_total (turn_of x) (turn_of y) (turn_of z) h k) zs all
 
 -- one more before a list
-pub rises_before : (item : Numbered) (list made : Rising) → IsRising list → IsUpTo item list.head → made.head ≡ item → made.behind.items ≡ list.behind.items ++ list.head ∷ [] → IsRising made
+pub rises_before : (item : Numbered) (list made : Rising) → IsRisingList list → IsUpToNumbered item list.head → made.head ≡ item → made.behind.items ≡ list.behind.items ++ list.head ∷ [] → IsRisingList made
 rises_before item list made h up first rest = record {
-  head = subst (λ (x : Numbered). AllByRecursion (IsUpTo x) made.behind.items) (sym first) (subst (λ l. AllByRecursion (IsUpTo item) l) (sym rest) (each_append (IsUpTo item) list.behind.items (list.head ∷ []) (up_through item list.head list.behind.items up h.head) (up, tt)));
+  head = subst (λ (x : Numbered). AllByRecursion (IsUpToNumbered x) made.behind.items) (sym first) (subst (λ l. AllByRecursion (IsUpToNumbered item) l) (sym rest) (each_append (IsUpToNumbered item) list.behind.items (list.head ∷ []) (up_through item list.head list.behind.items up h.head) (up, tt)));
   behind = subst Falls (sym rest) (falls_behind list.behind.items list.head h.behind h.head);
 }
 
@@ -145,8 +145,8 @@ one_more all found front c n before now e long p q =
     let moved : numbered_from 0 found ++ before ≡ kept ++ x ∷ before = ap (λ k. k ++ before) parts ∙ append_assoc kept (x ∷ []) before in
     IsPermutation-trans all (kept ++ x ∷ before) (kept ++ now) (subst (λ k. IsPermutation all k) moved p) (IsPermutation-append_right kept (x ∷ before) now q)
 
-pub alone : (list : Rising) → list.behind.items ≡ [] → IsRising list
-alone list e = record { head = subst (AllByRecursion (IsUpTo list.head)) (sym e) tt; behind = subst Falls (sym e) tt }
+pub alone : (list : Rising) → list.behind.items ≡ [] → IsRisingList list
+alone list e = record { head = subst (AllByRecursion (IsUpToNumbered list.head)) (sym e) tt; behind = subst Falls (sym e) tt }
 
 -- the last that was found begins a list
 pub first_one : (found front : List Candidate) (c : Candidate) (n : ℕ) (behind : List Numbered) (lists : List Rising) → found ≡ front ++ c ∷ [] → n ≡ length front → behind ≡ [] → lists ≡ [] → IsPermutation (numbered_from 0 found) (numbered_from 0 front ++ (record { candidate = c; number = n }) ∷ (behind ++ waiting_heads lists))
@@ -167,7 +167,7 @@ all_listed all found list lists now none e p =
 pub put_back_made : (list : List Numbered) (made : Rising) (before now : List Rising) → list ≡ made.behind.items ++ made.head ∷ [] → KeepsHeap head_cmp before now → IsPermutation (made ∷ before) now → PutsBack list before now
 put_back_made list made before now e keeps p = record {
   heap = keeps;
-  rise = λ f all. permuted_each IsRising (made ∷ before) now p (let s = falls_front made.behind.items made.head (subst Falls e f) in record { head = s.1; behind = s.0 }, all);
+  rise = λ f all. permuted_each IsRisingList (made ∷ before) now p (let s = falls_front made.behind.items made.head (subst Falls e f) in record { head = s.1; behind = s.0 }, all);
   same = IsPermutation-trans (list ++ waiting_heads before) (numbered_items made ++ waiting_heads before) (waiting_heads now)
       (IsPermutation-append_left (waiting_heads before) list (numbered_items made) (subst (λ l. IsPermutation l (numbered_items made)) (sym e) (IsPermutation-to_front made.behind.items made.head)))
       (IsPermutation-flat_map numbered_items (made ∷ before) now p);
@@ -176,19 +176,19 @@ put_back_made list made before now e keeps p = record {
 pub next_made : (old popped now : List Rising) (r : Rising) → IsMerge old → IsPermutation old (r ∷ popped) → PopsGreatest head_cmp old r popped → PutsBack r.behind.items popped now → IsMerge now × (merged_lists old ≡ r.head.candidate ∷ merged_lists now)
 next_made old popped now r is p pops back =
     let greatest = pops is.heap in
-    let parts : AllByRecursion IsRising (r ∷ popped) = permuted_each IsRising old (r ∷ popped) p is.rise in
+    let parts : AllByRecursion IsRisingList (r ∷ popped) = permuted_each IsRisingList old (r ∷ popped) p is.rise in
     let highest = permuted_each (λ s. is_lt (head_cmp r s) ≡ false) old (r ∷ popped) p greatest.1 in
     let whole : IsPermutation (waiting_heads old) (r.head ∷ waiting_heads now) =
     IsPermutation-trans (waiting_heads old) (waiting_heads (r ∷ popped)) (r.head ∷ waiting_heads now) (IsPermutation-flat_map numbered_items old (r ∷ popped) p)
     (IsPermutation-cons r.head (r.behind.items ++ waiting_heads popped) (waiting_heads now) back.same) in
     let apart : Apart turn_cmp turn_of (r.head ∷ waiting_heads now) = apart_permuted turn_cmp turn_of turn_total exact_turn (waiting_heads old) (r.head ∷ waiting_heads now) whole is.apart in
-    let others : AllByRecursion (IsUpTo r.head) (waiting_heads popped) = each_flat_map (IsUpTo r.head) numbered_items popped (λ s i.
-    let low : IsUpTo r.head s.head = ap is_gt (turn_total.antisymm (turn_of r.head) (turn_of s.head)) ∙ not_gt (turn_cmp (turn_of s.head) (turn_of r.head)) (each_in (λ t. is_lt (head_cmp r t) ≡ false) popped highest.1 s i) in
-    (low, up_through r.head s.head s.behind.items low (each_in IsRising popped parts.1 s i).head)) in
-    let all : AllByRecursion (IsUpTo r.head) (waiting_heads now) = permuted_each (IsUpTo r.head) (r.behind.items ++ waiting_heads popped) (waiting_heads now) back.same (each_append (IsUpTo r.head) r.behind.items (waiting_heads popped) parts.0.head others) in (
+    let others : AllByRecursion (IsUpToNumbered r.head) (waiting_heads popped) = each_flat_map (IsUpToNumbered r.head) numbered_items popped (λ s i.
+    let low : IsUpToNumbered r.head s.head = ap is_gt (turn_total.antisymm (turn_of r.head) (turn_of s.head)) ∙ not_gt (turn_cmp (turn_of s.head) (turn_of r.head)) (each_in (λ t. is_lt (head_cmp r t) ≡ false) popped highest.1 s i) in
+    (low, up_through r.head s.head s.behind.items low (each_in IsRisingList popped parts.1 s i).head)) in
+    let all : AllByRecursion (IsUpToNumbered r.head) (waiting_heads now) = permuted_each (IsUpToNumbered r.head) (r.behind.items ++ waiting_heads popped) (waiting_heads now) back.same (each_append (IsUpToNumbered r.head) r.behind.items (waiting_heads popped) parts.0.head others) in (
       record { heap = back.heap greatest.0; rise = back.rise parts.0.behind parts.1; apart = apart.1 },
       ap (map candidate_of) (sort_by-IsPermutation turn_cmp turn_of turn_total exact_turn (waiting_heads old) (r.head ∷ waiting_heads now) whole is.apart
-          ∙ placed_first turn_cmp turn_of r.head (sort_by turn_cmp turn_of (waiting_heads now)) (each-sort_by turn_cmp turn_of (IsUpTo r.head) (waiting_heads now) all)),
+          ∙ placed_first turn_cmp turn_of r.head (sort_by turn_cmp turn_of (waiting_heads now)) (each-sort_by turn_cmp turn_of (IsUpToNumbered r.head) (waiting_heads now) all)),
     )
   where
     not_gt : (s : Ordering) → is_lt s ≡ false → is_gt (ordering_reverse s) ≡ false
@@ -196,11 +196,11 @@ next_made old popped now r is p pops back =
     not_gt Equal h = refl
     not_gt Greater h = refl
 
-pub merge_made : (found : List Candidate) (lists heap : List Rising) → AllByRecursion IsRising lists → IsPermutation (numbered_from 0 found) (waiting_heads lists) → IsPermutation lists heap → IsHeap head_cmp heap → IsMerge heap × (merged_lists heap ≡ sort_by key_cmp place_of_candidate found)
+pub merge_made : (found : List Candidate) (lists heap : List Rising) → AllByRecursion IsRisingList lists → IsPermutation (numbered_from 0 found) (waiting_heads lists) → IsPermutation lists heap → IsHeap head_cmp heap → IsMerge heap × (merged_lists heap ≡ sort_by key_cmp place_of_candidate found)
 merge_made found lists heap rise same p is =
     let all = numbered_from 0 found in
     let whole : IsPermutation all (waiting_heads heap) = IsPermutation-trans all (waiting_heads lists) (waiting_heads heap) same (IsPermutation-flat_map numbered_items lists heap p) in (
-      record { heap = is; rise = permuted_each IsRising lists heap p rise; apart = apart_permuted turn_cmp turn_of turn_total exact_turn all (waiting_heads heap) whole (numbered_apart 0 found) },
+      record { heap = is; rise = permuted_each IsRisingList lists heap p rise; apart = apart_permuted turn_cmp turn_of turn_total exact_turn all (waiting_heads heap) whole (numbered_apart 0 found) },
       ap (map candidate_of) (sym (sort_by-IsPermutation turn_cmp turn_of turn_total exact_turn all (waiting_heads heap) whole (numbered_apart 0 found))) ∙ numbered_sorted 0 found,
     )
 

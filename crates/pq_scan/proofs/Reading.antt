@@ -15,12 +15,12 @@ use Rattle.pq_scan.specs.declared.candidates.Candidate.{Candidate}
 use Rattle.pq_scan.specs.declared.keys.Input.{Input}
 use Rattle.pq_scan.specs.declared.prepared.Scan.{Scan}
 use Rattle.pq_scan.specs.Candidates.{scanned_table, AreFirst, IsHeld, IsCandidate, candidate_at, row_candidate, AddsCandidates}
-use Rattle.pq_scan.specs.Inputs.{IsInputOf, low_code, high_code}
+use Rattle.pq_scan.specs.Inputs.{IsInputAt, low_code, high_code}
 use Rattle.pq_scan.specs.Prepared.{asked_over, IsScannable}
 use Rattle.pq_scan.proofs.Told.{held_are, candidates_are}
 
 module _ (scan : Scan) (told : Option Content) (after : Option (List Value)) (combo : List (List Value)) (k place : ℕ) where
-  pub adds : IsScannable scan → IsCursor scan.catalog.now.tables scan.query.now after → FitsTables scan.catalog.now.tables scan.query.now (scan.rel - 1) combo → passes (asked_over scan []) scan.rel combo ≡ true → (input : Input) → IsInputOf scan combo input → (low high : List ℕ) → low ≡ key_front scan.number scan.access ++ low_code scan combo input after → high ≡ key_front scan.number scan.access ++ high_code scan combo input → (held : List (List Value)) → IfSome told (AreFirst scan.number (scanned_table scan) scan.access low high k held) → (old new : List Candidate) → new ≡ old ++ map (candidate_at scan input.constants place) held → AddsCandidates scan told k after place combo old new
+  pub adds : IsScannable scan → IsCursor scan.catalog.now.tables scan.query.now after → FitsTables scan.catalog.now.tables scan.query.now (scan.rel - 1) combo → passes (asked_over scan []) scan.rel combo ≡ true → (input : Input) → IsInputAt scan combo input → (low high : List ℕ) → low ≡ key_front scan.number scan.access ++ low_code scan combo input after → high ≡ key_front scan.number scan.access ++ high_code scan combo input → (held : List (List Value)) → IfSome told (AreFirst scan.number (scanned_table scan) scan.access low high k held) → (old new : List Candidate) → new ≡ old ++ map (candidate_at scan input.constants place) held → AddsCandidates scan told k after place combo old new
   adds ready cursor fits passed input of low high low_is high_is held given old new new_is = λ rows others h.
       let content = content_pairs scan.catalog.now.tables rows others in
       let n = scan.number in

@@ -19,7 +19,7 @@ use Rattle.pq_content.specs.Tables.{values_of}
 use Rattle.pq_scan.specs.declared.candidates.Candidate.{Candidate}
 use Rattle.pq_scan.specs.declared.prepared.Scan.{Scan}
 use Rattle.pq_scan.specs.Candidates.{held_of, fetches, input_candidates, all_candidates, AddsCandidates, AreCandidates, IsComboOf, AreCombosOf}
-use Rattle.pq_scan.specs.Prepared.{IsSound}
+use Rattle.pq_scan.specs.Prepared.{IsPrepared}
 
 module _ {S L : Type 0} (content : S → Option Content) (faults : S → ℕ) where
   pub uses_then : (a b c : Calls S L) (o e p q o' e' : ℕ) → Uses content faults a b o e → Uses content faults b c p q → o + p ≤ o' → e + q ≤ e' → Uses content faults a c o' e'
@@ -58,7 +58,7 @@ each_at P xs i x h within at = subst P (sym at) (each_in P xs h (get_or xs i x) 
 
 module _ (scan : Scan) (told : Option Content) where
   -- what was kept of a row by an index is the row's values in it
-  pub kept_values : IsSound scan → (index : ℕ) → scan.access ≡ Secondary index → (held row : List Value) → held ≡ held_of scan.access scan.sequence row → held ≡ values_of (index_sequence (table_at scan.catalog.now.tables scan.number) (index_numbered (table_at scan.catalog.now.tables scan.number) index)) row
+  pub kept_values : IsPrepared scan → (index : ℕ) → scan.access ≡ Secondary index → (held row : List Value) → held ≡ held_of scan.access scan.sequence row → held ≡ values_of (index_sequence (table_at scan.catalog.now.tables scan.number) (index_numbered (table_at scan.catalog.now.tables scan.number) index)) row
   kept_values sound index is held row same =
       same ∙ ap (λ (a : Access). held_of a scan.sequence row) is
       ∙ ap (λ (s : List KeyPart). values_of s row) (sound.sequence_is ∙ ap (λ (a : Access). sequence_of (table_of scan.catalog.now.tables scan.query.now scan.rel) a) is ∙ ap (λ (n : ℕ). sequence_of (table_at scan.catalog.now.tables n) (Secondary index)) (sym sound.number_is))

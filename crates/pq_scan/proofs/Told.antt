@@ -39,8 +39,8 @@ use Rattle.pq_serving.proofs.Whole.{entry_scans, row_scans, served_is, wide_is, 
 use Rattle.pq_scan.specs.declared.keys.Input.{Input}
 use Rattle.pq_scan.specs.declared.prepared.Scan.{Scan}
 use Rattle.pq_scan.specs.Candidates.{scanned_table, held_of, shown_values, AreFirst, candidate_at, row_candidate, input_candidates}
-use Rattle.pq_scan.specs.Inputs.{IsInputOf, low_code, high_code}
-use Rattle.pq_scan.specs.Prepared.{asked_over, item_directions, IsSound}
+use Rattle.pq_scan.specs.Inputs.{IsInputAt, low_code, high_code}
+use Rattle.pq_scan.specs.Prepared.{asked_over, item_directions, IsPrepared}
 
 pub map_map : {A B D : Type 0} (f : A → B) (g : B → D) (xs : List A) → map g (map f xs) ≡ map (λ x. g (f x)) xs
 map_map f g [] = refl
@@ -54,7 +54,7 @@ map_same : {A B : Type 0} (f g : A → B) (xs : List A) → ((x : A) → In x xs
 map_same f g [] h = refl
 map_same f g (x ∷ xs) h = λ i. h x (inl refl) i ∷ map_same f g xs (λ y there. h y (inr there)) i
 
-module _ (scan : Scan) (sound : IsSound scan) (rows : Rows) (after : Option (List Value)) (combo : List (List Value)) (input : Input) (of : IsInputOf scan combo input) where
+module _ (scan : Scan) (sound : IsPrepared scan) (rows : Rows) (after : Option (List Value)) (combo : List (List Value)) (input : Input) (of : IsInputAt scan combo input) where
   abbrev q : Question
   q = asked_over scan rows
 

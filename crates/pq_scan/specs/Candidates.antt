@@ -57,7 +57,8 @@ AreFirst t table (Secondary index) low high limit held content =
 -- the code of the position, by the constants of an input
 abbrev pub place_code : Scan → List (Option Value) → List Value → List ℕ
 place_code scan constants held =
-    code_of scan.position_dirs (filled_values constants (drop (count_ones scan.fixed) (shown_values scan.access scan.sequence held)))
+    code_of scan.position_dirs (filled_values constants
+    (drop (count_ones scan.fixed) (shown_values scan.access scan.sequence held)))
 
 abbrev pub candidate_at : Scan → List (Option Value) → ℕ → List Value → Candidate
 candidate_at scan constants input held = record { place = place_code scan constants held; input = input; held = held }

@@ -6,7 +6,7 @@ use Rattle.pq_schema.specs.declared.query.Op.{Op}
 use Rattle.pq_schema.specs.declared.query.Pred.{Pred}
 use Rattle.pq_schema.specs.Relations.{belongs_to}
 use Rattle.pq_plan.specs.Answer.{Question, side}
-use Rattle.pq_serving.specs.Keys.{bound_key, higher, lesser, highest, lowest}
+use Rattle.pq_serving.specs.Keys.{bound_key, higher, lesser_key, highest, lowest}
 use Rattle.pq_serving.specs.Scanning.{is_tied, passes_one, bounds_with, first_direction, rest}
 use Rattle.pq_serving.specs.Starts.{Bound, under, start_of, lower, upper, at_value, past_value}
 use Rattle.pq_base.specs.declared.value.Dir.TheVariants.{Asc}
@@ -53,7 +53,7 @@ own_bounds q p end d combo preds = flat_map (pred_bounds q p end d combo) (filte
 -- which of two keys is the end: the higher low one, the lesser high one
 abbrev pub farther : End → List ℕ → List ℕ → List ℕ
 farther Low a b = higher a b
-farther High a b = lesser a b
+farther High a b = lesser_key a b
 
 -- the end of a key and those of bounds
 abbrev pub farthest : End → List Dir → List ℕ → List Bound → List ℕ

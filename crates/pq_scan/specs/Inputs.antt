@@ -10,7 +10,7 @@ use Rattle.pq_scan.specs.declared.prepared.Scan.{Scan}
 use Rattle.pq_scan.specs.Ends.{started_key, end_code}
 use Rattle.pq_scan.specs.Prepared.{asked_over}
 
-pub record IsInputOf (scan : Scan) (combo : List (List Value)) (input : Input) : Type 0 where
+pub record IsInputAt (scan : Scan) (combo : List (List Value)) (input : Input) : Type 0 where
   pub ties_is : input.ties ≡ cells_tied scan.query.now scan.params.now scan.rel combo scan.front
   pub constants_is : input.constants ≡ map (constant (asked_over scan []) scan.rel combo) scan.items
 

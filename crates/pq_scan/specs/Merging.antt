@@ -55,23 +55,23 @@ abbrev pub waiting_heads : List Rising → List Numbered
 waiting_heads = flat_map numbered_items
 
 -- x doesn't come behind y
-abbrev pub IsUpTo : Numbered → Numbered → Type 0
-IsUpTo x y = is_gt (turn_cmp (turn_of x) (turn_of y)) ≡ false
+abbrev pub IsUpToNumbered : Numbered → Numbered → Type 0
+IsUpToNumbered x y = is_gt (turn_cmp (turn_of x) (turn_of y)) ≡ false
 
 -- none comes behind one that stands before it
 abbrev pub Falls : List Numbered → Type 0
 Falls [] = Unit {0}
-Falls (x ∷ xs) = AllByRecursion (λ y. IsUpTo y x) xs × Falls xs
+Falls (x ∷ xs) = AllByRecursion (λ y. IsUpToNumbered y x) xs × Falls xs
 
-pub record IsRising (list : Rising) : Type 0 where
-  pub head : AllByRecursion (IsUpTo list.head) list.behind.items
+pub record IsRisingList (list : Rising) : Type 0 where
+  pub head : AllByRecursion (IsUpToNumbered list.head) list.behind.items
   pub behind : Falls list.behind.items
 
 -- ---- the merge
 
 pub record IsMerge (lists : List Rising) : Type 0 where
   pub heap : IsHeap head_cmp lists
-  pub rise : AllByRecursion IsRising lists
+  pub rise : AllByRecursion IsRisingList lists
   pub apart : Apart turn_cmp turn_of (waiting_heads lists)
 
 -- what the lists have, in order
@@ -81,7 +81,7 @@ merged_lists lists = map candidate_of (sort_by turn_cmp turn_of (waiting_heads l
 -- what is left of a list joins the others
 pub record PutsBack (list : List Numbered) (before now : List Rising) : Type 0 where
   pub heap : IsHeap head_cmp before → IsHeap head_cmp now
-  pub rise : Falls list → AllByRecursion IsRising before → AllByRecursion IsRising now
+  pub rise : Falls list → AllByRecursion IsRisingList before → AllByRecursion IsRisingList now
   pub same : IsPermutation (list ++ waiting_heads before) (waiting_heads now)
 
 abbrev pub GivesNext : List Candidate → List Candidate → Option Candidate → Type 0

@@ -47,7 +47,7 @@ asked_over scan rows =
     record { tables = scan.catalog.now.tables; query = scan.query.now; rows = rows; params = scan.params.now }
 
 -- the parts of a scan are what they are called
-pub record IsSound (scan : Scan) : Type 0 where
+pub record IsPrepared (scan : Scan) : Type 0 where
   pub number_is : scan.number ≡ (relation_at scan.query.now scan.rel).table
   pub fixed_is : scan.fixed ≡ tied_set scan.query.now scan.rel
   pub sequence_is : scan.sequence ≡ sequence_of (table_of scan.catalog.now.tables scan.query.now scan.rel) scan.access
@@ -60,7 +60,7 @@ pub record IsSound (scan : Scan) : Type 0 where
 
 -- a sound scan of an asked query, at a relation at which a stop can stand, by a sequence that serves it
 pub record IsScannable (scan : Scan) : Type 0 where
-  pub sound : IsSound scan
+  pub sound : IsPrepared scan
   pub asked : IsAsked scan.catalog.now.tables scan.query.now scan.params.now
   pub relation : IsRelationOf scan.query.now scan.rel
   pub can : can_stop_at scan.catalog.now.tables scan.query.now scan.rel ≡ true

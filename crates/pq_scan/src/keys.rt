@@ -5,13 +5,13 @@ ghost use Rattle.std.specs.Option.{option_to_list};
 ghost use Rattle.pq_base.specs.declared.value.Value.{Value};
 ghost use Rattle.pq_key_code.specs.KeyCode.{code_of};
 ghost use Rattle.pq_schema.specs.Relations.{belongs_to};
-ghost use Rattle.pq_serving.specs.Keys.{bound_key, higher, lesser};
+ghost use Rattle.pq_serving.specs.Keys.{bound_key, higher, lesser_key};
 ghost use Rattle.pq_serving.specs.Scanning.{first_direction, rest};
 ghost use Rattle.pq_serving.specs.Starts.{under, lower, upper, filled_values};
 ghost use Rattle.pq_scan.specs.Ends.{is_past, edge_bounds, bounds_by, pred_bounds, own_bounds, farther, farthest, with_key, bound_of, direction_of, started_key, end_code};
-ghost use Rattle.pq_scan.specs.Inputs.{IsInputOf, low_code, high_code};
+ghost use Rattle.pq_scan.specs.Inputs.{IsInputAt, low_code, high_code};
 ghost use Rattle.pq_entries.specs.Entries.{key_front};
-ghost use Rattle.pq_scan.specs.Prepared.{asked_over, IsSound};
+ghost use Rattle.pq_scan.specs.Prepared.{asked_over, IsPrepared};
 
 use crate::passing::is_tied;
 use crate::places::{constants, position};
@@ -150,7 +150,7 @@ fn higher(a: Bytes, b: Bytes) -> Bytes
 }
 
 fn lesser(a: Bytes, b: Bytes) -> Bytes
-    ensures { result ≡ lesser a b }
+    ensures { result ≡ lesser_key a b }
 {
     match a.items().cmp(b.items()) {
         Ordering::Less => a,
@@ -188,7 +188,7 @@ fn pred_key(
     dir: Dir,
     pred: &Pred,
 ) -> Result<Option<Bytes>, NoMem>
-    requires sound { IsSound scan.now }
+    requires sound { IsPrepared scan.now }
     requires column { pred.now.left.col < 32 }
     ensures { IfOk result (λ key. option_to_list key ≡ map (λ b. bound_key scan.now.dirs (under ties.now b))
         (cond (belongs_to pred.now == scan.now.rel)
@@ -217,7 +217,7 @@ fn farthest_from(
     preds: &[Pred],
     base: Bytes,
 ) -> Result<Bytes, NoMem>
-    requires sound { IsSound scan.now }
+    requires sound { IsPrepared scan.now }
     requires columns { AllByRecursion (λ pred. pred.left.col < 32) preds.now }
     ensures { IfOk result (λ key. key ≡ farthest end scan.now.dirs base (map (under ties.now)
         (own_bounds (asked_over scan.now []) scan.now.rel end dir combo.now preds.now))) }
@@ -249,7 +249,7 @@ fn part_at<'s>(scan: &'s Scan<'_>, place: usize) -> Option<&'s KeyPart>
 
 /// The direction of the first column behind the tied ones.
 fn rest_direction(scan: &Scan<'_>) -> Dir
-    requires { IsSound scan.now }
+    requires { IsPrepared scan.now }
     ensures { result ≡ first_direction (rest (asked_over scan.now []) scan.now.rel scan.now.sequence) }
 {
     direction_of(part_at(scan, scan.fixed.count() as usize))
@@ -286,7 +286,7 @@ fn end_code(
     end: End,
     edge: Edge,
 ) -> Result<Bytes, NoMem>
-    requires { IsSound scan.now }
+    requires { IsPrepared scan.now }
     ensures { IfOk result (λ key. key ≡ end_code scan.now combo.now ties.now end edge) }
 {
     let dir = rest_direction(scan);
@@ -316,8 +316,8 @@ pub(crate) struct Input {
 
 /// The ties and constants of an input.
 pub(crate) fn input_of(alloc: Global, scan: &Scan<'_>, combo: &Combo) -> Result<Input, NoMem>
-    requires { IsSound scan.now }
-    ensures { IfOk result (IsInputOf scan.now combo.now) }
+    requires { IsPrepared scan.now }
+    ensures { IfOk result (IsInputAt scan.now combo.now) }
 {
     let front = scan.front.items();
     let ties = tied_cells(alloc, scan.query, scan.params, scan.rel, combo, front)?;
@@ -340,7 +340,7 @@ pub(crate) fn ends_of(
     input: &Input,
     after: Option<&Row>,
 ) -> Result<Ends, NoMem>
-    requires { IsSound scan.now }
+    requires { IsPrepared scan.now }
     ensures low { IfOk result (λ ends. ends.low ≡ key_front scan.now.number scan.now.access ++ low_code scan.now
         combo.now input.now (option_copied after.entry)) }
     ensures high { IfOk result (λ ends. ends.high ≡ key_front scan.now.number scan.now.access ++ high_code scan.now

@@ -7,7 +7,7 @@ ghost use Rattle.std.specs.Ordering.{eq_by_cmp, as_partial_cmp};
 ghost use Rattle.pq_base.specs.Sorting.{sort_by};
 ghost use Rattle.pq_store.specs.Content.{key_cmp};
 ghost use Rattle.pq_scan.specs.Candidates.{place_of_candidate};
-ghost use Rattle.pq_scan.specs.Merging.{turn_of, turn_cmp, head_cmp, head_total, numbered_from, numbered_items, waiting_heads, IsRising, IsMerge, merged_lists, PutsBack, GivesNext};
+ghost use Rattle.pq_scan.specs.Merging.{turn_of, turn_cmp, head_cmp, head_total, numbered_from, numbered_items, waiting_heads, IsRisingList, IsMerge, merged_lists, PutsBack, GivesNext};
 
 use crate::candidates::Candidate;
 use pq_base::{List, NoMem};
@@ -88,10 +88,10 @@ fn put_before(
     alloc: Global,
     lists: &mut Vec<Rising>,
 ) -> Result<Rising, NoMem>
-    requires rises { IsRising list }
-    requires all_rise { AllByRecursion IsRising lists.old.items }
-    ensures rises { IfOk result IsRising }
-    ensures all_rise { OnOk result (AllByRecursion IsRising lists.new.items) }
+    requires rises { IsRisingList list }
+    requires all_rise { AllByRecursion IsRisingList lists.old.items }
+    ensures rises { IfOk result IsRisingList }
+    ensures all_rise { OnOk result (AllByRecursion IsRisingList lists.new.items) }
     ensures same { IfOk result (λ made. IsPermutation (item ∷ (numbered_items list ++ waiting_heads lists.old.items))
         (numbered_items made ++ waiting_heads lists.new.items)) }
 {
@@ -110,7 +110,7 @@ fn put_before(
 /// Cuts what was found where it falls: lists that rise, as few as there can be. Of an input whose rows come
 /// in the order of their positions it makes at most one.
 fn rising_lists(alloc: Global, mut found: Vec<Candidate>) -> Result<Vec<Rising>, NoMem>
-    ensures rise { IfOk result (λ lists. AllByRecursion IsRising lists.items) }
+    ensures rise { IfOk result (λ lists. AllByRecursion IsRisingList lists.items) }
     ensures same { IfOk result (λ lists. IsPermutation (numbered_from 0 found.items) (waiting_heads lists.items)) }
 {
     let mut lists = Vec::new(alloc);
@@ -166,7 +166,8 @@ impl Merge {
     fn next(&mut self) -> Result<Option<Candidate>, NoMem>
         requires { IsMerge (heap_items self.old.heap) }
         ensures ready { OnOk result (IsMerge (heap_items self.new.heap)) }
-        ensures next { IfOk result (GivesNext (merged_lists (heap_items self.old.heap)) (merged_lists (heap_items self.new.heap))) }
+        ensures next { IfOk result (GivesNext (merged_lists (heap_items self.old.heap))
+            (merged_lists (heap_items self.new.heap))) }
     {
         let Some(Rising { head, behind }) = self.heap.pop() else {
             return Ok(None);

@@ -3,7 +3,7 @@ ghost use Rattle.std.specs.Prelude.{◌≡◌, [], ◌<◌, option_copied};
 ghost use Rattle.std.specs.List.{list_all, AllByRecursion};
 ghost use Rattle.pq_serving.specs.Scanning.{is_operand, is_tied, passes_one, passes};
 ghost use Rattle.pq_scan.specs.Ends.{passes_own};
-ghost use Rattle.pq_scan.specs.Prepared.{asked_over, IsSound};
+ghost use Rattle.pq_scan.specs.Prepared.{asked_over, IsPrepared};
 
 use crate::prepared::Scan;
 use pq_base::Value;
@@ -21,7 +21,7 @@ fn is_operand(operand: Option<&Value>) -> bool
 
 /// Whether an equality ties the column of the predicate.
 pub(crate) fn is_tied(scan: &Scan<'_>, pred: &Pred) -> bool
-    requires sound { IsSound scan.now }
+    requires sound { IsPrepared scan.now }
     requires column { pred.now.left.col < 32 }
     ensures { result ≡ is_tied (asked_over scan.now []) scan.now.rel pred.now }
 {
@@ -30,7 +30,7 @@ pub(crate) fn is_tied(scan: &Scan<'_>, pred: &Pred) -> bool
 
 /// What one predicate says of an input: of a tied column all, of another one that there is an operand.
 fn passes_one(scan: &Scan<'_>, combo: &Combo, pred: &Pred) -> bool
-    requires sound { IsSound scan.now }
+    requires sound { IsPrepared scan.now }
     requires column { pred.now.left.col < 32 }
     ensures { result ≡ passes_one (asked_over scan.now []) scan.now.rel combo.now pred.now }
 {
@@ -45,7 +45,7 @@ fn passes_one(scan: &Scan<'_>, combo: &Combo, pred: &Pred) -> bool
 
 /// What one predicate says of an input, where it belongs to the relation.
 fn passes_own(scan: &Scan<'_>, combo: &Combo, pred: &Pred) -> bool
-    requires sound { IsSound scan.now }
+    requires sound { IsPrepared scan.now }
     requires column { pred.now.left.col < 32 }
     ensures { result ≡ passes_own (asked_over scan.now []) scan.now.rel combo.now pred.now }
 {
@@ -54,7 +54,7 @@ fn passes_own(scan: &Scan<'_>, combo: &Combo, pred: &Pred) -> bool
 
 /// Whether the input passes each of some predicates.
 fn passes_each(scan: &Scan<'_>, combo: &Combo, preds: &[Pred]) -> bool
-    requires sound { IsSound scan.now }
+    requires sound { IsPrepared scan.now }
     requires columns { AllByRecursion (λ pred. pred.left.col < 32) preds.now }
     ensures { result ≡ list_all (passes_own (asked_over scan.now []) scan.now.rel combo.now) preds.now }
 {
@@ -66,7 +66,7 @@ fn passes_each(scan: &Scan<'_>, combo: &Combo, preds: &[Pred]) -> bool
 
 /// Whether the input passes: what the relation's predicates say of it by itself holds.
 pub(crate) fn passes(scan: &Scan<'_>, combo: &Combo) -> bool
-    requires { IsSound scan.now }
+    requires { IsPrepared scan.now }
     ensures { result ≡ passes (asked_over scan.now []) scan.now.rel combo.now }
 {
     passes_each(scan, combo, scan.query.preds.items())

@@ -4,7 +4,7 @@ ghost use Rattle.pq_schema.specs.Rows.{no_value};
 ghost use Rattle.pq_plan.specs.Answer.{cell};
 ghost use Rattle.pq_serving.specs.Starts.{filled_values};
 ghost use Rattle.pq_serving.specs.Scanning.{constant_value, constant};
-ghost use Rattle.pq_scan.specs.Prepared.{asked_over, IsSound};
+ghost use Rattle.pq_scan.specs.Prepared.{asked_over, IsPrepared};
 
 use crate::prepared::Scan;
 use pq_base::{List, NoMem, Row, Value};
@@ -49,7 +49,7 @@ fn constant(
     combo: &Combo,
     item: &OrderItem,
 ) -> Result<Option<Value>, NoMem>
-    requires sound { IsSound scan.now }
+    requires sound { IsPrepared scan.now }
     requires column { item.now.col.col < 32 }
     ensures { IfOk result (λ value. value ≡ constant (asked_over scan.now []) scan.now.rel combo.now item.now) }
 {
@@ -65,7 +65,7 @@ pub(crate) fn constants(
     scan: &Scan<'_>,
     combo: &Combo,
 ) -> Result<List<Option<Value>>, NoMem>
-    requires { IsSound scan.now }
+    requires { IsPrepared scan.now }
     ensures { IfOk result (λ made. made ≡ map (constant
         (asked_over scan.now []) scan.now.rel combo.now) scan.now.items) }
 {

@@ -3,7 +3,7 @@ ghost use Rattle.std.specs.Prelude.{◌≡◌, ◌≤◌, length, map, take, IfO
 ghost use Rattle.pq_schema.specs.Relations.{table_of};
 ghost use Rattle.pq_schema.specs.Sequences.{columns_of, IsAccess};
 ghost use Rattle.pq_schema.specs.Sound.{IsQuery};
-ghost use Rattle.pq_scan.specs.Prepared.{IsSound, subject_of, item_directions};
+ghost use Rattle.pq_scan.specs.Prepared.{IsPrepared, subject_of, item_directions};
 
 use pq_base::{ColSet, Dir, List, NoMem, Row};
 use pq_entries::dirs_of;
@@ -70,9 +70,15 @@ impl<'a> Scan<'a> {
         requires from_one { 1 ≤ rel }
         requires there { rel ≤ length query.now.relations }
         requires access { IsAccess (table_of catalog.now.tables query.now rel) access }
-        ensures sound { IfOk result IsSound }
+        ensures sound { IfOk result IsPrepared }
         ensures subject { IfOk result (λ scan. subject_of scan ≡
-            record { tables = catalog.now.tables; query = query.now; params = params.now; rel = rel; access = access }) }
+            record {
+              tables = catalog.now.tables;
+              query = query.now;
+              params = params.now;
+              rel = rel;
+              access = access;
+            }) }
     {
         let table = table_of(catalog, query, rel);
         let fixed = fixed(query, rel);

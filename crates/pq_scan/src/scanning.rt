@@ -2,7 +2,7 @@
 ghost use Rattle.std.specs.Prelude.{◌≤◌, option_copied, length, IfOk, IfErr};
 ghost use Rattle.pq_calls.specs.Calls.{Uses, Fails};
 ghost use Rattle.pq_calls.specs.World.{where_told};
-ghost use Rattle.pq_nodes.specs.Operators.{AffordsNode, AreFound, AreInputs, Answers, IsAsked, IsCursor, IsReady, ShowsRead};
+ghost use Rattle.pq_nodes.specs.Operators.{AffordsNode, AreFound, AreInputs, AnswersNode, IsAsked, IsCursor, IsReadyNode, ShowsRead};
 ghost use Rattle.pq_nodes.specs.Paid.{node_cost};
 ghost use Rattle.pq_plan.specs.Nodes.{stop_scan};
 ghost use Rattle.pq_scan.specs.Prepared.{IsScannable};
@@ -40,7 +40,7 @@ fn run<S: Store<L>, L: Ledger>(
         (ShowsRead scan.now.catalog.now.tables)) S.content S.faults calls.old calls.new) }
     ensures found { IfOk result (AreFound scan.now.catalog.now.tables scan.now.query.now scan.now.rel
         (length inputs.now) (stop_scan scan.now.rel k scan.now.access)) }
-    ensures answer { IfOk result (Answers
+    ensures answer { IfOk result (AnswersNode
         (S.content calls.old.store.now) scan.now.catalog.now.tables scan.now.query.now scan.now.params.now
         (option_copied after.entry) inputs.now (stop_scan scan.now.rel k scan.now.access)) }
 {
@@ -65,7 +65,7 @@ pub fn scan_inputs<S: Store<L>, L: Ledger>(
     calls: &mut Calls<S, L>,
 ) -> Result<List<Combo>, Broke>
     requires asked { IsAsked catalog.now.tables query.now params.now }
-    requires ready { IsReady catalog.now.tables query.now (stop_scan rel k access) }
+    requires ready { IsReadyNode catalog.now.tables query.now (stop_scan rel k access) }
     requires inputs { AreInputs catalog.now.tables query.now rel inputs.now }
     requires cursor { IsCursor catalog.now.tables query.now (option_copied after) }
     requires share { AffordsNode calls.old.allowance.now (length inputs.now) (stop_scan rel k access) }
@@ -75,7 +75,7 @@ pub fn scan_inputs<S: Store<L>, L: Ledger>(
         (ShowsRead catalog.now.tables)) S.content S.faults calls.old calls.new) }
     ensures found { IfOk result (AreFound catalog.now.tables query.now rel (length inputs.now)
         (stop_scan rel k access)) }
-    ensures answer { IfOk result (Answers (S.content calls.old.store.now) catalog.now.tables query.now params.now
+    ensures answer { IfOk result (AnswersNode (S.content calls.old.store.now) catalog.now.tables query.now params.now
         (option_copied after.entry) inputs.now (stop_scan rel k access)) }
 {
     let scan = Scan::prepare(alloc, catalog, query, params, rel, access)?;

@@ -70,7 +70,8 @@ can_stop_at tables query p =
 -- the primary sequence serves the relation
 abbrev pub is_served : List Table → Query → ℕ → Bool
 is_served tables query p =
-    serves (table_of tables query p) (tied_set query p) (order_rest query p) (primary_sequence (table_of tables query p))
+    serves (table_of tables query p) (tied_set query p) (order_rest query p)
+    (primary_sequence (table_of tables query p))
 
 abbrev pub stop_cost : List Table → Query → ℕ → ℕ → Bound
 stop_cost tables query k p =

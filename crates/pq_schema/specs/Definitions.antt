@@ -34,17 +34,17 @@ cardinality (pos n) = if nat_le 1 n && nat_le n 10000 then Some n else None
 cardinality (negsuc n) = None
 
 -- the type of a column, unless its length is outside the limit
-abbrev pub type_of : ColumnDef → Option ColType
-type_of column =
+abbrev pub column_type : ColumnDef → Option ColType
+column_type column =
     if bytes_eq column.kind (codes "INT") then Some type.Int
     else if bytes_eq column.kind (codes "BOOL") then Some type.Bool
     else option_map type.Text (text_size column.size)
 
 abbrev pub has_type : ColumnDef → Bool
-has_type column = is_some (type_of column)
+has_type column = is_some (column_type column)
 
 abbrev pub column_of : ColumnDef → Column
-column_of column = record { name = column.name; ty = unwrap_or (type_of column) type.Int }
+column_of column = record { name = column.name; ty = unwrap_or (column_type column) type.Int }
 
 -- refused where the test holds
 abbrev pub refused_if : Bool → Refusal → Option Refusal

@@ -75,8 +75,8 @@ AreApart tables (e ∷ es) =
     AllByRecursion (λ f. has_key tables e.0 (key_of (table_at tables e.0) e.1) f ≡ false) es × AreApart tables es
 
 -- at most n rows of the table agree on the limit's columns
-abbrev pub IsWithin : ℕ → Rows → Limit → Type 0
-IsWithin t rows limit = (values : List Value) → length (group_of t limit.cols values rows) ≤ limit.n
+abbrev pub IsWithinLimit : ℕ → Rows → Limit → Type 0
+IsWithinLimit t rows limit = (values : List Value) → length (group_of t limit.cols values rows) ≤ limit.n
 
 -- the row that the foreign key names is there
 abbrev pub HasParent : List Table → Rows → List Value → Foreign → Type 0
@@ -87,5 +87,5 @@ pub record KeepsSchema (tables : List Table) (rows : Rows) : Type 0 where
   pub known : AllByRecursion (λ e. IsTableNumber tables e.0) rows
   pub fit : AllByRecursion (λ e. AllFit (types_of (table_at tables e.0)) e.1) rows
   pub apart : AreApart tables rows
-  pub limits : (t : ℕ) → IsTableNumber tables t → AllByRecursion (IsWithin t rows) (table_at tables t).limits
+  pub limits : (t : ℕ) → IsTableNumber tables t → AllByRecursion (IsWithinLimit t rows) (table_at tables t).limits
   pub foreign : AllByRecursion (λ e. AllByRecursion (HasParent tables rows e.1) (table_at tables e.0).foreign) rows

@@ -1,7 +1,7 @@
 -- Tables by their numbers, and limits and the data bound of one table.
 use Rattle.std.specs.Prelude.{ℕ, ◌+◌, ◌-◌, min, Bool, ◌==◌, ◌&&◌, if◌then◌else◌, List, [], ◌∷◌, ◌++◌, map, filter, position, slice_index_or, Option, Some, None, option_map, option_and_then, true, false}
 use Rattle.std.specs.Option.{option_map_or}
-use Rattle.pq_base.specs.Columns.{is_within, set_of}
+use Rattle.pq_base.specs.Columns.{is_column_within, set_of}
 use Rattle.pq_base.specs.declared.value.ColType.{ColType}
 use Rattle.pq_base.specs.declared.value.ColType.TheVariants as type
 use Rattle.pq_base.specs.Values.{same_kind}
@@ -22,11 +22,11 @@ table_at tables number = slice_index_or tables (number - 1) no_table
 
 -- a relation of the table is a lookup where its key lies in the fixed columns
 abbrev pub is_lookup : Table → ℕ → Bool
-is_lookup table fixed = is_within (set_of table.key) fixed
+is_lookup table fixed = is_column_within (set_of table.key) fixed
 
 -- the columns of the limit lie in the fixed ones
 abbrev pub applies : ℕ → Limit → Bool
-applies fixed limit = is_within (set_of limit.cols) fixed
+applies fixed limit = is_column_within (set_of limit.cols) fixed
 
 -- the least of some numbers
 abbrev pub least_of : List ℕ → Option ℕ

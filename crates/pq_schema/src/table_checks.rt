@@ -3,7 +3,7 @@ ghost use Rattle.std.specs.Prelude.{◌≡◌, ◌≤◌, ◌||◌, length, map,
 ghost use Rattle.std.specs.List.{list_all};
 ghost use Rattle.pq_base.specs.Answers.{Passes};
 ghost use Rattle.pq_schema.specs.ColumnNames.{place_of, places_of};
-ghost use Rattle.pq_schema.specs.Definitions.{text_size, cardinality, type_of, has_type, column_of, is_outside, definition_refusal, name_refusal, counts_refusal, columns_refusal, key_refusal, limit_refusal, limits_refusal, reference_refusal, foreign_refusal, foreigns_refusal, groups_refusal, table_refusal};
+ghost use Rattle.pq_schema.specs.Definitions.{text_size, cardinality, column_type, has_type, column_of, is_outside, definition_refusal, name_refusal, counts_refusal, columns_refusal, key_refusal, limit_refusal, limits_refusal, reference_refusal, foreign_refusal, foreigns_refusal, groups_refusal, table_refusal};
 ghost use Rattle.pq_schema.specs.Schema.{find_table};
 ghost use Rattle.pq_schema.specs.Tables.{type_at, types_at, same_kinds};
 
@@ -51,7 +51,7 @@ pub(crate) fn cardinality(n: i64) -> Option<u32>
 impl ColumnDef {
     /// The type, None where a text's length is outside its limit.
     fn ty(&self) -> Option<ColType>
-        ensures { result ≡ type_of self.now }
+        ensures { result ≡ column_type self.now }
     {
         if self.kind.bytes() == b"INT".as_slice() {
             Some(ColType::Int)

@@ -25,7 +25,7 @@ use Rattle.pq_content.proofs.Ranges.{in_range}
 use Rattle.pq_plan.specs.Answer.{Question}
 use Rattle.pq_serving.specs.Starts.{Bound, reaches, under}
 use Rattle.pq_serving.specs.Scanning.{ties, lows, highs, lies_within}
-use Rattle.pq_serving.specs.Keys.{bound_key, higher, lesser, highest, lowest, range_low, range_high}
+use Rattle.pq_serving.specs.Keys.{bound_key, higher, lesser_key, highest, lowest, range_low, range_high}
 
 -- values of these types' kinds, place by place, as far as they go
 abbrev pub Fits : List ColType → List Value → Type 0
@@ -169,7 +169,7 @@ above_higher a b k =
       | false ↦ λ e. implied_right (is_le (key_cmp a k)) (is_le (key_cmp b k)) (both_le b a k (not_less_le a b e))
     ] refl
 
-below_lesser : (a b k : List ℕ) → is_lt (key_cmp k (lesser a b)) ≡ (not (is_le (key_cmp a k)) && not (is_le (key_cmp b k)))
+below_lesser : (a b k : List ℕ) → is_lt (key_cmp k (lesser_key a b)) ≡ (not (is_le (key_cmp a k)) && not (is_le (key_cmp b k)))
 below_lesser a b k =
     elim (is_lt (key_cmp a b)) as (λ t. is_lt (key_cmp a b) ≡ t → is_lt (key_cmp k (cond t a b)) ≡ (not (is_le (key_cmp a k)) && not (is_le (key_cmp b k)))) [
       | true ↦ λ e. lt_is k a ∙ turned_right (is_le (key_cmp a k)) (is_le (key_cmp b k)) (both_le a b k (less_le (key_cmp a b) e))

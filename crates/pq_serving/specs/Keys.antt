@@ -18,8 +18,8 @@ bound_key ds b = code_of ds b.values ++ cond b.past (32 ∷ []) []
 abbrev pub higher : List ℕ → List ℕ → List ℕ
 higher a b = cond (is_lt (key_cmp a b)) b a
 
-abbrev pub lesser : List ℕ → List ℕ → List ℕ
-lesser a b = cond (is_lt (key_cmp a b)) a b
+abbrev pub lesser_key : List ℕ → List ℕ → List ℕ
+lesser_key a b = cond (is_lt (key_cmp a b)) a b
 
 -- the highest of a key and those of bounds, and the lowest
 abbrev pub highest : List Dir → List ℕ → List Bound → List ℕ
@@ -28,7 +28,7 @@ highest ds k (b ∷ bs) = higher (bound_key ds b) (highest ds k bs)
 
 abbrev pub lowest : List Dir → List ℕ → List Bound → List ℕ
 lowest ds k [] = k
-lowest ds k (b ∷ bs) = lesser (bound_key ds b) (lowest ds k bs)
+lowest ds k (b ∷ bs) = lesser_key (bound_key ds b) (lowest ds k bs)
 
 module _ (q : Question) (p : ℕ) (sequence : List KeyPart) (combo : List (List Value)) where
   -- behind the tied values

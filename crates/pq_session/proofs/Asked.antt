@@ -17,7 +17,7 @@ use Rattle.pq_query_read.specs.Trying.{◌>>=◌, passed_unless}
 use Rattle.pq_session.specs.Actions.{Action, Explains, Prepares, Writes, asked_by, action_from}
 use Rattle.pq_session.specs.Planned.{IsPlanned}
 use Rattle.pq_session.specs.Planning.{PlannedDefinition, plan_from, as_it_is, definable, prepared_from, explained_name, explained_from}
-use Rattle.pq_session.specs.Requests.{IsDefinable, IsPlanFor}
+use Rattle.pq_session.specs.Requests.{IsDefinable, IsPlannedAs}
 use Rattle.pq_session.specs.declared.planning.PlannedQuery.{PlannedQuery}
 
 -- what is refused is not asked for
@@ -53,7 +53,7 @@ module _ (schema : Schema) (name text : List ℕ) (tokens : List Token) (from : 
   prepared_free plan is free = ap (λ (p : Result PlannedDefinition Refusal). p >>= definable schema) is ∙ free_plan plan free
 
   pub prepares : (computed : PlannedQuery) → IsPlanned schema name text tokens from computed → definition_refusal schema computed.query.name ≡ None
-      → IsPlanFor Prepares (action_from Prepares (prepared_from schema name text tokens from)) computed
+      → IsPlannedAs Prepares (action_from Prepares (prepared_from schema name text tokens from)) computed
   prepares computed is free = record {
     plan = is.plan;
     plan_is = is.plan_is;
@@ -87,7 +87,7 @@ module _ (schema : Schema) (name text : List ℕ) (tokens : List Token) (from : 
 -- ---- EXPLAIN
 
 module _ (schema : Schema) (text : List ℕ) (tokens : List Token) (from : ℕ) where
-  pub explains : (computed : PlannedQuery) → IsPlanned schema explained_name text tokens from computed → IsPlanFor Explains (action_from Explains (explained_from schema text tokens from)) computed
+  pub explains : (computed : PlannedQuery) → IsPlanned schema explained_name text tokens from computed → IsPlannedAs Explains (action_from Explains (explained_from schema text tokens from)) computed
   unfolding explained_from
   explains computed is = record { plan = is.plan; plan_is = is.plan_is; asks = ap (action_from Explains) is.is }
 

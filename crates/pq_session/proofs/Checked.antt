@@ -16,7 +16,7 @@ use Rattle.pq_session.specs.Checks.{IsChecked, action_check, checked_as, check_s
 use Rattle.pq_session.specs.Lines.{planned_lines}
 use Rattle.pq_session.specs.Planning.{PlannedDefinition, planned_definition}
 use Rattle.pq_session.specs.Promise.{IsBound}
-use Rattle.pq_session.specs.Requests.{IsPlanFor}
+use Rattle.pq_session.specs.Requests.{IsPlannedAs}
 use Rattle.pq_session.specs.Step.{Step, crowding_refusal, prepared_over, report_of}
 use Rattle.pq_session.specs.declared.planning.PlannedQuery.{PlannedQuery}
 use Rattle.pq_session.proofs.Defining.{explained_lines, lines_are, plan_is}
@@ -66,7 +66,7 @@ module _ (schema : Schema) (number : ℕ) where
       → next ≡ (check_step (without_rows schema) number piece).model.schema
   checked_next piece found next report is done = done.next_is ∙ ap (λ (x : Step). x.model.schema) (sym (check_by piece found is))
 
-  pub explained_checked : (computed : PlannedQuery) (found : Result Action Refusal) → IsPlanFor Explains found computed → (report : Report)
+  pub explained_checked : (computed : PlannedQuery) (found : Result Action Refusal) → IsPlannedAs Explains found computed → (report : Report)
       → report ≡ report_of number (planned_lines schema.tables computed.query.name computed.compiled.choice (cost computed.compiled.plan) computed.compiled.wanted) Done (bound 0 0)
       → IsChecked schema number found schema report
   explained_checked computed found is report same =
@@ -74,7 +74,7 @@ module _ (schema : Schema) (number : ℕ) where
       (record { next_is = refl; report_is = same ∙ explained_lines schema.tables number computed is.plan is.plan_is computed.compiled.wanted refl })
 
 -- a query that was planned and defined
-pub prepared_checked : (schema : Schema) (number : ℕ) (computed : PlannedQuery) (asked : Result Action Refusal) → IsPlanFor Prepares asked computed → (wanted : Option NewIndex) → computed.compiled.wanted ≡ wanted
+pub prepared_checked : (schema : Schema) (number : ℕ) (computed : PlannedQuery) (asked : Result Action Refusal) → IsPlannedAs Prepares asked computed → (wanted : Option NewIndex) → computed.compiled.wanted ≡ wanted
     → (next : Schema) → next ≡ with_query schema computed.query wanted
     → (lines : List Line) → lines ≡ planned_lines schema.tables computed.query.name computed.compiled.choice (cost computed.compiled.plan) computed.compiled.wanted
     → (report : Report) → report ≡ report_of number lines Done (prepare_bound wanted []) → IsChecked schema number asked next report

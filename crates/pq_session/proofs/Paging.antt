@@ -26,7 +26,7 @@ use Rattle.pq_plan.proofs.Pushing.{by_total, distinct_reads}
 use Rattle.pq_plan.proofs.Unique.{apart_positions, only}
 use Rattle.pq_exec.specs.Execution.{last_of}
 use Rattle.pq_session.specs.Model.{Model}
-use Rattle.pq_session.specs.Pages.{ArePages, IsPaged, asked_of, last, next}
+use Rattle.pq_session.specs.Pages.{ArePages, IsPaged, question_of, last, next}
 
 -- ---- lists
 
@@ -164,7 +164,7 @@ module _ (q : Question) (k : ℕ) (o : IsTotalOrder (by_position q)) (up : Climb
 
 module _ (m : Model) (query : Query) (params : List Value) (k : ℕ) (paged : IsPaged m query k) where
   abbrev q : Question
-  q = asked_of m query params
+  q = question_of m query params
 
   sound : IsQuery m.schema.tables query
   sound = valid_query m.schema query paged.valid paged.resolved

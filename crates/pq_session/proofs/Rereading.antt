@@ -33,7 +33,7 @@ use Rattle.pq_def_read.specs.declared.statement.Statement.{Statement}
 use Rattle.pq_def_read.specs.declared.statement.Statement.TheVariants as statement
 use Rattle.pq_def_read.specs.declared.statement.Statement.TheVariants.{Create, Prepare}
 use Rattle.pq_print.specs.Canonical.{table_text, with_first_columns, numbered_text, text_of, definition_text}
-use Rattle.pq_query_read.specs.Queries.{query_of}
+use Rattle.pq_query_read.specs.Queries.{read_query_of}
 use Rattle.pq_query_read.specs.Trying.{◌>>=◌}
 use Rattle.pq_reread.specs.ReadBack.{IsReadBack}
 use Rattle.pq_reread.proofs.Defined.{defined_says, defined_reads}
@@ -42,7 +42,7 @@ use Rattle.pq_reread.proofs.Named.{created_named, prepared_named, spelled}
 use Rattle.pq_reread.proofs.Orders.{valid_orderly, keys_of}
 use Rattle.pq_reread.proofs.ReadBack.{defined_back}
 use Rattle.pq_reread.proofs.Tables.{table_utf8}
-use Rattle.pq_session.specs.Names.{IsNamed}
+use Rattle.pq_session.specs.Names.{IsNamedStatement}
 use Rattle.pq_session.specs.Opening.{with_made, with_planned, defined_as, text_defines}
 use Rattle.pq_session.specs.Planning.{with_chosen, plan_of, plan_from}
 
@@ -63,7 +63,7 @@ unfolding text_defines
 defines_table schema def table text read made = ap (defined_as schema text (tokens_of text)) read ∙ ap (with_made schema) made
 
 -- the query is planned again, and accepted again
-planned_again : (schema : Schema) (query : Query) (wanted : Option NewIndex) (text : List ℕ) → IsDefined schema query wanted → query_of schema query.name text (tokens_of text) 3 ≡ Ok query
+planned_again : (schema : Schema) (query : Query) (wanted : Option NewIndex) (text : List ℕ) → IsDefined schema query wanted → read_query_of schema query.name text (tokens_of text) 3 ≡ Ok query
     → with_planned schema (plan_from schema query.name text (tokens_of text) 3) ≡ Some (with_query schema query wanted)
 unfolding plan_from
 planned_again schema query wanted text defined rest =
@@ -145,7 +145,7 @@ explained_within text tokens from h =
     let first = longer (shape.Keyword EXPLAIN) _ (shapes_of text tokens) h.1 in
     omega (arith, h.0, first, length-map tokens (shape_of text))
 
-pub named_statement : (text : List ℕ) (tokens : List Token) (read : Statement) → tokens ≡ tokens_of text → statement_of text tokens ≡ Ok read → IsNamed tokens read
+pub named_statement : (text : List ℕ) (tokens : List Token) (read : Statement) → tokens ≡ tokens_of text → statement_of text tokens ≡ Ok read → IsNamedStatement tokens read
 named_statement text tokens (statement.Create def) same read = created_named text def (ap (statement_of text) (sym same) ∙ read)
 named_statement text tokens (statement.Prepare name from) same read =
     (prepared_named text name from (ap (statement_of text) (sym same) ∙ read), prepared_within text tokens name from (spelled text tokens (statement.Prepare name from) read))

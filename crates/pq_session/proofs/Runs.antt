@@ -25,8 +25,8 @@ use Rattle.pq_store.specs.declared.damage.Broke.TheVariants as broke
 use Rattle.pq_calls.specs.World.{where_told}
 use Rattle.pq_plan.specs.Answer.{selected_values}
 use Rattle.pq_nodes.specs.Operators.{IsSoundOverRows, ShowsRead}
-use Rattle.pq_exec.specs.Execution.{RisesBy, RisesWithin}
-use Rattle.pq_pages.specs.Running.{IsPageOf, IsPageOver, IsQueryNumber, Running, begins, next_of, page_combos, page_size, query_bound, running_with, running_as, running_at, running_of}
+use Rattle.pq_exec.specs.Execution.{RisesByUsed, RisesWithin}
+use Rattle.pq_pages.specs.Running.{IsPageOf, IsPageOver, IsQueryNumber, Running, cursor_start, next_of, page_combos, page_size, query_bound, running_with, running_as, running_at, running_of}
 use Rattle.pq_pages.specs.declared.page.Page.{Page}
 use Rattle.pq_session.specs.Evidence.{TellsEvidence}
 use Rattle.pq_session.specs.Matches.{Matches}
@@ -96,7 +96,7 @@ module _ (number : ℕ) (run : Running) (schema : Schema) where
 
   -- a page of the rows, on the query's bound
   pub page_done : (old now : Option Content) (before later : Counts) (page : Page) → IsPageOf old schema.tables run page → page.bound ≡ most
-      → RisesBy page.used before later → RisesWithin most before later → now ≡ old → DoneStatement number (Ok (Runs run)) old now schema schema before later (page_report number page)
+      → RisesByUsed page.used before later → RisesWithin most before later → now ≡ old → DoneStatement number (Ok (Runs run)) old now schema schema before later (page_report number page)
   page_done old now before later page is bound used rises same =
       let most_ops = ap (λ (b : Bound). b.ops) bound in
       let most_entries = ap (λ (b : Bound). b.entries) bound in
@@ -134,7 +134,7 @@ module _ (number : ℕ) (run : Running) (schema : Schema) where
 -- ---- RUN
 
 module _ (schema : Schema) (name : List ℕ) (params : List Value) (after : Option (List ℕ)) where
-  pub of_number : (query : ℕ) (start : Result (Option (List Value)) Refusal) → find_query schema name ≡ Some query → begins schema.tables query (query_at schema query) params after ≡ start
+  pub of_number : (query : ℕ) (start : Result (Option (List Value)) Refusal) → find_query schema name ≡ Some query → cursor_start schema.tables query (query_at schema query) params after ≡ start
       → running_of schema name params after ≡ running_as query (query_at schema query) params start
   unfolding running_of
   of_number query start found begun = ap (running_at schema name params after) found ∙ ap (running_as query (query_at schema query) params) begun
@@ -144,7 +144,7 @@ module _ (schema : Schema) (name : List ℕ) (params : List Value) (after : Opti
   no_such_query none = ap (running_at schema name params after) none
 
   -- what a page is refused for
-  pub run_refused : (query : ℕ) (stopped : Stopped) → find_query schema name ≡ Some query → Answers {A = Option (List Value)} (Err stopped) (begins schema.tables query (query_at schema query) params after)
+  pub run_refused : (query : ℕ) (stopped : Stopped) → find_query schema name ≡ Some query → Answers {A = Option (List Value)} (Err stopped) (cursor_start schema.tables query (query_at schema query) params after)
       → Refuses stopped (running_of schema name params after)
   run_refused query (Refused why) found refused = of_number query (Err why) found refused
   run_refused query NoMem found refused = tt

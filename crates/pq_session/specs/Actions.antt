@@ -44,8 +44,10 @@ asked_by schema text tokens (statement.Insert table cols values) =
     action_from Writes (checked_write schema (statement.Insert table cols values))
 asked_by schema text tokens (statement.Update table sets key) =
     action_from Writes (checked_write schema (statement.Update table sets key))
-asked_by schema text tokens (statement.Delete table key) = action_from Writes (checked_write schema (statement.Delete table key))
-asked_by schema text tokens (statement.Prepare name from) = action_from Prepares (prepared_from schema name text tokens from)
+asked_by schema text tokens (statement.Delete table key) =
+    action_from Writes (checked_write schema (statement.Delete table key))
+asked_by schema text tokens (statement.Prepare name from) =
+    action_from Prepares (prepared_from schema name text tokens from)
 asked_by schema text tokens (statement.Explain from) = action_from Explains (explained_from schema text tokens from)
 asked_by schema text tokens (statement.Run name params after) = action_from Runs (running_of schema name params after)
 asked_by schema text tokens statement.Show = Ok Shows

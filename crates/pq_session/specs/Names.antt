@@ -6,12 +6,12 @@ use Rattle.pq_def_read.specs.declared.statement.Statement.{Statement}
 use Rattle.pq_def_read.specs.declared.statement.Statement.TheVariants as statement
 
 -- what it defines has names, and its query begins within the tokens
-abbrev pub IsNamed : List Token → Statement → Type 0
-IsNamed tokens (statement.Create def) = IsTableDef def
-IsNamed tokens (statement.Prepare name from) = IsName name × (from ≤ length tokens)
-IsNamed tokens (statement.Insert table cols values) = Unit {0}
-IsNamed tokens (statement.Update table sets key) = Unit {0}
-IsNamed tokens (statement.Delete table key) = Unit {0}
-IsNamed tokens (statement.Explain from) = from ≤ length tokens
-IsNamed tokens (statement.Run name params after) = Unit {0}
-IsNamed tokens statement.Show = Unit {0}
+abbrev pub IsNamedStatement : List Token → Statement → Type 0
+IsNamedStatement tokens (statement.Create def) = IsTableDef def
+IsNamedStatement tokens (statement.Prepare name from) = IsName name × (from ≤ length tokens)
+IsNamedStatement tokens (statement.Insert table cols values) = Unit {0}
+IsNamedStatement tokens (statement.Update table sets key) = Unit {0}
+IsNamedStatement tokens (statement.Delete table key) = Unit {0}
+IsNamedStatement tokens (statement.Explain from) = from ≤ length tokens
+IsNamedStatement tokens (statement.Run name params after) = Unit {0}
+IsNamedStatement tokens statement.Show = Unit {0}

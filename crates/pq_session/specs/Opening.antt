@@ -149,7 +149,8 @@ goes_on (next, Ready) rest = true
 goes_on (next, Building) [] = is_some (last_made next)
 goes_on (next, Building) (pair ∷ rest) = false
 
-abbrev pub opened_by : Pair → List Pair → Option SchemaAndMark → (SchemaAndMark → Result SchemaAndMark Pair) → Result SchemaAndMark Pair
+abbrev pub opened_by : Pair → List Pair → Option SchemaAndMark → (SchemaAndMark → Result SchemaAndMark Pair)
+    → Result SchemaAndMark Pair
 opened_by pair rest None more = Err pair
 opened_by pair rest (Some added) more = if goes_on added rest then more added else Err pair
 

@@ -18,8 +18,8 @@ pub record IsPaged (m : Model) (query : Query) (k : ℕ) : Type 0 where
   pub size : query.stop ≡ Paginate k
 
 -- the query over the rows of the model
-abbrev pub asked_of : Model → Query → List Value → Question
-asked_of m query params = record { tables = m.schema.tables; query = query; rows = m.rows; params = params }
+abbrev pub question_of : Model → Query → List Value → Question
+question_of m query params = record { tables = m.schema.tables; query = query; rows = m.rows; params = params }
 
 -- the pages behind a position: pages of k combinations, and then the first one with fewer
 pub data ArePages (q : Question) (k : ℕ) : Option (List Value) → List (List (List (List Value))) → Type 0 where

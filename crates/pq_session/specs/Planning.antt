@@ -9,7 +9,7 @@ use Rattle.pq_schema.specs.declared.query.Query.{Query}
 use Rattle.pq_schema.specs.declared.table.NewIndex.{NewIndex}
 use Rattle.pq_schema.specs.declared.table.Table.{Table}
 use Rattle.pq_text.specs.declared.token.Token.{Token}
-use Rattle.pq_query_read.specs.Queries.{query_of}
+use Rattle.pq_query_read.specs.Queries.{read_query_of}
 use Rattle.pq_query_read.specs.Trying.{◌>>=◌, passed_unless}
 
 -- a query with its least candidate and the index that this wants
@@ -29,7 +29,7 @@ plan_of tables query = chosen_candidate tables query >>= with_chosen query
 
 -- the query of this name that the tokens of a text spell from a place on, or the first refusal
 unfoldable pub plan_from : Schema → List ℕ → List ℕ → List Token → ℕ → Result PlannedDefinition Refusal
-plan_from schema name text tokens from = query_of schema name text tokens from >>= plan_of schema.tables
+plan_from schema name text tokens from = read_query_of schema name text tokens from >>= plan_of schema.tables
 
 -- ---- PREPARE
 

@@ -67,4 +67,5 @@ abbrev pub Promises : ℕ → Result Action Refusal → Option Content → Optio
     → Result (Schema × Report) Broke → Type 0
 Promises number asked old now schema before after (Ok made) =
     DoneStatement number asked old now schema made.0 before after made.1
-Promises number asked old now schema before after (Err broke) = BrokenStatement number asked old now schema before after broke
+Promises number asked old now schema before after (Err broke) =
+    BrokenStatement number asked old now schema before after broke

@@ -17,7 +17,7 @@ use Rattle.pq_session.specs.declared.requests.RunRequest.{RunRequest}
 use Rattle.pq_session.specs.declared.planning.PlannedQuery.{PlannedQuery}
 
 -- the plan is one for the action
-pub record IsPlanFor (action : PlannedDefinition → Action) (asked : Result Action Refusal) (computed : PlannedQuery) :
+pub record IsPlannedAs (action : PlannedDefinition → Action) (asked : Result Action Refusal) (computed : PlannedQuery) :
     Type 0 where
   pub plan : PlannedDefinition
   pub plan_is : IsPlanOf computed plan
@@ -40,8 +40,8 @@ pub record RunsAs (schema : Schema) (run : RunRequest) (found : Result Running R
 abbrev pub Asks : Schema → Request → Result Action Refusal → Type 0
 Asks schema (request.Create def) asked = IsTableDef def × (asked ≡ action_from Creates (new_table schema def))
 Asks schema (request.Write write) asked = IsWrite schema.tables write × (asked ≡ Ok (Writes write))
-Asks schema (request.Prepare computed) asked = IsDefinable schema computed × IsPlanFor Prepares asked computed
-Asks schema (request.Explain computed) asked = IsComputed schema.tables computed × IsPlanFor Explains asked computed
+Asks schema (request.Prepare computed) asked = IsDefinable schema computed × IsPlannedAs Prepares asked computed
+Asks schema (request.Explain computed) asked = IsComputed schema.tables computed × IsPlannedAs Explains asked computed
 Asks schema (request.Run run) asked = (found : Result Running Refusal) × RunsAs schema run found
     × (asked ≡ action_from Runs found)
 Asks schema request.Show asked = asked ≡ Ok Shows

@@ -77,7 +77,8 @@ effected_as m number most (Err why) = refused_step m number why most
 
 -- the write's effect, or its first refusal; both have its bound
 unfoldable pub write_step : Model → ℕ → Write → Step
-write_step m number write = effected_as m number (write_bound m.schema.tables write) (effect m.schema.tables m.rows write)
+write_step m number write = effected_as m number (write_bound m.schema.tables write)
+    (effect m.schema.tables m.rows write)
 
 -- ---- PREPARE
 

@@ -6,7 +6,7 @@ ghost use Rattle.pq_schema.specs.Definitions.{new_table};
 ghost use Rattle.pq_schema.specs.Names.{IsTableDef};
 ghost use Rattle.pq_session.specs.Actions.{Action, Creates, Prepares, action_from};
 ghost use Rattle.pq_session.specs.Checks.{IsChecked, check_step, without_rows};
-ghost use Rattle.pq_session.specs.Requests.{Asks, IsDefinable, IsPlanFor, IsRequest};
+ghost use Rattle.pq_session.specs.Requests.{Asks, IsDefinable, IsPlannedAs, IsRequest};
 
 use crate::planning::{PlannedQuery, planned_lines};
 use crate::reports::{NOTHING_USED, done_report, unpaid_report, unread_report};
@@ -109,7 +109,7 @@ impl Session {
         plan: PlannedQuery,
     ) -> Result<(Session, Report), NoMem>
         requires { IsDefinable self plan }
-        ensures { IfOk result (λ p. (asked : Result Action Refusal) → IsPlanFor Prepares asked plan
+        ensures { IfOk result (λ p. (asked : Result Action Refusal) → IsPlannedAs Prepares asked plan
             → IsChecked self number asked p.0 p.1) }
     {
         let lines = planned_lines(alloc, &self.catalog, &plan)?;

@@ -15,7 +15,7 @@ ghost use Rattle.pq_session.specs.Kept.{IsPlanWanting};
 ghost use Rattle.pq_session.specs.Actions.{Action, Creates, Prepares, action_from};
 ghost use Rattle.pq_session.specs.Planned.{IsComputed};
 ghost use Rattle.pq_session.specs.Planning.{planned_definition};
-ghost use Rattle.pq_session.specs.Requests.{IsDefinable, IsPlanFor};
+ghost use Rattle.pq_session.specs.Requests.{IsDefinable, IsPlannedAs};
 ghost use Rattle.pq_session.specs.Stands.{new_query_of};
 ghost use Rattle.pq_schema.specs.Candidates.{Candidate};
 ghost use Rattle.pq_schema.specs.Definitions.{new_table};
@@ -337,7 +337,7 @@ impl Session {
         meter: &mut Meter<L>,
     ) -> Result<(Session, Report), Broke>
         requires { IsDefinable self plan }
-        ensures step { (asked : Result Action Refusal) → IsPlanFor Prepares asked plan
+        ensures step { (asked : Result Action Refusal) → IsPlannedAs Prepares asked plan
             → Promises number asked (S.content store.old) (S.content store.new) self meter.old meter.new result }
         ensures cause { HasBrokeCause (S.faults store.old) (S.faults store.new) result }
     {

@@ -2,7 +2,7 @@
 ghost use Rattle.std.specs.Prelude.{◌≡◌, ◌≤◌, ◌*◌, length, IfOk, IfErr, IfSome, IsSome, OnOk, OnErr};
 ghost use Rattle.pq_builds.specs.Bounds.{left_bound};
 ghost use Rattle.pq_builds.specs.Filling.{row_pairs_in};
-ghost use Rattle.pq_builds.specs.Stages.{ShowsLeft, Takes, IsWithin, left_ops};
+ghost use Rattle.pq_builds.specs.Stages.{ShowsLeft, Takes, IsWithinBuild, left_ops};
 ghost use Rattle.pq_intent.specs.Spending.{TakesAtMost};
 ghost use Rattle.pq_session.specs.Model.{Model};
 ghost use Rattle.pq_session.specs.Opening.{IsLeft, IsFillingIn, rows_left, HasFewRows, ShowsMarked};
@@ -82,7 +82,7 @@ fn complete_left<S: Store<L>, L: Ledger>(
     ensures few { IfOk result (λ rows. rows ≤ 1000000) }
     ensures few_left { OnOk result (IfSome (S.content store.old) (λ c.
         length (row_pairs_in target.now.table c) ≤ 1000000)) }
-    ensures within { OnErr result (IsWithin left_ops meter.old meter.new) }
+    ensures within { OnErr result (IsWithinBuild left_ops meter.old meter.new) }
     ensures within_own { OnErr result ((m : Model) → IsLeft m.schema target.now query.now
         → IsFillingIn (S.content store.old) m → TakesAtMost (left_bound (rows_left m)) meter.old meter.new) }
     ensures takes { IfOk result (λ rows. Takes (left_ops rows) (2 * rows) meter.old meter.new) }
@@ -109,7 +109,7 @@ pub(crate) fn complete<S: Store<L>, L: Ledger>(
         (λ c. ShowsMarked catalog.now Mark.Building c broke)) }
     ensures few { IfOk result (λ rows. rows ≤ 1000000) }
     ensures few_left { OnOk result (IfSome (S.content store.old) (HasFewRows (last_made catalog.now))) }
-    ensures within { OnErr result (IsWithin left_ops meter.old meter.new) }
+    ensures within { OnErr result (IsWithinBuild left_ops meter.old meter.new) }
     ensures within_own { OnErr result ((m : Model) → m.schema ≡ catalog.now → IsFillingIn (S.content store.old) m
         → TakesAtMost (left_bound (rows_left m)) meter.old meter.new) }
     ensures takes { IfOk result (λ rows. Takes (left_ops rows) (2 * rows) meter.old meter.new) }

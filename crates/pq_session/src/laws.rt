@@ -16,7 +16,7 @@ ghost use Rattle.pq_content.specs.Tables.{IsTableNumber, rows_of};
 ghost use Rattle.pq_plan.specs.Answer.{selected_values, whole};
 ghost use Rattle.pq_session.specs.Model.{Model};
 ghost use Rattle.pq_session.specs.Opening.{text_defines};
-ghost use Rattle.pq_session.specs.Pages.{ArePages, IsPaged, asked_of};
+ghost use Rattle.pq_session.specs.Pages.{ArePages, IsPaged, question_of};
 ghost use Rattle.pq_session.specs.Stands.{Opens};
 
 /// The canonical text of a definition, read over the definitions before it, defines it again.
@@ -52,10 +52,11 @@ pub fn page_law()
     // One behind the other, up to the first with fewer than k rows.
     ensures all { (m : Model) (query : Query) (params : List Value) (k : ℕ)
         (pages : List (List (List (List Value)))) → IsPaged m query k
-        → ArePages (asked_of m query params) k None pages
-        → flat_map (map (selected_values query)) pages ≡ map (selected_values query) (whole (asked_of m query params)) }
+        → ArePages (question_of m query params) k None pages
+        → flat_map (map (selected_values query)) pages
+        ≡ map (selected_values query) (whole (question_of m query params)) }
 
     // And there is such a page: the pages end.
     ensures ends { (m : Model) (query : Query) (params : List Value) (k : ℕ) → IsPaged m query k
-        → (pages : List (List (List (List Value)))) × ArePages (asked_of m query params) k None pages }
+        → (pages : List (List (List (List Value)))) × ArePages (question_of m query params) k None pages }
 {}

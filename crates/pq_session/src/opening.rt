@@ -9,7 +9,7 @@ ghost use Rattle.pq_text.specs.Tokens.{tokens_of};
 ghost use Rattle.pq_session.specs.Planning.{plan_from};
 ghost use Rattle.pq_session.specs.Opening.{has_last_text, with_made, with_planned, defined_by, text_defines, text_adds, if_formatted, pair_adds, goes_on, added_from};
 ghost use Rattle.pq_session.specs.Opened.{TellsOpened};
-ghost use Rattle.pq_session.specs.Names.{IsNamed};
+ghost use Rattle.pq_session.specs.Names.{IsNamedStatement};
 
 use crate::format::{Mark, has_format, marked_text};
 use crate::last::last_made;
@@ -129,7 +129,7 @@ impl Session {
         statement: Statement,
     ) -> Result<Option<Session>, NoMem>
         requires spelled { tokens.now ≡ tokens_of text.now }
-        requires named { IsNamed tokens.now statement }
+        requires named { IsNamedStatement tokens.now statement }
         ensures { IfOk result (λ next. next ≡ defined_by self text.now tokens.now statement) }
     {
         match statement {

@@ -5,7 +5,7 @@ ghost use Rattle.pq_pages.specs.Running.{running_of};
 ghost use Rattle.pq_schema.specs.Definitions.{definition_refusal};
 ghost use Rattle.pq_text.specs.Tokens.{tokens_of};
 ghost use Rattle.pq_session.specs.Actions.{action_of, asked_by, asked_text};
-ghost use Rattle.pq_session.specs.Names.{IsNamed};
+ghost use Rattle.pq_session.specs.Names.{IsNamedStatement};
 ghost use Rattle.pq_session.specs.Planned.{IsPlanned};
 ghost use Rattle.pq_session.specs.Planning.{explained_name, prepared_from};
 ghost use Rattle.pq_session.specs.Requests.{Asks, RunsAs};
@@ -88,7 +88,7 @@ impl Session {
         statement: Statement,
     ) -> Result<Request, Stopped>
         requires spelled { tokens.now ≡ tokens_of text.now }
-        requires named { IsNamed tokens.now statement }
+        requires named { IsNamedStatement tokens.now statement }
         ensures asks { IfOk result
             (λ request. Asks self.now request (asked_by self.now text.now tokens.now statement)) }
         ensures refused { IfErr result (λ stopped. Refuses stopped (asked_by self.now text.now tokens.now statement)) }

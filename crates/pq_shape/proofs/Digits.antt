@@ -6,7 +6,7 @@ use Rattle.std.specs.Prelude.{nat_lt, nat_eq, slice_index, ◌-ℤ◌}
 use Rattle.std.specs.Int.{w64}
 use Rattle.std.proofs.lemmas.Int.{to_z-of_z, to_z_pos, ints}
 use Rattle.std.proofs.Math.IntN.{neg_ℤ}
-use Rattle.pq_shape.specs.Numbers.{digits_after, has_64_bits, fitting_number, number_of}
+use Rattle.pq_shape.specs.Numbers.{digits_after, has_64_bits, fitting_number, digits_number}
 
 -- more digits write no smaller number
 pub digits_above : (n : ℕ) (bs : List ℕ) → n ≤ digits_after n bs
@@ -58,8 +58,8 @@ pub neg_cast : (m : ℕ) → m < 2 ^ 63 → to_z w64 (of_z w64 (pos 0 -ℤ to_z 
 neg_cast m h = ap (λ (z : ℤ). to_z w64 (of_z w64 (pos 0 -ℤ z))) (to_z_pos w64 m h) ∙ neg_cast_by m h
 
 -- a number without a sign
-pub none_plain : (bs : List ℕ) → nat_eq (slice_index bs 0) 45 ≡ false → 2 ^ 63 < digits_after 0 bs → None ≡ number_of bs
+pub none_plain : (bs : List ℕ) → nat_eq (slice_index bs 0) 45 ≡ false → 2 ^ 63 < digits_after 0 bs → None ≡ digits_number bs
 none_plain bs plain above = rw plain (sym (fitting_none (digits_after 0 bs) (omega arith)))
 
-pub none_minus : (bs : List ℕ) → nat_eq (slice_index bs 0) 45 ≡ true → 2 ^ 63 < digits_after 0 (drop 1 bs) → None ≡ number_of bs
+pub none_minus : (bs : List ℕ) → nat_eq (slice_index bs 0) 45 ≡ true → 2 ^ 63 < digits_after 0 (drop 1 bs) → None ≡ digits_number bs
 none_minus bs is above = rw is (sym (fitting_below (digits_after 0 (drop 1 bs)) above))

@@ -9,15 +9,15 @@ use Rattle.pq_grammar.proofs.Steps.{Reads, never, begins-never}
 use Rattle.pq_grammar.proofs.Readers.{one_reads}
 use Rattle.pq_grammar.proofs.Lists.{one_opens, same_set, separated_reads}
 use Rattle.pq_grammar.proofs.Choices.{test_reads}
-use Rattle.pq_shape.specs.Front.{is_word, is_mark, is_value, name_of, number_in, text_in, truth_of, value_in, word_at, mark_at, name_at, number_at, text_at, value_at}
+use Rattle.pq_shape.specs.Front.{is_word_shape, is_mark_shape, is_value, name_of, number_in, text_in, truth_of, value_in, word_at, mark_at, name_at, number_at, text_at, value_shape_at}
 use Rattle.pq_shape.specs.Parts.{word, mark, comma, name, number, text, a_value}
 use Rattle.pq_shape.specs.declared.keyword.TheConstants.{FALSE, TRUE}
 use Rattle.pq_shape.specs.declared.mark.TheConstants.{COMMA}
 use Rattle.pq_shape.specs.declared.shape.Shape.{Shape}
 use Rattle.pq_shape.specs.declared.shape.Shape.TheVariants as shape
 
-pub word_is : (k : ℕ) (t : Shape) → is_word k t ≡ true → t ≡ shape.Keyword k
-unfolding is_word
+pub word_is : (k : ℕ) (t : Shape) → is_word_shape k t ≡ true → t ≡ shape.Keyword k
+unfolding is_word_shape
 word_is k (shape.Keyword j) e = ap (λ (i : ℕ). shape.Keyword i) (eqb-true j k e)
 word_is k (shape.Name n) e = absurd cc
 word_is k (shape.Number z) e = absurd cc
@@ -25,8 +25,8 @@ word_is k (shape.Text t) e = absurd cc
 word_is k (shape.Mark c) e = absurd cc
 word_is k shape.Other e = absurd cc
 
-pub mark_is : (k : ℕ) (t : Shape) → is_mark k t ≡ true → t ≡ shape.Mark k
-unfolding is_mark
+pub mark_is : (k : ℕ) (t : Shape) → is_mark_shape k t ≡ true → t ≡ shape.Mark k
+unfolding is_mark_shape
 mark_is k (shape.Mark c) e = ap (λ (i : ℕ). shape.Mark i) (eqb-true c k e)
 mark_is k (shape.Name n) e = absurd cc
 mark_is k (shape.Number z) e = absurd cc
@@ -34,19 +34,19 @@ mark_is k (shape.Text t) e = absurd cc
 mark_is k (shape.Keyword j) e = absurd cc
 mark_is k shape.Other e = absurd cc
 
-word_passes : (k : ℕ) → is_word k (shape.Keyword k) ≡ true
-unfolding is_word
+word_passes : (k : ℕ) → is_word_shape k (shape.Keyword k) ≡ true
+unfolding is_word_shape
 word_passes k = eq-eqb k k refl
 
-mark_passes : (k : ℕ) → is_mark k (shape.Mark k) ≡ true
-unfolding is_mark
+mark_passes : (k : ℕ) → is_mark_shape k (shape.Mark k) ≡ true
+unfolding is_mark_shape
 mark_passes k = eq-eqb k k refl
 
 pub word_reads : (k : ℕ) → Reads (λ _. word k) never (word_at k)
-word_reads k = test_reads (is_word k) (shape.Keyword k) (word_passes k) (word_is k)
+word_reads k = test_reads (is_word_shape k) (shape.Keyword k) (word_passes k) (word_is k)
 
 pub mark_reads : (k : ℕ) → Reads (λ _. mark k) never (mark_at k)
-mark_reads k = test_reads (is_mark k) (shape.Mark k) (mark_passes k) (mark_is k)
+mark_reads k = test_reads (is_mark_shape k) (shape.Mark k) (mark_passes k) (mark_is k)
 
 name_back : (t : Shape) (n : List ℕ) → name_of t ≡ Some n → t ≡ shape.Name n
 unfolding name_of
@@ -133,8 +133,8 @@ value_unset (value.Text t) w h = h
 value_unset (value.Bool true) w h = h
 value_unset (value.Bool false) w h = h
 
-pub value_reads : Reads a_value never value_at
-value_reads = same_set (λ v. one (value_token v)) a_value never value_at value_set value_unset (one_reads value_in value_token (value.Bool true) value_back value_forth)
+pub value_reads : Reads a_value never value_shape_at
+value_reads = same_set (λ v. one (value_token v)) a_value never value_shape_at value_set value_unset (one_reads value_in value_token (value.Bool true) value_back value_forth)
 
 pub value_opens : (v : Value) (w : List Shape) → a_value v w → begins is_value w ≡ true
 unfolding is_value
@@ -145,7 +145,7 @@ value_opens (value.Bool false) w h = one_opens is_value (shape.Keyword FALSE) re
 
 -- ---- lists with commas
 
-pub comma_separated : {X : Type 0} (S : X → List Shape → Type 0) (r : Reader Shape X) → Reads S never r → Reads (separated_by comma S) (is_mark COMMA) (separated_at (is_mark COMMA) (mark_at COMMA) r)
+pub comma_separated : {X : Type 0} (S : X → List Shape → Type 0) (r : Reader Shape X) → Reads S never r → Reads (separated_by comma S) (is_mark_shape COMMA) (separated_at (is_mark_shape COMMA) (mark_at COMMA) r)
 comma_separated S r h =
-    separated_reads comma S (is_mark COMMA) never (is_mark COMMA) (mark_at COMMA) r (mark_reads COMMA) h
-    (λ w s. one_opens (is_mark COMMA) (shape.Mark COMMA) (mark_passes COMMA) w s) (λ u e. refl) (λ rest e. begins-never rest) (λ rest e. e)
+    separated_reads comma S (is_mark_shape COMMA) never (is_mark_shape COMMA) (mark_at COMMA) r (mark_reads COMMA) h
+    (λ w s. one_opens (is_mark_shape COMMA) (shape.Mark COMMA) (mark_passes COMMA) w s) (λ u e. refl) (λ rest e. begins-never rest) (λ rest e. e)

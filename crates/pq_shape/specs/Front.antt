@@ -10,29 +10,29 @@ use Rattle.pq_shape.specs.declared.between.Between.TheVariants as between
 use Rattle.pq_shape.specs.declared.shape.Shape.{Shape}
 use Rattle.pq_shape.specs.declared.shape.Shape.TheVariants as shape
 
-unfoldable pub is_word : ℕ → Shape → Bool
-is_word k (shape.Keyword j) = j == k
-is_word k (shape.Name n) = false
-is_word k (shape.Number z) = false
-is_word k (shape.Text t) = false
-is_word k (shape.Mark c) = false
-is_word k shape.Other = false
+unfoldable pub is_word_shape : ℕ → Shape → Bool
+is_word_shape k (shape.Keyword j) = j == k
+is_word_shape k (shape.Name n) = false
+is_word_shape k (shape.Number z) = false
+is_word_shape k (shape.Text t) = false
+is_word_shape k (shape.Mark c) = false
+is_word_shape k shape.Other = false
 
-unfoldable pub is_mark : ℕ → Shape → Bool
-is_mark k (shape.Mark c) = c == k
-is_mark k (shape.Keyword j) = false
-is_mark k (shape.Name n) = false
-is_mark k (shape.Number z) = false
-is_mark k (shape.Text t) = false
-is_mark k shape.Other = false
+unfoldable pub is_mark_shape : ℕ → Shape → Bool
+is_mark_shape k (shape.Mark c) = c == k
+is_mark_shape k (shape.Keyword j) = false
+is_mark_shape k (shape.Name n) = false
+is_mark_shape k (shape.Number z) = false
+is_mark_shape k (shape.Text t) = false
+is_mark_shape k shape.Other = false
 
-unfoldable pub is_name : Shape → Bool
-is_name (shape.Name n) = true
-is_name (shape.Keyword j) = false
-is_name (shape.Number z) = false
-is_name (shape.Text t) = false
-is_name (shape.Mark c) = false
-is_name shape.Other = false
+unfoldable pub is_name_shape : Shape → Bool
+is_name_shape (shape.Name n) = true
+is_name_shape (shape.Keyword j) = false
+is_name_shape (shape.Number z) = false
+is_name_shape (shape.Text t) = false
+is_name_shape (shape.Mark c) = false
+is_name_shape shape.Other = false
 
 unfoldable pub name_of : Shape → Option (List ℕ)
 name_of (shape.Name n) = Some n
@@ -79,15 +79,15 @@ is_value (shape.Mark c) = false
 is_value shape.Other = false
 
 abbrev pub is_between : Between → Shape → Bool
-is_between between.Comma t = is_mark COMMA t
-is_between between.And t = is_word AND t
-is_between between.CommaOrJoin t = if is_mark COMMA t then true else is_word JOIN t
+is_between between.Comma t = is_mark_shape COMMA t
+is_between between.And t = is_word_shape AND t
+is_between between.CommaOrJoin t = if is_mark_shape COMMA t then true else is_word_shape JOIN t
 
 abbrev pub word_at : ℕ → Reader Shape (Unit {0})
-word_at k = test_at (is_word k)
+word_at k = test_at (is_word_shape k)
 
 abbrev pub mark_at : ℕ → Reader Shape (Unit {0})
-mark_at k = test_at (is_mark k)
+mark_at k = test_at (is_mark_shape k)
 
 abbrev pub between_at : Between → Reader Shape (Unit {0})
 between_at b = test_at (is_between b)
@@ -101,5 +101,5 @@ number_at = token_at number_in
 abbrev pub text_at : Reader Shape (List ℕ)
 text_at = token_at text_in
 
-abbrev pub value_at : Reader Shape Value
-value_at = token_at value_in
+abbrev pub value_shape_at : Reader Shape Value
+value_shape_at = token_at value_in

@@ -19,5 +19,5 @@ has_64_bits (negsuc n) = nat_lt n (2 ^ 63)
 unfoldable pub fitting_number : ℤ → Option ℤ
 fitting_number z = if has_64_bits z then Some z else None
 
-abbrev pub number_of : List ℕ → Option ℤ
-number_of bs = fitting_number (signed_number bs)
+abbrev pub digits_number : List ℕ → Option ℤ
+digits_number bs = fitting_number (signed_number bs)

@@ -7,7 +7,7 @@ use Rattle.pq_base.specs.Words.{uppercase_byte, keywords}
 use Rattle.pq_text.specs.declared.token.Kind.{Kind}
 use Rattle.pq_text.specs.declared.token.Kind.TheVariants as kind
 use Rattle.pq_text.specs.declared.token.Token.{Token}
-use Rattle.pq_shape.specs.Numbers.{number_of}
+use Rattle.pq_shape.specs.Numbers.{digits_number}
 use Rattle.pq_shape.specs.declared.shape.Shape.{Shape}
 use Rattle.pq_shape.specs.declared.shape.Shape.TheVariants as shape
 
@@ -16,9 +16,9 @@ abbrev pub bytes_of : List ℕ → Token → List ℕ
 bytes_of text t = slice_range text t.from t.to
 
 -- the place of a word in a list of words
-unfoldable pub place_of : List (List ℕ) → List ℕ → Option ℕ
-place_of [] w = None
-place_of (v ∷ vs) w = if bytes_eq v w then Some 0 else option_map suc (place_of vs w)
+unfoldable pub word_place : List (List ℕ) → List ℕ → Option ℕ
+word_place [] w = None
+word_place (v ∷ vs) w = if bytes_eq v w then Some 0 else option_map suc (word_place vs w)
 
 abbrev pub lowercase_bytes : List ℕ → List ℕ
 lowercase_bytes bs = map to_ascii_lowercase bs
@@ -45,7 +45,7 @@ keyword_or name (Some k) = shape.Keyword k
 
 -- a word that the keyword table holds, in any letter case, is no name
 abbrev pub word_shape : List ℕ → Shape
-word_shape bs = keyword_or (name_shape bs) (place_of keywords (map uppercase_byte bs))
+word_shape bs = keyword_or (name_shape bs) (word_place keywords (map uppercase_byte bs))
 
 abbrev pub number_or_other : Option ℤ → Shape
 number_or_other None = shape.Other
@@ -74,7 +74,7 @@ mark_code bs = if nat_le 2 (length bs) then slice_index bs 0 * 256 + slice_index
 
 abbrev pub kind_shape : Kind → List ℕ → Shape
 kind_shape kind.Word bs = word_shape bs
-kind_shape kind.Number bs = number_or_other (number_of bs)
+kind_shape kind.Number bs = number_or_other (digits_number bs)
 kind_shape kind.Text bs = text_shape (utf8_text (between_quotes bs))
 kind_shape kind.Mark bs = shape.Mark (mark_code bs)
 kind_shape kind.Other bs = shape.Other

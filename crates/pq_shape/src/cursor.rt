@@ -2,7 +2,7 @@
 ghost use Rattle.std.specs.Prelude.{◌≡◌, [], length};
 ghost use Rattle.pq_grammar.specs.Reader.{begins, rest_at};
 ghost use Rattle.pq_grammar.specs.Answers.{Gives};
-ghost use Rattle.pq_shape.specs.Front.{is_word, is_mark, is_name, is_value, is_between, word_at, mark_at, name_at, number_at, text_at, value_at, between_at};
+ghost use Rattle.pq_shape.specs.Front.{is_word_shape, is_mark_shape, is_name_shape, is_value, is_between, word_at, mark_at, name_at, number_at, text_at, value_shape_at, between_at};
 
 use crate::between::Between;
 use crate::keyword::{AND, FALSE, JOIN, TRUE};
@@ -44,9 +44,9 @@ impl<'a> Cursor<'a> {
     }
 
     /// Whether the next token is this keyword.
-    #[tactic(auto, unfolding(crate::specs::Front::is_word))]
+    #[tactic(auto, unfolding(crate::specs::Front::is_word_shape))]
     pub fn is_word(&self, place: u8) -> bool
-        ensures { result ≡ begins (is_word place) self.now }
+        ensures { result ≡ begins (is_word_shape place) self.now }
     {
         match self.rest {
             [shape, ..] => matches!(shape, Shape::Keyword(other) if *other == place),
@@ -55,9 +55,9 @@ impl<'a> Cursor<'a> {
     }
 
     /// Whether the next token is this mark.
-    #[tactic(auto, unfolding(crate::specs::Front::is_mark))]
+    #[tactic(auto, unfolding(crate::specs::Front::is_mark_shape))]
     pub fn is_mark(&self, mark: u16) -> bool
-        ensures { result ≡ begins (is_mark mark) self.now }
+        ensures { result ≡ begins (is_mark_shape mark) self.now }
     {
         match self.rest {
             [shape, ..] => matches!(shape, Shape::Mark(other) if *other == mark),
@@ -66,9 +66,9 @@ impl<'a> Cursor<'a> {
     }
 
     /// Whether the next token is a name.
-    #[tactic(auto, unfolding(crate::specs::Front::is_name))]
+    #[tactic(auto, unfolding(crate::specs::Front::is_name_shape))]
     pub fn is_name(&self) -> bool
-        ensures { result ≡ begins is_name self.now }
+        ensures { result ≡ begins is_name_shape self.now }
     {
         match self.rest {
             [shape, ..] => matches!(shape, Shape::Name(_)),
@@ -103,7 +103,7 @@ impl<'a> Cursor<'a> {
     }
 
     /// Reads this keyword.
-    #[tactic(auto, unfolding(crate::specs::Front::is_word))]
+    #[tactic(auto, unfolding(crate::specs::Front::is_word_shape))]
     pub fn word(&mut self, place: u8) -> Result<(), ReadError>
         ensures { Gives (λ x. (x, self.new)) result (word_at place self.old) }
     {
@@ -120,7 +120,7 @@ impl<'a> Cursor<'a> {
     }
 
     /// Reads this mark.
-    #[tactic(auto, unfolding(crate::specs::Front::is_mark))]
+    #[tactic(auto, unfolding(crate::specs::Front::is_mark_shape))]
     pub fn mark(&mut self, mark: u16) -> Result<(), ReadError>
         ensures { Gives (λ x. (x, self.new)) result (mark_at mark self.old) }
     {
@@ -192,7 +192,7 @@ impl<'a> Cursor<'a> {
     /// Reads a value.
     #[tactic(auto, unfolding(crate::specs::Front::value_in, crate::specs::Front::truth_of))]
     pub fn value(&mut self, alloc: Global) -> Result<Value, ReadError>
-        ensures { Gives (λ x. (x, self.new)) result (value_at self.old) }
+        ensures { Gives (λ x. (x, self.new)) result (value_shape_at self.old) }
     {
         match self.rest {
             [shape, rest @ ..] => {

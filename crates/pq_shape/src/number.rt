@@ -1,7 +1,7 @@
 //! Numbers of 64 bits with their sign.
 ghost use Rattle.std.specs.Prelude.{◌≡◌, ◌<◌, ◌≤◌, ◌^◌, MatchOption, pos, slice_index, drop, ◌==◌};
 ghost use Rattle.std.proofs.Math.IntN.{neg_ℤ};
-ghost use Rattle.pq_shape.specs.Numbers.{digits_after, fitting_number, number_of};
+ghost use Rattle.pq_shape.specs.Numbers.{digits_after, fitting_number, digits_number};
 ghost use Rattle.std.proofs.Math.IntN.{neg_ℤ};
 
 /// One more than the greatest number.
@@ -64,7 +64,7 @@ fn without_first(bytes: &[u8]) -> &[u8]
 
 /// The number that a sign and digits write, where it has 64 bits.
 pub fn number(bytes: &[u8]) -> Option<i64>
-    ensures { result ≡ number_of bytes.now }
+    ensures { result ≡ digits_number bytes.now }
 {
     if has_minus(bytes) {
         match magnitude(without_first(bytes)) {

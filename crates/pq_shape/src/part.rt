@@ -66,9 +66,9 @@ impl Part for PText {
 
 impl Part for Value {
     ghost use Rattle.pq_grammar.specs.Shrinking.{token_shrinks};
-    ghost use Rattle.pq_shape.specs.Front.{value_at, value_in};
+    ghost use Rattle.pq_shape.specs.Front.{value_shape_at, value_in};
 
-    ghost reads = { value_at };
+    ghost reads = { value_shape_at };
 
     fn part(alloc: Global, c: &mut Cursor) -> Result<Value, ReadError> {
         c.value(alloc)

@@ -1,8 +1,8 @@
 //! What each token of a text stands for.
 ghost use Rattle.std.specs.Prelude.{◌≡◌, ◌<◌, Some, None, IfOk, OnOk, MatchOption, length, map, ◌++◌, slice_range, ◌-◌, false};
 ghost use Rattle.pq_base.specs.Words.{uppercase_byte, keywords};
-ghost use Rattle.pq_shape.specs.Shapes.{bytes_of, place_of, lowercase_bytes, utf8_text, name_shape, word_shape, kept_byte, is_kept_quote, undoubled_quotes, number_or_other, mark_code, kind_shape, shape_of, shapes_of};
-ghost use Rattle.pq_shape.specs.Numbers.{number_of};
+ghost use Rattle.pq_shape.specs.Shapes.{bytes_of, word_place, lowercase_bytes, utf8_text, name_shape, word_shape, kept_byte, is_kept_quote, undoubled_quotes, number_or_other, mark_code, kind_shape, shape_of, shapes_of};
+ghost use Rattle.pq_shape.specs.Numbers.{digits_number};
 ghost use Rattle.pq_text.specs.declared.token.Kind.TheVariants as kind;
 
 use crate::number::number;
@@ -38,7 +38,7 @@ fn bytes_at(text: &[u8], token: Token) -> &[u8]
 
 /// The place of a word in the keyword table, in any letter case.
 fn keyword(bytes: &[u8]) -> Option<u8>
-    ensures { result ≡ place_of keywords (map uppercase_byte bytes.now) }
+    ensures { result ≡ word_place keywords (map uppercase_byte bytes.now) }
 {
     match keyword_table().lookup(bytes) {
         Some(place) => Some(place as u8),
@@ -159,7 +159,7 @@ fn mark(bytes: &[u8]) -> u16
 }
 
 fn number_shape(bytes: &[u8]) -> Shape
-    ensures { result ≡ number_or_other (number_of bytes.now) }
+    ensures { result ≡ number_or_other (digits_number bytes.now) }
 {
     match number(bytes) {
         Some(number) => Shape::Number(number),

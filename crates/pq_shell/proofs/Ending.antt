@@ -11,7 +11,7 @@ use Rattle.pq_store.specs.Counts.{Counts}
 use Rattle.pq_store.specs.declared.damage.Damage.{Damage}
 use Rattle.pq_text.specs.declared.piece.Piece.{Piece}
 use Rattle.pq_text.specs.Pieces.{pieces_of, rest_of, is_unfinished}
-use Rattle.pq_text.specs.Summaries.{start, pieces_from, unfinished_from, Summary}
+use Rattle.pq_text.specs.Summaries.{start_summary, pieces_from, unfinished_from, Summary}
 use Rattle.pq_text.proofs.Cuts.{pieces_from-start, unfinished_from-start}
 use Rattle.pq_print.specs.Report.{damage_line, is_refusal, printed_report}
 use Rattle.pq_print.specs.declared.report.Opened.{Opened}
@@ -24,10 +24,10 @@ use Rattle.pq_session.proofs.Standing.{settled_opens}
 use Rattle.pq_shell.specs.Fold.{Moment, MadeReports, Served, StoppedItem}
 use Rattle.pq_shell.specs.Forms.{HasItems, HasOpening, OpensAt, StandsIn, close, shown_report}
 use Rattle.pq_shell.specs.Items.{Item, Cut, Rest, cut_items, rest_items, items_of}
-use Rattle.pq_shell.specs.Making.{IsRead, Makes, moment}
+use Rattle.pq_shell.specs.Making.{ReadsSource, MakesItem, moment}
 use Rattle.pq_shell.specs.Openings.{Opening, OpensWith, StoppedOpening}
 use Rattle.pq_shell.specs.Reading.{TookBytes, script_limit}
-use Rattle.pq_shell.specs.Run.{World, RanItems, FinishedRun, BrokenRun, StopsOpening, StopsLater, HasRead, IsReadInParts, NamesDamage, Ends, EndsDamaged, Closes, IsPlain, IsScript, Suffices, status_of, world, written_world}
+use Rattle.pq_shell.specs.Run.{RunWorld, RanItems, FinishedRun, BrokenRun, StopsOpening, StopsLater, HasRead, IsReadInParts, NamesDamage, Ends, EndsDamaged, Closes, IsPlain, IsScript, Suffices, status_of, run_world, written_world}
 use Rattle.pq_shell.specs.Run.BrokenRun.{AtOpening, AtItem, AtClose}
 use Rattle.pq_shell.specs.Serving.{FedPieces, ConsumedSource, StoppedAmong, ReportsRest, StoppedAtRest, has_rest, rest_report, rest_text}
 use Rattle.pq_shell.specs.Stops.{CutsOff}
@@ -57,21 +57,21 @@ unfolding pieces_from
 none_from s = refl
 
 -- a splitter that was fed a script from its start has told its pieces
-told_all : {bytes : List ℕ} {told : List Piece} {to : Summary} → FedPieces start bytes told to → told ≡ pieces_of bytes
+told_all : {bytes : List ℕ} {told : List Piece} {to : Summary} → FedPieces start_summary bytes told to → told ≡ pieces_of bytes
 told_all {bytes = bytes} {told = told} {to = to} fed =
-    sym (sym (pieces_from-start bytes) ∙ ap (pieces_from start) (sym (append-nil bytes)) ∙ fed.pieces [] ∙ ap (λ v. told ++ v) (none_from to) ∙ append-nil told)
+    sym (sym (pieces_from-start bytes) ∙ ap (pieces_from start_summary) (sym (append-nil bytes)) ∙ fed.pieces [] ∙ ap (λ v. told ++ v) (none_from to) ∙ append-nil told)
 
-rest_all : {bytes : List ℕ} {told : List Piece} {to : Summary} → FedPieces start bytes told to → unfinished_from to [] ≡ is_unfinished (rest_of bytes)
-rest_all {bytes = bytes} fed = sym (fed.rest []) ∙ ap (unfinished_from start) (append-nil bytes) ∙ unfinished_from-start bytes
+rest_all : {bytes : List ℕ} {told : List Piece} {to : Summary} → FedPieces start_summary bytes told to → unfinished_from to [] ≡ is_unfinished (rest_of bytes)
+rest_all {bytes = bytes} fed = sym (fed.rest []) ∙ ap (unfinished_from start_summary) (append-nil bytes) ∙ unfinished_from-start bytes
 
 -- what is run: the pieces that were told, and the rest where there is one
-items_all : (ending : Ending) {bytes : List ℕ} {told : List Piece} {to : Summary} → FedPieces start bytes told to → cut_items told ++ rest_items (has_rest ending to) ≡ items_of ending bytes
+items_all : (ending : Ending) {bytes : List ℕ} {told : List Piece} {to : Summary} → FedPieces start_summary bytes told to → cut_items told ++ rest_items (has_rest ending to) ≡ items_of ending bytes
 items_all Whole {bytes = bytes} {told = told} {to = to} fed = ap (λ v. cut_items v ++ rest_items (unfinished_from to [])) (told_all fed) ∙ ap (λ v. cut_items (pieces_of bytes) ++ rest_items v) (rest_all fed)
 items_all Faulted {told = told} fed = append-nil (cut_items told) ∙ ap cut_items (told_all fed)
 items_all TooLong {told = told} fed = append-nil (cut_items told) ∙ ap cut_items (told_all fed)
 
 -- the rest is an item that is refused, whatever the form
-rest_made : (f : Form) → IsRead f → (n : ℕ) (s : Schema) (content : Option Content) (counts : Counts) → Makes f Rest n s s content content counts counts (rest_report n)
+rest_made : (f : Form) → ReadsSource f → (n : ℕ) (s : Schema) (content : Option Content) (counts : Counts) → MakesItem f Rest n s s content content counts counts (rest_report n)
 rest_made Run read n s content counts = record {
   is = record { number_is = refl; bound_is = refl; few_ops = omega arith; few_entries = omega arith };
   next_is = refl;
@@ -88,13 +88,13 @@ rest_made Check read n s content counts = record {
 }
 rest_made (Fill k) read n s content counts = absurd read
 
-shown_printed : (f : Form) → IsRead f → (n : ℕ) → shown_report f (rest_report n) ≡ printed_report (rest_report n)
+shown_printed : (f : Form) → ReadsSource f → (n : ℕ) → shown_report f (rest_report n) ≡ printed_report (rest_report n)
 shown_printed Run read n = refl
 shown_printed Check read n = refl
 shown_printed (Fill k) read n = absurd read
 
 -- the rest is reported, where there is one
-served_rest : (f : Form) → IsRead f → (s : Schema) (a : Moment) (h' : Option (List ℕ)) (n : ℕ) (flag refused : Bool) → h' ≡ append_known a.held (rest_text flag n)
+served_rest : (f : Form) → ReadsSource f → (s : Schema) (a : Moment) (h' : Option (List ℕ)) (n : ℕ) (flag refused : Bool) → h' ≡ append_known a.held (rest_text flag n)
     → Served f s s a (moment a.content h' a.counts) n (rest_items flag) refused (refused || flag)
 served_rest f read s a h' n true refused text =
     Served-one refused (refused || true) (Made-one f Rest n s s a.content a.content a.held h' a.counts a.counts (rest_report n) (rest_made f read n s a.content a.counts) (text ∙ ap (append_known a.held) (sym (shown_printed f read n)))) refl
@@ -109,11 +109,11 @@ record FromStart (f : Form) (ending : Ending) (left left_now : Option (List ℕ)
   bytes : List ℕ
   took : TookBytes ending left left_now bytes
   told : List Piece
-  fed : FedPieces start bytes told now.splitter
+  fed : FedPieces start_summary bytes told now.splitter
   served : Served f first last from to 1 (cut_items told) false now.tally.refused
   counted : now.tally.count + 1 ≡ 1 + length (cut_items told)
 
-from_start : {f : Form} {ending : Ending} {left left' : Option (List ℕ)} {s t : Schema} {a b : Moment} {p q : Progress} → p.splitter ≡ start → p.tally.count ≡ 0 → p.tally.refused ≡ false → ConsumedSource f ending left left' s t a b p q → FromStart f ending left left' s t a b q
+from_start : {f : Form} {ending : Ending} {left left' : Option (List ℕ)} {s t : Schema} {a b : Moment} {p q : Progress} → p.splitter ≡ start_summary → p.tally.count ≡ 0 → p.tally.refused ≡ false → ConsumedSource f ending left left' s t a b p q → FromStart f ending left left' s t a b q
 from_start {f = f} {s = s} {t = t} {a = a} {b = b} {p = p} {q = q} fresh none clean c =
     let progressed = c.progressed in
     let told = progressed.told in
@@ -128,18 +128,18 @@ from_start {f = f} {s = s} {t = t} {a = a} {b = b} {p = p} {q = q} fresh none cl
     }
 
 -- of a form that reads, the items are those of the bytes
-read_items : (f : Form) → IsRead f → (ending : Ending) (left left' : Option (List ℕ)) (bytes : List ℕ) (items : List Item) → TookBytes ending left left' bytes → items ≡ items_of ending bytes → HasItems f ending left left' items
+read_items : (f : Form) → ReadsSource f → (ending : Ending) (left left' : Option (List ℕ)) (bytes : List ℕ) (items : List Item) → TookBytes ending left left' bytes → items ≡ items_of ending bytes → HasItems f ending left left' items
 read_items Run read ending left left' bytes items took same = (bytes, took, same)
 read_items Check read ending left left' bytes items took same = (bytes, took, same)
 read_items (Fill n) read ending left left' bytes items took same = absurd read
 
-read_parts : (f : Form) → IsRead f → (left left' : Option (List ℕ)) (reported : ℕ) → IsReadInParts left left' reported → HasRead f left left' reported
+read_parts : (f : Form) → ReadsSource f → (left left' : Option (List ℕ)) (reported : ℕ) → IsReadInParts left left' reported → HasRead f left left' reported
 read_parts Run read left left' reported is = is
 read_parts Check read left left' reported is = is
 read_parts (Fill n) read left left' reported is = absurd read
 
 -- nothing closes it
-closes_none : (f : Form) → IsRead f → (opened : Opened) (reports : List Report) (held : Option (List ℕ)) → held ≡ append_known held (close f opened reports)
+closes_none : (f : Form) → ReadsSource f → (opened : Opened) (reports : List Report) (held : Option (List ℕ)) → held ≡ append_known held (close f opened reports)
 closes_none Run read opened reports held = sym (append_known-none held)
 closes_none Check read opened reports held = sym (append_known-none held)
 closes_none (Fill n) read opened reports held = absurd read
@@ -152,13 +152,13 @@ whole_taken TooLong splitter left left' bytes is took = absurd (true≢false (sy
 
 -- ---- a script that was read
 
-abbrev pub at_end : Option (List ℕ) → Moment → World
+abbrev pub at_end : Option (List ℕ) → Moment → RunWorld
 at_end left a = record { left = left; moment = a }
 
 abbrev pub with_held : Moment → Option (List ℕ) → Moment
 with_held a held = record a { held = held }
 
-module _ {f : Form} (read : IsRead f) {left left' : Option (List ℕ)} {s t : Schema} {a b c : Moment} {p q : Progress} {ending : Ending} (fresh : p.splitter ≡ start) (none : p.tally.count ≡ 0) where
+module _ {f : Form} (read : ReadsSource f) {left left' : Option (List ℕ)} {s t : Schema} {a b c : Moment} {p q : Progress} {ending : Ending} (fresh : p.splitter ≡ start_summary) (none : p.tally.count ≡ 0) where
   module _ (clean : p.tally.refused ≡ false) (opening : Opening f s a b) (consumed : ConsumedSource f ending left left' s t b c p q) (h' : Option (List ℕ)) where
     abbrev from : FromStart f ending left left' s t b c q
     from = from_start fresh none clean consumed
@@ -209,7 +209,7 @@ module _ {f : Form} (read : IsRead f) {left left' : Option (List ℕ)} {s t : Sc
         })
 
 -- the run stopped among the pieces
-pub Stopped-among : {f : Form} (read : IsRead f) {stop : Stop} {left left' : Option (List ℕ)} {s : Schema} {a b c : Moment} {p : Progress} → p.splitter ≡ start → p.tally.count ≡ 0
+pub Stopped-among : {f : Form} (read : ReadsSource f) {stop : Stop} {left left' : Option (List ℕ)} {s : Schema} {a b c : Moment} {p : Progress} → p.splitter ≡ start_summary → p.tally.count ≡ 0
     → Opening f s a b → StoppedAmong f stop left left' s b c p → BrokenRun f stop (at_end left a) (at_end left' c)
 Stopped-among {f = f} read {left = left} {left' = left'} {s = s} {b = b} {p = p} fresh none opening among =
     let number : p.tally.count + 1 ≡ 1 = omega (arith, none) in
@@ -240,13 +240,13 @@ Stopped-opening f stop left a b some stopped = AtOpening (record { some = some; 
 
 -- ---- each status
 
-finished : (f : Form) (ending : Ending) (refused : Bool) (before now : World) → FinishedRun f ending refused before now → Ends f (status_of ending refused) before now
+finished : (f : Form) (ending : Ending) (refused : Bool) (before now : RunWorld) → FinishedRun f ending refused before now → Ends f (status_of ending refused) before now
 finished f Whole false before now is = is
 finished f Whole true before now is = is
 finished f Faulted refused before now is = (refused, is)
 finished f TooLong refused before now is = (refused, is)
 
-damaged : (f : Form) (is : Status) (damage : Damage) (before mid : World) (h' : Option (List ℕ)) → BrokenRun f (stops.Damaged damage) before mid → EndsDamaged is damage.key mid.moment.held h' → Ends f is before (written_world mid h')
+damaged : (f : Form) (is : Status) (damage : Damage) (before mid : RunWorld) (h' : Option (List ℕ)) → BrokenRun f (stops.Damaged damage) before mid → EndsDamaged is damage.key mid.moment.held h' → Ends f is before (written_world mid h')
 damaged f status.Damaged damage before mid h' broken ends = record { damage = damage; held = mid.moment.held; line = damage_line damage.key; broken = broken; tail = refl; text = ends }
 damaged f status.WriteFault damage before mid h' broken ends = inr (record { damage = damage; held = mid.moment.held; line = ends.0; broken = broken; tail = ends.1; text = ends.2 })
 damaged f status.NoMem damage before mid h' broken ends = inr (record { damage = damage; held = mid.moment.held; line = []; broken = broken; tail = refl; text = ends ∙ sym (append_known-none mid.moment.held) })
@@ -257,10 +257,10 @@ damaged f status.ReadFault damage before mid h' broken ends = absurd ends
 damaged f status.StoreFault damage before mid h' broken ends = absurd ends
 damaged f status.TooLong damage before mid h' broken ends = absurd ends
 
-at_status : (f : Form) (is expected : Status) (before mid : World) (h' : Option (List ℕ)) → is ≡ expected → h' ≡ mid.moment.held → Ends f expected before mid → Ends f is before (written_world mid h')
+at_status : (f : Form) (is expected : Status) (before mid : RunWorld) (h' : Option (List ℕ)) → is ≡ expected → h' ≡ mid.moment.held → Ends f expected before mid → Ends f is before (written_world mid h')
 at_status f is expected before mid h' same kept ends = subst (λ k. Ends f is before (written_world mid k)) (sym kept) (subst (λ s. Ends f s before mid) (sym same) ends)
 
-pub Ends-of : (f : Form) (outcome : Result Ended Stop) (is : Status) (before mid : World) (h' : Option (List ℕ)) → IfOk outcome (λ ended. FinishedRun f ended.ending ended.refused before mid) → IfErr outcome (λ stop. BrokenRun f stop before mid)
+pub Ends-of : (f : Form) (outcome : Result Ended Stop) (is : Status) (before mid : RunWorld) (h' : Option (List ℕ)) → IfOk outcome (λ ended. FinishedRun f ended.ending ended.refused before mid) → IfErr outcome (λ stop. BrokenRun f stop before mid)
     → Closes outcome is mid.moment.held h' → Ends f is before (written_world mid h')
 Ends-of f (Ok ended) is before mid h' ok err closes = at_status f is (status_of ended.ending ended.refused) before mid h' closes.0 closes.1 (finished f ended.ending ended.refused before mid ok)
 Ends-of f (Err stops.StoreFailed) is before mid h' ok err closes = at_status f is status.StoreFault before mid h' closes.0 closes.1 err
@@ -275,7 +275,7 @@ too_long left left' bytes took script =
     let long = known-length left' (bytes ++ took.0 ∷ []) script.script (sym script.told ∙ took.1) in
     omega (arith, long, took.2, script.short, length-append bytes (took.0 ∷ []))
 
-never_too_long : (f : Form) (before : World) (left' : Option (List ℕ)) (items : List Item) → HasItems f TooLong before.left left' items → Suffices f before → ⊥
+never_too_long : (f : Form) (before : RunWorld) (left' : Option (List ℕ)) (items : List Item) → HasItems f TooLong before.left left' items → Suffices f before → ⊥
 never_too_long Run before left' items read enough = too_long before.left left' read.0 read.1 enough.0
 never_too_long Check before left' items read enough = too_long before.left left' read.0 read.1 enough
 never_too_long (Fill n) before left' items read enough = not_whole read.0
@@ -289,7 +289,7 @@ never_too_long (Fill n) before left' items read enough = not_whole read.0
     not_whole e = subst IsWhole (sym e) tt
 
 -- over what opens no damage is found, and a check finds none
-sound : (f : Form) (damage : Damage) (before now : World) → BrokenRun f (stops.Damaged damage) before now → Suffices f before → ⊥
+sound : (f : Form) (damage : Damage) (before now : RunWorld) → BrokenRun f (stops.Damaged damage) before now → Suffices f before → ⊥
 sound Run damage before now (AtOpening b) enough = (b.stopped.stands enough.1.0 enough.1.1).1
 sound Run damage before now (AtItem b) enough = (b.stopped.stands enough.1.0 (b.opening.opens enough.1.0 enough.1.1).1).1
 sound Run damage before now (AtClose b) enough = b.part_is
@@ -301,13 +301,13 @@ sound (Fill n) damage before now (AtItem b) enough = (b.stopped.stands enough.0 
 sound (Fill n) damage before now (AtClose b) enough = b.part_is
 
 -- a form that fails at the store opens it
-opens_store : (f : Form) (before now : World) → BrokenRun f stops.StoreFailed before now → HasOpening f
+opens_store : (f : Form) (before now : RunWorld) → BrokenRun f stops.StoreFailed before now → HasOpening f
 opens_store f before now (AtOpening b) = b.some
 opens_store f before now (AtItem b) = b.stopped.part_is.0
 opens_store f before now (AtClose b) = absurd b.part_is
 
 -- and one that fails at the source reads it
-reads_source : (f : Form) (left left' : Option (List ℕ)) (items : List Item) → HasItems f Faulted left left' items → IsRead f
+reads_source : (f : Form) (left left' : Option (List ℕ)) (items : List Item) → HasItems f Faulted left left' items → ReadsSource f
 reads_source Run left left' items read = tt
 reads_source Check left left' items read = tt
 reads_source (Fill n) left left' items read = not_whole read.0
@@ -321,7 +321,7 @@ reads_source (Fill n) left left' items read = not_whole read.0
     not_whole e = subst IsWhole (sym e) tt
 
 -- where no fault came and there was enough, the run is plain
-pub Ends-plain : (f : Form) (is : Status) (before now : World) → Ends f is before now → (IsRead f → is ≡ status.ReadFault → ⊥) → (is ≡ status.WriteFault → ⊥) → (HasOpening f → is ≡ status.StoreFault → ⊥) → Suffices f before → IsPlain is
+pub Ends-plain : (f : Form) (is : Status) (before now : RunWorld) → Ends f is before now → (ReadsSource f → is ≡ status.ReadFault → ⊥) → (is ≡ status.WriteFault → ⊥) → (HasOpening f → is ≡ status.StoreFault → ⊥) → Suffices f before → IsPlain is
 Ends-plain f status.Good before now ends read write store enough = tt
 Ends-plain f status.SomeRefused before now ends read write store enough = tt
 Ends-plain f status.NoMem before now ends read write store enough = tt
@@ -333,5 +333,5 @@ Ends-plain f status.TooLong before now ends read write store enough = never_too_
 Ends-plain f status.Damaged before now ends read write store enough = sound f ends.damage before _ ends.broken enough
 
 -- by another name of the form
-pub Ends-plain-as : (f g : Form) (is : Status) (before now : World) → f ≡ g → Ends f is before now → (IsRead g → is ≡ status.ReadFault → ⊥) → (is ≡ status.WriteFault → ⊥) → (HasOpening g → is ≡ status.StoreFault → ⊥) → Suffices g before → IsPlain is
+pub Ends-plain-as : (f g : Form) (is : Status) (before now : RunWorld) → f ≡ g → Ends f is before now → (ReadsSource g → is ≡ status.ReadFault → ⊥) → (is ≡ status.WriteFault → ⊥) → (HasOpening g → is ≡ status.StoreFault → ⊥) → Suffices g before → IsPlain is
 Ends-plain-as f g is before now same ends read write store enough = Ends-plain g is before now (subst (λ (x : Form). Ends x is before now) same ends) read write store enough

@@ -28,7 +28,7 @@ use Rattle.pq_shell.specs.Filling.{Fills}
 use Rattle.pq_shell.specs.Fold.{Moment, MadeReports, StoppedItem}
 use Rattle.pq_shell.specs.Forms.{fill_items}
 use Rattle.pq_shell.specs.Items.{Item, Cut, cut_items}
-use Rattle.pq_shell.specs.Making.{BreaksAt, Makes, moment}
+use Rattle.pq_shell.specs.Making.{BreaksAt, MakesItem, moment}
 use Rattle.pq_shell.specs.Openings.{OpensWith}
 use Rattle.pq_shell.specs.Outside.{IsCut}
 use Rattle.pq_shell.specs.Run.{BrokenRun, FinishedRun, RanItems}
@@ -123,7 +123,7 @@ module _ (n made : ℕ) (text : List ℕ) (kind : Kind) (text_at : slice_get (fi
 
   -- the statement was made and noted
   pub filled_next : (first last next : Schema) (from : Moment) (old now : Option Content) (held : Option (List ℕ)) (before after : Counts) (filled filled_now : Filled) (report : Report)
-      → FillsSoFar n first last used from (moment old held before) made filled → Makes (Fill n) item (made + 1) last next old now before after report
+      → FillsSoFar n first last used from (moment old held before) made filled → MakesItem (Fill n) item (made + 1) last next old now before after report
       → filled_now.summary ≡ with_report filled.summary (kind, report) → filled_now.refused ≡ (filled.refused || is_refusal report)
       → FillsSoFar n first next used from (moment now held after) (made + 1) filled_now
   filled_next first last next from old now held before after filled filled_now report so_far makes summary refused =

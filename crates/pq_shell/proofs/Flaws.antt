@@ -18,7 +18,7 @@ use Rattle.pq_session.specs.declared.format.Mark.TheVariants.{Building}
 use Rattle.pq_session.specs.Opening.{SchemaAndMark, none_added, added_from, catalog_in, TellsSchema, ShowsFlaw, NamesFlaw}
 use Rattle.pq_shell.specs.Flaw.{IsFlaw, HaltsAtFlaw, StopsAtFlaw, EndsAtFlaw}
 use Rattle.pq_shell.specs.Run.{Closes}
-use Rattle.pq_shell.specs.Stops.{stop_of}
+use Rattle.pq_shell.specs.Stops.{stop_of_broke}
 use Rattle.pq_shell.specs.declared.serving.Ended.{Ended}
 use Rattle.pq_shell.specs.declared.status.Status.{Status}
 use Rattle.pq_shell.specs.declared.status.Status.TheVariants as status
@@ -74,7 +74,7 @@ no_flaw c schema key told flaw = no_flaw_in c told.settled (schema, told.mark) k
 abbrev pub AtFlaws : Option Content → (List ℕ → Type 0) → Type 0
 AtFlaws content P = IfSome content (λ pairs. (key : List ℕ) → IsFlaw pairs key → P key)
 
-pub broke_at_flaw : (content : Option Content) (broke : Broke) (held : Option (List ℕ)) → IfSome content (λ pairs. NamesFlaw pairs broke) → AtFlaws content (λ key. HaltsAtFlaw key (stop_of broke) held held)
+pub broke_at_flaw : (content : Option Content) (broke : Broke) (held : Option (List ℕ)) → IfSome content (λ pairs. NamesFlaw pairs broke) → AtFlaws content (λ key. HaltsAtFlaw key (stop_of_broke broke) held held)
 broke_at_flaw None broke held named = tt
 broke_at_flaw (Some c) Failed held named = λ key flaw. tt
 broke_at_flaw (Some c) NoMem held named = λ key flaw. tt

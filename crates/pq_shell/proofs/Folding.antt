@@ -19,7 +19,7 @@ use Rattle.pq_session.proofs.Promises.{within_none, within_reported}
 use Rattle.pq_shell.specs.Fold.{Moment, IsReport, Reports, RisesBy, IsWithinItem, IsPart, after, ReportedItems, Halts, MadeReports, Served, StoppedItem, schema_behind}
 use Rattle.pq_shell.specs.Forms.{HasOpening, StandsIn, OpensAt, asked_item, item_step, shown_report}
 use Rattle.pq_shell.specs.Items.{Item}
-use Rattle.pq_shell.specs.Making.{Makes, moment}
+use Rattle.pq_shell.specs.Making.{MakesItem, moment}
 use Rattle.pq_shell.specs.Outside.{IsCut}
 use Rattle.pq_shell.specs.Stops.{CutsOff}
 use Rattle.pq_shell.specs.declared.stop.Stop.{Stop}
@@ -81,7 +81,7 @@ Made-append {f = f} {r = r} {s = s} {t = t} {a = a} {c = c} {n = n} {xs = xs} {y
 
 -- one item was made, and what is shown of its report is out
 pub Made-one : (f : Form) (item : Item) (n : ℕ) (s t : Schema) (old now : Option Content) (h h' : Option (List ℕ)) (before after : Counts) (report : Report)
-    → Makes f item n s t old now before after report → h' ≡ append_known h (shown_report f report) → MadeReports f s t (moment old h before) (moment now h' after) n (item ∷ []) (report ∷ [])
+    → MakesItem f item n s t old now before after report → h' ≡ append_known h (shown_report f report) → MadeReports f s t (moment old h before) (moment now h' after) n (item ∷ []) (report ∷ [])
 Made-one f item n s t old now h h' before after report made text = record {
   told = (made.is, made.next_is);
   folds = λ m is. (made.stands m is, (made.matches m is, tt));
@@ -216,7 +216,7 @@ within_item s n item report before after is rises =
 
 -- the run stopped while this item was reported
 pub Stopped-writing : (f : Form) (stop : Stop) (item : Item) (n : ℕ) (s t : Schema) (old now : Option Content) (h h' : Option (List ℕ)) (before after : Counts) (report : Report)
-    → Makes f item n s t old now before after report → ((m : Model) → StandsIn f now t m → OpensAt f now m) → CutsOff stop (shown_report f report) h h'
+    → MakesItem f item n s t old now before after report → ((m : Model) → StandsIn f now t m → OpensAt f now m) → CutsOff stop (shown_report f report) h h'
     → StoppedItem f stop s (moment old h before) (moment now h' after) n (item ∷ [])
 Stopped-writing f stops.StoreFailed item n s t old now h h' before after report made opens cut = absurd cut
 Stopped-writing f (stops.Damaged damage) item n s t old now h h' before after report made opens cut = absurd cut

@@ -25,8 +25,8 @@ use Rattle.pq_session.proofs.Checked.{check_by, is_check_step}
 use Rattle.pq_session.proofs.Promises.{within_none}
 use Rattle.pq_shell.specs.Forms.{HasOpening, StandsIn, OpensAt, item_step, shown_report}
 use Rattle.pq_shell.specs.Items.{Cut}
-use Rattle.pq_shell.specs.Making.{BreaksAt, IsRead, Makes, moment}
-use Rattle.pq_shell.specs.Stops.{CutsOff, stop_of}
+use Rattle.pq_shell.specs.Making.{BreaksAt, ReadsSource, MakesItem, moment}
+use Rattle.pq_shell.specs.Stops.{CutsOff, stop_of_broke}
 use Rattle.pq_shell.specs.declared.stop.Stop.{Stop}
 use Rattle.pq_shell.specs.declared.stop.Stop.TheVariants as stops
 use Rattle.pq_shell.proofs.Ending.{stands_opens}
@@ -35,12 +35,12 @@ use Rattle.pq_shell.proofs.Known.{append_known-none}
 
 -- ---- what is written of a report
 
-pub shown_whole : (f : Form) → IsRead f → (report : Report) (h h' : Option (List ℕ)) → h' ≡ append_known h (printed_report report) → h' ≡ append_known h (shown_report f report)
+pub shown_whole : (f : Form) → ReadsSource f → (report : Report) (h h' : Option (List ℕ)) → h' ≡ append_known h (printed_report report) → h' ≡ append_known h (shown_report f report)
 shown_whole Run read report h h' is = is
 shown_whole Check read report h h' is = is
 shown_whole (Fill n) read report h h' is = absurd read
 
-pub cut_shown : (f : Form) → IsRead f → (stop : Stop) (report : Report) (h h' : Option (List ℕ)) → CutsOff stop (printed_report report) h h' → CutsOff stop (shown_report f report) h h'
+pub cut_shown : (f : Form) → ReadsSource f → (stop : Stop) (report : Report) (h h' : Option (List ℕ)) → CutsOff stop (printed_report report) h h' → CutsOff stop (shown_report f report) h h'
 cut_shown Run read stop report h h' is = is
 cut_shown Check read stop report h h' is = is
 cut_shown (Fill n) read stop report h h' is = absurd read
@@ -52,7 +52,7 @@ module _ (number : ℕ) (piece : Piece) (s : Schema) (old now : Option Content) 
       (few_ops : report.used.ops ≤ report.bound.ops) (few_entries : report.used.entries ≤ report.bound.entries) (next_is : next ≡ schema_after s piece report)
       (matches : (m : Model) → Stands old s m → Matches (step m number piece).report report) (made : (m : Model) → Stands old s m → Stands now next (step m number piece).model)
       (ops : after.ops ≡ before.ops + report.used.ops) (entries : after.entries ≡ before.entries + report.used.entries) where
-    pub made_over : (f : Form) → HasOpening f → Makes f (Cut piece) number s next old now before after report
+    pub made_over : (f : Form) → HasOpening f → MakesItem f (Cut piece) number s next old now before after report
     made_over Run some = record {
       is = record { number_is = numbered; bound_is = bound; few_ops = few_ops; few_entries = few_entries };
       next_is = next_is;
@@ -70,7 +70,7 @@ module _ (number : ℕ) (piece : Piece) (s : Schema) (old now : Option Content) 
     }
 
   broke_at : (f : Form) (error : Broke) → HasOpening f → ((m : Model) → StandsIn f old s m → OpensAt f now m ⊎ OpensAt f now (item_step f m number (Cut piece)).model)
-      → ((m : Model) → StandsIn f old s m → IsUndamaged error) → IsWithinFixed (statement_bound s piece) before after → BreaksAt f (stop_of error) (Cut piece) number s old now before after
+      → ((m : Model) → StandsIn f old s m → IsUndamaged error) → IsWithinFixed (statement_bound s piece) before after → BreaksAt f (stop_of_broke error) (Cut piece) number s old now before after
   broke_at f broke.Failed some stops_at sound within held =
       Stopped-at f stops.StoreFailed s (moment old held before) (moment now held after) number (Cut piece ∷ []) [] (sym (append_known-none held)) (some, refl, within) stops_at
   broke_at f broke.NoMem some stops_at sound within held =
@@ -80,7 +80,7 @@ module _ (number : ℕ) (piece : Piece) (s : Schema) (old now : Option Content) 
 
   -- the session broke off at this item
   pub broke_over : (f : Form) (error : Broke) → HasOpening f → ((m : Model) → Stands old s m → Opens now m ⊎ Opens now (step m number piece).model) → ((m : Model) → Stands old s m → IsUndamaged error)
-      → IsWithinFixed (statement_bound s piece) before after → BreaksAt f (stop_of error) (Cut piece) number s old now before after
+      → IsWithinFixed (statement_bound s piece) before after → BreaksAt f (stop_of_broke error) (Cut piece) number s old now before after
   broke_over Run error some stops_at sound within = broke_at Run error some stops_at sound within
   broke_over Check error some stops_at sound within = absurd some
   broke_over (Fill n) error some stops_at sound within = broke_at (Fill n) error some stops_at sound within
@@ -92,7 +92,7 @@ module _ (number : ℕ) (piece : Piece) (s : Schema) (content : Option Content) 
   made_step = check_step (without_rows s) number piece
 
   -- its report has the bound of what is asked for, and tells nothing as used
-  pub made_checked : (next : Schema) (report : Report) → report ≡ made_step.report → next ≡ made_step.model.schema → Makes Check (Cut piece) number s next content content counts counts report
+  pub made_checked : (next : Schema) (report : Report) → report ≡ made_step.report → next ≡ made_step.model.schema → MakesItem Check (Cut piece) number s next content content counts counts report
   made_checked next report report_is next_is =
       let by = check_by s number piece (action_of s piece) refl in
       let facts = is_check_step s number (action_of s piece) in

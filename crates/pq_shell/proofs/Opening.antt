@@ -19,7 +19,7 @@ use Rattle.pq_shell.specs.Fold.{Moment}
 use Rattle.pq_shell.specs.Forms.{HasOpening}
 use Rattle.pq_shell.specs.Making.{moment}
 use Rattle.pq_shell.specs.Openings.{Opening, OpensWith, StoppedOpening}
-use Rattle.pq_shell.specs.Stops.{CutsOff, stop_of}
+use Rattle.pq_shell.specs.Stops.{CutsOff, stop_of_broke}
 use Rattle.pq_shell.specs.declared.run.Begun.{Begun}
 use Rattle.pq_shell.specs.declared.stop.Stop.{Stop}
 use Rattle.pq_shell.specs.declared.stop.Stop.TheVariants as stops
@@ -50,7 +50,7 @@ begun_none begun a none used = record {
 
 -- the session broke off at the opening
 pub broke_opening : (error : Broke) (old now : Option Content) (h : Option (List ℕ)) (before after : Counts) → ((m : Model) → Opens old m → Opens now m) → ((m : Model) → Opens old m → IsUndamaged error)
-    → StoppedOpening (stop_of error) (moment old h before) (moment now h after)
+    → StoppedOpening (stop_of_broke error) (moment old h before) (moment now h after)
 broke_opening broke.Failed old now h before after kept sound = record { part = []; text = sym (append_known-none h); part_is = refl; stands = λ m s. (kept m s, tt) }
 broke_opening broke.NoMem old now h before after kept sound = record { part = []; text = sym (append_known-none h); part_is = refl; stands = λ m s. (kept m s, tt) }
 broke_opening (broke.Damaged damage) old now h before after kept sound = record { part = []; text = sym (append_known-none h); part_is = refl; stands = λ m s. absurd (sound m s) }

@@ -14,13 +14,13 @@ use Rattle.pq_shell.specs.Items.{Item}
 use Rattle.pq_shell.specs.declared.stop.Stop.{Stop}
 
 -- the script is read from a source, and each report is written
-abbrev pub IsRead : Form → Type 0
-IsRead Run = Unit {0}
-IsRead Check = Unit {0}
-IsRead (Fill n) = ⊥
+abbrev pub ReadsSource : Form → Type 0
+ReadsSource Run = Unit {0}
+ReadsSource Check = Unit {0}
+ReadsSource (Fill n) = ⊥
 
 -- the item was made, and this is its report
-pub record Makes (form : Form) (item : Item) (number : ℕ) (schema next : Schema) (old now : Option Content)
+pub record MakesItem (form : Form) (item : Item) (number : ℕ) (schema next : Schema) (old now : Option Content)
     (before after : Counts) (report : Report) : Type 0 where
   pub is : IsReport schema number item report
   pub next_is : next ≡ schema_behind schema item report

@@ -17,8 +17,8 @@ abbrev pub is_listed : Calls → Bool
 is_listed calls = list_any (λ number. number == calls.made + 1) calls.fails
 
 -- one call more, which failed or not
-abbrev pub called : Bool → Calls → Calls
-called failed calls = record {
+abbrev pub calls_after : Bool → Calls → Calls
+calls_after failed calls = record {
   fails = calls.fails;
   made = raised_count calls.made;
   faults = if failed
@@ -36,9 +36,9 @@ pub record TakenBytes : Type 0 where
   pub room : ℕ
   pub calls : Calls
 
-abbrev pub is_full : TakenBytes → Bool
-is_full sink = sink.room - length sink.held == 0
+abbrev pub is_full_sink : TakenBytes → Bool
+is_full_sink sink = sink.room - length sink.held == 0
 
 -- the next write fails
 abbrev pub is_refusing : TakenBytes → Bool
-is_refusing sink = is_listed sink.calls || is_full sink
+is_refusing sink = is_listed sink.calls || is_full_sink sink

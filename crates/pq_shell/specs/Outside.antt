@@ -3,7 +3,7 @@ use Rattle.std.specs.Prelude.{◌≡◌, ℕ, ◌≤◌, ◌<◌, List, ◌++◌
 use Rattle.pq_store.specs.Content.{HasRisen}
 
 -- the count of faults has not fallen, and has risen where the call failed
-pub record HasCause {A E : Type 0} (before now : ℕ) (result : Result A E) : Type 0 where
+pub record HasFaultCause {A E : Type 0} (before now : ℕ) (result : Result A E) : Type 0 where
   pub later : before ≤ now
   pub failed : OnErr result (HasRisen before now)
 

@@ -28,17 +28,17 @@ use Rattle.pq_shell.specs.declared.stop.Stop.{Stop}
 use Rattle.pq_shell.specs.declared.stop.Stop.TheVariants as stops
 
 -- what the source has left and what store and sink hold, where they tell, and what the meter counts
-pub record World : Type 0 where
+pub record RunWorld : Type 0 where
   pub left : Option (List ℕ)
   pub moment : Moment
 
-abbrev pub world : Option (List ℕ) → Option Content → Option (List ℕ) → Counts → World
-world left content held counts =
+abbrev pub run_world : Option (List ℕ) → Option Content → Option (List ℕ) → Counts → RunWorld
+run_world left content held counts =
     record { left = left; moment = record { content = content; held = held; counts = counts } }
 
 -- the same with more on the sink
-abbrev pub written_world : World → Option (List ℕ) → World
-written_world world held = record world { moment = record world.moment { held = held } }
+abbrev pub written_world : RunWorld → Option (List ℕ) → RunWorld
+written_world run_world held = record run_world { moment = record run_world.moment { held = held } }
 
 -- the run was begun, these items were made, and their reports are out; for a generated script these are only noted
 pub record RanItems (form : Form) (before now : Moment) (items : List Item) : Type 0 where
@@ -50,7 +50,7 @@ pub record RanItems (form : Form) (before now : Moment) (items : List Item) : Ty
   pub made : MadeReports form first last between now 1 items reports
 
 -- a script was read so, or is the generated one, and all that is run of it was made and is reported
-pub record FinishedRun (form : Form) (ending : Ending) (refused : Bool) (before now : World) : Type 0 where
+pub record FinishedRun (form : Form) (ending : Ending) (refused : Bool) (before now : RunWorld) : Type 0 where
   pub items : List Item
   pub held : Option (List ℕ)
   pub read : HasItems form ending before.left now.left items
@@ -75,13 +75,13 @@ HasRead Check left left_now reported = IsReadInParts left left_now reported
 HasRead (Fill n) left left_now reported = left_now ≡ left
 
 -- at the opening, before anything was read
-pub record StopsOpening (form : Form) (stop : Stop) (before now : World) : Type 0 where
+pub record StopsOpening (form : Form) (stop : Stop) (before now : RunWorld) : Type 0 where
   pub some : HasOpening form
   pub unread : now.left ≡ before.left
   pub stopped : StoppedOpening stop before.moment now.moment
 
 -- among the items
-pub record StopsLater (form : Form) (stop : Stop) (before now : World) : Type 0 where
+pub record StopsLater (form : Form) (stop : Stop) (before now : RunWorld) : Type 0 where
   pub ending : Ending
   pub items : List Item
   pub first : Schema
@@ -98,7 +98,7 @@ IsClosingPart stops.NoMem part text = part ≡ []
 IsClosingPart stops.StoreFailed part text = ⊥
 IsClosingPart (stops.Damaged damage) part text = ⊥
 
-pub record StopsClosing (form : Form) (stop : Stop) (before now : World) : Type 0 where
+pub record StopsClosing (form : Form) (stop : Stop) (before now : RunWorld) : Type 0 where
   pub items : List Item
   pub held : Option (List ℕ)
   pub part : List ℕ
@@ -107,13 +107,13 @@ pub record StopsClosing (form : Form) (stop : Stop) (before now : World) : Type 
   pub text : now.moment.held ≡ append_known held part
   pub part_is : IsClosingPart stop part (close form ran.opening.opened ran.reports)
 
-pub data BrokenRun (form : Form) (stop : Stop) (before now : World) : Type 0 where
+pub data BrokenRun (form : Form) (stop : Stop) (before now : RunWorld) : Type 0 where
   AtOpening : StopsOpening form stop before now → BrokenRun form stop before now
   AtItem : StopsLater form stop before now → BrokenRun form stop before now
   AtClose : StopsClosing form stop before now → BrokenRun form stop before now
 
 -- damage was found, and so much of the line that names its key is out behind whole reports
-pub record NamesDamage (form : Form) (IsTail : List ℕ → List ℕ → Type 0) (before now : World) : Type 0 where
+pub record NamesDamage (form : Form) (IsTail : List ℕ → List ℕ → Type 0) (before now : RunWorld) : Type 0 where
   pub damage : Damage
   pub held : Option (List ℕ)
   pub line : List ℕ
@@ -129,7 +129,7 @@ IsMeant Run = Unit {0}
 IsMeant Check = Unit {0}
 IsMeant (Fill n) = (1 ≤ n) × (n ≤ 20000)
 
-abbrev pub Ends : Form → Status → World → World → Type 0
+abbrev pub Ends : Form → Status → RunWorld → RunWorld → Type 0
 Ends form status.Good before now = FinishedRun form Whole false before now
 Ends form status.SomeRefused before now = FinishedRun form Whole true before now
 Ends form status.Usage before now = ⊥
@@ -180,19 +180,19 @@ pub record IsScript (left : Option (List ℕ)) : Type 0 where
   pub short : length script ≤ script_limit
 
 -- a script within the limit, and a store that opens; the generated script needs no source, and a check no store
-abbrev pub Suffices : Form → World → Type 0
+abbrev pub Suffices : Form → RunWorld → Type 0
 Suffices Run before = IsScript before.left × ((m : Model) × Opens before.moment.content m)
 Suffices Check before = IsScript before.left
 Suffices (Fill n) before = (m : Model) × Opens before.moment.content m
 
 -- the numbers of the statuses
-abbrev pub code_of : Status → ℕ
-code_of status.Good = 0
-code_of status.SomeRefused = 1
-code_of status.Usage = 2
-code_of status.ReadFault = 3
-code_of status.WriteFault = 4
-code_of status.StoreFault = 5
-code_of status.Damaged = 6
-code_of status.NoMem = 7
-code_of status.TooLong = 8
+abbrev pub status_code : Status → ℕ
+status_code status.Good = 0
+status_code status.SomeRefused = 1
+status_code status.Usage = 2
+status_code status.ReadFault = 3
+status_code status.WriteFault = 4
+status_code status.StoreFault = 5
+status_code status.Damaged = 6
+status_code status.NoMem = 7
+status_code status.TooLong = 8

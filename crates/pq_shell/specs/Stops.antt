@@ -9,10 +9,10 @@ use Rattle.pq_shell.specs.declared.stop.Stop.{Stop}
 use Rattle.pq_shell.specs.declared.stop.Stop.TheVariants as stops
 
 -- why a run stops where a session breaks off
-abbrev pub stop_of : Broke → Stop
-stop_of broke.Failed = stops.StoreFailed
-stop_of broke.NoMem = stops.NoMem
-stop_of (broke.Damaged damage) = stops.Damaged damage
+abbrev pub stop_of_broke : Broke → Stop
+stop_of_broke broke.Failed = stops.StoreFailed
+stop_of_broke broke.NoMem = stops.NoMem
+stop_of_broke (broke.Damaged damage) = stops.Damaged damage
 
 -- what a text that was cut off, or not begun, leaves in the sink
 abbrev pub CutsOff : Stop → List ℕ → Option (List ℕ) → Option (List ℕ) → Type 0

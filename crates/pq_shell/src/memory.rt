@@ -2,8 +2,8 @@
 ghost use Rattle.std.specs.Prelude.{◌≡◌, ◌≤◌, ◌<◌, ◌+◌, ◌-◌, ◌↔◌, ◌++◌, [], ℕ, List, min, take, drop, length, true, false, OnErr, IfOk, IsTrue, IsErr};
 ghost use Rattle.std.specs.Io.KnownBytes.{append_known, prepend_known, IsAtEnd};
 ghost use Rattle.pq_store.specs.Content.{HasRisen};
-ghost use Rattle.pq_shell.specs.Outside.{HasCause};
-ghost use Rattle.pq_shell.specs.Memory.{is_listed, called, is_refusing};
+ghost use Rattle.pq_shell.specs.Outside.{HasFaultCause};
+ghost use Rattle.pq_shell.specs.Memory.{is_listed, calls_after, is_refusing};
 
 use crate::outside::{Failed, Sink, Source};
 use pq_base::{Bytes, List, NoMem};
@@ -52,7 +52,7 @@ impl Calls {
 
     // Counts a call.
     fn count(&mut self, failed: bool)
-        ensures called { self.new ≡ called failed self.old }
+        ensures called { self.new ≡ calls_after failed self.old }
         ensures later { self.old.faults ≤ self.new.faults }
         ensures risen { IsTrue failed → HasRisen self.old.faults self.new.faults }
     {
@@ -124,9 +124,9 @@ impl Source for MemSource {
         ensures taken { IfOk result (λ n. self.old.left ≡ take n room.new ++ self.new.left) }
         ensures end { IfOk result (λ n. n ≡ 0 → self.new.left ≡ []) }
         ensures kept { OnErr result (self.new.left ≡ self.old.left) }
-        ensures cause { HasCause self.old.calls.faults self.new.calls.faults result }
+        ensures cause { HasFaultCause self.old.calls.faults self.new.calls.faults result }
         ensures failed { IsErr result ↔ IsTrue (is_listed self.old.calls) }
-        ensures calls { self.new.calls ≡ called (is_listed self.old.calls) self.old.calls }
+        ensures calls { self.new.calls ≡ calls_after (is_listed self.old.calls) self.old.calls }
     {
         let listed = self.calls.is_listed();
         self.calls.count(listed);
@@ -208,10 +208,10 @@ impl Sink for MemSink {
         ensures some { IfOk result (λ n. 0 < n) }
         ensures held { IfOk result (λ n. self.new.held ≡ self.old.held ++ take n piece.now) }
         ensures kept { OnErr result (self.new.held ≡ self.old.held) }
-        ensures cause { HasCause self.old.calls.faults self.new.calls.faults result }
+        ensures cause { HasFaultCause self.old.calls.faults self.new.calls.faults result }
         ensures room { self.new.room ≡ self.old.room }
         ensures failed { IsErr result ↔ IsTrue (is_refusing self.old) }
-        ensures calls { self.new.calls ≡ called (is_refusing self.old) self.old.calls }
+        ensures calls { self.new.calls ≡ calls_after (is_refusing self.old) self.old.calls }
     {
         let full = self.used == self.bytes.len();
         let refused = self.calls.is_listed() || full;

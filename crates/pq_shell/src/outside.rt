@@ -1,7 +1,7 @@
 //! What a script is read from and what its reports are written to.
 ghost use Rattle.std.specs.Prelude.{◌≡◌, ℕ, ◌<◌, ◌≤◌, List, Option, length, take, IfOk, OnOk, OnErr};
 ghost use Rattle.std.specs.Io.KnownBytes.{append_known, prepend_known, IsAtEnd};
-ghost use Rattle.pq_shell.specs.Outside.{HasCause, IsCut};
+ghost use Rattle.pq_shell.specs.Outside.{HasFaultCause, IsCut};
 
 /// A call of a source or a sink failed.
 #[derive(Clone, Copy, Debug, PartialEq, Eq)]
@@ -23,7 +23,7 @@ pub trait Source {
         ensures taken { IfOk result (λ n. left self.old ≡ prepend_known (take n room.new) (left self.new)) }
         ensures end { IfOk result (λ n. n ≡ 0 → IsAtEnd (left self.new)) }
         ensures kept { OnErr result (left self.new ≡ left self.old) }
-        ensures cause { HasCause (faults self.old) (faults self.new) result };
+        ensures cause { HasFaultCause (faults self.old) (faults self.new) result };
 }
 
 /// Where the reports go.
@@ -42,7 +42,7 @@ pub trait Sink {
         ensures within { IfOk result (λ n. n ≤ length piece.now) }
         ensures held { IfOk result (λ n. held self.new ≡ append_known (held self.old) (take n piece.now)) }
         ensures kept { OnErr result (held self.new ≡ held self.old) }
-        ensures cause { HasCause (faults self.old) (faults self.new) result };
+        ensures cause { HasFaultCause (faults self.old) (faults self.new) result };
 }
 
 /// Writes the whole text, or a first part of it where the sink fails.
@@ -50,7 +50,7 @@ pub fn write_all<O: Sink>(sink: &mut O, text: &[u8]) -> Result<(), Failed>
     ensures ok { OnOk result (O.held sink.new ≡ append_known (O.held sink.old) text.now) }
     ensures err { OnErr result ((part : List ℕ) × IsCut part text.now
         × (O.held sink.new ≡ append_known (O.held sink.old) part)) }
-    ensures cause { HasCause (O.faults sink.old) (O.faults sink.new) result }
+    ensures cause { HasFaultCause (O.faults sink.old) (O.faults sink.new) result }
 {
     let mut at = 0;
     while at < text.len() {

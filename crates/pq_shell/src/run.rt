@@ -8,10 +8,10 @@ ghost use Rattle.pq_schema.specs.Schema.{Schema};
 ghost use Rattle.pq_store.specs.Content.{HasRisen};
 ghost use Rattle.pq_shell.specs.Flaw.{IsFlaw, StopsAtFlaw, EndsAtFlaw};
 ghost use Rattle.pq_shell.specs.Forms.{HasOpening};
-ghost use Rattle.pq_shell.specs.Making.{IsRead, moment};
+ghost use Rattle.pq_shell.specs.Making.{ReadsSource, moment};
 ghost use Rattle.pq_shell.specs.Openings.{OpensWith, StoppedOpening};
 ghost use Rattle.pq_shell.specs.Reading.{script_limit};
-ghost use Rattle.pq_shell.specs.Run.{BrokenRun, Closes, Ends, EndsDamaged, FinishedRun, IsMeant, IsPlain, Suffices, status_of, world};
+ghost use Rattle.pq_shell.specs.Run.{BrokenRun, Closes, Ends, EndsDamaged, FinishedRun, IsMeant, IsPlain, Suffices, status_of, run_world};
 ghost use Rattle.pq_shell.specs.Serving.{ConsumedSource, StoppedAmong};
 ghost use Rattle.pq_shell.specs.Stops.{Causes};
 
@@ -115,7 +115,7 @@ fn run_source<S: Store<L>, I: Source, O: Sink, L: Ledger>(
     sink: &mut O,
 ) -> Result<Ending, Stop>
     requires few { progress.old.tally.count + script_limit < 2 ^ 32 }
-    requires read { IsRead form }
+    requires read { ReadsSource form }
     ensures ok { IfOk result (λ ending. (last : Schema)
         × ConsumedSource form ending (I.left source.old) (I.left source.new) session last
         (moment (S.content store.old) (O.held sink.old) meter.old)
@@ -167,13 +167,13 @@ fn run_script<S: Store<L>, I: Source, O: Sink, L: Ledger>(
     meter: &mut Meter<L>,
     sink: &mut O,
 ) -> Result<Ended, Stop>
-    requires { IsRead form }
+    requires { ReadsSource form }
     ensures ok { IfOk result (λ ended. FinishedRun form ended.ending ended.refused
-        (world (I.left source.old) (S.content store.old) (O.held sink.old) meter.old)
-        (world (I.left source.new) (S.content store.new) (O.held sink.new) meter.new)) }
+        (run_world (I.left source.old) (S.content store.old) (O.held sink.old) meter.old)
+        (run_world (I.left source.new) (S.content store.new) (O.held sink.new) meter.new)) }
     ensures err { IfErr result (λ stop. BrokenRun form stop
-        (world (I.left source.old) (S.content store.old) (O.held sink.old) meter.old)
-        (world (I.left source.new) (S.content store.new) (O.held sink.new) meter.new)) }
+        (run_world (I.left source.old) (S.content store.old) (O.held sink.old) meter.old)
+        (run_world (I.left source.new) (S.content store.new) (O.held sink.new) meter.new)) }
     ensures flawed { HasOpening form → IfSome (S.content store.old)
         (λ pairs. (key : List ℕ) → IsFlaw pairs key
         → StopsAtFlaw key result (O.held sink.old) (O.held sink.new)) }
@@ -210,12 +210,12 @@ fn run_fill<S: Store<L>, O: Sink, L: Ledger>(
 ) -> Result<Ended, Stop>
     requires { (1 ≤ n) × (n ≤ 20000) }
     ensures ok { IfOk result (λ ended. (left : Option (List ℕ)) → FinishedRun (Form.Fill n) ended.ending ended.refused
-        (world left (S.content store.old) (O.held sink.old) meter.old)
-        (world left (S.content store.new) (O.held sink.new) meter.new)) }
+        (run_world left (S.content store.old) (O.held sink.old) meter.old)
+        (run_world left (S.content store.new) (O.held sink.new) meter.new)) }
     ensures whole { IfOk result (λ ended. ended.ending ≡ Ending.Whole) }
     ensures err { IfErr result (λ stop. (left : Option (List ℕ)) → BrokenRun (Form.Fill n) stop
-        (world left (S.content store.old) (O.held sink.old) meter.old)
-        (world left (S.content store.new) (O.held sink.new) meter.new)) }
+        (run_world left (S.content store.old) (O.held sink.old) meter.old)
+        (run_world left (S.content store.new) (O.held sink.new) meter.new)) }
     ensures flawed { IfSome (S.content store.old)
         (λ pairs. (key : List ℕ) → IsFlaw pairs key
         → StopsAtFlaw key result (O.held sink.old) (O.held sink.new)) }
@@ -241,11 +241,11 @@ fn run_form<S: Store<L>, I: Source, O: Sink, L: Ledger>(
 ) -> Result<Ended, Stop>
     requires { IsMeant form }
     ensures ok { IfOk result (λ ended. FinishedRun form ended.ending ended.refused
-        (world (I.left source.old) (S.content store.old) (O.held sink.old) meter.old)
-        (world (I.left source.new) (S.content store.new) (O.held sink.new) meter.new)) }
+        (run_world (I.left source.old) (S.content store.old) (O.held sink.old) meter.old)
+        (run_world (I.left source.new) (S.content store.new) (O.held sink.new) meter.new)) }
     ensures err { IfErr result (λ stop. BrokenRun form stop
-        (world (I.left source.old) (S.content store.old) (O.held sink.old) meter.old)
-        (world (I.left source.new) (S.content store.new) (O.held sink.new) meter.new)) }
+        (run_world (I.left source.old) (S.content store.old) (O.held sink.old) meter.old)
+        (run_world (I.left source.new) (S.content store.new) (O.held sink.new) meter.new)) }
     ensures flawed { HasOpening form → IfSome (S.content store.old)
         (λ pairs. (key : List ℕ) → IsFlaw pairs key
         → StopsAtFlaw key result (O.held sink.old) (O.held sink.new)) }
@@ -319,8 +319,8 @@ fn run<S: Store<L>, I: Source, O: Sink, L: Ledger>(
 ) -> Status
     requires { IsMeant form }
     ensures ends { Ends form result
-        (world (I.left source.old) (S.content store.old) (O.held sink.old) meter.old)
-        (world (I.left source.new) (S.content store.new) (O.held sink.new) meter.new) }
+        (run_world (I.left source.old) (S.content store.old) (O.held sink.old) meter.old)
+        (run_world (I.left source.new) (S.content store.new) (O.held sink.new) meter.new) }
     ensures flawed { HasOpening form → IfSome (S.content store.old)
         (λ pairs. (key : List ℕ) → IsFlaw pairs key
         → EndsAtFlaw key result (O.held sink.old) (O.held sink.new)) }
@@ -352,8 +352,8 @@ pub fn run_piql<S: Store<L>, I: Source, O: Sink, L: Ledger>(
     meter: &mut Meter<L>,
 ) -> Status
     ensures ends { (form : Declared) → IsForm form words.now → Ends form result
-        (world (I.left source.old) (S.content store.old) (O.held sink.old) meter.old)
-        (world (I.left source.new) (S.content store.new) (O.held sink.new) meter.new) }
+        (run_world (I.left source.old) (S.content store.old) (O.held sink.old) meter.old)
+        (run_world (I.left source.new) (S.content store.new) (O.held sink.new) meter.new) }
     // Where the intent or the catalog of a told content is flawed, the line of the first flaw is
     // all that is written; or a
     // call fails, or there is no memory.
@@ -373,10 +373,11 @@ pub fn run_piql<S: Store<L>, I: Source, O: Sink, L: Ledger>(
     ensures taken { (taken : List ℕ) × (I.left source.old ≡ prepend_known taken (I.left source.new))
         × (length taken ≤ script_limit + 1) }
     ensures complete { (form : Declared) → IsForm form words.now
-        → (IsRead form → ¬ HasRisen (I.faults source.old) (I.faults source.new))
+        → (ReadsSource form → ¬ HasRisen (I.faults source.old) (I.faults source.new))
         → ¬ HasRisen (O.faults sink.old) (O.faults sink.new)
         → (HasOpening form → ¬ HasRisen (S.faults store.old) (S.faults store.new))
-        → Suffices form (world (I.left source.old) (S.content store.old) (O.held sink.old) meter.old) → IsPlain result }
+        → Suffices form (run_world (I.left source.old) (S.content store.old) (O.held sink.old) meter.old)
+        → IsPlain result }
 {
     match form_of(words) {
         None => Status::Usage,

@@ -2,12 +2,12 @@
 ghost use Rattle.std.specs.Prelude.{◌≡◌, ℕ, ◌+◌, ◌^◌, ◌<◌, ◌≤◌, ◌||◌, [], ◌∷◌, false, List as Items, length, OnOk, IfOk, IfErr};
 ghost use Rattle.std.specs.Io.KnownBytes.{append_known};
 ghost use Rattle.pq_store.specs.Content.{HasRisen};
-ghost use Rattle.pq_text.specs.Summaries.{start, pieces_from};
+ghost use Rattle.pq_text.specs.Summaries.{start_summary, pieces_from};
 ghost use Rattle.pq_print.specs.Report.{printed_report};
 ghost use Rattle.pq_fill.specs.declared.words.Form.TheVariants as Form;
 ghost use Rattle.pq_shell.specs.Fold.{Served, StoppedItem};
 ghost use Rattle.pq_shell.specs.Items.{Cut, cut_items};
-ghost use Rattle.pq_shell.specs.Making.{BreaksAt, IsRead, Makes, moment};
+ghost use Rattle.pq_shell.specs.Making.{BreaksAt, ReadsSource, MakesItem, moment};
 ghost use Rattle.pq_shell.specs.Serving.{ProgressedRun, ReportsRest, StoppedAtRest, has_rest, rest_report};
 ghost use Rattle.pq_shell.specs.Stops.{CutsOff, Causes};
 
@@ -62,7 +62,7 @@ pub struct Ended {
 impl Progress {
     /// The start of a script. It takes no memory.
     pub fn new(alloc: Global) -> Progress
-        ensures splitter { result.splitter ≡ start }
+        ensures splitter { result.splitter ≡ start_summary }
         ensures count { result.tally.count ≡ 0 }
         ensures refused { result.tally.refused ≡ false }
     {
@@ -86,7 +86,7 @@ pub fn make<S: Store<L>, L: Ledger>(
     store: &mut S,
     meter: &mut Meter<L>,
 ) -> Result<(Session, Report), Stop>
-    ensures ok { IfOk result (λ p. Makes form (Cut piece.now) number session p.0 (S.content store.old)
+    ensures ok { IfOk result (λ p. MakesItem form (Cut piece.now) number session p.0 (S.content store.old)
         (S.content store.new) meter.old meter.new p.1) }
     ensures err { IfErr result (λ stop. BreaksAt form stop (Cut piece.now) number session (S.content store.old)
         (S.content store.new) meter.old meter.new) }
@@ -117,7 +117,7 @@ fn serve<S: Store<L>, O: Sink, L: Ledger>(
     sink: &mut O,
 ) -> Result<Session, Stop>
     requires few { tally.old.count + 1 < 2 ^ 32 }
-    requires read { IsRead form }
+    requires read { ReadsSource form }
     ensures ok { IfOk result (λ next. Served form session next
         (moment (S.content store.old) (O.held sink.old) meter.old)
         (moment (S.content store.new) (O.held sink.new) meter.new)
@@ -149,7 +149,7 @@ pub fn run_part<S: Store<L>, O: Sink, L: Ledger>(
     sink: &mut O,
 ) -> Result<Session, Stop>
     requires few { progress.old.tally.count + length bytes.now < 2 ^ 32 }
-    requires read { IsRead form }
+    requires read { ReadsSource form }
     ensures ok { IfOk result (λ next. ProgressedRun form session next
         (moment (S.content store.old) (O.held sink.old) meter.old)
         (moment (S.content store.new) (O.held sink.new) meter.new)

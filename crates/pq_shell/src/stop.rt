@@ -1,6 +1,6 @@
 //! Why a run stops before the end of its script.
 ghost use Rattle.std.specs.Prelude.{◌≡◌};
-ghost use Rattle.pq_shell.specs.Stops.{stop_of};
+ghost use Rattle.pq_shell.specs.Stops.{stop_of_broke};
 
 use pq_store::{Broke, Damage};
 
@@ -20,7 +20,7 @@ pub enum Stop {
 impl Stop {
     /// The stop where a session breaks off.
     pub fn of(broke: Broke) -> Stop
-        ensures { result ≡ stop_of broke }
+        ensures { result ≡ stop_of_broke broke }
     {
         match broke {
             Broke::Failed => Stop::StoreFailed,

@@ -2,7 +2,7 @@
 ghost use Rattle.std.specs.Prelude.{length, option_copied, IfOk, IfErr};
 ghost use Rattle.pq_calls.specs.World.{world};
 ghost use Rattle.pq_plan.specs.Nodes.{stop_scan};
-ghost use Rattle.pq_nodes.specs.Operators.{IsAsked, IsReady, AreInputs, IsCursor, AffordsNode, ReadsNode, AreFound, Answers, StopsReading, IsSoundOverRows};
+ghost use Rattle.pq_nodes.specs.Operators.{IsAsked, IsReadyNode, AreInputs, IsCursor, AffordsNode, ReadsNode, AreFound, AnswersNode, StopsReading, IsSoundOverRows};
 
 use pq_base::{List, Row};
 use pq_calls::Calls;
@@ -31,11 +31,11 @@ pub fn sorted_join<S: Store<L>, L: Ledger>(
     meter: &mut Meter<L>,
 ) -> Result<List<Combo>, Broke>
     requires asked { IsAsked catalog.now.tables query.now params.now }
-    requires ready { IsReady catalog.now.tables query.now (stop_scan rel k access) }
+    requires ready { IsReadyNode catalog.now.tables query.now (stop_scan rel k access) }
     requires inputs { AreInputs catalog.now.tables query.now rel inputs }
     requires cursor { IsCursor catalog.now.tables query.now (option_copied after) }
     requires share { AffordsNode allowance.old (length inputs) (stop_scan rel k access) }
-    ensures answer { IfOk result (Answers (S.content store.old) catalog.now.tables query.now params.now
+    ensures answer { IfOk result (AnswersNode (S.content store.old) catalog.now.tables query.now params.now
         (option_copied after.entry) inputs (stop_scan rel k access)) }
     ensures reads { ReadsNode (world (S.content store.old) (S.faults store.old) allowance.old meter.old)
         (world (S.content store.new) (S.faults store.new) allowance.new meter.new) (length inputs)

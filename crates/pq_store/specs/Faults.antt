@@ -36,8 +36,8 @@ abbrev pub IsListed : Failing → Type 0
 IsListed store = IsTrue (is_some (fate store))
 
 -- one call more, after which it holds this content
-abbrev pub called : Failing → Content → Failing
-called store held = record {
+abbrev pub failing_after : Failing → Content → Failing
+failing_after store held = record {
   held = held;
   calls = min (store.calls + 1) 18446744073709551615;
   faults = store.faults + (if is_some (fate store) then 1 else 0);

@@ -4,7 +4,7 @@ ghost use Rattle.std.specs.Option.{option_copied};
 ghost use Rattle.std.specs.FinMap.{get as value_at};
 ghost use Rattle.pq_store.specs.Counts.{charged_counts};
 ghost use Rattle.pq_store.specs.Content.{entry, pairs_within, admits, after_write, IsPartOf, got_entries, ranged_entries, counted_entries};
-ghost use Rattle.pq_store.specs.Faults.{fate, called, listed_fail, IsListed};
+ghost use Rattle.pq_store.specs.Faults.{fate, failing_after, listed_fail, IsListed};
 
 use crate::mem::MemStore;
 use crate::meter::Meter;
@@ -70,7 +70,7 @@ impl FailingStore {
     // Counts a call: whether it is done where it is to fail, None where it isn't.
     fn count_call(&mut self) -> Option<bool>
         ensures fate { result ≡ fate self.old }
-        ensures called { self.new ≡ called self.old self.old.held }
+        ensures called { self.new ≡ failing_after self.old self.old.held }
     {
         let fate = find_call(self.fails.items(), self.calls as u128 + 1);
         self.calls = self.calls.saturating_add(1);
@@ -108,7 +108,7 @@ impl<L: Ledger> Store<L> for FailingStore {
         meter: &mut Meter<L>,
     ) -> Result<Option<Bytes>, StoreErr>
         ensures answer { IfOk result (λ found. found ≡ value_at self.old.held key.now) }
-        ensures called { self.new ≡ called self.old self.old.held }
+        ensures called { self.new ≡ failing_after self.old self.old.held }
         ensures listed { IsErrOf result StoreErr.Failed ↔ IsListed self.old }
         ensures meter { meter.new ≡ charged_counts meter.old (got_entries result) }
     {
@@ -133,7 +133,7 @@ impl<L: Ledger> Store<L> for FailingStore {
         ensures answer { IfOk result (λ found. map entry found
             ≡ take limit (pairs_within self.old.held low.now high.now)) }
         ensures part { IfOk result (λ found. IsPartOf low.now high.now limit (map entry found)) }
-        ensures called { self.new ≡ called self.old self.old.held }
+        ensures called { self.new ≡ failing_after self.old self.old.held }
         ensures listed { IsErrOf result StoreErr.Failed ↔ IsListed self.old }
         ensures meter { meter.new ≡ charged_counts meter.old (ranged_entries result) }
     {
@@ -155,7 +155,7 @@ impl<L: Ledger> Store<L> for FailingStore {
         meter: &mut Meter<L>,
     ) -> Result<u32, StoreErr>
         ensures answer { IfOk result (λ n. n ≡ min cap (length (pairs_within self.old.held low.now high.now))) }
-        ensures called { self.new ≡ called self.old self.old.held }
+        ensures called { self.new ≡ failing_after self.old self.old.held }
         ensures listed { IsErrOf result StoreErr.Failed ↔ IsListed self.old }
         ensures meter { meter.new ≡ charged_counts meter.old (counted_entries result) }
     {
@@ -181,7 +181,7 @@ impl<L: Ledger> Store<L> for FailingStore {
         ensures content { OnOk result (self.new.held
             ≡ after_write guard.entry key.now (option_copied new.entry) self.old.held) }
         ensures no_memory { IsErrOf result StoreErr.NoMem → self.new.held ≡ self.old.held }
-        ensures called { self.new ≡ called self.old self.new.held }
+        ensures called { self.new ≡ failing_after self.old self.new.held }
         ensures listed { IsErrOf result StoreErr.Failed → IsListed self.old }
         ensures undone { fate self.old ≡ Some false → IsErrOf result StoreErr.Failed × self.new.held ≡ self.old.held }
         ensures done { fate self.old ≡ Some true → IsErrOf result StoreErr.NoMem

@@ -14,10 +14,7 @@ const SCRIPT: [(&[u8], &[u8]); 9] = [
         b"CREATE TABLE m (id INT, v TEXT(9), PRIMARY KEY (id));",
         b"# ok bound 1 0\n",
     ),
-    (
-        b"INSERT INTO m VALUES (1, 'a;''--');",
-        b"# ok bound 2 1\n",
-    ),
+    (b"INSERT INTO m VALUES (1, 'a;''--');", b"# ok bound 2 1\n"),
     (
         b"PREPARE q AS -- ; is no end here '\nSELECT v FROM m ORDER BY id PAGINATE 1;",
         b"query q stop 1 bound 1 1\n# ok bound 1 0\n",

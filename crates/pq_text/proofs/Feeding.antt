@@ -3,7 +3,7 @@ use Rattle.std.proofs.Common.{◌≡◌, ℕ, ◌+◌, ◌<◌, List, [], ◌∷
 use Rattle.std.proofs.lemmas.List.{take-append-drop, drop-drop, append-nil, take_more}
 use Rattle.pq_text.specs.Parts.{joined_parts}
 use Rattle.pq_text.specs.Pieces.{piece_list, pieces_of, rest_of, is_unfinished}
-use Rattle.pq_text.specs.Summaries.{Summary, start, pieces_from, unfinished_from}
+use Rattle.pq_text.specs.Summaries.{Summary, start_summary, pieces_from, unfinished_from}
 use Rattle.pq_text.specs.declared.piece.Piece.{Piece}
 use Rattle.pq_text.proofs.Cuts.{pieces_from-start, unfinished_from-start}
 
@@ -38,9 +38,9 @@ joined_parts_more parts i d more lt =
     ap (λ (v : List ℕ). v ++ more) (ap joined_parts (take_more parts i d lt) ∙ joined_parts-append (take i parts) (get_or parts i d ∷ []) ∙ ap (λ (v : List ℕ). joined_parts (take i parts) ++ v) one)
     ∙ append_assoc (joined_parts (take i parts)) (get_or parts i d).now more
 
-pub all_pieces : (s : Summary) (told : List Piece) (script : List ℕ) → ((more : List ℕ) → told ++ pieces_from s more ≡ pieces_from start (script ++ more)) → told ≡ pieces_of script
+pub all_pieces : (s : Summary) (told : List Piece) (script : List ℕ) → ((more : List ℕ) → told ++ pieces_from s more ≡ pieces_from start_summary (script ++ more)) → told ≡ pieces_of script
 unfolding pieces_from
-all_pieces s told script so = sym (append-nil told) ∙ so [] ∙ ap (pieces_from start) (append-nil script) ∙ pieces_from-start script
+all_pieces s told script so = sym (append-nil told) ∙ so [] ∙ ap (pieces_from start_summary) (append-nil script) ∙ pieces_from-start script
 
-pub all_rest : (s : Summary) (script : List ℕ) → ((more : List ℕ) → unfinished_from s more ≡ unfinished_from start (script ++ more)) → unfinished_from s [] ≡ is_unfinished (rest_of script)
-all_rest s script so = so [] ∙ ap (unfinished_from start) (append-nil script) ∙ unfinished_from-start script
+pub all_rest : (s : Summary) (script : List ℕ) → ((more : List ℕ) → unfinished_from s more ≡ unfinished_from start_summary (script ++ more)) → unfinished_from s [] ≡ is_unfinished (rest_of script)
+all_rest s script so = so [] ∙ ap (unfinished_from start_summary) (append-nil script) ∙ unfinished_from-start script

@@ -5,7 +5,7 @@ use Rattle.std.proofs.lemmas.List.{take_all}
 use Rattle.std.specs.Option.{option_map}
 use Rattle.pq_text.specs.Cutting.{next, cuts, state_behind, is_solid, first_cut}
 use Rattle.pq_text.specs.Pieces.{piece_limit, piece_list}
-use Rattle.pq_text.specs.Summaries.{Summary, start, is_long, grown_summary, told_of, pieces_from, unfinished_from}
+use Rattle.pq_text.specs.Summaries.{Summary, start_summary, is_long, grown_summary, told_of, pieces_from, unfinished_from}
 use Rattle.pq_text.specs.declared.piece.Piece.{Piece}
 use Rattle.pq_text.specs.declared.state.State.{State}
 use Rattle.pq_text.proofs.CutSteps.{run_append, solid_append, or_assoc}
@@ -43,7 +43,7 @@ pub grown_state : (s : Summary) (b : ℕ) → (grown_summary s (b ∷ [])).state
 unfolding grown_summary state_behind
 grown_state s b = refl
 
-pub pieces_cut : (s : Summary) (b : ℕ) (bs : List ℕ) → cuts s.state b ≡ true → pieces_from s (b ∷ bs) ≡ piece_list (told_of (grown_summary s (b ∷ []))) ++ pieces_from start bs
+pub pieces_cut : (s : Summary) (b : ℕ) (bs : List ℕ) → cuts s.state b ≡ true → pieces_from s (b ∷ bs) ≡ piece_list (told_of (grown_summary s (b ∷ []))) ++ pieces_from start_summary bs
 unfolding pieces_from
 pieces_cut s b bs e = rw e refl
 
@@ -51,7 +51,7 @@ pub pieces_later : (s : Summary) (b : ℕ) (bs : List ℕ) → cuts s.state b �
 unfolding pieces_from
 pieces_later s b bs e = rw e refl
 
-pub unfinished_cut : (s : Summary) (b : ℕ) (bs : List ℕ) → cuts s.state b ≡ true → unfinished_from s (b ∷ bs) ≡ unfinished_from start bs
+pub unfinished_cut : (s : Summary) (b : ℕ) (bs : List ℕ) → cuts s.state b ≡ true → unfinished_from s (b ∷ bs) ≡ unfinished_from start_summary bs
 unfolding unfinished_from
 unfinished_cut s b bs e = rw e refl
 
@@ -77,8 +77,8 @@ none_later (Some m) e = absurd cc
 
 -- what a part does to what follows: with a cut at its end, or without one
 record Cut (s : Summary) (part : List ℕ) : Type 0 where
-  pieces : (more : List ℕ) → pieces_from s (part ++ more) ≡ piece_list (told_of (grown_summary s part)) ++ pieces_from start more
-  rest : (more : List ℕ) → unfinished_from s (part ++ more) ≡ unfinished_from start more
+  pieces : (more : List ℕ) → pieces_from s (part ++ more) ≡ piece_list (told_of (grown_summary s part)) ++ pieces_from start_summary more
+  rest : (more : List ℕ) → unfinished_from s (part ++ more) ≡ unfinished_from start_summary more
 
 record Uncut (s : Summary) (part : List ℕ) : Type 0 where
   pieces : (more : List ℕ) → pieces_from s (part ++ more) ≡ pieces_from (grown_summary s part) more
@@ -94,7 +94,7 @@ cut_by s b bs n later false isnt e =
     let cut = later before.0 (ap (λ (t : State). first_cut t bs) (grown_state s b) ∙ before.1) in
     subst (λ (k : ℕ). Cut s (take k (b ∷ bs))) before.2
     (record {
-      pieces = λ more. pieces_later s b (take before.0 bs ++ more) isnt ∙ cut.pieces more ∙ ap (λ (t : Summary). piece_list (told_of t) ++ pieces_from start more) (grown_append s (b ∷ []) (take before.0 bs));
+      pieces = λ more. pieces_later s b (take before.0 bs ++ more) isnt ∙ cut.pieces more ∙ ap (λ (t : Summary). piece_list (told_of t) ++ pieces_from start_summary more) (grown_append s (b ∷ []) (take before.0 bs));
       rest = λ more. unfinished_later s b (take before.0 bs ++ more) isnt ∙ cut.rest more;
     })
 
@@ -128,12 +128,12 @@ pub record FedCut (s new : Summary) (bytes part : List ℕ) (n : ℕ) (piece : O
   pub cut : first_cut s.state bytes ≡ Some n
   pub part_is : part ≡ take n bytes
   pub told : piece ≡ told_of (grown_summary s part)
-  pub new_is : new ≡ start
+  pub new_is : new ≡ start_summary
 
 pub fed_cut_pieces : (s new : Summary) (bytes part : List ℕ) (n : ℕ) (piece : Option Piece) → FedCut s new bytes part n piece → (more : List ℕ) → pieces_from s (take n bytes ++ more) ≡ piece_list piece ++ pieces_from new more
 fed_cut_pieces s new bytes part n piece h more =
     let told : piece ≡ told_of (grown_summary s (take n bytes)) = h.told ∙ ap (λ (v : List ℕ). told_of (grown_summary s v)) h.part_is in
-    (cut s bytes n h.cut).pieces more ∙ sym (ap (λ (o : Option Piece). piece_list o ++ pieces_from start more) told) ∙ sym (ap (λ (t : Summary). piece_list piece ++ pieces_from t more) h.new_is)
+    (cut s bytes n h.cut).pieces more ∙ sym (ap (λ (o : Option Piece). piece_list o ++ pieces_from start_summary more) told) ∙ sym (ap (λ (t : Summary). piece_list piece ++ pieces_from t more) h.new_is)
 
 pub fed_cut_rest : (s new : Summary) (bytes part : List ℕ) (n : ℕ) (piece : Option Piece) → FedCut s new bytes part n piece → (more : List ℕ) → unfinished_from s (take n bytes ++ more) ≡ unfinished_from new more
 fed_cut_rest s new bytes part n piece h more = (cut s bytes n h.cut).rest more ∙ sym (ap (λ (t : Summary). unfinished_from t more) h.new_is)

@@ -4,7 +4,7 @@ use Rattle.std.proofs.lemmas.Bool.{eqb-true}
 use Rattle.pq_text.specs.Bytes.{is_white, next_is}
 use Rattle.pq_text.specs.Cutting.{next_plain, next, cuts, shows, is_dash, state_behind, is_solid}
 use Rattle.pq_text.specs.Pieces.{Place, Plain, Text, Comment, behind, is_cut, is_content, has_content, piece_limit, statement, told_piece}
-use Rattle.pq_text.specs.Summaries.{start, grown_summary, told_of}
+use Rattle.pq_text.specs.Summaries.{start_summary, grown_summary, told_of}
 use Rattle.pq_text.specs.declared.piece.Piece.TheVariants as piece
 use Rattle.pq_text.specs.declared.state.State.{State}
 use Rattle.pq_text.specs.declared.state.State.TheVariants as state
@@ -112,7 +112,7 @@ told_same : (w : List ℕ) (long solid : Bool) → cond long (Some piece.TooLong
 told_same w true solid = refl
 told_same w false solid = refl
 
-pub told_is : (w : List ℕ) → is_dash (state_behind state.Plain w) ≡ false → told_of (grown_summary start w) ≡ told_piece w
+pub told_is : (w : List ℕ) → is_dash (state_behind state.Plain w) ≡ false → told_of (grown_summary start_summary w) ≡ told_piece w
 unfolding grown_summary
 told_is w e =
     let content : has_content Plain w ≡ is_solid state.Plain w = content_is w ∙ or_none (is_solid state.Plain w) (is_dash (state_behind state.Plain w)) e in

@@ -4,7 +4,7 @@ use Rattle.std.specs.Bool.{IsTrue}
 use Rattle.std.specs.List.{slice_range}
 use Rattle.std.proofs.lemmas.List.{drop_at}
 use Rattle.std.proofs.lemmas.Bool.Decides.{nat_tests}
-use Rattle.pq_text.specs.Forms.{Form, LeftOut, Of, form_of, form_at, is_word, is_number, is_text, is_whole_mark}
+use Rattle.pq_text.specs.Forms.{Form, LeftOut, Of, form_of, form_at, is_word_form, is_number, is_text, is_whole_mark}
 use Rattle.pq_text.specs.Tokens.{Front, or_shorter, longest, char_len, or_character, front_of, put_before, tokens_from, tokens_of, InOrder, has_form, HaveForms}
 use Rattle.pq_text.specs.declared.token.Kind.{Kind}
 use Rattle.pq_text.specs.declared.token.Kind.TheVariants as kind
@@ -59,7 +59,7 @@ pub tokens_in_order : (text : List ℕ) → InOrder 0 (length text) (tokens_of t
 tokens_in_order text = from_order 0 0 0 text (length text) (omega arith) (omega arith)
 
 -- which kind the form of a token is, by its tests
-pick : (gap word number text mark other : Bool) (w : List ℕ) (k : Kind) → is_word w ≡ word → is_number w ≡ number → is_text w ≡ text → is_whole_mark w ≡ mark
+pick : (gap word number text mark other : Bool) (w : List ℕ) (k : Kind) → is_word_form w ≡ word → is_number w ≡ number → is_text w ≡ text → is_whole_mark w ≡ mark
     → cond gap (Some LeftOut) (cond word (Some (Of kind.Word)) (cond number (Some (Of kind.Number)) (cond text (Some (Of kind.Text)) (cond mark (Some (Of kind.Mark)) (cond other (Some (Of kind.Other)) None))))) ≡ Some (Of k) → IsTrue (has_form k w)
 pick true word number text mark other w k e f g h is = absurd cc
 pick false true number text mark other w k e f g h is = let same : kind.Word ≡ k = cc in subst (λ (j : Kind). IsTrue (has_form j w)) same e

@@ -7,9 +7,9 @@ use Rattle.pq_text.specs.declared.token.Kind.{Kind}
 use Rattle.pq_text.specs.declared.token.Kind.TheVariants as kind
 
 -- a letter, then letters and digits
-abbrev pub is_word : List ℕ → Bool
-is_word [] = false
-is_word (b ∷ bs) = is_letter b && list_all is_word_byte bs
+abbrev pub is_word_form : List ℕ → Bool
+is_word_form [] = false
+is_word_form (b ∷ bs) = is_letter b && list_all is_word_byte bs
 
 -- one or more digits
 abbrev pub is_digits : List ℕ → Bool
@@ -76,7 +76,7 @@ pub data Form : Type 0 where
 abbrev pub form_of : Bool → List ℕ → Option Form
 form_of last w =
     if is_blank w || is_comment w then Some LeftOut
-    else if is_word w then Some (Of kind.Word)
+    else if is_word_form w then Some (Of kind.Word)
     else if is_number w then Some (Of kind.Number)
     else if is_text w then Some (Of kind.Text)
     else if is_whole_mark w then Some (Of kind.Mark)

@@ -15,8 +15,8 @@ pub record Summary : Type 0 where
   pub solid : Bool
 
 -- of no bytes
-abbrev pub start : Summary
-start = record { state = state.Plain; kept = []; long = false; solid = false }
+abbrev pub start_summary : Summary
+start_summary = record { state = state.Plain; kept = []; long = false; solid = false }
 
 abbrev pub is_long : Summary → ℕ → Bool
 is_long s n = s.long || nat_lt piece_limit (length s.kept + n)
@@ -38,13 +38,14 @@ told_of s = if s.long then Some piece.TooLong else if s.solid then Some (stateme
 unfoldable pub pieces_from : Summary → List ℕ → List Piece
 pieces_from s [] = []
 pieces_from s (b ∷ bs) =
-    if cuts s.state b then piece_list (told_of (grown_summary s (b ∷ []))) ++ pieces_from start bs
+    if cuts s.state b then piece_list (told_of (grown_summary s (b ∷ []))) ++ pieces_from start_summary bs
     else pieces_from (grown_summary s (b ∷ [])) bs
 
 -- whether the rest is unfinished, where more bytes follow
 unfoldable pub unfinished_from : Summary → List ℕ → Bool
 unfinished_from s [] = s.solid || is_dash s.state
-unfinished_from s (b ∷ bs) = if cuts s.state b then unfinished_from start bs else unfinished_from (grown_summary s (b ∷ [])) bs
+unfinished_from s (b ∷ bs) = if cuts s.state b then unfinished_from start_summary bs
+    else unfinished_from (grown_summary s (b ∷ [])) bs
 
 abbrev pub upto : Option ℕ → ℕ → ℕ
 upto None len = len
@@ -64,7 +65,7 @@ piece_in s bytes = told_at (first_cut s.state bytes) s bytes
 
 abbrev pub left_at : Option ℕ → Summary → List ℕ → Summary
 left_at None s bytes = grown_summary s bytes
-left_at (Some n) s bytes = start
+left_at (Some n) s bytes = start_summary
 
 -- what is known behind the taken bytes
 abbrev pub left_in : Summary → List ℕ → Summary

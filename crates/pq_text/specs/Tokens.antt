@@ -1,6 +1,6 @@
 -- The tokens of a text: the longest first, white bytes and comments left out.
 use Rattle.std.specs.Prelude.{ℕ, zero, suc, ◌+◌, ◌-◌, ◌<◌, ◌≤◌, Bool, true, IsTrue, nat_lt, List, [], ◌∷◌, length, slice_range, Option, Some, None, if◌then◌else◌, min}
-use Rattle.pq_text.specs.Forms.{Form, LeftOut, Of, form_at, is_word, is_number, is_text, is_whole_mark}
+use Rattle.pq_text.specs.Forms.{Form, LeftOut, Of, form_at, is_word_form, is_number, is_text, is_whole_mark}
 use Rattle.pq_text.specs.declared.token.Kind.{Kind}
 use Rattle.pq_text.specs.declared.token.Kind.TheVariants as kind
 use Rattle.pq_text.specs.declared.token.Token.{Token}
@@ -63,7 +63,7 @@ slice_of text t = slice_range text t.from t.to
 
 -- bytes are a word, a number, a text or a mark
 abbrev pub has_form : Kind → List ℕ → Bool
-has_form kind.Word w = is_word w
+has_form kind.Word w = is_word_form w
 has_form kind.Number w = is_number w
 has_form kind.Text w = is_text w
 has_form kind.Mark w = is_whole_mark w

@@ -2,7 +2,7 @@
 ghost use Rattle.std.specs.Prelude.{◌≡◌, ◌+◌, ◌<◌, ◌≤◌, ◌||◌, ◌++◌, length, take, IfOk, OnOk, OnErr, List, ℕ, [], nat_lt, Some, None, true, false};
 ghost use Rattle.pq_text.specs.Cutting.{state_behind, is_solid, first_cut};
 ghost use Rattle.pq_text.specs.Pieces.{piece_limit, statement, piece_list};
-ghost use Rattle.pq_text.specs.Summaries.{start, grown_summary, told_of, taken_of, piece_in, left_in, pieces_from, unfinished_from};
+ghost use Rattle.pq_text.specs.Summaries.{start_summary, grown_summary, told_of, taken_of, piece_in, left_in, pieces_from, unfinished_from};
 
 use crate::piece::Piece;
 use crate::state::State;
@@ -22,10 +22,10 @@ struct Stop {
 fn scan(start: State, bytes: &[u8]) -> Stop
     ensures within { result.len ≤ length bytes.now }
     ensures some { 0 < length bytes.now → 0 < result.len }
-    ensures cut { result.cut ≡ true → first_cut start bytes.now ≡ Some result.len }
-    ensures uncut { result.cut ≡ false → (first_cut start bytes.now ≡ None) × (result.len ≡ length bytes.now) }
-    ensures state { result.state ≡ state_behind start (take result.len bytes.now) }
-    ensures solid { result.solid ≡ is_solid start (take result.len bytes.now) }
+    ensures cut { result.cut ≡ true → first_cut start_summary bytes.now ≡ Some result.len }
+    ensures uncut { result.cut ≡ false → (first_cut start_summary bytes.now ≡ None) × (result.len ≡ length bytes.now) }
+    ensures state { result.state ≡ state_behind start_summary (take result.len bytes.now) }
+    ensures solid { result.solid ≡ is_solid start_summary (take result.len bytes.now) }
 {
     let mut state = start;
     let mut solid = false;
@@ -126,7 +126,7 @@ impl Model for Splitter {
 impl Splitter {
     /// A splitter at the start of a script. It takes no memory.
     pub fn new(alloc: Global) -> Splitter
-        ensures { result ≡ start }
+        ensures { result ≡ start_summary }
     {
         Splitter {
             state: State::Plain,
@@ -159,7 +159,7 @@ impl Splitter {
     fn close(&mut self, alloc: Global, part: &[u8], solid: bool) -> Result<Option<Piece>, NoMem>
         requires { solid ≡ is_solid self.old.state part.now }
         ensures told { IfOk result (λ piece. piece ≡ told_of (grown_summary self.old part.now)) }
-        ensures new { OnOk result (self.new ≡ start) }
+        ensures new { OnOk result (self.new ≡ start_summary) }
         ensures err { OnErr result (self.new ≡ self.old) }
     {
         let piece = if either(self.long, is_above_limit(self.kept.len(), part.len())) {

@@ -3,7 +3,7 @@ use Rattle.std.proofs.lemmas.Result.{on_ok_weaker, on_err_weaker}
 use Rattle.pq_row_code.specs.Changes.{changes_code}
 use Rattle.pq_content.specs.Pairs.{Change}
 use Rattle.pq_content.specs.Standing.{change_of}
-use Rattle.pq_intent.specs.Changing.{after, IsPartway}
+use Rattle.pq_intent.specs.Changing.{content_after, IsPartway}
 use Rattle.pq_intent.proofs.Steps.{on_err_holds}
 use Rattle.pq_intent.proofs.Ends.{with_removal, steps_are, settles_itself, commit_started, commit_stopped, commit_made}
 use Rattle.pq_intent.proofs.commits.commit_by_intent.Goals as goal
@@ -23,7 +23,7 @@ pub returns-clause-made : goal.returns-clause-made
 returns-clause-made g c =
     let steps : map change_of c.items-3.result.now ++ (c.items-2.result.now, None) ∷ [] ≡ with_removal c.args.changes.now = steps_are c.items-3.result.now c.args.changes.now c.items-2.result.now c.items-3.ensures (c.items-2.ensures ∙ c.in_ok-key-2.ensures.back) in
     on_ok_weaker c.finish.result (λ made pairs s. commit_made pairs c.args.changes.now s.no_intent c.requires.coded c.requires.intended (g.S.Store.content c.put_intent.new.store) (g.S.Store.content c.finish.new.store) c.items.result.now (c.in_ok-key-2.ensures.put pairs s)
-    (made ∙ ap (λ (l : List Change). after l (g.S.Store.content c.put_intent.new.store)) steps)) c.finish.ensures.made
+    (made ∙ ap (λ (l : List Change). content_after l (g.S.Store.content c.put_intent.new.store)) steps)) c.finish.ensures.made
 
 pub returns-clause-stopped : goal.returns-clause-stopped
 returns-clause-stopped g c =

@@ -1,7 +1,7 @@
 use Rattle.std.proofs.Common.{◌≡◌, ap, ◌∙◌, subst, length, List, Some}
 use Rattle.std.proofs.lemmas.Result.{IfOk-weaker, on_ok_weaker, on_err_weaker}
 use Rattle.pq_content.specs.Pairs.{Change}
-use Rattle.pq_intent.specs.Changing.{after, IsPartway}
+use Rattle.pq_intent.specs.Changing.{content_after, IsPartway}
 use Rattle.pq_intent.specs.Counting.{settled_changes, HasNumbers}
 use Rattle.pq_intent.specs.Settling.{IsIntentOf, IsNoIntent}
 use Rattle.pq_intent.proofs.Ends.{steps_are, is_read, none_made, is_made, never_settles, changes_made, changes_stopped}
@@ -29,7 +29,7 @@ returns-in-Some-clause-settles g c =
     let intent = rw c.in-Some.is at c.in_ok-intent_of.ensures.found in
     let steps = steps_are c.in-Some.changes c.in-Some.changes c.items-in-Some.result.now (λ _. c.in-Some.changes) (c.items-in-Some.ensures ∙ c.in_ok-key.ensures) in
     on_ok_weaker c.settle_changes.result (λ made. changes_made _ (g.S.Store.content c.get.new.self) _ c.in-Ok-Some.field-0 c.in-Ok-Some.value c.in-Some.changes read c.in-Ok-Some.field-0-is (subst (IsIntentOf c.in-Some.changes) c.items-2.ensures intent) c.get.ensures.same
-    (made ∙ ap (λ (l : List Change). after l (g.S.Store.content c.get.new.self)) steps)) c.settle_changes.ensures.made
+    (made ∙ ap (λ (l : List Change). content_after l (g.S.Store.content c.get.new.self)) steps)) c.settle_changes.ensures.made
 
 pub returns-in-Some-clause-made : goal.returns-in-Some-clause-made
 returns-in-Some-clause-made g c =

@@ -1,7 +1,7 @@
 use Rattle.std.proofs.Common.{rules, ◌∷◌, ◌++◌, List, IsPermutation, refl, sym, subst}
 use Rattle.pq_scan.specs.declared.merge.Numbered.{Numbered}
 use Rattle.pq_scan.specs.declared.merge.Rising.{Rising}
-use Rattle.pq_scan.specs.Merging.{numbered_items, waiting_heads, IsUpTo}
+use Rattle.pq_scan.specs.Merging.{numbered_items, waiting_heads, IsUpToNumbered}
 use Rattle.pq_scan.proofs.Merging.{rises_before, set_aside, moved_before}
 use Rattle.pq_scan.proofs.merge.put_before.Goals as goal
 
@@ -14,7 +14,7 @@ returns-then-is_gt-clause-same c =
 
 pub returns-clause-rises : goal.returns-clause-rises
 returns-clause-rises c =
-    let up : IsUpTo c.args.item c.args.list.head = search rules in
+    let up : IsUpToNumbered c.args.item c.args.list.head = search rules in
     rises_before c.args.item c.args.list (record { head = c.args.item; behind = c.push-2.new.self }) c.requires.rises up refl c.in_ok-push-2.ensures.items
 
 pub returns-clause-same : goal.returns-clause-same

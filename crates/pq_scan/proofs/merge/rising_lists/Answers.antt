@@ -2,7 +2,7 @@ use Rattle.std.proofs.Common.{◌≡◌, ◌++◌, [], List, sym, subst, arith}
 use Rattle.std.proofs.lemmas.List.{nil_from_length}
 use Rattle.std.specs.List.{AllByRecursion}
 use Rattle.pq_scan.specs.declared.merge.Rising.{Rising}
-use Rattle.pq_scan.specs.Merging.{numbered_from, numbered_items, waiting_heads, IsRising}
+use Rattle.pq_scan.specs.Merging.{numbered_from, numbered_items, waiting_heads, IsRisingList}
 use Rattle.pq_scan.proofs.Merging.{alone, first_one, one_more, all_listed}
 use Rattle.pq_scan.proofs.merge.rising_lists.Goals as goal
 
@@ -11,7 +11,7 @@ loop-candidate-init c =
     let list : Rising = record { head = record { candidate = c.in-Some.candidate; number = c.len.result }; behind = c.new.result } in
     let front = c.pop.new.self in (
       alone list c.new.ensures.items,
-      subst (λ (l : List Rising). AllByRecursion IsRising l) (sym c.new-lists.ensures.items) tt,
+      subst (λ (l : List Rising). AllByRecursion IsRisingList l) (sym c.new-lists.ensures.items) tt,
       first_one c.args.found.items front.items c.in-Some.candidate c.len.result c.new.result.items c.new-lists.result.items c.in-Some.ensures.items (omega (arith, c.len.ensures, front.ok.0)) c.new.ensures.items c.new-lists.ensures.items,
     )
 

@@ -9,7 +9,7 @@ use Rattle.pq_calls.specs.Calls.{Uses, Fails}
 use Rattle.pq_calls.specs.World.{where_told}
 use Rattle.pq_plan.specs.Nodes.{stop_scan}
 use Rattle.pq_nodes.specs.Inverse.{IsRelationOf}
-use Rattle.pq_nodes.specs.Operators.{IsAsked, AreInputs, IsCursor, AffordsNode, AreFound, Answers, ShowsRead}
+use Rattle.pq_nodes.specs.Operators.{IsAsked, AreInputs, IsCursor, AffordsNode, AreFound, AnswersNode, ShowsRead}
 use Rattle.pq_nodes.specs.Paid.{node_cost}
 use Rattle.pq_scan.specs.Prepared.{Subject}
 use Rattle.pq_scan.proofs.scanning.scan_inputs.Goals as goal
@@ -51,4 +51,4 @@ pub returns-clause-found : goal.returns-clause-found
 returns-clause-found g c = subst (λ (s : Subject). IfOk c.run.result (AreFound s.tables s.query s.rel (length c.args.inputs.now) (stop_scan s.rel c.args.k s.access))) c.in_ok-scan.ensures.subject c.run.ensures.found
 
 pub returns-clause-answer : goal.returns-clause-answer
-returns-clause-answer g c = subst (λ (s : Subject). IfOk c.run.result (Answers (g.S.Store.content c.args.calls.now.store.now) s.tables s.query s.params (option_copied c.args.after) c.args.inputs.now (stop_scan s.rel c.args.k s.access))) c.in_ok-scan.ensures.subject c.run.ensures.answer
+returns-clause-answer g c = subst (λ (s : Subject). IfOk c.run.result (AnswersNode (g.S.Store.content c.args.calls.now.store.now) s.tables s.query s.params (option_copied c.args.after) c.args.inputs.now (stop_scan s.rel c.args.k s.access))) c.in_ok-scan.ensures.subject c.run.ensures.answer

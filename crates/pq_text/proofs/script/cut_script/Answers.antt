@@ -2,7 +2,7 @@ use Rattle.std.proofs.Common.{◌∙◌, ap, sym}
 use Rattle.std.proofs.lemmas.List.{take_all}
 use Rattle.pq_text.specs.Parts.{joined_parts}
 use Rattle.pq_text.specs.Pieces.{pieces_of, rest_of, is_unfinished}
-use Rattle.pq_text.specs.Summaries.{start, pieces_from, unfinished_from}
+use Rattle.pq_text.specs.Summaries.{start_summary, pieces_from, unfinished_from}
 use Rattle.pq_text.proofs.Feeding.{joined_parts_more, all_pieces, all_rest}
 use Rattle.pq_text.proofs.script.cut_script.Goals as goal
 
@@ -11,8 +11,8 @@ loop-part-preserved c =
     let i = c.loop-part.invariant in
     let fed = c.in_ok-feed_part.ensures in
     record {
-      pieces = λ more. fed.pieces more ∙ i.pieces _ ∙ sym (ap (pieces_from start) (joined_parts_more c.args.parts.now c.loop-part.part-index _ more c.loop-part-test.true));
-      rest = λ more. fed.rest more ∙ i.rest _ ∙ sym (ap (unfinished_from start) (joined_parts_more c.args.parts.now c.loop-part.part-index _ more c.loop-part-test.true));
+      pieces = λ more. fed.pieces more ∙ i.pieces _ ∙ sym (ap (pieces_from start_summary) (joined_parts_more c.args.parts.now c.loop-part.part-index _ more c.loop-part-test.true));
+      rest = λ more. fed.rest more ∙ i.rest _ ∙ sym (ap (unfinished_from start_summary) (joined_parts_more c.args.parts.now c.loop-part.part-index _ more c.loop-part-test.true));
     }
 
 pub returns-clause-pieces : goal.returns-clause-pieces

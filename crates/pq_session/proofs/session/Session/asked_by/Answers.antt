@@ -4,7 +4,7 @@ use Rattle.pq_base.specs.Answers.{Refuses}
 use Rattle.pq_index_keep.specs.Checking.{IsWriting, checked_write}
 use Rattle.pq_pages.specs.Running.{Running, running_of}
 use Rattle.pq_session.specs.Actions.{Creates, Explains, Prepares, Runs, Writes, action_from}
-use Rattle.pq_session.specs.Names.{IsNamed}
+use Rattle.pq_session.specs.Names.{IsNamedStatement}
 use Rattle.pq_session.specs.Planned.{IsPlanned}
 use Rattle.pq_session.specs.Planning.{PlannedDefinition, explained_name, plan_from}
 use Rattle.pq_session.specs.Requests.{RunsAs}
@@ -12,7 +12,7 @@ use Rattle.pq_session.proofs.Asked.{answer_refused, asking_refused, explains, ma
 use Rattle.pq_session.proofs.session.Session.asked_by.Goals as goal
 
 pub returns-in-Create-clause-asks : goal.returns-in-Create-clause-asks
-returns-in-Create-clause-asks c = rw c.in-Create.is (subst (IsNamed c.args.tokens.now) c.in-Create.is c.requires.named, refl)
+returns-in-Create-clause-asks c = rw c.in-Create.is (subst (IsNamedStatement c.args.tokens.now) c.in-Create.is c.requires.named, refl)
 
 pub returns-in_err-plan-in-Prepare-clause-refused : goal.returns-in_err-plan-in-Prepare-clause-refused
 returns-in_err-plan-in-Prepare-clause-refused c =
@@ -21,7 +21,7 @@ returns-in_err-plan-in-Prepare-clause-refused c =
 
 pub returns-in_ok-plan-in-Prepare-clause-asks : goal.returns-in_ok-plan-in-Prepare-clause-asks
 returns-in_ok-plan-in-Prepare-clause-asks c =
-    let named = subst (IsNamed c.args.tokens.now) c.in-Prepare.is c.requires.named in
+    let named = subst (IsNamedStatement c.args.tokens.now) c.in-Prepare.is c.requires.named in
     let e = c.in_ok-plan-in-Prepare.ensures in
     rw c.in-Prepare.is (
       may_be_defined c.args.self.now c.in-Prepare.name c.args.text.now c.args.tokens.now c.in-Prepare.from _ named.0 e.planned e.free,

@@ -1,7 +1,7 @@
 use Rattle.std.proofs.Common.{◌≡◌, Some, None, Ok, ◌∙◌, sym, option_copied}
 use Rattle.std.proofs.lemmas.Result.{err_from_is_err_and}
 use Rattle.pq_schema.specs.Schema.{find_query, query_at}
-use Rattle.pq_pages.specs.Running.{begins}
+use Rattle.pq_pages.specs.Running.{cursor_start}
 use Rattle.pq_session.proofs.Runs.{found_query, no_such_query, of_number, run_refused}
 use Rattle.pq_session.proofs.session.Session.asked_run.Goals as goal
 
@@ -22,7 +22,7 @@ returns-in_err-after-clause-refused c =
 pub returns-clause-runs : goal.returns-clause-runs
 returns-clause-runs c =
     let found : find_query c.args.self.now c.args.name ≡ Some c.in-Some.query = rw (← c.self.view_is) (sym c.find_query.ensures ∙ c.in-Some.is) in
-    let begun : begins c.args.self.now.tables c.in-Some.query (query_at c.args.self.now c.in-Some.query) c.args.params (option_copied c.args.after) ≡ Ok c.in_ok-after.after =
+    let begun : cursor_start c.args.self.now.tables c.in-Some.query (query_at c.args.self.now c.in-Some.query) c.args.params (option_copied c.args.after) ≡ Ok c.in_ok-after.after =
     rw (← c.self.view_is) c.in_ok-after.ensures.answer in
     record {
       number = found_query c.args.self.now c.args.name c.in-Some.query found;
