@@ -2,6 +2,7 @@ pub mod Entering
 pub mod Filled
 pub mod Finals
 pub mod Following
+pub mod Lasting
 pub mod Standing
 pub mod Ranges
 pub mod Reading

@@ -4,6 +4,7 @@ ghost use Rattle.pq_content.specs.Pairs.{is_of_rows};
 ghost use Rattle.pq_store.specs.Breaks.{IfDamaged, IsPresent, IsUndamaged};
 ghost use Rattle.pq_store.specs.Content.{HasBrokeCause, Content};
 ghost use Rattle.pq_intent.specs.Spending.{TakesAtMost};
+ghost use Rattle.pq_intent.specs.Changing.{StaysUntold};
 ghost use Rattle.pq_builds.specs.Bounds.{left_bound};
 ghost use Rattle.pq_builds.specs.Filling.{row_pairs_in, IsNoRowAmong, NamesKey, fill_ops};
 ghost use Rattle.pq_builds.specs.Stages.{marked_value, IsMarked, IsReady, IsBuilt, StopsFilling, StopsBuilding, ShowsBuild, ShowsLeft, RanBuild, Takes, TakesBuild, IsFew, IsWithinBuild, build_ops, left_ops};
@@ -55,6 +56,7 @@ fn mark<S: Store<L>, L: Ledger>(
     ensures takes { OnOk result (Takes 1 0 meter.old meter.new) }
     ensures few { meter.new.ops ≤ meter.old.ops + 1 }
     ensures entries { meter.new.entries ≡ meter.old.entries }
+    ensures untold { StaysUntold (S.content store.old) (S.content store.new) }
     ensures cause { HasBrokeCause (S.faults store.old) (S.faults store.new) result }
 {
     let value = value_of(alloc, query, BUILDING)?;
@@ -95,6 +97,7 @@ fn finish<S: Store<L>, L: Ledger>(
     ensures few_entries { meter.new.entries ≤ meter.old.entries + (count + 256) }
     ensures told { OnErr result (IfSome (S.content store.old) (λ c.
         length (row_pairs_in target.now.table c) ≡ count → meter.new.entries ≤ meter.old.entries + count)) }
+    ensures untold { StaysUntold (S.content store.old) (S.content store.new) }
     ensures cause { HasBrokeCause (S.faults store.old) (S.faults store.new) result }
 {
     let value = value_of(alloc, query, READY)?;
@@ -124,6 +127,7 @@ fn build_rows<S: Store<L>, L: Ledger>(
     ensures takes { OnOk result (Takes (fill_ops count + 2) count meter.old meter.new) }
     ensures few_ops { meter.new.ops ≤ meter.old.ops + (fill_ops count + 2) }
     ensures few_entries { meter.new.entries ≤ meter.old.entries + (count + 256) }
+    ensures untold { StaysUntold (S.content store.old) (S.content store.new) }
     ensures cause { HasBrokeCause (S.faults store.old) (S.faults store.new) result }
 {
     mark(alloc, query, store, meter)?;
@@ -150,6 +154,7 @@ fn run_build<S: Store<L>, L: Ledger>(
     ensures few { IfOk result IsFew }
     ensures takes { IfOk result (λ built. TakesBuild built meter.old meter.new) }
     ensures within { OnErr result (IsWithinBuild build_ops meter.old meter.new) }
+    ensures untold { StaysUntold (S.content store.old) (S.content store.new) }
     ensures cause { HasBrokeCause (S.faults store.old) (S.faults store.new) result }
 {
     match count_rows(alloc, target.table, store, meter)? {
@@ -225,6 +230,7 @@ pub fn build_index<S: Store<L>, L: Ledger>(
     ensures few { IfOk result IsFew }
     ensures takes { IfOk result (λ built. TakesBuild built meter.old meter.new) }
     ensures within { OnErr result (IsWithinBuild build_ops meter.old meter.new) }
+    ensures untold { StaysUntold (S.content store.old) (S.content store.new) }
     ensures cause { HasBrokeCause (S.faults store.old) (S.faults store.new) result }
 {
     run_build(alloc, target, query, store, meter)

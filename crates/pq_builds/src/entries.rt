@@ -7,7 +7,7 @@ ghost use Rattle.pq_row_code.specs.RowCode.{row_code};
 ghost use Rattle.pq_store.specs.Breaks.{IfDamaged, IsUndamaged};
 ghost use Rattle.pq_store.specs.Content.{HasBrokeCause, entry, written_content};
 ghost use Rattle.pq_store.specs.Counts.{charged_counts};
-ghost use Rattle.pq_intent.specs.Changing.{MayChange};
+ghost use Rattle.pq_intent.specs.Changing.{MayChange, StaysUntold};
 ghost use Rattle.pq_builds.specs.Filling.{IsEntryIn, Enters, EntersSome, IsNoRowPair, IsNoRowAmong, HasValue};
 
 use crate::target::{Target, entry_of};
@@ -30,6 +30,7 @@ pub(crate) fn put<S: Store<L>, L: Ledger>(
     ensures stopped { OnErr result (MayChange (key.now, Some value.now) (S.content store.old) (S.content store.new)) }
     ensures sound { IfErr result IsUndamaged }
     ensures meter { meter.new ≡ charged_counts meter.old 0 }
+    ensures untold { StaysUntold (S.content store.old) (S.content store.new) }
     ensures cause { HasBrokeCause (S.faults store.old) (S.faults store.new) result }
 {
     match store.write(alloc, key, Guard::Any, Some(value), meter) {
@@ -77,6 +78,7 @@ fn write_entry<S: Store<L>, L: Ledger>(
     ensures one { OnOk result (meter.new.ops ≡ meter.old.ops + 1) }
     ensures few { meter.new.ops ≤ meter.old.ops + 1 }
     ensures entries { meter.new.entries ≡ meter.old.entries }
+    ensures untold { StaysUntold (S.content store.old) (S.content store.new) }
     ensures cause { HasBrokeCause (S.faults store.old) (S.faults store.new) result }
 {
     match entry_in(alloc, target, pair)? {
@@ -102,6 +104,7 @@ pub(crate) fn write_entries<S: Store<L>, L: Ledger>(
     ensures each { OnOk result (meter.new.ops ≡ meter.old.ops + length pairs.now) }
     ensures few { meter.new.ops ≤ meter.old.ops + length pairs.now }
     ensures entries { meter.new.entries ≡ meter.old.entries }
+    ensures untold { StaysUntold (S.content store.old) (S.content store.new) }
     ensures cause { HasBrokeCause (S.faults store.old) (S.faults store.new) result }
 {
     for pair in pairs {

@@ -3,6 +3,7 @@ ghost use Rattle.std.specs.Prelude.{◌≡◌, ◌≤◌, ◌+◌, ◌/◌, true
 ghost use Rattle.pq_content.specs.Pairs.{is_in_space};
 ghost use Rattle.pq_store.specs.Breaks.{IfDamaged};
 ghost use Rattle.pq_store.specs.Content.{pairs_within, HasBrokeCause, entry};
+ghost use Rattle.pq_intent.specs.Changing.{StaysUntold};
 ghost use Rattle.pq_builds.specs.Filling.{first_key, past_key, row_pairs_in, IsPast, Enters, EntersSome, Follows, ShowsRange, IsNoRowAmong, NamesKey, fill_ops};
 
 use crate::entries::write_entries;
@@ -80,6 +81,7 @@ fn fill_next<S: Store<L>, L: Ledger>(
     // Over a told content, at most the pairs that are there.
     ensures told { IfSome (S.content store.old) (λ c.
         meter.new.entries ≤ meter.old.entries + length (pairs_within c low (past_key target.now.table))) }
+    ensures untold { StaysUntold (S.content store.old) (S.content store.new) }
     ensures cause { HasBrokeCause (S.faults store.old) (S.faults store.new) result }
 {
     let high = past_key(alloc, target.table)?;
@@ -121,6 +123,7 @@ pub(crate) fn fill_rows<S: Store<L>, L: Ledger>(
     ensures few_entries { meter.new.entries ≤ meter.old.entries + (count + 256) }
     ensures told { OnErr result (IfSome (S.content store.old) (λ c.
         length (row_pairs_in target.now.table c) ≡ count → meter.new.entries ≤ meter.old.entries + count)) }
+    ensures untold { StaysUntold (S.content store.old) (S.content store.new) }
     ensures cause { HasBrokeCause (S.faults store.old) (S.faults store.new) result }
 {
     let mut low = first_key(alloc, target.table)?;

@@ -7,6 +7,7 @@ ghost use Rattle.pq_content.specs.Standing.{change_of, AreIntended};
 ghost use Rattle.pq_key_code.specs.KeyCode.{intent_key};
 ghost use Rattle.pq_store.specs.Content.{HasBrokeCause, Content};
 ghost use Rattle.pq_store.specs.Breaks.{IfDamaged, IsPresent, IsUndamaged};
+ghost use Rattle.pq_intent.specs.Changing.{IfDamagedSame};
 ghost use Rattle.pq_intent.specs.Settling.{IsSettled, Settles, HasIntent};
 ghost use Rattle.pq_intent.specs.Spending.{Spends, write_ops};
 
@@ -37,6 +38,7 @@ fn put_intent<S: Store<L>, L: Ledger>(
     ensures taken { HasIntent (S.content store.old) → IsErr result × (S.content store.new ≡ S.content store.old) }
     ensures damage { IfErr result (λ broke. IfSome (S.content store.old)
         (λ pairs. IfDamaged (IsPresent intent_key pairs) broke)) }
+    ensures kept { IfErr result (IfDamagedSame (S.content store.old) (S.content store.new)) }
     ensures spends { Spends 1 allowance.old allowance.new meter.old meter.new }
     ensures cause { HasBrokeCause (S.faults store.old) (S.faults store.new) result }
 {
@@ -67,6 +69,7 @@ fn commit_by_intent<S: Store<L>, L: Ledger>(
     ensures taken { HasIntent (S.content store.old) → IsErr result × (S.content store.new ≡ S.content store.old) }
     ensures damage { IfErr result (λ broke. IfSome (S.content store.old)
         (λ pairs. IfDamaged (IsPresent intent_key pairs) broke)) }
+    ensures kept { IfErr result (IfDamagedSame (S.content store.old) (S.content store.new)) }
     ensures spends { Spends (length changes.now + 2) allowance.old allowance.new meter.old meter.new }
     ensures cause { HasBrokeCause (S.faults store.old) (S.faults store.new) result }
 {
@@ -102,6 +105,7 @@ pub fn commit<S: Store<L>, L: Ledger>(
         → IsErr result × (S.content store.new ≡ S.content store.old) }
     ensures damage { IfErr result (λ broke. IfSome (S.content store.old)
         (λ pairs. IfDamaged (IsPresent intent_key pairs) broke)) }
+    ensures kept { IfErr result (IfDamagedSame (S.content store.old) (S.content store.new)) }
     // Over every store, told or not, and also on an error.
     ensures spends { Spends (write_ops (length changes)) allowance.old allowance.new meter.old meter.new }
     ensures cause { HasBrokeCause (S.faults store.old) (S.faults store.new) result }

@@ -23,6 +23,7 @@ use Rattle.pq_store.specs.Content.{Content}
 use Rattle.pq_store.specs.Counts.{Counts, charged_counts}
 use Rattle.pq_store.specs.declared.damage.Broke.{Broke}
 use Rattle.pq_store.specs.declared.damage.Broke.TheVariants as broke
+use Rattle.pq_intent.specs.Changing.{IfDamagedSame}
 use Rattle.pq_session.specs.Evidence.{TellsEvidence}
 use Rattle.pq_store.specs.declared.damage.Damage.{Damage}
 use Rattle.pq_schema.specs.Names.{IsName, IsTableDef}
@@ -35,7 +36,8 @@ use Rattle.pq_session.specs.Model.{Model}
 use Rattle.pq_print.specs.declared.report.Report.{Report}
 use Rattle.pq_schema.specs.Tables.{table_at, no_table}
 use Rattle.pq_session.specs.Extends.{Extends}
-use Rattle.pq_session.specs.Promise.{DoneStatement as Promised, BrokenStatement, Promises, IsBound, IsWithin, IsWithinFixed}
+use Rattle.pq_intent.specs.Spending.{TakesAtMost}
+use Rattle.pq_session.specs.Promise.{DoneStatement as Promised, BrokenStatement, Promises, IsBound, IsWithinFixed}
 use Rattle.pq_session.specs.Reports.{define_report}
 use Rattle.pq_session.specs.Stands.{HoldsModel, Stands, content_of, value_at, last_key, last_value}
 use Rattle.pq_builds.specs.Bounds.{bound}
@@ -49,6 +51,7 @@ use Rattle.pq_plan.specs.Cost.{cost}
 use Rattle.pq_session.proofs.Definitions.{next_absent, put_table, put_query}
 use Rattle.pq_session.proofs.Standing.{settled_opens}
 use Rattle.pq_session.proofs.Made.{made_of, made_room, small_of}
+use Rattle.pq_session.proofs.Promises.{shown_still}
 
 -- the model with one more definition
 abbrev pub defined : Model → ℕ → Schema → List Line → Step
@@ -130,17 +133,22 @@ module _ (number : ℕ) (lines : List Line) (action : Action) (old now : Option 
 
   -- the key is absent, so that no damage is found
   pub define_broken : (before after : Counts) (broke : Broke) → MayPut (last_key next) (last_value next) old now
-      → IfSome old (λ pairs. get pairs (last_key next) ≡ None → IsUndamaged broke) → IsWithin (bound 1 0) before after
-      → length schema.definitions + 1 ≡ length next.definitions → IfSome old (λ pairs. IfDamaged (IsPresent (last_key next) pairs) broke) → BrokenStatement number (Ok action) old now schema before after broke
-  define_broken before after broke may sound within more shows = record {
+      → IfSome old (λ pairs. get pairs (last_key next) ≡ None → IsUndamaged broke) → TakesAtMost (bound 1 0) before after
+      → length schema.definitions + 1 ≡ length next.definitions → IfSome old (λ pairs. IfDamaged (IsPresent (last_key next) pairs) broke)
+      → IfDamagedSame old now broke → BrokenStatement number (Ok action) old now schema before after broke
+  define_broken before after broke may sound within more shows same = record {
     stopped = λ m s. elim (subst (λ o. MayPut (last_key next) (last_value next) o now) s.settled.told may) [
       | inl same ↦ inl (settled_opens (record { valid = s.settled.valid; keeps = s.settled.keeps; told = same }))
       | inr put ↦ inr (settled_opens (subst (λ (x : Step). HoldsModel now x.model) (sym (leads m s).1) (added m s put.1)))
     ];
     sound = λ m s. subst (λ o. IfSome o (λ pairs. get pairs (last_key next) ≡ None → IsUndamaged broke)) s.settled.told sound (leads m s).0.absent;
     within = subst (λ (b : Option Bound). IsWithinFixed b before after) (sym one) within;
-    shown = present_shown old schema broke (subst (λ n. IfSome old (λ pairs. IfDamaged (IsPresent (catalog_key n) pairs) broke)) (sym more) shows);
+    shown = here more shows;
+    lasting = shown_still old now schema broke same (here more shows);
   }
+    where
+      here : length schema.definitions + 1 ≡ length next.definitions → IfSome old (λ pairs. IfDamaged (IsPresent (last_key next) pairs) broke) → IfSome old (λ content. TellsEvidence schema content broke)
+      here more shows = present_shown old schema broke (subst (λ n. IfSome old (λ pairs. IfDamaged (IsPresent (catalog_key n) pairs) broke)) (sym more) shows)
 
 -- ---- tables
 
@@ -165,8 +173,9 @@ IsWritten old now next number lines before after result =
     × OnErr result (MayPut (last_key next) (last_value next) old now)
     × IfErr result (λ broke. IfSome old (λ pairs. get pairs (last_key next) ≡ None → IsUndamaged broke))
     × OnOk result (after ≡ charged_counts before 0)
-    × IsWithin (bound 1 0) before after
+    × TakesAtMost (bound 1 0) before after
     × IfErr result (λ broke. IfSome old (λ pairs. IfDamaged (IsPresent (last_key next) pairs) broke))
+    × IfErr result (IfDamagedSame old now)
 
 written_as : (action : Action) (old now : Option Content) (schema next : Schema) (number : ℕ) (lines : List Line) (before after : Counts) (result : Result (Schema × Report) Broke)
     → ((m : Model) → Stands old schema m → Leads m next × (action_step m number action ≡ defined m number next lines)) → action_bound schema action ≡ Some (bound 1 0) → next ≡ action_schema schema action
@@ -174,7 +183,7 @@ written_as : (action : Action) (old now : Option Content) (schema next : Schema)
 written_as action old now schema next number lines before after (Ok made) leads one behind more h =
     rw (h.0.0, h.0.1, h.4) (define_done number lines action old now schema next leads one behind before h.1)
 written_as action old now schema next number lines before after (Err broke) leads one behind more h =
-    define_broken number lines action old now schema next leads one behind before after broke h.2 h.3 h.5 more h.6
+    define_broken number lines action old now schema next leads one behind before after broke h.2 h.3 h.5 more h.6 h.7
 
 pub table_written : (old now : Option Content) (schema session : Schema) (number : ℕ) (def : TableDef) → IsTableDef def → (t : ℕ) (before after : Counts) (result : Result (Schema × Report) Broke)
     → Extends schema def session (Ok t) → IsWritten old now session number (table_lines (table_at session.tables t)) before after result

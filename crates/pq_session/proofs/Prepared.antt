@@ -237,13 +237,15 @@ module _ (number : ℕ) (query : Query) (new : NewIndex) (best : Candidate) wher
         → ((origin : Origin) → HoldsOrigin origin target written old → IsUndamaged broke)
         → IfSome old (λ c. StopsBuilding target written c now)
         → IfSome old (λ content. TellsEvidence schema content broke)
+        → IfSome now (λ content. TellsEvidence schema content broke)
         → BuildsWithin build_ops before after
         → BrokenStatement number (Ok (Prepares plan)) old now schema before after broke
-    build_broken old now before after broke leaves sound ended shown within = record {
+    build_broken old now before after broke leaves sound ended shown lasting within = record {
       stopped = λ m s. stopped_at old now m s leaves ended;
       sound = λ m s. at_model (λ o t q. IsUndamaged broke) old m s sound;
       within = within;
       shown = shown;
+      lasting = lasting;
     }
 
     -- want of memory behind a build that was made
@@ -258,6 +260,7 @@ module _ (number : ℕ) (query : Query) (new : NewIndex) (best : Candidate) wher
       sound = λ m s. tt;
       within = record { count = count; few = few; ops = omega (arith, takes.ops_are); entries = omega (arith, takes.entries_are) };
       shown = sound_shown old schema broke.NoMem tt;
+      lasting = sound_shown now schema broke.NoMem tt;
     }
 
     -- want of memory behind a count of too many rows

@@ -16,6 +16,7 @@ use Rattle.pq_store.specs.Counts.{Counts}
 use Rattle.pq_store.specs.Content.{Content}
 use Rattle.pq_store.specs.declared.damage.Broke.{Broke}
 use Rattle.pq_store.specs.declared.damage.Broke.TheVariants as broke
+use Rattle.pq_intent.specs.Changing.{IfDamagedSame}
 use Rattle.pq_session.specs.Actions.{Action, Explains, Shows, action_bound, action_schema, action_of, asked_bound, asked_schema, schema_after, statement_bound}
 use Rattle.pq_session.specs.Evidence.{TellsEvidence}
 use Rattle.pq_session.specs.Model.{Model}
@@ -26,7 +27,8 @@ use Rattle.pq_text.specs.declared.piece.Piece.{Piece}
 use Rattle.pq_session.specs.Lines.{show_lines}
 use Rattle.pq_store.specs.Breaks.{IsUndamaged}
 use Rattle.pq_session.specs.Matches.{Matches}
-use Rattle.pq_session.specs.Promise.{DoneStatement, BrokenStatement, Promises, IsBound, IsRefusal, IsWithin, IsWithinFixed}
+use Rattle.pq_intent.specs.Spending.{TakesAtMost}
+use Rattle.pq_session.specs.Promise.{DoneStatement, BrokenStatement, Promises, IsBound, IsRefusal, IsWithinFixed}
 use Rattle.pq_session.proofs.Standing.{settled_opens}
 
 -- a statement that is refused before any call of the store changes nothing and uses nothing
@@ -52,6 +54,14 @@ sound_shown None schema broke sound = tt
 sound_shown (Some content) schema broke.Failed sound = tt
 sound_shown (Some content) schema broke.NoMem sound = tt
 sound_shown (Some content) schema (broke.Damaged damage) sound = absurd sound
+
+-- where damage left the content as it was, what showed it shows it still
+pub shown_still : (old now : Option Content) (schema : Schema) (broke : Broke) → IfDamagedSame old now broke → IfSome old (λ content. TellsEvidence schema content broke)
+    → IfSome now (λ content. TellsEvidence schema content broke)
+shown_still old now schema broke.Failed same shown = sound_shown now schema broke.Failed tt
+shown_still old now schema broke.NoMem same shown = sound_shown now schema broke.NoMem tt
+shown_still old now schema (broke.Damaged damage) same shown =
+    subst (λ (o : Option Content). IfSome o (λ content. TellsEvidence schema content (broke.Damaged damage))) (sym same) shown
 
 -- no call was made
 pub within_none : (most : Option Bound) (counts : Counts) → IsWithinFixed most counts counts
@@ -92,6 +102,7 @@ broken_same number asked old schema counts broke sound = record {
   sound = λ m s. sound;
   within = within_none (asked_bound schema asked) counts;
   shown = sound_shown old schema broke sound;
+  lasting = sound_shown old schema broke sound;
 }
 
 -- the same where the content is told to be as it was
@@ -103,6 +114,7 @@ broken_kept number asked old now schema before after broke same sound within sho
   sound = sound;
   within = within;
   shown = shown;
+  lasting = subst (λ (o : Option Content). IfSome o (λ content. TellsEvidence schema content broke)) (sym same) shown;
 }
 
 -- what is reported of the definitions alone makes no call of the store
@@ -163,11 +175,11 @@ module _ (number : ℕ) (piece : Piece) (old now : Option Content) (schema : Sch
   promised_stopped (Ok made) p = tt
   promised_stopped (Err broke) p = λ m s. subst (λ (x : Step). Opens now m ⊎ Opens now x.model) (step_is m s.known) (p.stopped m s)
 
-  within_fixed : (fixed : Option Bound) → IsWithinFixed fixed before after → IfSome fixed (λ most. IsWithin most before after)
+  within_fixed : (fixed : Option Bound) → IsWithinFixed fixed before after → IfSome fixed (λ most. TakesAtMost most before after)
   within_fixed None within = tt
   within_fixed (Some most) within = within
 
-  pub promised_within : (result : Result (Schema × Report) Broke) → Promised result → IfSome (statement_bound schema piece) (λ most. IsWithin most before after)
+  pub promised_within : (result : Result (Schema × Report) Broke) → Promised result → IfSome (statement_bound schema piece) (λ most. TakesAtMost most before after)
   promised_within (Ok made) p = within_fixed (statement_bound schema piece) (within_reported (statement_bound schema piece) made.1 before after p.bound p.ops p.entries p.few_ops p.few_entries)
   promised_within (Err broke) p = within_fixed (statement_bound schema piece) p.within
 
@@ -192,3 +204,7 @@ module _ (number : ℕ) (piece : Piece) (old now : Option Content) (schema : Sch
   pub promised_shown : (result : Result (Schema × Report) Broke) → Promised result → IfErr result (λ broke. IfSome old (λ content. TellsEvidence schema content broke))
   promised_shown (Ok made) p = tt
   promised_shown (Err broke) p = p.shown
+
+  pub promised_lasting : (result : Result (Schema × Report) Broke) → Promised result → IfErr result (λ broke. IfSome now (λ content. TellsEvidence schema content broke))
+  promised_lasting (Ok made) p = tt
+  promised_lasting (Err broke) p = p.lasting

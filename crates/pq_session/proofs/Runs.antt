@@ -31,7 +31,8 @@ use Rattle.pq_pages.specs.declared.page.Page.{Page}
 use Rattle.pq_session.specs.Evidence.{TellsEvidence}
 use Rattle.pq_session.specs.Matches.{Matches}
 use Rattle.pq_session.specs.Model.{Model}
-use Rattle.pq_session.specs.Promise.{BrokenStatement, DoneStatement, IsWithin}
+use Rattle.pq_intent.specs.Spending.{TakesAtMost}
+use Rattle.pq_session.specs.Promise.{BrokenStatement, DoneStatement}
 use Rattle.pq_session.specs.Reports.{page_report}
 use Rattle.pq_session.specs.Stands.{Stands, catalog_pairs}
 use Rattle.pq_session.specs.Actions.{Runs}
@@ -79,7 +80,7 @@ module _ (number : ℕ) (run : Running) (schema : Schema) where
   abbrev most : Bound
   most = query_bound schema.tables run.query
 
-  within_run : (before later : Counts) → RisesWithin most before later → IsWithin most before later
+  within_run : (before later : Counts) → RisesWithin most before later → TakesAtMost most before later
   within_run before later rises = record { ops = rises.few_ops; entries = rises.few_entries }
 
   page_matches : (m : Model) (page : Page) → schema ≡ m.schema → IsPageOver schema.tables m.rows run page → page.bound ≡ most → page.used.ops ≤ page.bound.ops → page.used.entries ≤ page.bound.entries

@@ -20,7 +20,7 @@ use Rattle.pq_builds.specs.Stages.{Takes, IsWithin as BuildsWithin, left_ops}
 use Rattle.pq_session.specs.declared.format.Mark.{Mark}
 use Rattle.pq_session.specs.declared.session.Started.{Started}
 use Rattle.pq_session.specs.Model.{Model}
-use Rattle.pq_session.specs.Opening.{none_added, completion_bound, opening_bound, intent_ops, catalog_in, AreFewRows, IsStarted, IsAsMarked, rows_of_mark, HasBuild, IsOpeningBound}
+use Rattle.pq_session.specs.Opening.{none_added, opening_of, completion_bound, opening_bound, intent_ops, catalog_in, AreFewRows, IsStarted, IsAsMarked, rows_of_mark, HasBuild, IsOpeningBound}
 use Rattle.pq_session.specs.Stands.{Opens, Holds}
 use Rattle.pq_session.specs.Within.{IsSomeOpeningBound, IsBounded, StopsWithin, IsWithinOpening}
 use Rattle.pq_session.proofs.Made.{small_of}
@@ -47,7 +47,7 @@ some_bound n rows h few = record {
   is = ap (λ (k : ℕ). bound (k + (completion_bound rows).ops) (257 + (completion_bound rows).entries)) (settled_ops h.changes n h.is);
 }
 
-pub is_bounded : (schema : Schema) (s : Started) (n : Settled) (before after : Counts) → HasNumbers n → IsStarted schema s n before after → IsBounded s
+pub is_bounded : (schema : Schema) (s : Started) (n : Settled) (before after : Counts) → HasNumbers n → IsStarted schema s n before after → IsBounded (opening_of s)
 is_bounded schema s n before after h started =
     let one = few_settled n h in
     let few = started.few in

@@ -19,9 +19,10 @@ use Rattle.pq_store.specs.Counts.{Counts, AllowedCounts, granted_counts, used_of
 use Rattle.pq_store.specs.declared.damage.Broke.{Broke}
 use Rattle.pq_store.specs.declared.damage.Broke.TheVariants as broke
 use Rattle.pq_store.specs.Breaks.{IfDamaged, IsPresent, IsUndamaged}
+use Rattle.pq_intent.specs.Changing.{IfDamagedSame}
 use Rattle.pq_session.specs.Evidence.{TellsEvidence}
 use Rattle.pq_intent.specs.Settling.{IsSettled, Settles}
-use Rattle.pq_intent.specs.Spending.{Spends}
+use Rattle.pq_intent.specs.Spending.{TakesAtMost, Spends}
 use Rattle.pq_text.specs.declared.token.Token.{Token}
 use Rattle.pq_print.specs.declared.report.Report.{Report}
 use Rattle.pq_def_read.specs.declared.statement.Statement.{Statement}
@@ -48,11 +49,12 @@ use Rattle.pq_schema.specs.Valid.{IsValid}
 use Rattle.pq_session.specs.Matches.{Matches}
 use Rattle.pq_session.specs.Model.{Model}
 use Rattle.pq_session.specs.Actions.{Writes}
-use Rattle.pq_session.specs.Promise.{DoneStatement, BrokenStatement, IsWithin}
+use Rattle.pq_session.specs.Promise.{DoneStatement, BrokenStatement}
 use Rattle.pq_session.specs.Stands.{HoldsModel, Stands, Opens, content_of, catalog_pairs}
 use Rattle.pq_session.specs.Step.{Step, report_of, refusal_report, refused_step, write_step, effected_as}
 use Rattle.pq_session.proofs.Catalogs.{are_beside}
 use Rattle.pq_session.proofs.Standing.{no_intent_in, settled_opens}
+use Rattle.pq_session.proofs.Promises.{shown_still}
 
 -- rows of the tables of a valid schema can be written
 pub writable_tables : (schema : Schema) → IsValid schema → writable.AreWritable schema.tables
@@ -211,22 +213,22 @@ changed_done number write changes old mid now schema most f0 f1 given left allow
 
 -- what was spent of the bound is not more than the bound
 pub planned_within : (most : Bound) (old mid : Option Content) (f0 f1 : ℕ) (given left : AllowedCounts) (before after : Counts) (ops entries : ℕ) → given ≡ granted_counts most.ops most.entries
-    → Reads (world old f0 given before) (world mid f1 left after) ops entries → IsWithin most before after
+    → Reads (world old f0 given before) (world mid f1 left after) ops entries → TakesAtMost most before after
 planned_within most old mid f0 f1 given left before after ops entries is reads = record {
   ops = omega (arith, reads.spent_ops, ap (λ (a : AllowedCounts). a.left.ops) is);
   entries = omega (arith, reads.spent_entries, ap (λ (a : AllowedCounts). a.left.entries) is);
 }
 
 committed_within : (most : Bound) (old mid : Option Content) (f0 f1 : ℕ) (given left allowed : AllowedCounts) (before between after : Counts) (ops entries limit : ℕ) → given ≡ granted_counts most.ops most.entries
-    → Reads (world old f0 given before) (world mid f1 left between) ops entries → Spends limit left allowed between after → IsWithin most before after
+    → Reads (world old f0 given before) (world mid f1 left between) ops entries → Spends limit left allowed between after → TakesAtMost most before after
 committed_within most old mid f0 f1 given left allowed before between after ops entries limit is reads spends = record {
   ops = omega (arith, reads.spent_ops, spends.ops, ap (λ (a : AllowedCounts). a.left.ops) is);
   entries = omega (arith, reads.spent_entries, spends.entries, ap (λ (a : AllowedCounts). a.left.entries) is);
 }
 
 -- the same of the bound of the write's step
-within_effected : (write : Write) (schema : Schema) (most : Bound) (before after : Counts) → most ≡ write_bound schema.tables write → IsWithin most before after → IsWithin (write_bound schema.tables write) before after
-within_effected write schema most before after is within = subst (λ (b : Bound). IsWithin b before after) is within
+within_effected : (write : Write) (schema : Schema) (most : Bound) (before after : Counts) → most ≡ write_bound schema.tables write → TakesAtMost most before after → TakesAtMost (write_bound schema.tables write) before after
+within_effected write schema most before after is within = subst (λ (b : Bound). TakesAtMost b before after) is within
 
 -- what explains damage shows it, and over what stands for a model there is none
 pub explained_shown : (old : Option Content) (schema : Schema) (error : Broke) (f0 f1 : ℕ) (given left : AllowedCounts) (before after : Counts) (now : Option Content)
@@ -258,6 +260,7 @@ planning_broke number write error old now schema most f0 f1 given left before af
   sound = λ m s. explained_sound old schema error f0 f1 given left before after now m s explains;
   within = within_effected write schema most before after is_most (planned_within most old now f0 f1 given left before after ops entries is_given reads);
   shown = explained_shown old schema error f0 f1 given left before after now explains;
+  lasting = subst (λ (o : Option Content). IfSome o (λ content. TellsEvidence schema content error)) (sym reads.same) (explained_shown old schema error f0 f1 given left before after now explains);
 }
 
 stopped_at : (m : Model) (number : ℕ) (write : Write) (changes : List Change) (now : Option Content) → IsValid m.schema → Keeps m.schema.tables m.rows
@@ -274,10 +277,11 @@ pub commit_broke : (number : ℕ) (write : Write) (changes : List Change) (error
     → ((rows : Rows) (others : List Pair) → keep.HoldsRows old schema.tables rows others → Plans schema.tables rows others write q)
     → ((pairs : Content) → IsSettled mid pairs → Settles now pairs ⊎ Settles now (changed_content (map change_of changes) pairs))
     → ((pairs : Content) → IsSettled mid pairs → IsUndamaged error) → IfSome mid (λ pairs. IfDamaged (IsPresent intent_key pairs) error)
-    → BrokenStatement number (Ok (Writes write)) old now schema before after error
-commit_broke number write changes error old mid now schema most f0 f1 given left allowed before between after ops entries limit q is_most is_given is reads spends answer stops sound shows = record {
+    → IfDamagedSame mid now error → BrokenStatement number (Ok (Writes write)) old now schema before after error
+commit_broke number write changes error old mid now schema most f0 f1 given left allowed before between after ops entries limit q is_most is_given is reads spends answer stops sound shows same = record {
   stopped = λ m s. stopped_at m number write changes now s.settled.valid s.settled.keeps (made_of schema m old write changes s (planned_as old schema write q changes is answer)) (stops (content_of m) (settled_for old mid schema m reads.same s));
   sound = λ m s. sound (content_of m) (settled_for old mid schema m reads.same s);
   within = within_effected write schema most before after is_most (committed_within most old mid f0 f1 given left allowed before between after ops entries limit is_given reads spends);
   shown = intent_shown old schema error (subst (λ (o : Option Content). IfSome o (λ pairs. IfDamaged (IsPresent intent_key pairs) error)) reads.same shows);
+  lasting = shown_still mid now schema error same (intent_shown mid schema error shows);
 }

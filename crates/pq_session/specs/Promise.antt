@@ -5,6 +5,7 @@ use Rattle.pq_schema.specs.Schema.{Schema}
 use Rattle.pq_base.specs.declared.refusal.Refusal.{Refusal}
 use Rattle.pq_builds.specs.Bounds.{build_bound}
 use Rattle.pq_builds.specs.Stages.{IsWithin as BuildsWithin, build_ops}
+use Rattle.pq_intent.specs.Spending.{TakesAtMost}
 use Rattle.pq_print.specs.declared.report.End.{End}
 use Rattle.pq_print.specs.declared.report.End.TheVariants as end
 use Rattle.pq_print.specs.declared.report.Report.{Report}
@@ -24,15 +25,10 @@ abbrev pub IsBound : Option Bound → Bound → Type 0
 IsBound None most = (rows : ℕ) × (most ≡ build_bound rows)
 IsBound (Some fixed) most = most ≡ fixed
 
--- the meter has risen by at most a bound
-pub record IsWithin (most : Bound) (before after : Counts) : Type 0 where
-  pub ops : after.ops ≤ before.ops + most.ops
-  pub entries : after.entries ≤ before.entries + most.entries
-
 -- by at most the fixed bound, or where there is none, by what a build takes
 abbrev pub IsWithinFixed : Option Bound → Counts → Counts → Type 0
 IsWithinFixed None before after = BuildsWithin build_ops before after
-IsWithinFixed (Some most) before after = IsWithin most before after
+IsWithinFixed (Some most) before after = TakesAtMost most before after
 
 abbrev pub IsRefusal : End → Type 0
 IsRefusal end.Done = ⊥
@@ -62,6 +58,7 @@ pub record BrokenStatement (number : ℕ) (asked : Result Action Refusal) (old n
   pub sound : (m : Model) → Stands old schema m → IsUndamaged broke
   pub within : IsWithinFixed (asked_bound schema asked) before after
   pub shown : IfSome old (λ content. TellsEvidence schema content broke)
+  pub lasting : IfSome now (λ content. TellsEvidence schema content broke)
 
 abbrev pub Promises : ℕ → Result Action Refusal → Option Content → Option Content → Schema → Counts → Counts
     → Result (Schema × Report) Broke → Type 0

@@ -1,11 +1,11 @@
 -- What an opening takes, over every store and over one that opens to a model.
 use Rattle.std.specs.Prelude.{◌≡◌, ℕ, ◌+◌, ◌≤◌, Option}
 use Rattle.pq_base.specs.declared.number.Bound.{Bound}
+use Rattle.pq_print.specs.declared.report.Opened.{Opened}
 use Rattle.pq_store.specs.Content.{Content}
 use Rattle.pq_store.specs.Counts.{Counts}
 use Rattle.pq_intent.specs.Counting.{AreFewChanges}
 use Rattle.pq_intent.specs.Spending.{TakesAtMost}
-use Rattle.pq_session.specs.declared.session.Started.{Started}
 use Rattle.pq_session.specs.Model.{Model}
 use Rattle.pq_session.specs.Opening.{AreFewRows, opening_bound, IsOpeningBound}
 
@@ -17,11 +17,11 @@ pub record IsSomeOpeningBound (most : Bound) : Type 0 where
   pub few_rows : AreFewRows rows
   pub is : most ≡ opening_bound changes rows
 
--- what was opened has such a bound, and used at most that
-pub record IsBounded (started : Started) : Type 0 where
-  pub most : IsSomeOpeningBound started.bound
-  pub ops : started.used.ops ≤ started.bound.ops
-  pub entries : started.used.entries ≤ started.bound.entries
+-- an opening's line has such a bound, and tells at most that as used
+pub record IsBounded (opened : Opened) : Type 0 where
+  pub most : IsSomeOpeningBound opened.bound
+  pub ops : opened.used.ops ≤ opened.bound.ops
+  pub entries : opened.used.entries ≤ opened.bound.entries
 
 -- where an opening breaks off, it is within such a bound, and the entries of one range more: the catalog may have a
 -- pair more than there may be definitions, and a store may give other rows than it counts

@@ -9,7 +9,9 @@ ghost use Rattle.pq_schema.specs.Resolved.{IsResolved};
 ghost use Rattle.pq_schema.specs.Wanted.{IsWanted};
 ghost use Rattle.pq_session.specs.Extends.{Extends, ExtendsBy};
 ghost use Rattle.pq_store.specs.Breaks.{IfDamaged, IsPresent, IsUndamaged};
-ghost use Rattle.pq_session.specs.Promise.{Promises, IsWithin};
+ghost use Rattle.pq_intent.specs.Changing.{IfDamagedSame};
+ghost use Rattle.pq_intent.specs.Spending.{TakesAtMost};
+ghost use Rattle.pq_session.specs.Promise.{Promises};
 ghost use Rattle.pq_session.specs.Reports.{define_report};
 ghost use Rattle.pq_session.specs.Kept.{IsPlanWanting};
 ghost use Rattle.pq_session.specs.Actions.{Action, Creates, Prepares, action_from};
@@ -87,9 +89,10 @@ fn put_absent<S: Store<L>, L: Ledger>(
     ensures damage { IfErr result (λ broke. IfSome (S.content store.old)
         (λ pairs. value_at_key pairs pair.key ≡ None → IsUndamaged broke)) }
     ensures meter { OnOk result (meter.new ≡ charged_counts meter.old 0) }
-    ensures within { IsWithin (bound 1 0) meter.old meter.new }
+    ensures within { TakesAtMost (bound 1 0) meter.old meter.new }
     ensures shown { IfErr result (λ broke. IfSome (S.content store.old)
         (λ pairs. IfDamaged (IsPresent pair.key pairs) broke)) }
+    ensures kept { IfErr result (IfDamagedSame (S.content store.old) (S.content store.new)) }
     ensures cause { HasBrokeCause (S.faults store.old) (S.faults store.new) result }
 {
     let Pair { key, value } = pair;
@@ -190,9 +193,10 @@ impl Session {
         ensures damage { IfErr result (λ broke. IfSome (S.content store.old)
             (λ pairs. value_at_key pairs (last_key self) ≡ None → IsUndamaged broke)) }
         ensures meter { OnOk result (meter.new ≡ charged_counts meter.old 0) }
-        ensures within { IsWithin (bound 1 0) meter.old meter.new }
+        ensures within { TakesAtMost (bound 1 0) meter.old meter.new }
         ensures shown { IfErr result (λ broke. IfSome (S.content store.old)
             (λ pairs. IfDamaged (IsPresent (last_key self) pairs) broke)) }
+        ensures kept { IfErr result (IfDamagedSame (S.content store.old) (S.content store.new)) }
         ensures cause { HasBrokeCause (S.faults store.old) (S.faults store.new) result }
     {
         let pair = last_pair(alloc, &self.catalog)?;

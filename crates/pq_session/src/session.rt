@@ -8,12 +8,13 @@ ghost use Rattle.pq_print.specs.declared.report.End.TheVariants as End;
 ghost use Rattle.pq_base.specs.declared.refusal.Refusal.{Refusal};
 ghost use Rattle.pq_session.specs.Model.{Model as Tables};
 ghost use Rattle.pq_session.specs.Opening.{opening_of, started_of, none_added, added_from, catalog_in, completion_bound, AreFewRows, HasFewLeft, IsStarted, IsAsMarked, rows_of_mark, TellsSchema, NamesPair, NamesFlaw, ShowsMarked};
+ghost use Rattle.pq_schema.specs.Valid.{IsValid};
 ghost use Rattle.pq_session.specs.Within.{IsBounded, StopsWithin, IsWithinOpening};
 ghost use Rattle.pq_store.specs.Breaks.{IsUndamaged};
 ghost use Rattle.pq_session.specs.Matches.{Matches, IsOpening};
 ghost use Rattle.pq_session.specs.Evidence.{TellsEvidence};
 ghost use Rattle.pq_session.specs.Actions.{Action, action_of, schema_after, statement_bound};
-ghost use Rattle.pq_session.specs.Promise.{Promises, IsBound, IsRefusal, IsWithin, IsWithinFixed};
+ghost use Rattle.pq_session.specs.Promise.{Promises, IsBound, IsRefusal, IsWithinFixed};
 ghost use Rattle.pq_session.specs.Requests.{Asks, IsRequest};
 ghost use Rattle.pq_session.specs.Stands.{HoldsModel, Stands, Opens, last_made};
 ghost use Rattle.pq_builds.specs.Bounds.{bound};
@@ -84,7 +85,9 @@ fn opened_by(session: Session, settled: &Settled, rows: Option<u32>) -> Started
     requires rows { AreFewRows rows }
     ensures started { result ≡ started_of session settled.now (length session.definitions) rows }
     ensures few { length session.definitions ≤ 256 }
+    ensures valid { IsValid result.session }
 {
+    session.catalog.known();
     let defs = session.catalog.defs();
     let (ops, entries) = match rows {
         None => (0, 0),
@@ -131,9 +134,11 @@ impl Session {
         ensures kept { (m : Tables) → Opens (S.content store.old) m → Opens (S.content store.new) m }
         ensures ops { IfOk result (λ s. meter.new.ops ≡ meter.old.ops + s.used.ops) }
         ensures entries { IfOk result (λ s. meter.new.entries ≡ meter.old.entries + s.used.entries) }
-        // Over every store: the bound is one of an opening, and what is used is at most it. Where it breaks off, the
-        // meter rose by at most such a bound and one range more; over a store that opens to a model, by its own.
-        ensures bounded { IfOk result IsBounded }
+        // Over every store: the definitions are valid, the bound is one of an opening, and what is used is at
+        // most it. Where it breaks off, the meter rose by at most such a bound and one range more; over a store
+        // that opens to a model, by its own.
+        ensures valid { IfOk result (λ s. IsValid s.session) }
+        ensures bounded { IfOk result (λ s. IsBounded (opening_of s)) }
         ensures within { OnErr result (StopsWithin meter.old meter.new) }
         ensures within_own { OnErr result ((m : Tables) → Opens (S.content store.old) m
             → IfSome (S.content store.old) (IsWithinOpening m meter.old meter.new)) }
@@ -191,6 +196,7 @@ impl Session {
         ensures stands { IfOk result (λ s. (m : Tables) → m.schema ≡ found.session
             → IsAsMarked found.mark (S.content store.old) m → HoldsModel (S.content store.new) m) }
         ensures started { IfOk result (λ s. IsStarted found.session s settled.now meter.old meter.new) }
+        ensures valid { IfOk result (λ s. IsValid s.session) }
         ensures rows { IfOk result (λ s. (m : Tables) → m.schema ≡ found.session
             → IsAsMarked found.mark (S.content store.old) m
             → s ≡ started_of found.session settled.now (length found.session.definitions) (rows_of_mark found.mark m)) }
@@ -245,7 +251,7 @@ impl Session {
         // is within it, also where the step breaks off, and a refused statement changes nothing.
         // Where an index is made, the bound is that of a build over some number of rows.
         ensures bound { IfOk result (λ p. IsBound (statement_bound self piece.now) p.1.bound) }
-        ensures within { IfSome (statement_bound self piece.now) (λ most. IsWithin most meter.old meter.new) }
+        ensures within { IfSome (statement_bound self piece.now) (λ most. TakesAtMost most meter.old meter.new) }
         ensures building { OnErr result (IsWithinFixed (statement_bound self piece.now) meter.old meter.new) }
         ensures few_ops { IfOk result (λ p. p.1.used.ops ≤ p.1.bound.ops) }
         ensures few_entries { IfOk result (λ p. p.1.used.entries ≤ p.1.bound.entries) }
@@ -260,8 +266,10 @@ impl Session {
             → Opens (S.content store.new) m ⊎ Opens (S.content store.new) (step m number piece.now).model) }
         ensures damage { IfErr result (λ broke. (m : Tables) → Stands (S.content store.old) self m
             → IsUndamaged broke) }
-        // Damage is told with what shows it in the content that was there.
+        // Damage is told with what shows it in the content that was there, and in what is there now.
         ensures shown { IfErr result (λ broke. IfSome (S.content store.old)
+            (λ content. TellsEvidence self content broke)) }
+        ensures lasting { IfErr result (λ broke. IfSome (S.content store.new)
             (λ content. TellsEvidence self content broke)) }
         ensures cause { HasBrokeCause (S.faults store.old) (S.faults store.new) result }
     {

@@ -16,7 +16,7 @@ use Rattle.pq_session.specs.Model.{Model}
 use Rattle.pq_session.specs.Matches.{Matches}
 use Rattle.pq_session.specs.Promise.{IsWithinFixed}
 use Rattle.pq_session.proofs.Promises.{within_none, within_reported}
-use Rattle.pq_shell.specs.Fold.{Moment, IsReport, Reports, RisesBy, IsWithinItem, IsPart, after, ReportedItems, Halts, MadeReports, Served, StoppedItem, schema_behind}
+use Rattle.pq_shell.specs.Fold.{Moment, IsReport, Reports, RisesBy, IsWithinItem, IsPart, after, ReportedItems, Halts, MadeReports, Served, ShowsDamage, StoppedItem, schema_behind}
 use Rattle.pq_shell.specs.Forms.{HasOpening, StandsIn, OpensAt, asked_item, item_step, shown_report}
 use Rattle.pq_shell.specs.Items.{Item}
 use Rattle.pq_shell.specs.Making.{MakesItem, moment}
@@ -149,6 +149,7 @@ Stopped-before {f = f} {stop = stop} {b = b} {n = n} ys p = record {
   text = p.text;
   rises = p.rises;
   part_is = part_more f stop p.last (n + length p.done) p.todo ys p.part p.between b.counts p.part_is;
+  shown = p.shown;
   stands = λ m is. let q = p.stands m is in (q.0, halts_more f stop (after f m n p.done) (n + length p.done) p.todo ys b.content p.part q.1);
 }
 
@@ -168,6 +169,7 @@ Stopped-after {f = f} {stop = stop} {r = r} {s = s} {a = a} {c = c} {n = n} {xs 
       text = q.text ∙ ap (λ k. append_known k (flat_map (shown_report f) q.reports ++ q.part)) p.text ∙ append_known-append a.held _ _ ∙ ap (append_known a.held) (sym (append_assoc (flat_map (shown_report f) rs) (flat_map (shown_report f) q.reports) q.part) ∙ ap (λ t. t ++ q.part) (sym (flat_map-append (shown_report f) rs q.reports)));
       rises = Rises-append rs q.reports p.rises q.rises;
       part_is = subst (λ k. IsPart f stop q.last k q.todo q.part q.between c.counts) number q.part_is;
+      shown = q.shown;
       stands = λ m is.
           let first = p.folds m is in
           let second = q.stands (after f m n xs) first.0 in (
@@ -178,8 +180,9 @@ Stopped-after {f = f} {stop = stop} {r = r} {s = s} {a = a} {c = c} {n = n} {xs 
 
 -- the run stopped before any of these items was reported
 pub Stopped-at : (f : Form) (stop : Stop) (s : Schema) (a b : Moment) (n : ℕ) (items : List Item) (part : List ℕ) → b.held ≡ append_known a.held part
-    → IsPart f stop s n items part a.counts b.counts → ((m : Model) → StandsIn f a.content s m → Halts f stop m n items b.content part) → StoppedItem f stop s a b n items
-Stopped-at f stop s a b n items part text is halts = record {
+    → IsPart f stop s n items part a.counts b.counts → ShowsDamage stop s b.content
+    → ((m : Model) → StandsIn f a.content s m → Halts f stop m n items b.content part) → StoppedItem f stop s a b n items
+Stopped-at f stop s a b n items part text is shown halts = record {
   done = [];
   todo = items;
   reports = [];
@@ -191,6 +194,7 @@ Stopped-at f stop s a b n items part text is halts = record {
   text = text;
   rises = Rises-none a.counts;
   part_is = subst (λ k. IsPart f stop s k items part a.counts b.counts) (sym (add-zero n)) is;
+  shown = shown;
   stands = λ m is. (tt, subst (λ k. Halts f stop m k items b.content part) (sym (add-zero n)) (halts m is));
 }
 
@@ -205,7 +209,7 @@ halts_same f m n (x ∷ xs) now h = inl h
 -- the run stopped for want of memory before the next item was read whole
 pub Stopped-between : (f : Form) (s : Schema) (a : Moment) (n : ℕ) (items : List Item) → ((m : Model) → StandsIn f a.content s m → OpensAt f a.content m) → StoppedItem f stops.NoMem s a a n items
 Stopped-between f s a n items opens =
-    Stopped-at f stops.NoMem s a a n items [] (sym (append_known-none a.held)) (refl, within_nothing s items a.counts) (λ m is. halts_same f m n items a.content (opens m is))
+    Stopped-at f stops.NoMem s a a n items [] (sym (append_known-none a.held)) (refl, within_nothing s items a.counts) tt (λ m is. halts_same f m n items a.content (opens m is))
 
 -- what a report tells as used is within the bound of its item
 within_item : (s : Schema) (n : ℕ) (item : Item) (report : Report) (before after : Counts) → IsReport s n item report → RisesBy (report ∷ []) before after → IsWithinFixed (asked_bound s (asked_item s item)) before after
@@ -222,10 +226,10 @@ Stopped-writing f stops.StoreFailed item n s t old now h h' before after report 
 Stopped-writing f (stops.Damaged damage) item n s t old now h h' before after report made opens cut = absurd cut
 Stopped-writing f stops.NoMem item n s t old now h h' before after report made opens cut =
     Stopped-at f stops.NoMem s (moment old h before) (moment now h' after) n (item ∷ []) [] (cut ∙ sym (append_known-none h))
-    (refl, within_item s n item report before after made.is made.rises) (λ m is. inr (opens (item_step f m n item).model (made.stands m is)))
+    (refl, within_item s n item report before after made.is made.rises) tt (λ m is. inr (opens (item_step f m n item).model (made.stands m is)))
 Stopped-writing f stops.WriteFailed item n s t old now h h' before after report made opens cut =
     Stopped-at f stops.WriteFailed s (moment old h before) (moment now h' after) n (item ∷ []) cut.0 cut.2
-    (report, made.is, cut.1, made.rises) (λ m is. (report, made.matches m is, cut.1, opens (item_step f m n item).model (made.stands m is)))
+    (report, made.is, cut.1, made.rises) tt (λ m is. (report, made.matches m is, cut.1, opens (item_step f m n item).model (made.stands m is)))
 
 -- the items by another name
 pub among_items : {f : Form} {stop : Stop} {s : Schema} {a b : Moment} {n : ℕ} {xs ys : List Item} → xs ≡ ys → StoppedItem f stop s a b n xs → StoppedItem f stop s a b n ys
@@ -241,6 +245,7 @@ among_items same p = record {
   text = p.text;
   rises = p.rises;
   part_is = p.part_is;
+  shown = p.shown;
   stands = p.stands;
 }
 
@@ -258,6 +263,7 @@ from_number {f = f} {stop = stop} {s = s} {b = b} same p = record {
   text = p.text;
   rises = p.rises;
   part_is = subst (λ i. IsPart f stop p.last (i + length p.done) p.todo p.part p.between b.counts) same p.part_is;
+  shown = p.shown;
   stands = λ m is.
       let q = p.stands m is in (
         subst (λ i. ReportedItems f m i p.done p.reports) same q.0,

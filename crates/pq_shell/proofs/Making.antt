@@ -1,5 +1,6 @@
 -- One item, made over the store or for a check.
 use Rattle.std.proofs.Common.{◌≡◌, ℕ, ◌+◌, ◌≤◌, ◌⊎◌, List, [], ◌∷◌, Option, refl, sym, ap, ◌∙◌, subst, arith, inl}
+use Rattle.std.specs.Prelude.{IfSome}
 use Rattle.std.specs.Io.KnownBytes.{append_known}
 use Rattle.pq_base.specs.declared.number.Bound.{Bound}
 use Rattle.pq_base.specs.declared.number.Used.{Used}
@@ -16,6 +17,7 @@ use Rattle.pq_print.specs.Report.{printed_report}
 use Rattle.pq_print.specs.declared.report.Report.{Report}
 use Rattle.pq_session.specs.Actions.{action_of, schema_after, statement_bound}
 use Rattle.pq_session.specs.Checks.{checked_as, check_step, without_rows}
+use Rattle.pq_session.specs.Evidence.{TellsEvidence}
 use Rattle.pq_session.specs.Matches.{Matches}
 use Rattle.pq_session.specs.Model.{Model}
 use Rattle.pq_session.specs.Promise.{IsBound, IsWithinFixed}
@@ -70,20 +72,22 @@ module _ (number : ℕ) (piece : Piece) (s : Schema) (old now : Option Content) 
     }
 
   broke_at : (f : Form) (error : Broke) → HasOpening f → ((m : Model) → StandsIn f old s m → OpensAt f now m ⊎ OpensAt f now (item_step f m number (Cut piece)).model)
-      → ((m : Model) → StandsIn f old s m → IsUndamaged error) → IsWithinFixed (statement_bound s piece) before after → BreaksAt f (stop_of_broke error) (Cut piece) number s old now before after
-  broke_at f broke.Failed some stops_at sound within held =
-      Stopped-at f stops.StoreFailed s (moment old held before) (moment now held after) number (Cut piece ∷ []) [] (sym (append_known-none held)) (some, refl, within) stops_at
-  broke_at f broke.NoMem some stops_at sound within held =
-      Stopped-at f stops.NoMem s (moment old held before) (moment now held after) number (Cut piece ∷ []) [] (sym (append_known-none held)) (refl, within) stops_at
-  broke_at f (broke.Damaged damage) some stops_at sound within held =
-      Stopped-at f (stops.Damaged damage) s (moment old held before) (moment now held after) number (Cut piece ∷ []) [] (sym (append_known-none held)) (some, refl, within) (λ m is. absurd (sound m is))
+      → ((m : Model) → StandsIn f old s m → IsUndamaged error) → IsWithinFixed (statement_bound s piece) before after → IfSome now (λ content. TellsEvidence s content error)
+      → BreaksAt f (stop_of_broke error) (Cut piece) number s old now before after
+  broke_at f broke.Failed some stops_at sound within shown held =
+      Stopped-at f stops.StoreFailed s (moment old held before) (moment now held after) number (Cut piece ∷ []) [] (sym (append_known-none held)) (some, refl, within) tt stops_at
+  broke_at f broke.NoMem some stops_at sound within shown held =
+      Stopped-at f stops.NoMem s (moment old held before) (moment now held after) number (Cut piece ∷ []) [] (sym (append_known-none held)) (refl, within) tt stops_at
+  broke_at f (broke.Damaged damage) some stops_at sound within shown held =
+      Stopped-at f (stops.Damaged damage) s (moment old held before) (moment now held after) number (Cut piece ∷ []) [] (sym (append_known-none held)) (some, refl, within) shown (λ m is. absurd (sound m is))
 
   -- the session broke off at this item
   pub broke_over : (f : Form) (error : Broke) → HasOpening f → ((m : Model) → Stands old s m → Opens now m ⊎ Opens now (step m number piece).model) → ((m : Model) → Stands old s m → IsUndamaged error)
-      → IsWithinFixed (statement_bound s piece) before after → BreaksAt f (stop_of_broke error) (Cut piece) number s old now before after
-  broke_over Run error some stops_at sound within = broke_at Run error some stops_at sound within
-  broke_over Check error some stops_at sound within = absurd some
-  broke_over (Fill n) error some stops_at sound within = broke_at (Fill n) error some stops_at sound within
+      → IsWithinFixed (statement_bound s piece) before after → IfSome now (λ content. TellsEvidence s content error)
+      → BreaksAt f (stop_of_broke error) (Cut piece) number s old now before after
+  broke_over Run error some stops_at sound within shown = broke_at Run error some stops_at sound within shown
+  broke_over Check error some stops_at sound within shown = absurd some
+  broke_over (Fill n) error some stops_at sound within shown = broke_at (Fill n) error some stops_at sound within shown
 
 -- ---- for a check
 
@@ -120,4 +124,4 @@ module _ (number : ℕ) (piece : Piece) (s : Schema) (content : Option Content) 
   pub lost_checked : BreaksAt Check stops.NoMem (Cut piece) number s content content counts counts
   lost_checked held =
       Stopped-at Check stops.NoMem s (moment content held counts) (moment content held counts) number (Cut piece ∷ []) [] (sym (append_known-none held))
-      (refl, within_none (statement_bound s piece) counts) (λ m is. inl tt)
+      (refl, within_none (statement_bound s piece) counts) tt (λ m is. inl tt)

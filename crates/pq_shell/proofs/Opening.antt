@@ -1,9 +1,11 @@
 -- The opening of a run.
-use Rattle.std.proofs.Common.{◌≡◌, ℕ, ◌+◌, List, [], Option, refl, sym, ap, ◌∙◌, add-zero}
+use Rattle.std.proofs.Common.{◌≡◌, ℕ, ◌+◌, List, [], Option, Some, None, refl, sym, ap, ◌∙◌, subst, add-zero, arith}
+use Rattle.std.specs.Prelude.{IfSome}
 use Rattle.std.specs.Io.KnownBytes.{append_known}
 use Rattle.pq_fill.specs.declared.words.Form.{Form}
 use Rattle.pq_fill.specs.declared.words.Form.TheVariants.{Run, Check, Fill}
 use Rattle.pq_schema.specs.Schema.{empty_schema}
+use Rattle.pq_schema.specs.Valid.{IsValid, empty}
 use Rattle.pq_store.specs.Breaks.{IsUndamaged}
 use Rattle.pq_store.specs.Content.{Content}
 use Rattle.pq_store.specs.Counts.{Counts}
@@ -14,7 +16,9 @@ use Rattle.pq_print.specs.declared.report.Opened.{Opened}
 use Rattle.pq_session.specs.Checks.{without_rows}
 use Rattle.pq_session.specs.Matches.{IsOpening}
 use Rattle.pq_session.specs.Model.{Model}
+use Rattle.pq_session.specs.Opening.{IsOpeningBound, NamesFlaw}
 use Rattle.pq_session.specs.Stands.{Opens, Stands}
+use Rattle.pq_session.specs.Within.{IsBounded, IsWithinOpening, StopsWithin}
 use Rattle.pq_shell.specs.Fold.{Moment}
 use Rattle.pq_shell.specs.Forms.{HasOpening}
 use Rattle.pq_shell.specs.Making.{moment}
@@ -26,14 +30,14 @@ use Rattle.pq_shell.specs.declared.stop.Stop.TheVariants as stops
 use Rattle.pq_shell.proofs.Known.{append_known-none}
 
 -- a store that was opened
-pub begun_store : (f : Form) → HasOpening f → (begun : Begun) (old now : Option Content) (h h' : Option (List ℕ)) (before after : Counts) (opened : Opened) → opened.used ≡ begun.used
-    → ((m : Model) → Opens old m → IsOpening old m opened) → ((m : Model) → Opens old m → Stands now begun.session m) → h' ≡ append_known h (opening_line opened)
+pub begun_store : (f : Form) → HasOpening f → (begun : Begun) (old now : Option Content) (h h' : Option (List ℕ)) (before after : Counts) (opened : Opened) → opened.used ≡ begun.used → IsValid begun.session
+    → IsBounded opened → ((m : Model) → Opens old m → IsOpening old m opened) → ((m : Model) → Opens old m → Stands now begun.session m) → h' ≡ append_known h (opening_line opened)
     → after.ops ≡ before.ops + opened.used.ops → after.entries ≡ before.entries + opened.used.entries → OpensWith f begun (moment old h before) (moment now h' after)
-begun_store Run some begun old now h h' before after opened used opens stands text ops entries =
-    record { opening = record { opened = opened; opens = λ m is. (opens m is, stands m is); text = text; ops = ops; entries = entries }; used_is = used }
-begun_store Check some begun old now h h' before after opened used opens stands text ops entries = absurd some
-begun_store (Fill n) some begun old now h h' before after opened used opens stands text ops entries =
-    record { opening = record { opened = opened; opens = λ m is. (opens m is, stands m is); text = text; ops = ops; entries = entries }; used_is = used }
+begun_store Run some begun old now h h' before after opened used valid bounded opens stands text ops entries =
+    record { opening = record { opened = opened; opens = λ m is. (opens m is, stands m is); bounded = λ _. bounded; valid = valid; text = text; ops = ops; entries = entries }; used_is = used }
+begun_store Check some begun old now h h' before after opened used valid bounded opens stands text ops entries = absurd some
+begun_store (Fill n) some begun old now h h' before after opened used valid bounded opens stands text ops entries =
+    record { opening = record { opened = opened; opens = λ m is. (opens m is, stands m is); bounded = λ _. bounded; valid = valid; text = text; ops = ops; entries = entries }; used_is = used }
 
 -- a check opens none
 pub begun_none : (begun : Begun) (a : Moment) → begun.session ≡ empty_schema → begun.used ≡ record { ops = 0; entries = 0 } → OpensWith Check begun a a
@@ -41,6 +45,8 @@ begun_none begun a none used = record {
   opening = record {
     opened = record { defs = 0; bound = record { ops = 0; entries = 0 }; used = record { ops = 0; entries = 0 } };
     opens = λ m is. (tt, is ∙ ap without_rows (sym none));
+    bounded = λ opening. absurd opening;
+    valid = subst IsValid (sym none) empty;
     text = sym (append_known-none a.held);
     ops = sym (add-zero a.counts.ops);
     entries = sym (add-zero a.counts.entries);
@@ -50,16 +56,48 @@ begun_none begun a none used = record {
 
 -- the session broke off at the opening
 pub broke_opening : (error : Broke) (old now : Option Content) (h : Option (List ℕ)) (before after : Counts) → ((m : Model) → Opens old m → Opens now m) → ((m : Model) → Opens old m → IsUndamaged error)
+    → StopsWithin before after → ((m : Model) → Opens old m → IfSome old (IsWithinOpening m before after)) → IfSome old (λ content. NamesFlaw content error)
     → StoppedOpening (stop_of_broke error) (moment old h before) (moment now h after)
-broke_opening broke.Failed old now h before after kept sound = record { part = []; text = sym (append_known-none h); part_is = refl; stands = λ m s. (kept m s, tt) }
-broke_opening broke.NoMem old now h before after kept sound = record { part = []; text = sym (append_known-none h); part_is = refl; stands = λ m s. (kept m s, tt) }
-broke_opening (broke.Damaged damage) old now h before after kept sound = record { part = []; text = sym (append_known-none h); part_is = refl; stands = λ m s. absurd (sound m s) }
+broke_opening broke.Failed old now h before after kept sound within own flaw =
+    record { part = []; text = sym (append_known-none h); part_is = (refl, within); stands = λ m s. (kept m s, own m s) }
+broke_opening broke.NoMem old now h before after kept sound within own flaw =
+    record { part = []; text = sym (append_known-none h); part_is = (refl, within); stands = λ m s. (kept m s, own m s) }
+broke_opening (broke.Damaged damage) old now h before after kept sound within own flaw =
+    record { part = []; text = sym (append_known-none h); part_is = (refl, within, flaw); stands = λ m s. absurd (sound m s) }
 
--- the run stopped while the opening's line was written
-pub cut_opening : (stop : Stop) (old now : Option Content) (h h' : Option (List ℕ)) (before after : Counts) (opened : Opened) → ((m : Model) → Opens old m → IsOpening old m opened) → ((m : Model) → Opens old m → Opens now m)
-    → CutsOff stop (opening_line opened) h h' → StoppedOpening stop (moment old h before) (moment now h' after)
-cut_opening stops.StoreFailed old now h h' before after opened opens stands cut = absurd cut
-cut_opening (stops.Damaged damage) old now h h' before after opened opens stands cut = absurd cut
-cut_opening stops.NoMem old now h h' before after opened opens stands cut = record { part = []; text = cut ∙ sym (append_known-none h); part_is = refl; stands = λ m s. (stands m s, tt) }
-cut_opening stops.WriteFailed old now h h' before after opened opens stands cut =
-    record { part = cut.0; text = cut.2; part_is = (opened, cut.1); stands = λ m s. (stands m s, (opened, opens m s, cut.1)) }
+-- what was opened took what its line tells
+module _ (old now : Option Content) (before after : Counts) (opened : Opened) (bounded : IsBounded opened) (ops : after.ops ≡ before.ops + opened.used.ops)
+    (entries : after.entries ≡ before.entries + opened.used.entries) (opens : (m : Model) → Opens old m → IsOpening old m opened) where
+  opened_within : StopsWithin before after
+  opened_within = record {
+    most = opened.bound;
+    some = bounded.most;
+    ops = omega (arith, ops, bounded.ops);
+    entries = omega (arith, entries, bounded.entries);
+  }
+
+  opened_own : (content : Option Content) (m : Model) → IfSome content (λ pairs. IsOpeningBound m pairs opened.bound) → IfSome content (IsWithinOpening m before after)
+  opened_own None m is = tt
+  opened_own (Some pairs) m is = record {
+    most = opened.bound;
+    is = is;
+    takes = record { ops = omega (arith, ops, bounded.ops); entries = omega (arith, entries, bounded.entries) };
+  }
+
+  -- the run stopped while the opening's line was written
+  pub cut_opening : (stop : Stop) (h h' : Option (List ℕ)) → ((m : Model) → Opens old m → Opens now m) → CutsOff stop (opening_line opened) h h'
+      → StoppedOpening stop (moment old h before) (moment now h' after)
+  cut_opening stops.StoreFailed h h' stands cut = absurd cut
+  cut_opening (stops.Damaged damage) h h' stands cut = absurd cut
+  cut_opening stops.NoMem h h' stands cut = record {
+    part = [];
+    text = cut ∙ sym (append_known-none h);
+    part_is = (refl, opened_within);
+    stands = λ m s. (stands m s, opened_own old m (opens m s).most);
+  }
+  cut_opening stops.WriteFailed h h' stands cut = record {
+    part = cut.0;
+    text = cut.2;
+    part_is = record { opened = opened; cut = cut.1; bounded = bounded; ops = ops; entries = entries; is_its = opens };
+    stands = λ m s. (stands m s, opened_own old m (opens m s).most);
+  }

@@ -1,5 +1,5 @@
 -- The fold of the steps over the items of a script, and what is written of their reports.
-use Rattle.std.specs.Prelude.{◌≡◌, ℕ, ◌+◌, ◌≤◌, ◌⊎◌, Option, Bool, ◌||◌, List, [], ◌∷◌, ◌++◌, length, if◌then◌else◌}
+use Rattle.std.specs.Prelude.{◌≡◌, ℕ, ◌+◌, ◌≤◌, ◌⊎◌, Option, IfSome, Bool, ◌||◌, List, [], ◌∷◌, ◌++◌, length, if◌then◌else◌}
 use Rattle.std.specs.List.{flat_map, sum_by, list_any}
 use Rattle.std.specs.Io.KnownBytes.{append_known}
 use Rattle.pq_base.specs.declared.number.Bound.{Bound}
@@ -10,6 +10,7 @@ use Rattle.pq_store.specs.Counts.{Counts}
 use Rattle.pq_print.specs.declared.report.Report.{Report}
 use Rattle.pq_print.specs.Report.{is_refusal}
 use Rattle.pq_session.specs.Actions.{asked_bound, asked_schema}
+use Rattle.pq_session.specs.Evidence.{IsEvidence}
 use Rattle.pq_session.specs.Model.{Model}
 use Rattle.pq_session.specs.Matches.{Matches}
 use Rattle.pq_session.specs.Promise.{IsBound, IsWithinFixed}
@@ -72,6 +73,13 @@ IsPart form stops.NoMem schema number todo part before now = (part ≡ []) × Is
 IsPart form (stops.Damaged damage) schema number todo part before now =
     HasOpening form × (part ≡ []) × IsWithinItem schema todo before now
 IsPart form stops.WriteFailed schema number todo part before now = CutsReport form schema number todo part before now
+
+-- damage is named with what shows it in what is there now, for these definitions
+abbrev pub ShowsDamage : Stop → Schema → Option Content → Type 0
+ShowsDamage stops.StoreFailed schema now = Unit {0}
+ShowsDamage stops.WriteFailed schema now = Unit {0}
+ShowsDamage stops.NoMem schema now = Unit {0}
+ShowsDamage (stops.Damaged damage) schema now = IfSome now (λ content. IsEvidence schema content damage)
 
 -- ---- over a model
 
@@ -136,6 +144,7 @@ pub record StoppedItem (form : Form) (stop : Stop) (first : Schema) (from now : 
   pub text : now.held ≡ append_known from.held (flat_map (shown_report form) reports ++ part)
   pub rises : RisesBy reports from.counts between
   pub part_is : IsPart form stop last (number + length done) todo part between now.counts
+  pub shown : ShowsDamage stop last now.content
   pub stands : (m : Model) → StandsIn form from.content first m
       → ReportedItems form m number done reports
       × Halts form stop (after form m number done) (number + length done) todo now.content part

@@ -1,16 +1,20 @@
 -- The opening of a store at the start of a run, and what is written of it. A check opens none.
-use Rattle.std.specs.Prelude.{◌≡◌, ℕ, ◌+◌, ◌≤◌, length, Option, List, []}
+use Rattle.std.specs.Prelude.{◌≡◌, ◌⊎◌, ℕ, ◌+◌, ◌≤◌, length, Option, IfSome, List, []}
 use Rattle.std.specs.Io.KnownBytes.{append_known}
 use Rattle.pq_fill.specs.declared.words.Form.{Form}
 use Rattle.pq_schema.specs.Schema.{Schema}
+use Rattle.pq_schema.specs.Valid.{IsValid}
 use Rattle.pq_store.specs.Content.{Content}
+use Rattle.pq_store.specs.Counts.{Counts}
 use Rattle.pq_print.specs.Report.{opening_line}
 use Rattle.pq_print.specs.declared.report.Opened.{Opened}
 use Rattle.pq_session.specs.Matches.{IsOpening}
 use Rattle.pq_session.specs.Model.{Model}
+use Rattle.pq_session.specs.Opening.{ShowsBuildLeft, ShowsFlaw}
 use Rattle.pq_session.specs.Stands.{Opens}
+use Rattle.pq_session.specs.Within.{IsBounded, IsWithinOpening, StopsWithin}
 use Rattle.pq_shell.specs.Fold.{Moment}
-use Rattle.pq_shell.specs.Forms.{Starts, IsOpened, StandsIn, front}
+use Rattle.pq_shell.specs.Forms.{HasOpening, Starts, IsOpened, StandsIn, front}
 use Rattle.pq_shell.specs.Outside.{IsCut}
 use Rattle.pq_shell.specs.declared.run.Begun.{Begun}
 use Rattle.pq_shell.specs.declared.stop.Stop.{Stop}
@@ -21,6 +25,8 @@ pub record Opening (form : Form) (first : Schema) (from to : Moment) : Type 0 wh
   pub opened : Opened
   pub opens : (m : Model) → Starts form from.content m
       → IsOpened form from.content m opened × StandsIn form to.content first m
+  pub bounded : HasOpening form → IsBounded opened
+  pub valid : IsValid first
   pub text : to.held ≡ append_known from.held (front form opened)
   pub ops : to.counts.ops ≡ from.counts.ops + opened.used.ops
   pub entries : to.counts.entries ≡ from.counts.entries + opened.used.entries
@@ -30,24 +36,38 @@ pub record OpensWith (form : Form) (begun : Begun) (from to : Moment) : Type 0 w
   pub opening : Opening form begun.session from to
   pub used_is : opening.opened.used ≡ begun.used
 
--- how much of the opening's line is out where the run stopped there
-abbrev pub IsOpeningPart : Stop → List ℕ → Type 0
-IsOpeningPart stops.StoreFailed part = part ≡ []
-IsOpeningPart stops.NoMem part = part ≡ []
-IsOpeningPart (stops.Damaged damage) part = part ≡ []
-IsOpeningPart stops.WriteFailed part = (opened : Opened) × IsCut part (opening_line opened)
+-- where the opening's line is cut, it is that of an opening with such a bound, which took what the line tells as used;
+-- over what a store opens to, it is the line of its opening
+pub record CutsOpening (before : Moment) (part : List ℕ) (now : Counts) : Type 0 where
+  pub opened : Opened
+  pub cut : IsCut part (opening_line opened)
+  pub bounded : IsBounded opened
+  pub ops : now.ops ≡ before.counts.ops + opened.used.ops
+  pub entries : now.entries ≡ before.counts.entries + opened.used.entries
+  pub is_its : (m : Model) → Opens before.content m → IsOpening before.content m opened
 
--- over what a store opens to, the line is that of its opening, and no damage is found
-abbrev pub HaltsOpening : Option Content → Stop → Model → List ℕ → Type 0
-HaltsOpening content stops.StoreFailed m part = Unit {0}
-HaltsOpening content stops.NoMem m part = Unit {0}
-HaltsOpening content stops.WriteFailed m part =
-    (opened : Opened) × IsOpening content m opened × IsCut part (opening_line opened)
-HaltsOpening content (stops.Damaged damage) m part = ⊥
+-- how much of the opening's line is out where the run stopped there, and what was taken; damage is that of
+-- the content's
+-- first flaw, or of a build that was left
+abbrev pub IsOpeningPart : Stop → Moment → List ℕ → Counts → Type 0
+IsOpeningPart stops.StoreFailed before part now = (part ≡ []) × StopsWithin before.counts now
+IsOpeningPart stops.NoMem before part now = (part ≡ []) × StopsWithin before.counts now
+IsOpeningPart (stops.Damaged damage) before part now =
+    (part ≡ []) × StopsWithin before.counts now
+    × IfSome before.content (λ content. ShowsFlaw content damage ⊎ ShowsBuildLeft content damage)
+IsOpeningPart stops.WriteFailed before part now = CutsOpening before part now
+
+-- over what a store opens to, no damage is found, and what was taken is within the bound of its opening
+abbrev pub HaltsOpening : Stop → Option Content → Model → Counts → Counts → Type 0
+HaltsOpening stops.StoreFailed content m before now = IfSome content (IsWithinOpening m before now)
+HaltsOpening stops.NoMem content m before now = IfSome content (IsWithinOpening m before now)
+HaltsOpening stops.WriteFailed content m before now = IfSome content (IsWithinOpening m before now)
+HaltsOpening (stops.Damaged damage) content m before now = ⊥
 
 -- the run stopped at the opening
 pub record StoppedOpening (stop : Stop) (before now : Moment) : Type 0 where
   pub part : List ℕ
   pub text : now.held ≡ append_known before.held part
-  pub part_is : IsOpeningPart stop part
-  pub stands : (m : Model) → Opens before.content m → Opens now.content m × HaltsOpening before.content stop m part
+  pub part_is : IsOpeningPart stop before part now.counts
+  pub stands : (m : Model) → Opens before.content m
+      → Opens now.content m × HaltsOpening stop before.content m before.counts now.counts

@@ -24,6 +24,7 @@ loop-full-preserved g c = record {
   space = c.in_ok-low-2.ensures.next;
   each = omega (arith, c.in_ok-low-2.ensures.each);
   entries = omega (arith, c.in_ok-low-2.ensures.each_entry);
+  untold = λ none. c.fill_next.ensures.untold (c.loop-full.invariant.untold none);
   later = omega (arith, c.fill_next.ensures.cause.later);
 }
 

@@ -1,6 +1,7 @@
 use Rattle.std.proofs.Common.{◌≡◌, ◌+◌, ◌*◌, ◌≤◌, true}
 use Rattle.std.specs.Prelude.{IfSome}
 use Rattle.pq_content.specs.Pairs.{is_in_space}
+use Rattle.pq_intent.specs.Changing.{StaysUntold}
 use Rattle.pq_builds.specs.Filling.{first_key, Follows}
 use Rattle.pq_builds.proofs.fill.fill_rows.Given as goal
 
@@ -10,5 +11,6 @@ invariant-loop-full g l = record {
   space : is_in_space 2 l.low ≡ true;
   each : l.meter.ops ≡ l.initial.meter.ops + 257 * l.full;
   entries : l.meter.entries ≡ l.initial.meter.entries + 256 * l.full;
+  untold : StaysUntold (g.S.Store.content l.initial.store) (g.S.Store.content l.store);
   later : g.S.Store.faults l.initial.store ≤ g.S.Store.faults l.store;
 }

@@ -1,11 +1,14 @@
-use Rattle.std.proofs.Common.{refl, subst}
+use Rattle.std.proofs.Common.{refl, subst, Option}
 use Rattle.std.specs.Prelude.{IfSome}
 use Rattle.std.proofs.lemmas.Result.{err_from_is_err_and}
 use Rattle.pq_builds.specs.declared.build.Built.{Built}
 use Rattle.pq_builds.specs.declared.build.Built.TheVariants.{Rows as Filled, TooMany}
 use Rattle.pq_builds.specs.Stages.{IsFew, ShowsBuild, StopsBuilding, TakesBuild}
+use Rattle.pq_builds.proofs.Lasting.{shows_still_told}
 use Rattle.pq_builds.specs.Standing.{Origin, HoldsOrigin, Leaves, Makes}
 use Rattle.pq_store.specs.Breaks.{IsUndamaged}
+use Rattle.pq_store.specs.Content.{Content}
+use Rattle.pq_session.specs.Evidence.{TellsEvidence}
 use Rattle.pq_session.specs.Stands.{new_query_of}
 use Rattle.pq_schema.specs.Valid.{IsValid}
 use Rattle.pq_session.proofs.Built.{build_shown}
@@ -42,13 +45,15 @@ returns-in_err-build_index-clause-step g c best lined =
     let broke = c.in_err-build_index.field-0.0 in
     let index = c.in_ok-target.ensures in
     let query = c.in_ok-defined.ensures in
-    let shown = build_shown old c.args.self c.args.new (new_query_of c.args.self c.args.query) broke valid (target_there c.args.self c.args.query c.args.new valid c.requires.defined).0 refl
-    (moved (λ t q. IfSome old (λ content. ShowsBuild t q content broke)) index query e.shown) in
+    let shows : (content : Option Content) → IfSome content (λ c'. ShowsBuild c.in_ok-target.target c.in_ok-defined.defined c' broke) → IfSome content (λ c'. TellsEvidence c.args.self c' broke) =
+    λ content is. build_shown content c.args.self c.args.new (new_query_of c.args.self c.args.query) broke valid (target_there c.args.self c.args.query c.args.new valid c.requires.defined).0 refl
+    (moved (λ t q. IfSome content (λ c'. ShowsBuild t q c' broke)) index query is) in
+    let lasting = shows_still_told c.in_ok-target.target c.in_ok-defined.defined c.build_index.requires old now broke e.untold e.ended e.shown in
     rw (p.1, p.2) (build_broken c.args.number c.args.query c.args.new best c.args.self c.requires.defined old now _ _ broke
     (moved (λ t q. (origin : Origin) → HoldsOrigin origin t q old → Leaves origin t q now) index query e.stopped)
     (moved (λ t q. (origin : Origin) → HoldsOrigin origin t q old → IsUndamaged broke) index query e.sound)
     (moved (λ t q. IfSome old (λ content. StopsBuilding t q content now)) index query e.ended)
-    shown e.within)
+    (shows old e.shown) (shows now lasting) e.within)
 
 pub returns-in_err-why-in-TooMany-clause-step : goal.returns-in_err-why-in-TooMany-clause-step
 returns-in_err-why-in-TooMany-clause-step g c best lined =

@@ -27,6 +27,6 @@ returns-in_ok-lines-in-Ok-clause-step g c =
     let e = subst (λ (r : Result ℕ Refusal). Extends c.args.self c.args.def c.in_ok-session.session r) c.in-Ok.is c.in_ok-session.ensures in
     let w = c.write_last.ensures in
     let all : IsWritten (g.S.Store.content c.args.store.now) (g.S.Store.content c.write_last.new.store) c.in_ok-session.session c.args.number c.in_ok-lines-in-Ok.lines c.args.meter.now c.write_last.new.meter c.write_last.result =
-    (w.done, w.put, w.stopped, w.damage, w.meter, w.within, w.shown) in
+    (w.done, w.put, w.stopped, w.damage, w.meter, w.within, w.shown, w.kept) in
     table_written _ _ c.args.self c.in_ok-session.session c.args.number c.args.def c.requires c.in-Ok.table _ _ c.write_last.result e
     (subst (λ (lines : List Line). IsWritten (g.S.Store.content c.args.store.now) (g.S.Store.content c.write_last.new.store) c.in_ok-session.session c.args.number lines c.args.meter.now c.write_last.new.meter c.write_last.result) c.in_ok-lines-in-Ok.ensures all)

@@ -20,7 +20,7 @@ pub returns-in_err-commit-in-Changes-clause-step : goal.returns-in_err-commit-in
 returns-in_err-commit-in-Changes-clause-step g c =
     let p = err_from_is_err_and c.from_residual-in_err-commit-in-Changes.result c.from_residual-in_err-commit-in-Changes.ensures.1 in
     rw (p.1, p.2, ← c.self.view_is) (commit_broke c.args.number c.args.write.now c.in-Changes.changes c.in_err-commit-in-Changes.field-0.0 _ _ _ c.self.inside.catalog c.write_bound-bound.result _ _ _ _ _ _ _ _ _ _ _ _
-    c.write_bound-bound.ensures c.grant-allowance.ensures c.in-Changes.is c.in_ok-why.ensures.reads c.in_err-commit-in-Changes.ensures.spends c.in_ok-why.ensures.answer c.in_err-commit-in-Changes.ensures.stopped c.in_err-commit-in-Changes.ensures.sound c.in_err-commit-in-Changes.ensures.damage)
+    c.write_bound-bound.ensures c.grant-allowance.ensures c.in-Changes.is c.in_ok-why.ensures.reads c.in_err-commit-in-Changes.ensures.spends c.in_ok-why.ensures.answer c.in_err-commit-in-Changes.ensures.stopped c.in_err-commit-in-Changes.ensures.sound c.in_err-commit-in-Changes.ensures.damage c.in_err-commit-in-Changes.ensures.kept)
 
 pub returns-in-Refused-clause-step : goal.returns-in-Refused-clause-step
 returns-in-Refused-clause-step g c =

@@ -1,4 +1,4 @@
-use Rattle.pq_session.proofs.Promises.{promised_made, promised_matches, promised_next, promised_shown, promised_stopped, promised_unread, promised_within}
+use Rattle.pq_session.proofs.Promises.{promised_made, promised_matches, promised_next, promised_shown, promised_lasting, promised_stopped, promised_unread, promised_within}
 use Rattle.pq_session.proofs.session.Session.statement.Goals as goal
 
 pub returns-clause-matches : goal.returns-clause-matches
@@ -15,6 +15,9 @@ returns-clause-next g c = promised_next c.args.number c.args.piece.now _ _ c.arg
 
 pub returns-clause-shown : goal.returns-clause-shown
 returns-clause-shown g c = promised_shown c.args.number c.args.piece.now _ _ c.args.self _ _ c.piece.result c.piece.ensures.step
+
+pub returns-clause-lasting : goal.returns-clause-lasting
+returns-clause-lasting g c = promised_lasting c.args.number c.args.piece.now _ _ c.args.self _ _ c.piece.result c.piece.ensures.step
 
 pub returns-clause-stopped : goal.returns-clause-stopped
 returns-clause-stopped g c = promised_stopped c.args.number c.args.piece.now _ _ c.args.self _ _ c.piece.result c.piece.ensures.step

@@ -15,4 +15,4 @@ returns-clause-step g c best lined =
     let w = c.write_last.ensures in
     query_written c.args.self c.args.number c.args.query best _ _ _ _ c.write_last.result c.args.lines c.requires.defined lined
     (subst (λ (s : Schema). IsWritten (g.S.Store.content c.args.store.now) (g.S.Store.content c.write_last.new.store) s c.args.number c.args.lines c.args.meter.now c.write_last.new.meter c.write_last.result) c.in_ok-session.ensures
-    (w.done, w.put, w.stopped, w.damage, w.meter, w.within, w.shown))
+    (w.done, w.put, w.stopped, w.damage, w.meter, w.within, w.shown, w.kept))
