@@ -22,10 +22,10 @@ struct Stop {
 fn scan(start: State, bytes: &[u8]) -> Stop
     ensures within { result.len ≤ length bytes.now }
     ensures some { 0 < length bytes.now → 0 < result.len }
-    ensures cut { result.cut ≡ true → first_cut start_summary bytes.now ≡ Some result.len }
-    ensures uncut { result.cut ≡ false → (first_cut start_summary bytes.now ≡ None) × (result.len ≡ length bytes.now) }
-    ensures state { result.state ≡ state_behind start_summary (take result.len bytes.now) }
-    ensures solid { result.solid ≡ is_solid start_summary (take result.len bytes.now) }
+    ensures cut { result.cut ≡ true → first_cut start bytes.now ≡ Some result.len }
+    ensures uncut { result.cut ≡ false → (first_cut start bytes.now ≡ None) × (result.len ≡ length bytes.now) }
+    ensures state { result.state ≡ state_behind start (take result.len bytes.now) }
+    ensures solid { result.solid ≡ is_solid start (take result.len bytes.now) }
 {
     let mut state = start;
     let mut solid = false;

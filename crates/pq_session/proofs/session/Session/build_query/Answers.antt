@@ -1,6 +1,8 @@
-use Rattle.std.proofs.Common.{refl, subst, Option}
+use Rattle.std.proofs.Common.{◌≡◌, false, refl, sym, subst, Option}
 use Rattle.std.specs.Prelude.{IfSome}
 use Rattle.std.proofs.lemmas.Result.{err_from_is_err_and}
+use Rattle.pq_content.specs.Pairs.{is_of_rows}
+use Rattle.pq_builds.specs.declared.target.NewQuery.{NewQuery}
 use Rattle.pq_builds.specs.declared.build.Built.{Built}
 use Rattle.pq_builds.specs.declared.build.Built.TheVariants.{Rows as Filled, TooMany}
 use Rattle.pq_builds.specs.Stages.{IsFew, ShowsBuild, StopsBuilding, TakesBuild}
@@ -48,7 +50,7 @@ returns-in_err-build_index-clause-step g c best lined =
     let shows : (content : Option Content) → IfSome content (λ c'. ShowsBuild c.in_ok-target.target c.in_ok-defined.defined c' broke) → IfSome content (λ c'. TellsEvidence c.args.self c' broke) =
     λ content is. build_shown content c.args.self c.args.new (new_query_of c.args.self c.args.query) broke valid (target_there c.args.self c.args.query c.args.new valid c.requires.defined).0 refl
     (moved (λ t q. IfSome content (λ c'. ShowsBuild t q c' broke)) index query is) in
-    let lasting = shows_still_told c.in_ok-target.target c.in_ok-defined.defined c.build_index.requires old now broke e.untold e.ended e.shown in
+    let lasting = shows_still_told c.in_ok-target.target c.in_ok-defined.defined (subst (λ (q : NewQuery). is_of_rows q.key ≡ false) (sym query) refl) old now broke e.untold e.ended e.shown in
     rw (p.1, p.2) (build_broken c.args.number c.args.query c.args.new best c.args.self c.requires.defined old now _ _ broke
     (moved (λ t q. (origin : Origin) → HoldsOrigin origin t q old → Leaves origin t q now) index query e.stopped)
     (moved (λ t q. (origin : Origin) → HoldsOrigin origin t q old → IsUndamaged broke) index query e.sound)
