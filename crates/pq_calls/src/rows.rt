@@ -1,5 +1,5 @@
 //! Rows by their keys.
-ghost use Rattle.std.specs.Prelude.{◌≡◌, is_some, option_map, IfOk, IfErr, IfSome};
+ghost use Rattle.std.specs.Prelude.{◌≡◌, option_map, IfOk, IfErr, IfSome};
 ghost use Rattle.std.specs.FinMap.{get as value_at};
 ghost use Rattle.pq_base.specs.Values.{AllFit};
 ghost use Rattle.pq_key_code.specs.KeyCode.{row_key};
@@ -36,18 +36,6 @@ pub fn types_of(alloc: Global, table: &Table) -> Result<List<ColType>, NoMem>
 }
 
 impl<'a, S: Store<L>, L: Ledger> Calls<'a, S, L> {
-    /// Whether the table of this number has a row with this key.
-    pub fn has_row(&mut self, alloc: Global, number: u8, key: &Row) -> Result<bool, Broke>
-        requires share { Affords self.old.allowance.now 1 1 }
-        ensures uses { Uses S.content S.faults self.old self.new 1 1 }
-        ensures cause { IfErr result (Fails no_damage S.content S.faults self.old self.new) }
-        ensures answer { IfOk result (λ there. IfSome (S.content self.old.store.now) (λ c.
-            there ≡ is_some (value_at c (row_key number key.now)))) }
-    {
-        let at = row_key(alloc, number, key)?;
-        self.has_value(alloc, at.items())
-    }
-
     /// The row at a key of the store, which has to fit the types.
     fn row_at(
         &mut self,

@@ -1,10 +1,7 @@
--- Pairs that are the code of nothing, one after the other, and codes of first values.
-use Rattle.std.proofs.Common.{◌≡◌, ℕ, ◌<◌, List, [], ◌∷◌, ◌++◌, length, get_or, map, take, refl, sym, ap, subst}
+-- Pairs that are the code of nothing, one after the other.
+use Rattle.std.proofs.Common.{◌≡◌, ℕ, ◌<◌, List, length, get_or, map, sym, subst}
 use Rattle.pq_base.specs.Members.{In}
-use Rattle.pq_base.specs.declared.value.Dir.{Dir}
-use Rattle.pq_base.specs.declared.value.Value.{Value}
 use Rattle.pq_base.proofs.Members.{at_in, map_in}
-use Rattle.pq_key_code.specs.KeyCode.{component, code_of, entry_key}
 use Rattle.pq_store.specs.Content.{entry}
 use Rattle.pq_store.specs.declared.store.Pair.{Pair as Found}
 use Rattle.pq_store.specs.declared.damage.Broke.{Broke}
@@ -19,13 +16,3 @@ one_shows shows pairs i pair low at Failed h = h
 one_shows shows pairs i pair low at NoMem h = h
 one_shows shows pairs i pair low at (Damaged damage) h =
     (entry pair, map_in entry pair pairs (subst (λ (p : Found). In p pairs) (sym at) (at_in pairs i pair low)), h)
-
--- a code takes no more directions than there are values
-code_of-take : (dirs : List Dir) (values : List Value) → code_of (take (length values) dirs) values ≡ code_of dirs values
-code_of-take [] [] = refl
-code_of-take [] (x ∷ xs) = refl
-code_of-take (d ∷ ds) [] = refl
-code_of-take (d ∷ ds) (x ∷ xs) = ap (λ (bytes : List ℕ). component d x ++ bytes) (code_of-take ds xs)
-
-pub entry_key-take : (t i : ℕ) (dirs : List Dir) (values : List Value) → entry_key t i (take (length values) dirs) values ≡ entry_key t i dirs values
-entry_key-take t i dirs values = ap (λ (bytes : List ℕ). 3 ∷ t ∷ i ∷ bytes) (code_of-take dirs values)

@@ -1,14 +1,15 @@
 //! Keys of a table's sequences, and what they are made of.
-ghost use Rattle.std.specs.Prelude.{◌≡◌, ◌≤◌, map, take, length, IfOk};
+ghost use Rattle.std.specs.Prelude.{◌≡◌, ◌≤◌, ◌++◌, length, IfOk, OnOk};
+ghost use Rattle.pq_key_code.specs.KeyCode.{code_of};
 ghost use Rattle.pq_schema.specs.Keys.{dirs_of, given_value};
-ghost use Rattle.pq_schema.specs.Sequences.{IsAccess, columns_of, sequence_of};
-ghost use Rattle.pq_schema.specs.Sound.{IsTable};
+ghost use Rattle.pq_schema.specs.Sequences.{IsAccess, columns_of, then_key, sequence_of};
+ghost use Rattle.pq_schema.specs.Sound.{IsTable, AreColumns};
 ghost use Rattle.pq_schema.specs.Tables.{types_at};
 ghost use Rattle.pq_calls.specs.Keys.{sequence_key, named_key};
 
-use pq_base::{Bytes, ColType, Dir, List, NoMem, Row, Value};
-use pq_key_code::{entry_key, row_key};
-use pq_schema::{Access, Column, KeyPart, Table, sequence, type_at};
+use pq_base::{Bytes, ColSet, ColType, Dir, List, NoMem, Row, Value};
+use pq_key_code::{entry_front, put_component, row_key};
+use pq_schema::{Access, Column, KeyPart, Table, columns_in, part_at, sequence, type_at};
 use std::alloc::Global;
 
 /// The directions of the parts.
@@ -37,38 +38,51 @@ pub fn types_at(
     Ok(types)
 }
 
-/// As many directions of the sequence as there are values.
-fn first_dirs(
+/// Puts the values in the directions of the parts and then of the key columns that are not in the set.
+fn put_values(
     alloc: Global,
-    table: &Table,
-    access: Access,
-    values: &Row,
-) -> Result<List<Dir>, NoMem>
-    requires table { IsTable table.now }
-    requires access { IsAccess table.now access }
-    ensures { IfOk result (λ dirs. dirs ≡ take (length values.now) (dirs_of (sequence_of table.now access))) }
+    out: &mut Bytes,
+    parts: &[KeyPart],
+    set: ColSet,
+    key: &[u8],
+    values: &[Value],
+) -> Result<(), NoMem>
+    requires { AreColumns key.now }
+    ensures { OnOk result (out.new ≡ out.old ++ code_of (dirs_of (then_key parts.now set key.now)) values.now) }
 {
-    let parts = sequence(alloc, table, access)?;
-    let mut dirs = dirs_of(alloc, parts.items())?;
-    dirs.truncate(values.items().len());
-    Ok(dirs)
+    for (place, value) in values.iter().enumerate() {
+        match part_at(parts, set, key, place) {
+            Some(part) => put_component(alloc, out, part.dir, value)?,
+            None => return Ok(()),
+        }
+    }
+    Ok(())
 }
 
 /// The beginning of the keys of an index's entries with these first values, or the whole key.
-fn entry_front(
+#[tactic(auto, using(crate::proofs::Placed::behind_front))]
+fn secondary_key(
     alloc: Global,
     number: u8,
     table: &Table,
     index: u8,
-    values: &Row,
+    values: &[Value],
 ) -> Result<Bytes, NoMem>
     requires table { IsTable table.now }
     requires access { IsAccess table.now (Access.Secondary index) }
-    requires short { length values.now ≤ length (sequence_of table.now (Access.Secondary index)) }
     ensures { IfOk result (λ key. key ≡ sequence_key number table.now (Access.Secondary index) values.now) }
 {
-    let dirs = first_dirs(alloc, table, Access::Secondary(index), values)?;
-    entry_key(alloc, number, index, values, dirs.items())
+    let parts = table.indexes.items()[index as usize - 1].cols.items();
+    let mut key = entry_front(alloc, number, index)?;
+    put_values(
+        alloc,
+        &mut key,
+        parts,
+        columns_in(parts),
+        table.key.items(),
+        values,
+    )?;
+    Ok(key)
 }
 
 /// The key of these values in a sequence of the table, or the beginning of the keys with these first values.
@@ -86,7 +100,7 @@ pub fn sequence_key(
 {
     match access {
         Access::Primary => row_key(alloc, number, values),
-        Access::Secondary(index) => entry_front(alloc, number, table, index, values),
+        Access::Secondary(index) => secondary_key(alloc, number, table, index, values.items()),
     }
 }
 

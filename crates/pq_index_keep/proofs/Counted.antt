@@ -1,5 +1,5 @@
 -- How many pairs stand in the range of a group: as many as the group has rows.
-use Rattle.std.proofs.Common.{◌≡◌, ℕ, zero, suc, ◌+◌, ◌-◌, ◌≤◌, ◌<◌, ◌⊎◌, inl, inr, Bool, true, false, cond, ◌||◌, List, [], ◌∷◌, ◌++◌, length, take, map, Option, Some, None, refl, sym, ap, subst, ◌∙◌, arith}
+use Rattle.std.proofs.Common.{◌≡◌, ℕ, zero, suc, ◌+◌, ◌-◌, ◌≤◌, ◌<◌, ◌⊎◌, inl, inr, Bool, true, false, cond, ◌||◌, List, [], ◌∷◌, length, take, map, Option, Some, None, refl, sym, ap, subst, ◌∙◌, arith}
 use Rattle.std.specs.Prelude.{IsSome, slice_get, slice_index_or, unwrap_or, option_map, count_ones, ◌==◌}
 use Rattle.std.specs.List.{position}
 use Rattle.std.proofs.lemmas.Bool.{eqb-true, eq-eqb, false≢true}
@@ -7,9 +7,8 @@ use Rattle.std.proofs.lemmas.List.{length-map}
 use Rattle.std.proofs.lemmas.List.Quantifiers.{position-Some}
 use Rattle.pq_base.specs.Columns.{has_col, set_of}
 use Rattle.pq_base.specs.declared.value.ColType.{ColType}
-use Rattle.pq_base.specs.declared.value.Dir.{Dir}
 use Rattle.pq_base.specs.declared.value.Value.{Value}
-use Rattle.pq_key_code.specs.KeyCode.{component, code_of, entry_key, past_code}
+use Rattle.pq_key_code.specs.KeyCode.{past_code}
 use Rattle.pq_schema.specs.declared.table.Access.{Access}
 use Rattle.pq_schema.specs.declared.table.Access.TheVariants.{Primary, Secondary}
 use Rattle.pq_schema.specs.declared.table.Index.{Index}
@@ -28,16 +27,6 @@ use Rattle.pq_index_keep.specs.Promises.{HoldsRows}
 use Rattle.pq_index_keep.specs.Sound.{is_among, AreDifferent}
 use Rattle.pq_index_keep.specs.Tested.{given_value}
 use Rattle.pq_base.proofs.Sets.{set_members, members_set}
-
--- a code takes no more directions than there are values
-code_of-take : (dirs : List Dir) (values : List Value) → code_of (take (length values) dirs) values ≡ code_of dirs values
-code_of-take [] [] = refl
-code_of-take [] (x ∷ xs) = refl
-code_of-take (d ∷ ds) [] = refl
-code_of-take (d ∷ ds) (x ∷ xs) = ap (λ (bytes : List ℕ). component d x ++ bytes) (code_of-take ds xs)
-
-pub entry_prefix : (t i : ℕ) (dirs : List Dir) (values : List Value) → entry_key t i (take (length values) dirs) values ≡ entry_key t i dirs values
-entry_prefix t i dirs values = ap (λ (bytes : List ℕ). 3 ∷ t ∷ i ∷ bytes) (code_of-take dirs values)
 
 -- ---- values that columns are given
 

@@ -221,9 +221,9 @@ delete_err table other t key stopped is h = subst (λ (tb : Table). Answers {A =
     by (Refused r) o h = ap (λ (q : Option Refusal). or_ok q (Delete t (key_given table key))) h
 
 pub delete_ok : (table other : Table) (t : ℕ) (key : List Assign) (row : List Value) → table ≡ other → keyed_refusal table [] key ≡ None → row ≡ key_given table key → delete_checked other t key ≡ Ok (Delete t row)
-delete_ok table other t key row is none given =
+delete_ok table other t key row is none given_value =
     subst (λ (tb : Table). delete_checked tb t key ≡ Ok (Delete t row)) is
-    (ap (λ (o : Option Refusal). or_ok o (Delete t (key_given table key))) none ∙ ap (λ (r : List Value). Ok (Delete t r)) (sym given))
+    (ap (λ (o : Option Refusal). or_ok o (Delete t (key_given table key))) none ∙ ap (λ (r : List Value). Ok (Delete t r)) (sym given_value))
 
 pub insert_err_at : (table other : Table) (t : ℕ) (cols : Option (List (List ℕ))) (values : List Value) (stopped : Stopped) (names : List (List ℕ)) (places : List ℕ) → table ≡ other → insert_names_refusal table cols ≡ None → names ≡ insert_names table cols → places ≡ insert_places table cols
     → Answers {A = List Value} (Err stopped) (or_ok (insert_values_refusal table names places values) (insert_row table places values)) → Answers {A = Write} (Err stopped) (insert_checked other t cols values)

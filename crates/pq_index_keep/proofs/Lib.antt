@@ -1,4 +1,5 @@
 pub mod Changing
+pub mod CodedKeys
 pub mod Coding
 pub mod Counted
 pub mod Deleting

@@ -1,5 +1,6 @@
 pub mod Bounds
 pub mod Checking
+pub mod Coded
 pub mod Effects
 pub mod Groups
 pub mod Moved

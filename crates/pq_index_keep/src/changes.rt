@@ -1,37 +1,18 @@
 //! The changes that a write makes of the pairs of a row.
-ghost use Rattle.std.specs.Prelude.{◌≡◌, ◌≤◌, ◌<◌, ◌+◌, ◌∷◌, ◌++◌, [], All, length, map, IfOk, OnOk, Some, None};
+ghost use Rattle.std.specs.Prelude.{◌≡◌, ◌≤◌, ◌<◌, ◌+◌, ◌∷◌, ◌++◌, All, length, map, IfOk, OnOk, Some, None};
 ghost use Rattle.pq_row_code.specs.RowCode.{row_code, IsShort};
 ghost use Rattle.pq_schema.specs.Sound.{AreColumns, AreParts};
-ghost use Rattle.pq_schema.specs.Sequences.{index_sequence};
-ghost use Rattle.pq_content.specs.Pairs.{entry_pair, entries_from, entry_changes, puts, removals};
+ghost use Rattle.pq_content.specs.Pairs.{entries_from, entry_changes, puts, removals};
 ghost use Rattle.pq_content.specs.Standing.{change_of};
 ghost use Rattle.pq_index_keep.specs.Moved.{moved_entry_changes};
 ghost use Rattle.pq_content.specs.Tables.{stored_code};
 
-use crate::groups::{index_prefix, index_sequence};
-use crate::rows::{same_values, values_of};
+use crate::keys::entry_of;
+use crate::rows::same_entry;
 use pq_base::{Bytes, List, NoMem, Row};
 use pq_row_code::{Change, encode_row};
 use pq_schema::{Index, Table};
 use std::alloc::Global;
-
-/// The key of the row's entry in an index of this number, from 1.
-fn entry_of(
-    alloc: Global,
-    number: u8,
-    place: u8,
-    table: &Table,
-    index: &Index,
-    row: &Row,
-) -> Result<Bytes, NoMem>
-    requires key { AreColumns table.now.key }
-    requires parts { AreParts index.now.cols }
-    ensures { IfOk result (λ key. key ≡ (entry_pair number place (index_sequence table.now index.now) row.now).0) }
-{
-    let parts = index_sequence(alloc, table, index)?;
-    let values = values_of(alloc, parts.items(), row)?;
-    index_prefix(alloc, number, place, &parts, &values)
-}
 
 /// The change that writes the row at its key.
 fn put_row(alloc: Global, at: Bytes, row: &Row) -> Result<Change, NoMem>
@@ -162,15 +143,12 @@ fn move_entry(
     ensures { OnOk result (map change_of changes.new
         ≡ map change_of changes.old ++ moved_entry_changes number place table.now index.now old.now new.now) }
 {
-    let parts = index_sequence(alloc, table, index)?;
-    let before = values_of(alloc, parts.items(), old)?;
-    let after = values_of(alloc, parts.items(), new)?;
-    if same_values(before.items(), after.items()) {
+    if same_entry(table, index, old, new) {
         return Ok(());
     }
-    let key = index_prefix(alloc, number, place, &parts, &before)?;
+    let key = entry_of(alloc, number, place, table, index, old)?;
     changes.push(alloc, Change { key, new: None })?;
-    let key = index_prefix(alloc, number, place, &parts, &after)?;
+    let key = entry_of(alloc, number, place, table, index, new)?;
     let new = Some(Bytes::new(alloc));
     changes.push(alloc, Change { key, new })
 }

@@ -10,6 +10,7 @@ mod column_values;
 mod groups;
 mod inserts;
 mod keyed;
+mod keys;
 mod limits;
 mod parents;
 mod plan;

@@ -8,7 +8,7 @@ ghost use Rattle.pq_schema.specs.Sound.{IsTable, AreColumns};
 ghost use Rattle.pq_schema.specs.Tables.{table_at};
 ghost use Rattle.pq_schema.specs.declared.table.Table.{Table as Definition};
 ghost use Rattle.pq_content.specs.Pairs.{Pair};
-ghost use Rattle.pq_content.specs.Tables.{Rows, IsTableNumber, types_of, cells};
+ghost use Rattle.pq_content.specs.Tables.{Rows, types_of};
 ghost use Rattle.pq_index_keep.specs.Bounds.{one_if, tested_limits, tested_n};
 ghost use Rattle.pq_index_keep.specs.Effects.{stays, is_full, lacks_room};
 ghost use Rattle.pq_calls.specs.Calls.{Uses, Fails};
@@ -17,9 +17,9 @@ ghost use Rattle.pq_index_keep.specs.Promises.{HoldsRows};
 ghost use Rattle.pq_index_keep.specs.Tested.{touches};
 
 use crate::groups::count_group;
-use crate::rows::{same_values, values_at};
+use crate::rows::{same_cells, values_at};
 use crate::write::Scope;
-use pq_base::{NoMem, Row};
+use pq_base::Row;
 use pq_calls::Calls;
 use pq_schema::{Limit, Table};
 use pq_store::{Broke, Store};
@@ -27,16 +27,12 @@ use std::alloc::Global;
 use std::sync::ledger::Ledger;
 
 /// Whether the row before had the same values at the columns.
-fn stays(alloc: Global, old: &Option<Row>, row: &Row, cols: &[u8]) -> Result<bool, NoMem>
-    ensures { IfOk result (λ answer. answer ≡ stays old.now row.now cols.now) }
+fn stays(old: &Option<Row>, row: &Row, cols: &[u8]) -> bool
+    ensures { result ≡ stays old.now row.now cols.now }
 {
     match old {
-        None => Ok(false),
-        Some(old) => {
-            let before = values_at(alloc, old.items(), cols)?;
-            let after = values_at(alloc, row.items(), cols)?;
-            Ok(same_values(before.items(), after.items()))
-        }
+        None => false,
+        Some(old) => same_cells(cols, old.items(), row.items()),
     }
 }
 
@@ -98,7 +94,7 @@ fn lacks_room<S: Store<L>, L: Ledger>(
     if !scope.touches(limit.cols.items()) {
         return Ok(false);
     }
-    if stays(alloc, old, row, limit.cols.items())? {
+    if stays(old, row, limit.cols.items()) {
         return Ok(false);
     }
     is_full(alloc, number, table, limit, row, calls)

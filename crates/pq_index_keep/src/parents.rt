@@ -12,7 +12,7 @@ ghost use Rattle.pq_calls.specs.World.{Affords, no_damage};
 ghost use Rattle.pq_index_keep.specs.Promises.{HoldsRows};
 ghost use Rattle.pq_index_keep.specs.Tested.{touches};
 
-use crate::rows::values_at;
+use crate::keys::key_at;
 use crate::write::Scope;
 use pq_base::Row;
 use pq_calls::Calls;
@@ -37,8 +37,8 @@ fn is_missing<S: Store<L>, L: Ledger>(
         AllOfKinds (key_types (table_at tables foreign.now.table)) (cells foreign.now.cols row.now)
         → missing ≡ is_missing tables rows row.now foreign.now) }
 {
-    let key = values_at(alloc, row.items(), foreign.cols.items())?;
-    let there = calls.has_row(alloc, foreign.table, &key)?;
+    let at = key_at(alloc, foreign.table, foreign.cols.items(), row.items())?;
+    let there = calls.has_value(alloc, at.items())?;
     Ok(!there)
 }
 

@@ -16,13 +16,12 @@ ghost use Rattle.pq_index_keep.specs.Promises.{HoldsRows, Plans, IsPlannedWithin
 ghost use Rattle.pq_index_keep.specs.Sound.{AreWritable, IsInsert, IsDelete};
 
 use crate::changes::{puts, removals};
+use crate::keys::key_at;
 use crate::references::child_refusal;
 use crate::refusals::insert_refusal;
-use crate::rows::key_of;
 use crate::write::{Scope, Write};
 use pq_base::{Bytes, List, NoMem, Refusal, Row};
 use pq_calls::{Calls, StoredRow};
-use pq_key_code::row_key;
 use pq_row_code::Change;
 use pq_schema::{Catalog, Table};
 use pq_store::{Broke, Store};
@@ -64,8 +63,7 @@ pub(crate) fn no_row(alloc: Global, table: &Table) -> Result<Planned, NoMem>
 fn own_key(alloc: Global, number: u8, table: &Table, row: &Row) -> Result<Bytes, NoMem>
     ensures { IfOk result (λ at. at ≡ row_key number (key_of table.now row.now)) }
 {
-    let key = key_of(alloc, table, row)?;
-    row_key(alloc, number, &key)
+    key_at(alloc, number, table.key.items(), row.items())
 }
 
 pub(crate) fn plan_insert<S: Store<L>, L: Ledger>(

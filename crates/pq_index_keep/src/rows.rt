@@ -1,10 +1,12 @@
 //! Values of rows at columns.
-ghost use Rattle.std.specs.Prelude.{◌≡◌, map, IfOk};
-ghost use Rattle.pq_content.specs.Tables.{value_of, cells, values_of, key_of, same_value, same_values};
+ghost use Rattle.std.specs.Prelude.{◌≡◌, [], map, IfOk};
+ghost use Rattle.pq_schema.specs.Sound.{AreColumns, AreParts};
+ghost use Rattle.pq_schema.specs.Sequences.{then_key, index_sequence};
+ghost use Rattle.pq_content.specs.Tables.{value_of, cells, values_of, same_value, same_values};
 ghost use Rattle.pq_index_keep.specs.Tested.{given_value};
 
-use pq_base::{List, NoMem, Row, Value};
-use pq_schema::{KeyPart, Table};
+use pq_base::{ColSet, List, NoMem, Row, Value};
+use pq_schema::{Index, KeyPart, Table, columns_in};
 use std::alloc::Global;
 
 fn value_of(alloc: Global, row: &[Value], col: u8) -> Result<Value, NoMem>
@@ -25,24 +27,6 @@ pub(crate) fn values_at(alloc: Global, row: &[Value], cols: &[u8]) -> Result<Row
         values.push(alloc, value_of(alloc, row, *col)?)?;
     }
     Ok(values)
-}
-
-/// The values at the columns of a sequence.
-pub(crate) fn values_of(alloc: Global, parts: &[KeyPart], row: &Row) -> Result<Row, NoMem>
-    ensures { IfOk result (λ values. values ≡ values_of parts.now row.now) }
-{
-    let mut values = List::new(alloc);
-    for part in parts {
-        values.push(alloc, value_of(alloc, row.items(), part.col)?)?;
-    }
-    Ok(values)
-}
-
-/// The key of a row.
-pub(crate) fn key_of(alloc: Global, table: &Table, row: &Row) -> Result<Row, NoMem>
-    ensures { IfOk result (λ key. key ≡ key_of table.now row.now) }
-{
-    values_at(alloc, row.items(), table.key.items())
 }
 
 /// The value that a column is given, where these columns are given these values.
@@ -88,13 +72,60 @@ fn same_value(a: &Value, b: &Value) -> bool
     }
 }
 
-/// Whether two lists have equal values.
-pub(crate) fn same_values(xs: &[Value], ys: &[Value]) -> bool
-    ensures { result ≡ same_values xs.now ys.now }
+/// Whether two rows have equal values at a column.
+fn same_at(a: &[Value], b: &[Value], col: u8) -> bool
+    ensures { result ≡ same_value (value_of a.now col) (value_of b.now col) }
 {
-    match (xs.split_first(), ys.split_first()) {
-        (None, None) => true,
-        (Some((x, xs)), Some((y, ys))) => same_value(x, y) && same_values(xs, ys),
-        _ => false,
+    let none = Value::Bool(false);
+    let place = col as usize;
+    same_value(a.get(place).unwrap_or(&none), b.get(place).unwrap_or(&none))
+}
+
+/// Whether two rows have equal values at the columns.
+pub(crate) fn same_cells(cols: &[u8], a: &[Value], b: &[Value]) -> bool
+    ensures { result ≡ same_values (cells cols.now a.now) (cells cols.now b.now) }
+{
+    match cols.split_first() {
+        None => true,
+        Some((col, cols)) => same_at(a, b, *col) && same_cells(cols, a, b),
     }
+}
+
+/// Whether two rows have equal values at the columns of the parts.
+fn same_parts(parts: &[KeyPart], a: &[Value], b: &[Value]) -> bool
+    ensures { result ≡ same_values (values_of parts.now a.now) (values_of parts.now b.now) }
+{
+    match parts.split_first() {
+        None => true,
+        Some((part, parts)) => same_at(a, b, part.col) && same_parts(parts, a, b),
+    }
+}
+
+/// Whether two rows have equal values at the columns that are not in the set.
+fn same_left(cols: &[u8], set: ColSet, a: &[Value], b: &[Value]) -> bool
+    requires { AreColumns cols.now }
+    ensures { result ≡ same_values (values_of (then_key [] set cols.now) a.now)
+        (values_of (then_key [] set cols.now) b.now) }
+{
+    match cols.split_first() {
+        None => true,
+        Some((col, cols)) => {
+            if !set.has(*col) && !same_at(a, b, *col) {
+                return false;
+            }
+            same_left(cols, set, a, b)
+        }
+    }
+}
+
+/// Whether two rows have equal values at the columns of the index's sequence.
+pub(crate) fn same_entry(table: &Table, index: &Index, a: &Row, b: &Row) -> bool
+    requires key { AreColumns table.now.key }
+    requires parts { AreParts index.now.cols }
+    ensures { result ≡ same_values (values_of (index_sequence table.now index.now) a.now)
+        (values_of (index_sequence table.now index.now) b.now) }
+{
+    let cols = index.cols.items();
+    same_parts(cols, a.items(), b.items())
+        && same_left(table.key.items(), columns_in(cols), a.items(), b.items())
 }

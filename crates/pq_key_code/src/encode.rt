@@ -53,12 +53,7 @@ fn put_text(alloc: Global, out: &mut Bytes, dir: Dir, bytes: &[u8]) -> Result<()
 }
 
 /// Puts a value's component behind what is there: the marker, and the payload in its direction.
-pub(crate) fn put_component(
-    alloc: Global,
-    out: &mut Bytes,
-    dir: Dir,
-    value: &Value,
-) -> Result<(), NoMem>
+pub fn put_component(alloc: Global, out: &mut Bytes, dir: Dir, value: &Value) -> Result<(), NoMem>
     ensures { OnOk result (out.new ≡ out.old ++ component dir value.now) }
 {
     out.push(alloc, 0x10)?;

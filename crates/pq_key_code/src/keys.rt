@@ -1,5 +1,5 @@
 //! The keys of the store.
-ghost use Rattle.std.specs.Prelude.{◌≡◌, ◌++◌, length, replicate, OnOk, IfOk};
+ghost use Rattle.std.specs.Prelude.{◌≡◌, ◌++◌, [], length, replicate, OnOk, IfOk};
 ghost use Rattle.pq_base.specs.declared.value.Dir.TheVariants.{Asc};
 ghost use Rattle.pq_key_code.specs.KeyCode.{code_of, past_code, row_key, entry_key, catalog_key, intent_key};
 
@@ -26,13 +26,28 @@ fn put_ascending(alloc: Global, out: &mut Bytes, row: &Row) -> Result<(), NoMem>
     Ok(())
 }
 
+/// What stands before the code in the keys of a table's rows: space 02 and the table's number.
+pub fn row_front(alloc: Global, table: u8) -> Result<Bytes, NoMem>
+    ensures { IfOk result (λ bytes. bytes ≡ row_key table []) }
+{
+    Bytes::of_bytes(alloc, &[0x02, table])
+}
+
 /// The key of the row with this primary key: space 02, the table's number, and the key's code.
 pub fn row_key(alloc: Global, table: u8, key: &Row) -> Result<Bytes, NoMem>
     ensures { IfOk result (λ bytes. bytes ≡ row_key table key.now) }
 {
-    let mut bytes = Bytes::of_bytes(alloc, &[0x02, table])?;
+    let mut bytes = row_front(alloc, table)?;
     put_ascending(alloc, &mut bytes, key)?;
     Ok(bytes)
+}
+
+/// What stands before the code in the keys of an index's entries: space 03, the table's number and
+/// the index's number.
+pub fn entry_front(alloc: Global, table: u8, index: u8) -> Result<Bytes, NoMem>
+    ensures { IfOk result (λ bytes. bytes ≡ entry_key table index [] []) }
+{
+    Bytes::of_bytes(alloc, &[0x03, table, index])
 }
 
 /// The key of an index entry, or, with the first values of a sequence only, the beginning of such
@@ -47,7 +62,7 @@ pub fn entry_key(
     requires { length values.now ≡ length dirs.now }
     ensures { IfOk result (λ bytes. bytes ≡ entry_key table index dirs.now values.now) }
 {
-    let mut bytes = Bytes::of_bytes(alloc, &[0x03, table, index])?;
+    let mut bytes = entry_front(alloc, table, index)?;
     put_code(alloc, &mut bytes, values.items(), dirs)?;
     Ok(bytes)
 }

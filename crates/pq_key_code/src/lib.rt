@@ -10,6 +10,6 @@ mod keys;
 mod laws;
 
 pub use decode::{checked_text, decode_key};
-pub use encode::encode_key;
-pub use keys::{catalog_key, entry_key, intent_key, past, row_key};
+pub use encode::{encode_key, put_component};
+pub use keys::{catalog_key, entry_front, entry_key, intent_key, past, row_front, row_key};
 pub use laws::key_code_laws;

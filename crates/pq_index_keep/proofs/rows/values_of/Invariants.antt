@@ -1,6 +1,0 @@
-use Rattle.std.proofs.Common.{◌≡◌, take}
-use Rattle.pq_content.specs.Tables.{values_of}
-use Rattle.pq_index_keep.proofs.rows.values_of.Given as goal
-
-abbrev pub invariant-loop-part : goal.invariant-loop-part
-invariant-loop-part l = l.values ≡ values_of (take l.part-index l.parts) l.row
