@@ -1,5 +1,4 @@
 //! A script that is cut behind each of its bytes: the reports of its whole statements are those of the whole script.
-ghost use Rattle.std.specs.Prelude.{◌≡◌};
 
 use crate::runs::run_text;
 use crate::stated::written;
