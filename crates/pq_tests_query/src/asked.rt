@@ -55,7 +55,7 @@ fn refused(alloc: Global, stopped: Stopped) -> Result<Bytes, NoMem> {
 }
 
 /// The canonical text of the query named q that the text spells, or the report of its refusal.
-pub fn asked(alloc: Global, catalog: &Catalog, text: &str) -> Result<Bytes, Fail> {
+fn asked(alloc: Global, catalog: &Catalog, text: &str) -> Result<Bytes, Fail> {
     let text = text_of(alloc, text)?;
     if text.bytes().len() > 1_048_576 {
         return Err(Fail::from("too long"));
@@ -66,6 +66,15 @@ pub fn asked(alloc: Global, catalog: &Catalog, text: &str) -> Result<Bytes, Fail
         Ok(query) => Ok(print_query(alloc, catalog.tables(), &query)?),
         Err(stopped) => Ok(refused(alloc, stopped)?),
     }
+}
+
+/// Whether the query is read.
+pub fn is_accepted(alloc: Global, catalog: &Catalog, text: &str) -> Result<bool, Fail> {
+    Ok(
+        asked(alloc, catalog, text)?
+            .items()
+            .starts_with(b"PREPARE q AS SELECT "),
+    )
 }
 
 /// Whether the query is refused with these fields.

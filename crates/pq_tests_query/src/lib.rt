@@ -6,6 +6,8 @@ mod arranged;
 #[cfg(test)]
 mod asked;
 #[cfg(test)]
+mod causes;
+#[cfg(test)]
 mod counts;
 #[cfg(test)]
 mod forms;

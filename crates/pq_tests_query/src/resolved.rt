@@ -1,5 +1,4 @@
-// ! Queries over the tables of a small site: their canonical texts, and each refusal alone and with
-// a later one beside it.
+//! Queries over the tables of a small site: their canonical texts, and their refusals.
 use crate::asked::{catalog_of, is_read, is_refused};
 use std::test::Fail;
 
@@ -46,79 +45,29 @@ const READ: [(&'static str, &'static str); 8] = [
     ),
 ];
 
-/// Queries, and the fields of their refusals, in the order in which causes are tried.
-const REFUSED: [(&'static str, &'static str); 45] = [
-    (
-        "SELECT a.id FROM m a, m b, m c, m d, m e, m f, m g;",
-        "E206 relations",
-    ),
-    (
-        "SELECT a.id FROM m a, m b, m c, m d, m e, m f, m g WHERE zz = 1 AND zz = 1 AND zz = 1 AND zz = 1 AND zz = 1 AND zz = 1 AND zz = 1 AND zz = 1 AND zz = 1 AND zz = 1 AND zz = 1 AND zz = 1 AND zz = 1 AND zz = 1 AND zz = 1 AND zz = 1 AND zz = 1;",
-        "E206 relations",
-    ),
-    (
-        "SELECT id FROM m WHERE id = 1 AND id = 1 AND id = 1 AND id = 1 AND id = 1 AND id = 1 AND id = 1 AND id = 1 AND id = 1 AND id = 1 AND id = 1 AND id = 1 AND id = 1 AND id = 1 AND id = 1 AND id = 1 AND id = 1;",
-        "E206 predicates",
-    ),
-    (
-        "SELECT id FROM nil WHERE zz = 1 AND zz = 1 AND zz = 1 AND zz = 1 AND zz = 1 AND zz = 1 AND zz = 1 AND zz = 1 AND zz = 1 AND zz = 1 AND zz = 1 AND zz = 1 AND zz = 1 AND zz = 1 AND zz = 1 AND zz = 1 AND zz = 1 ORDER BY v, v, v, v, v;",
-        "E206 predicates",
-    ),
-    ("SELECT id FROM m ORDER BY v, v, v, v, v;", "E206 order"),
-    (
-        "SELECT id FROM nil ORDER BY v, v, v, v, v LIMIT 0;",
-        "E206 order",
-    ),
-    ("SELECT id FROM nil;", "E202 nil"),
-    ("SELECT x.id FROM m x, nil x;", "E202 nil"),
-    ("SELECT x.id FROM m x, m x;", "E301 x"),
-    ("SELECT x.id FROM m x, m x, nil y;", "E301 x"),
+/// Queries, and the fields of their refusals: further forms of the causes that are told one before the other.
+const REFUSED: [(&'static str, &'static str); 16] = [
     ("SELECT m.id FROM m, m;", "E301 m"),
-    ("SELECT zz FROM m x, users x;", "E301 x"),
-    ("SELECT z.id FROM m;", "E301 z"),
-    ("SELECT zz FROM m;", "E203 zz"),
     ("SELECT m.zz FROM m;", "E203 zz"),
-    ("SELECT id FROM m a, m b;", "E203 id"),
-    ("SELECT zz, z.id FROM m;", "E203 zz"),
-    ("SELECT z.id, zz FROM m WHERE yy = 1;", "E301 z"),
-    (
-        "SELECT zz FROM m WHERE yy = 1 ORDER BY xx LIMIT 0;",
-        "E203 zz",
-    ),
-    ("SELECT id FROM m WHERE z.id = 'a';", "E301 z"),
-    ("SELECT a.id FROM m a, m b WHERE zz = b.yy;", "E203 zz"),
-    ("SELECT a.id FROM m a, m b WHERE a.id = b.yy;", "E203 yy"),
-    ("SELECT id FROM m WHERE id = 'a';", "E302 1"),
-    ("SELECT id FROM m WHERE id = 'a' AND zz = 1;", "E302 1"),
-    ("SELECT id FROM m WHERE zz = 1 AND id = 'a';", "E203 zz"),
+    ("SELECT id FROM m WHERE m.zz = 1;", "E203 zz"),
     ("SELECT id FROM m WHERE id = 1 AND v = true;", "E302 2"),
-    ("SELECT id FROM m WHERE id = v ORDER BY zz;", "E302 1"),
     (
         "SELECT s.owner FROM subs s, users u WHERE s.owner = [1] AND s.approved = u.name;",
         "E302 2",
     ),
-    ("SELECT id FROM m ORDER BY zz;", "E203 zz"),
-    ("SELECT id FROM m ORDER BY v, v, zz;", "E204 v"),
-    ("SELECT id FROM m ORDER BY zz, v, v;", "E203 zz"),
-    ("SELECT id FROM m ORDER BY v, m.v LIMIT 0;", "E204 v"),
+    ("SELECT id FROM m ORDER BY v, m.v;", "E204 v"),
     ("SELECT id FROM m LIMIT 0;", "E206 stop"),
-    ("SELECT id FROM m LIMIT 1001;", "E206 stop"),
     ("SELECT id FROM m LIMIT -1;", "E206 stop"),
     (
         "SELECT id FROM m WHERE id = [2] PAGINATE 1001;",
         "E206 stop",
     ),
-    ("SELECT id FROM m WHERE v = [2];", "E303"),
     ("SELECT id FROM m WHERE id = [1] AND v = [3];", "E303"),
     ("SELECT id FROM m WHERE id = [0];", "E303"),
     ("SELECT id FROM m WHERE id = [-1];", "E303"),
     ("SELECT id FROM m WHERE id = [17];", "E303"),
     ("SELECT id FROM m WHERE id = [1] AND v = [256];", "E303"),
     ("SELECT id FROM m WHERE id = [1] AND v = [257];", "E303"),
-    (
-        "SELECT u.name FROM users u, m WHERE u.name = [1] AND m.id = [1];",
-        "E303",
-    ),
     ("SELECT id FROM nil WHERE;", "E104 24"),
 ];
 
@@ -132,7 +81,7 @@ fn queries_have_canonical_texts(rt: HostRuntime) -> Result<(), Fail> {
 }
 
 #[test]
-fn the_first_cause_is_told(rt: HostRuntime) -> Result<(), Fail> {
+fn queries_are_refused(rt: HostRuntime) -> Result<(), Fail> {
     let catalog = catalog_of(rt.alloc(), &TABLES)?;
     for (text, fields) in REFUSED {
         assert!(rt; is_refused(rt.alloc(), &catalog, text, fields)?, "{text:?}");
