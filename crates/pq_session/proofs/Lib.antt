@@ -20,6 +20,7 @@ pub mod Reopening
 pub mod Rereading
 pub mod Runs
 pub mod Shown
+pub mod Spelling
 pub mod Standing
 pub mod Starting
 pub mod Statements

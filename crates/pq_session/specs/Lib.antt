@@ -17,6 +17,7 @@ pub mod Planning
 pub mod Promise
 pub mod Reports
 pub mod Requests
+pub mod Spelling
 pub mod Stands
 pub mod Step
 pub mod Within

@@ -1,6 +1,7 @@
 //! What the definitions promise by themselves: each law is the contract of a call that does nothing.
-ghost use Rattle.std.specs.Prelude.{◌≡◌, ◌+◌, ℕ, List, [], length, map, flat_map, Option, Some, None, Ok, IsPermutation};
+ghost use Rattle.std.specs.Prelude.{◌≡◌, ◌+◌, ◌≤◌, ℕ, List, [], length, map, flat_map, Option, Some, None, Ok, Err, IsPermutation};
 ghost use Rattle.std.specs.FinMap.{empty};
+ghost use Rattle.pq_base.specs.declared.refusal.Refusal.TheVariants.{Syntax};
 ghost use Rattle.pq_base.specs.declared.value.Value.{Value};
 ghost use Rattle.pq_schema.specs.declared.definition.TableDef.{TableDef};
 ghost use Rattle.pq_schema.specs.declared.query.Query.{Query};
@@ -10,14 +11,35 @@ ghost use Rattle.pq_schema.specs.Definitions.{new_table};
 ghost use Rattle.pq_schema.specs.Names.{IsTableDef};
 ghost use Rattle.pq_schema.specs.Schema.{Schema, empty_schema, with_table, with_query};
 ghost use Rattle.pq_schema.specs.Valid.{IsValid, IsDefined};
+ghost use Rattle.pq_text.specs.Tokens.{tokens_of};
+ghost use Rattle.pq_grammar.specs.Language.{IsFaultPlace};
+ghost use Rattle.pq_shape.specs.Faults.{offset_at};
+ghost use Rattle.pq_shape.specs.Shapes.{shapes_of};
+ghost use Rattle.pq_reread.specs.WholeStatements.{WholeStatement, SpellsWhole};
 ghost use Rattle.pq_print.specs.Canonical.{definition_text};
 ghost use Rattle.pq_store.specs.Content.{Content};
 ghost use Rattle.pq_content.specs.Tables.{IsTableNumber, rows_of};
 ghost use Rattle.pq_plan.specs.Answer.{selected_values, whole};
+ghost use Rattle.pq_session.specs.Actions.{asked_text};
 ghost use Rattle.pq_session.specs.Model.{Model};
 ghost use Rattle.pq_session.specs.Opening.{text_defines};
 ghost use Rattle.pq_session.specs.Pages.{ArePages, IsPaged, question_of};
+ghost use Rattle.pq_session.specs.Spelling.{asked_whole, SpellsNone};
 ghost use Rattle.pq_session.specs.Stands.{Opens};
+
+/// What a text asks for is decided by what its tokens spell: no rule of reading plays a part.
+pub fn spelling_law()
+    // Where they spell a whole statement, it is what this statement asks for.
+    ensures spelled { (schema : Schema) (text : List ℕ) (whole : WholeStatement) → length text ≤ 65536
+        → SpellsWhole whole (shapes_of text (tokens_of text)) → asked_text schema text ≡ asked_whole schema whole }
+
+    // Where they spell none, it is refused with the offset of the first token such that no whole statement begins with
+    // the tokens up to and with it, or the length of the text where there is no such token.
+    ensures fault { (schema : Schema) (text : List ℕ) → length text ≤ 65536
+        → SpellsNone (shapes_of text (tokens_of text))
+        → (place : ℕ) × IsFaultPlace SpellsWhole (shapes_of text (tokens_of text)) place
+        × (asked_text schema text ≡ Err (Syntax (offset_at text (tokens_of text) place))) }
+{}
 
 /// The canonical text of a definition, read over the definitions before it, defines it again.
 pub fn reading_back_law()
