@@ -6,7 +6,7 @@ ghost use Rattle.pq_key_code.specs.KeyCode.{row_key};
 ghost use Rattle.pq_schema.specs.Rows.{types_of};
 ghost use Rattle.pq_calls.specs.Calls.{Uses, Fails};
 ghost use Rattle.pq_calls.specs.Evidence.{IsRead, IsNoRowAt};
-ghost use Rattle.pq_calls.specs.World.{Affords, no_damage};
+ghost use Rattle.pq_calls.specs.World.{Affords};
 
 use crate::calls::Calls;
 use pq_base::{Bytes, ColType, List, NoMem, Row};
