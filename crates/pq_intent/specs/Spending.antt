@@ -22,9 +22,8 @@ pub record TakesAtMost (most : Bound) (before after : Counts) : Type 0 where
   pub ops : after.ops ≤ before.ops + most.ops
   pub entries : after.entries ≤ before.entries + most.entries
 
--- without an intent one read, which finds nothing; and with one of so many changes one read with its entry,
--- the changes, and
--- the removal of the intent
+-- without an intent one read, which finds nothing; and with one of so many changes one read with its entry, the
+-- changes, and the removal of the intent
 abbrev pub settling_bound : Option ℕ → Bound
 settling_bound None = record { ops = 1; entries = 0 }
 settling_bound (Some changes) = record { ops = changes + 2; entries = 1 }

@@ -10,7 +10,7 @@ use Rattle.pq_builds.specs.declared.build.Built.TheVariants.{Rows as Filled, Too
 use Rattle.pq_builds.specs.declared.target.NewQuery.{NewQuery}
 use Rattle.pq_builds.specs.declared.target.Target.{Target}
 use Rattle.pq_builds.specs.Filling.{row_pairs_in}
-use Rattle.pq_builds.specs.Stages.{StopsBuilding, TakesBuild, IsWithin as BuildsWithin, build_ops}
+use Rattle.pq_builds.specs.Stages.{StopsBuilding, TakesBuild, IsWithinBuild as BuildsWithin, build_ops}
 use Rattle.pq_builds.specs.Standing.{Origin, HoldsOrigin, Makes, Leaves, before as before_build}
 use Rattle.pq_builds.specs.Targets.{target_of}
 use Rattle.pq_builds.proofs.Standing.{counted_before}

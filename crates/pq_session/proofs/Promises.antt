@@ -6,7 +6,7 @@ use Rattle.pq_base.specs.declared.number.Bound.{Bound}
 use Rattle.pq_base.specs.declared.number.Used.{Used}
 use Rattle.pq_base.specs.declared.refusal.Refusal.{Refusal}
 use Rattle.pq_builds.specs.Bounds.{bound, build_bound}
-use Rattle.pq_builds.specs.Stages.{IsWithin as BuildsWithin, build_ops}
+use Rattle.pq_builds.specs.Stages.{IsWithinBuild as BuildsWithin, build_ops}
 use Rattle.pq_schema.specs.Schema.{Schema}
 use Rattle.pq_print.specs.Report.{is_refused}
 use Rattle.pq_print.specs.declared.report.End.{End}

@@ -16,7 +16,7 @@ use Rattle.pq_builds.specs.Bounds.{bound}
 use Rattle.pq_builds.specs.Stages.{ShowsLeft}
 use Rattle.pq_builds.specs.declared.target.NewQuery.{NewQuery}
 use Rattle.pq_builds.specs.declared.target.Target.{Target}
-use Rattle.pq_intent.specs.Counting.{Counts as CountsOf, CountsIntent, HasNumbers, IsIntentOfMany, nothing_settled, settled_of}
+use Rattle.pq_intent.specs.Counting.{CountsChanges as CountsOf, CountsIntent, HasNumbers, IsIntentOfMany, nothing_settled, settled_of}
 use Rattle.pq_intent.specs.Errors.{ShowsNoIntent}
 use Rattle.pq_store.specs.Breaks.{IsUndamaged}
 use Rattle.pq_intent.specs.Settling.{IsSettled, Settles, LeavesSettled}

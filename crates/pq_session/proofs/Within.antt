@@ -11,12 +11,12 @@ use Rattle.pq_content.specs.Standing.{IsIntent, SettlesTo}
 use Rattle.pq_content.specs.Tables.{rows_of}
 use Rattle.pq_store.specs.Content.{Content}
 use Rattle.pq_store.specs.Counts.{Counts}
-use Rattle.pq_intent.specs.Counting.{Counts as CountsOf, HasNumbers, IsIntentOfMany, HasChanges, settled_of}
+use Rattle.pq_intent.specs.Counting.{CountsChanges as CountsOf, HasNumbers, IsIntentOfMany, HasChanges, settled_of}
 use Rattle.pq_intent.specs.Settling.{IsSettled, Settles}
 use Rattle.pq_intent.specs.Spending.{TakesAtMost, settling_bound, IsWithinSettling, IsWithinSettlingOf}
 use Rattle.pq_intent.specs.declared.settles.Settled.{Settled}
 use Rattle.pq_builds.specs.Bounds.{bound}
-use Rattle.pq_builds.specs.Stages.{Takes, IsWithin as BuildsWithin, left_ops}
+use Rattle.pq_builds.specs.Stages.{Takes, IsWithinBuild as BuildsWithin, left_ops}
 use Rattle.pq_session.specs.declared.format.Mark.{Mark}
 use Rattle.pq_session.specs.declared.session.Started.{Started}
 use Rattle.pq_session.specs.Model.{Model}

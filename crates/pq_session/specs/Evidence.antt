@@ -8,9 +8,8 @@ use Rattle.pq_store.specs.declared.damage.Broke.{Broke}
 use Rattle.pq_store.specs.declared.damage.Damage.{Damage}
 use Rattle.pq_nodes.specs.Operators.{ShowsRead}
 
--- a pair of rows or entries that is none of a table's, or a row that an entry names and that is not there;
--- the key of an
--- intent where none was to be; or the key of the next definition, which was to be absent
+-- a pair of rows or entries that is none of a table's, or a row that an entry names and that is not there; the key of
+-- an intent where none was to be; or the key of the next definition, which was to be absent
 abbrev pub IsEvidence : Schema → Content → Damage → Type 0
 IsEvidence schema content damage =
     ShowsRead schema.tables content damage

@@ -4,7 +4,7 @@ use Rattle.pq_base.specs.declared.number.Bound.{Bound}
 use Rattle.pq_schema.specs.Schema.{Schema}
 use Rattle.pq_base.specs.declared.refusal.Refusal.{Refusal}
 use Rattle.pq_builds.specs.Bounds.{build_bound}
-use Rattle.pq_builds.specs.Stages.{IsWithin as BuildsWithin, build_ops}
+use Rattle.pq_builds.specs.Stages.{IsWithinBuild as BuildsWithin, build_ops}
 use Rattle.pq_intent.specs.Spending.{TakesAtMost}
 use Rattle.pq_print.specs.declared.report.End.{End}
 use Rattle.pq_print.specs.declared.report.End.TheVariants as end

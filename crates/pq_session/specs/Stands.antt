@@ -95,9 +95,8 @@ pub record Stands (content : Option Content) (schema : Schema) (m : Model) : Typ
   pub settled : HoldsModel content m
   pub known : schema ≡ m.schema
 
--- the rows keep valid definitions, and the content is told and settles to one that holds the model: it is
--- that content, or
--- an intent stands in it whose changes make it that content
+-- the rows keep valid definitions, and the content is told and settles to one that holds the model: it is that
+-- content, or an intent stands in it whose changes make it that content
 pub record Opens (content : Option Content) (m : Model) : Type 0 where
   pub valid : IsValid m.schema
   pub keeps : Keeps m.schema.tables m.rows

@@ -1,6 +1,6 @@
 //! The session: the view of a store's definitions.
 ghost use Rattle.std.specs.Prelude.{◌≡◌, ◌≤◌, ◌<◌, ◌+◌, ◌^◌, ◌⊎◌, length, IfOk, IfErr, IfSome, IsSome, OnOk, OnErr, Ok, None, Result};
-ghost use Rattle.pq_builds.specs.Stages.{Takes, IsWithin as BuildsWithin, left_ops};
+ghost use Rattle.pq_builds.specs.Stages.{Takes, IsWithinBuild as BuildsWithin, left_ops};
 ghost use Rattle.pq_intent.specs.Spending.{TakesAtMost};
 ghost use Rattle.pq_store.specs.Content.{HasBrokeCause};
 ghost use Rattle.pq_schema.specs.Schema.{empty_schema};

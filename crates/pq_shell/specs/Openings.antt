@@ -46,9 +46,8 @@ pub record CutsOpening (before : Moment) (part : List ℕ) (now : Counts) : Type
   pub entries : now.entries ≡ before.counts.entries + opened.used.entries
   pub is_its : (m : Model) → Opens before.content m → IsOpening before.content m opened
 
--- how much of the opening's line is out where the run stopped there, and what was taken; damage is that of
--- the content's
--- first flaw, or of a build that was left
+-- how much of the opening's line is out where the run stopped there, and what was taken; damage is that of the
+-- content's first flaw, or of a build that was left
 abbrev pub IsOpeningPart : Stop → Moment → List ℕ → Counts → Type 0
 IsOpeningPart stops.StoreFailed before part now = (part ≡ []) × StopsWithin before.counts now
 IsOpeningPart stops.NoMem before part now = (part ≡ []) × StopsWithin before.counts now

@@ -354,9 +354,8 @@ pub fn run_piql<S: Store<L>, I: Source, O: Sink, L: Ledger>(
     ensures ends { (form : Declared) → IsForm form words.now → Ends form result
         (run_world (I.left source.old) (S.content store.old) (O.held sink.old) meter.old)
         (run_world (I.left source.new) (S.content store.new) (O.held sink.new) meter.new) }
-    // Where the intent or the catalog of a told content is flawed, the line of the first flaw is
-    // all that is written; or a
-    // call fails, or there is no memory.
+    // Where the intent or the catalog of a told content is flawed, the line of the first flaw is all that
+    // is written; or a call fails, or there is no memory.
     ensures flawed { (form : Declared) → IsForm form words.now → HasOpening form
         → IfSome (S.content store.old) (λ pairs. (key : List ℕ) → IsFlaw pairs key
         → EndsAtFlaw key result (O.held sink.old) (O.held sink.new)) }
