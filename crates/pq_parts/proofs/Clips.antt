@@ -1,5 +1,5 @@
 -- What a part has of a range, between the later first key and the earlier end.
-use Rattle.std.proofs.Common.{◌≡◌, ℕ, zero, suc, Bool, true, false, cond, List, [], ◌∷◌, length, map, filter, take, min, Option, Some, None, IfSome, Result, Ok, Err, IfOk, All, refl, subst, sym, ◌∙◌, arith, ◌&&◌, if◌then◌else◌}
+use Rattle.std.proofs.Common.{◌≡◌, ℕ, zero, suc, Bool, true, false, cond, List, [], ◌∷◌, length, map, filter, take, min, Option, Some, None, IfSome, Result, Ok, Err, IfOk, All, refl, subst, sym, ◌∙◌, arith, ◌&&◌}
 use Rattle.std.specs.Option.{option_and_then}
 use Rattle.std.specs.Ordering.{is_lt, is_le}
 use Rattle.std.specs.List.{list_all}
@@ -8,17 +8,8 @@ use Rattle.pq_store.specs.declared.store.Pair.{Pair}
 use Rattle.pq_store.specs.declared.store.StoreErr.{StoreErr}
 use Rattle.pq_store.specs.Content.{Content, key_cmp, entry, is_within, pairs_within, IsPartOf}
 use Rattle.pq_store.proofs.Places.{Pairs, turned, same_key, below_below}
-use Rattle.pq_parts.specs.Clips.{is_key_before}
+use Rattle.pq_parts.specs.Clips.{is_key_before, later, earlier}
 use Rattle.pq_parts.specs.Spans.{Span, is_of, span_meets, own_content, own_of, IsPieceOf}
-
--- the later of two first keys
-abbrev pub later : List ℕ → List ℕ → List ℕ
-later a b = if is_lt (key_cmp a b) then b else a
-
--- the earlier of two ends, where there is a second one
-abbrev pub earlier : List ℕ → Option (List ℕ) → List ℕ
-earlier a None = a
-earlier a (Some b) = if is_lt (key_cmp b a) then b else a
 
 pub le_lt : (a b c : List ℕ) → is_le (key_cmp a b) ≡ true → is_lt (key_cmp b c) ≡ true → is_lt (key_cmp a c) ≡ true
 le_lt a b c le lt = grind (arith, le, lt, same_key a b, below_below a b c)

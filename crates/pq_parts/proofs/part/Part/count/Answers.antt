@@ -1,6 +1,7 @@
 use Rattle.std.proofs.Common.{◌≡◌, Ok, ◌∙◌, sym, ap, length, min, filter, arith}
 use Rattle.pq_store.specs.Content.{is_within}
-use Rattle.pq_parts.proofs.Clips.{later, whatever, own_unmet, counted_within}
+use Rattle.pq_parts.specs.Clips.{later}
+use Rattle.pq_parts.proofs.Clips.{whatever, own_unmet, counted_within}
 use Rattle.pq_parts.proofs.Asked.{not_asked, asked_once, met_once, few_counted}
 use Rattle.pq_parts.proofs.part.Part.count.Goals as goal
 use Rattle.pq_parts.proofs.part.Part.count.Goals.{then-cap-eq0-via-then-cap-eq0, then-cap-eq0-via-else-cap-eq0+then-not-meets}

@@ -1,6 +1,7 @@
 use Rattle.std.proofs.Common.{◌≡◌, ◌∙◌, refl, sym, ap, map, take, filter}
 use Rattle.pq_store.specs.Content.{entry, is_within}
-use Rattle.pq_parts.proofs.Clips.{later, whatever, take_none, own_unmet, ranged_within, piece_of}
+use Rattle.pq_parts.specs.Clips.{later}
+use Rattle.pq_parts.proofs.Clips.{whatever, take_none, own_unmet, ranged_within, piece_of}
 use Rattle.pq_parts.proofs.Asked.{asked_once, met_once, few_ranged}
 use Rattle.pq_parts.proofs.part.Part.range.Goals as goal
 use Rattle.pq_parts.proofs.part.Part.range.Goals.{then-limit-eq0-via-then-limit-eq0, then-limit-eq0-via-else-limit-eq0+then-not-meets}
