@@ -8,7 +8,7 @@ use Rattle.std.proofs.lemmas.List.{map-append}
 use Rattle.pq_base.specs.declared.value.ColType.{ColType}
 use Rattle.pq_base.specs.declared.value.Value.{Value}
 use Rattle.pq_base.specs.Values.{AllFit}
-use Rattle.pq_row_code.specs.RowCode.{row_code}
+use Rattle.pq_row_code.specs.RowCode.{code_as}
 use Rattle.pq_store.specs.Content.{Content, written_content, pairs_within}
 use Rattle.pq_content.specs.Pairs.{Pair, Change, changed_content, is_in_space}
 use Rattle.pq_intent.specs.Changing.{MayChange}
@@ -30,7 +30,7 @@ entered-append target xs ys c = ap (λ (l : List Change). changed_content l c) (
 decoded-append : (types : List ColType) (ps qs : List Pair) (xs ys : List (List Value)) → AreDecoded types ps xs → AreDecoded types qs ys → AreDecoded types (ps ++ qs) (xs ++ ys)
 decoded-append types ps qs xs ys a b = record {
   fit = each_append (AllFit types) xs ys a.fit b.fit;
-  codes = map-append row_code xs ys ∙ (λ i. a.codes i ++ b.codes i) ∙ sym (map-append (λ (pair : Pair). pair.1) ps qs);
+  codes = map-append (code_as types) xs ys ∙ (λ i. a.codes i ++ b.codes i) ∙ sym (map-append (λ (pair : Pair). pair.1) ps qs);
 }
 
 -- ---- none, one, more

@@ -12,7 +12,6 @@ use Rattle.pq_base.specs.Values.{IsType, AllFit}
 use Rattle.pq_base.proofs.Members.{keep_all}
 use Rattle.pq_base.proofs.Sorts.{IsPermutation-sort_by, each-sort_by}
 use Rattle.pq_key_code.specs.KeyCode.{intent_key}
-use Rattle.pq_row_code.specs.RowCode.{row_code}
 use Rattle.pq_schema.specs.declared.made.Made.{Made}
 use Rattle.pq_schema.specs.declared.table.Table.{Table}
 use Rattle.pq_schema.specs.Sequences.{primary_sequence}
@@ -20,7 +19,7 @@ use Rattle.pq_schema.specs.Tables.{table_at}
 use Rattle.pq_store.specs.Content.{key_cmp, Content, pairs_within}
 use Rattle.pq_content.specs.Pairs.{Pair, AreBeside, AreCatalog, is_in_space, is_of_rows, row_pair, content_pairs, HoldsRows}
 use Rattle.pq_content.specs.Standing.{is_numbered, is_entry_of}
-use Rattle.pq_content.specs.Tables.{Rows, rows_of, types_of, values_of, dirs_of, Keeps}
+use Rattle.pq_content.specs.Tables.{Rows, rows_of, types_of, values_of, dirs_of, Keeps, stored_code}
 use Rattle.pq_content.proofs.Building.{part_range, get_part}
 use Rattle.pq_content.proofs.Others.{no_intent, insert_other, rising_catalog_range}
 use Rattle.pq_content.proofs.Ranges.{in_range}
@@ -95,9 +94,9 @@ rows_from : (table : Table) (t : ℕ) (xs ys : List (List Value)) → All IsType
     → map (row_pair t table) xs ≡ map (row_pair t table) ys → xs ≡ ys
 rows_from table t xs ys sound f g e = by_codes (types_of table) xs ys sound f g (sym (seconds xs) ∙ ap (map (λ (p : Pair). p.1)) e ∙ seconds ys)
   where
-    seconds : (xs : List (List Value)) → map (λ (p : Pair). p.1) (map (row_pair t table) xs) ≡ map row_code xs
+    seconds : (xs : List (List Value)) → map (λ (p : Pair). p.1) (map (row_pair t table) xs) ≡ map (stored_code table) xs
     seconds [] = refl
-    seconds (x ∷ xs) = ap (λ (l : List (List ℕ)). row_code x ∷ l) (seconds xs)
+    seconds (x ∷ xs) = ap (λ (l : List (List ℕ)). stored_code table x ∷ l) (seconds xs)
 
 pub one_set : (tables : List Table) (rows more : Rows) (t : ℕ) → All IsType (types_of (table_at tables t)) → Keeps tables rows → Keeps tables more
     → row_pairs_in t (content_pairs tables rows []) ≡ row_pairs_in t (content_pairs tables more []) → IsPermutation (rows_of t rows) (rows_of t more)

@@ -11,7 +11,7 @@ use Rattle.pq_base.specs.declared.value.ColType.{ColType}
 use Rattle.pq_base.specs.declared.value.Value.{Value}
 use Rattle.pq_base.specs.Order.{position_cmp}
 use Rattle.pq_base.specs.Values.{IsType, AllFit}
-use Rattle.pq_row_code.specs.RowCode.{row_code}
+use Rattle.pq_row_code.specs.RowCode.{code_as}
 use Rattle.pq_row_code.proofs.Rows.{row_code_injective}
 use Rattle.pq_schema.specs.declared.table.Table.{Table}
 use Rattle.pq_schema.specs.Sequences.{primary_sequence, index_sequence}
@@ -21,7 +21,7 @@ use Rattle.pq_content.specs.Pairs.{Pair, AreBeside, is_in_space, row_pair, entry
 use Rattle.pq_base.specs.Sorting.{sort_by}
 use Rattle.pq_content.specs.Standing.{IsFilledPartOf, is_entry_of}
 use Rattle.pq_schema.specs.Schema.{with_new_index, with_wanted}
-use Rattle.pq_content.specs.Tables.{Rows, rows_of, types_of, values_of, dirs_of, Keeps}
+use Rattle.pq_content.specs.Tables.{Rows, rows_of, types_of, values_of, dirs_of, Keeps, stored_code}
 use Rattle.pq_content.proofs.Building.{keeps-index, none_filled, get_entry, part_written, all_filled, part_range}
 use Rattle.pq_content.proofs.Changes.{same_content}
 use Rattle.pq_content.proofs.Keys.{key_itself}
@@ -44,13 +44,13 @@ use Rattle.pq_builds.specs.Standing.{Origin, new_index_of, IsTarget, IsNewIn, ro
 
 -- ---- rows by their codes
 
-pub by_codes : (types : List ColType) (xs ys : List (List Value)) → All IsType types → AllByRecursion (AllFit types) xs → AllByRecursion (AllFit types) ys → map row_code xs ≡ map row_code ys → xs ≡ ys
+pub by_codes : (types : List ColType) (xs ys : List (List Value)) → All IsType types → AllByRecursion (AllFit types) xs → AllByRecursion (AllFit types) ys → map (code_as types) xs ≡ map (code_as types) ys → xs ≡ ys
 by_codes types [] [] sound f g e = refl
 by_codes types [] (y ∷ ys) sound f g e = cc
 by_codes types (x ∷ xs) [] sound f g e = cc
 by_codes types (x ∷ xs) (y ∷ ys) sound f g e =
-    let head : row_code x ≡ row_code y = cc in
-    let rest : map row_code xs ≡ map row_code ys = cc in
+    let head : code_as types x ≡ code_as types y = cc in
+    let rest : map (code_as types) xs ≡ map (code_as types) ys = cc in
     λ i. row_code_injective types x y sound f.0 g.0 head i ∷ by_codes types xs ys sound f.1 g.1 rest i
 
 pub each_fits : (table : Table) (rows : List (List Value)) → AreRows table rows → AllByRecursion (AllFit (types_of table)) rows
@@ -156,9 +156,9 @@ module _ (origin : Origin) (target : Target) (query : NewQuery) (s : IsNewIn ori
   sorted_there : AllByRecursion (λ row. In (target.table, row) origin.rows) sorted
   sorted_there = each_by_in (λ row. In (target.table, row) origin.rows) sorted (λ row i. in_rows_of target.table origin.rows row (in_permuted row sorted (rows_of target.table origin.rows) (IsPermutation-sym (rows_of target.table origin.rows) sorted (IsPermutation-sort_by (position_cmp (dirs_of (primary_sequence (table_at more target.table)))) (values_of (primary_sequence (table_at more target.table))) (rows_of target.table origin.rows))) i))
 
-  second_of : (xs : List (List Value)) → map (λ (pair : Pair). pair.1) (map pair_of xs) ≡ map row_code xs
+  second_of : (xs : List (List Value)) → map (λ (pair : Pair). pair.1) (map pair_of xs) ≡ map (stored_code table) xs
   second_of [] = refl
-  second_of (x ∷ xs) = ap (λ (l : List (List ℕ)). row_code x ∷ l) (second_of xs)
+  second_of (x ∷ xs) = ap (λ (l : List (List ℕ)). stored_code table x ∷ l) (second_of xs)
 
   -- rows that were decoded are the first rows of the table
   decoded_rows : (n : ℕ) (rs : List (List Value)) → AreDecoded target.types (take n (map pair_of sorted)) rs → rs ≡ take n sorted

@@ -5,7 +5,7 @@ use Rattle.pq_base.specs.declared.value.ColType.{ColType}
 use Rattle.pq_base.specs.declared.value.Value.{Value}
 use Rattle.pq_base.specs.Values.{AllFit}
 use Rattle.pq_key_code.specs.KeyCode.{row_key, entry_key, past_code}
-use Rattle.pq_row_code.specs.RowCode.{row_code}
+use Rattle.pq_row_code.specs.RowCode.{code_as, IsNoRowCode}
 use Rattle.pq_store.specs.Breaks.{IfDamaged}
 use Rattle.pq_store.specs.Content.{Content, pairs_within}
 use Rattle.pq_store.specs.declared.damage.Broke.{Broke}
@@ -38,7 +38,7 @@ row_pairs_in table content = pairs_within content (first_key table) (past_key ta
 -- rows that fit the types, and whose codes are the values of these pairs
 pub record AreDecoded (types : List ColType) (pairs : List Pair) (rows : List (List Value)) : Type 0 where
   pub fit : AllByRecursion (AllFit types) rows
-  pub codes : map row_code rows ≡ map (λ pair. pair.1) pairs
+  pub codes : map (code_as types) rows ≡ map (λ pair. pair.1) pairs
 
 -- the entries of the rows of these pairs were written
 pub record Enters (target : Target) (pairs : List Pair) (old : Content) (now : Option Content) : Type 0 where
@@ -57,7 +57,7 @@ pub record EntersSome (target : Target) (pairs : List Pair) (old : Content) (now
 pub record IsNoRowPair (types : List ColType) (pair : Pair) (damage : Damage) : Type 0 where
   pub at : damage.key ≡ pair.0
   pub has : damage.value ≡ Some pair.1
-  pub no_row : (row : List Value) → AllFit types row → row_code row ≡ pair.1 → ⊥
+  pub no_row : IsNoRowCode types pair.1
 
 -- one of some pairs
 pub record IsNoRowAmong (types : List ColType) (pairs : List Pair) (damage : Damage) : Type 0 where
@@ -86,7 +86,7 @@ NamesKey key = IfDamaged (λ damage. damage.value ≡ None → damage.key ≡ ke
 pub record IsEntryIn (target : Target) (pair : Pair) (key : List ℕ) : Type 0 where
   pub row : List Value
   pub fits : AllFit target.types row
-  pub code : row_code row ≡ pair.1
+  pub code : code_as target.types row ≡ pair.1
   pub is : key ≡ entry_at target row
 
 -- a key is the first one past the last of some pairs, or where there are none it is as it was

@@ -1,9 +1,7 @@
 //! Entries that are written for the pairs of rows.
-ghost use Rattle.std.specs.Prelude.{◌≡◌, ◌≤◌, ◌+◌, ◌∷◌, [], List, Some, length, map, IfOk, IfErr, IfSome, IfNone, OnOk, OnErr};
+ghost use Rattle.std.specs.Prelude.{◌≡◌, ◌≤◌, ◌+◌, ◌∷◌, [], Some, length, map, IfOk, IfErr, IfSome, IfNone, OnOk, OnErr};
 ghost use Rattle.std.specs.Option.{option_map};
-ghost use Rattle.pq_base.specs.declared.value.Value.{Value};
-ghost use Rattle.pq_base.specs.Values.{AllFit};
-ghost use Rattle.pq_row_code.specs.RowCode.{row_code};
+ghost use Rattle.pq_row_code.specs.RowCode.{IsNoRowCode};
 ghost use Rattle.pq_store.specs.Breaks.{IfDamaged, IsUndamaged};
 ghost use Rattle.pq_store.specs.Content.{HasBrokeCause, entry, written_content};
 ghost use Rattle.pq_store.specs.Counts.{charged_counts};
@@ -42,8 +40,7 @@ pub(crate) fn put<S: Store<L>, L: Ledger>(
 /// The key of the entry of the row that a pair has, None where its value is the code of no row.
 fn entry_in(alloc: Global, target: &Target, pair: &Pair) -> Result<Option<Bytes>, NoMem>
     ensures found { IfOk result (λ key. IfSome key (IsEntryIn target.now (entry pair.now))) }
-    ensures none { IfOk result (λ key. IfNone key (
-        (row : List Value) → AllFit target.now.types row → row_code row ≡ pair.now.value → ⊥)) }
+    ensures none { IfOk result (λ key. IfNone key (IsNoRowCode target.now.types pair.now.value)) }
 {
     match decode_row(alloc, pair.value.items(), target.types.items())? {
         None => Ok(None),

@@ -5,7 +5,7 @@ use Rattle.pq_base.specs.declared.value.ColType.{ColType}
 use Rattle.pq_base.specs.declared.value.Value.{Value}
 use Rattle.pq_base.specs.Values.{AllFit}
 use Rattle.pq_key_code.specs.KeyCode.{row_key}
-use Rattle.pq_row_code.specs.RowCode.{row_code}
+use Rattle.pq_row_code.specs.RowCode.{code_as, IsNoRowCode}
 use Rattle.pq_schema.specs.declared.table.Access.{Access}
 use Rattle.pq_schema.specs.declared.table.Access.TheVariants.{Secondary}
 use Rattle.pq_schema.specs.declared.table.Table.{Table}
@@ -22,14 +22,14 @@ abbrev pub IsRead : List ColType → Option (List ℕ) → Option (List Value) �
 IsRead types None None = Unit {0}
 IsRead types None (Some row) = ⊥
 IsRead types (Some code) None = ⊥
-IsRead types (Some code) (Some row) = AllFit types row × (row_code row ≡ code)
+IsRead types (Some code) (Some row) = AllFit types row × (code_as types row ≡ code)
 
 -- the value at this key is the code of no row that fits
 pub record IsNoRowAt (types : List ColType) (key : List ℕ) (told : Option Content) (damage : Damage) : Type 0 where
   pub code : List ℕ
   pub at : damage.key ≡ key
   pub has : damage.value ≡ Some code
-  pub no_row : (row : List Value) → AllFit types row → row_code row ≢ code
+  pub no_row : IsNoRowCode types code
   pub there : IfSome told (λ content. get content key ≡ Some code)
 
 -- the value at the key of a row is the code of no row of its table

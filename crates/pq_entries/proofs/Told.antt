@@ -20,7 +20,7 @@ use Rattle.pq_key_code.specs.KeyCode.{IsBytes, row_key, code_of}
 use Rattle.pq_key_code.specs.KeyReading.{key_at}
 use Rattle.pq_key_code.proofs.Reading.{key_takes, key_again}
 use Rattle.pq_key_code.proofs.StoreKeys.{length_from_fits}
-use Rattle.pq_row_code.specs.RowCode.{row_code}
+use Rattle.pq_row_code.specs.RowCode.{code_as}
 use Rattle.pq_row_code.proofs.Rows.{row_code_injective}
 use Rattle.pq_schema.specs.declared.table.Access.{Access}
 use Rattle.pq_schema.specs.declared.table.Access.TheVariants.{Primary, Secondary}
@@ -234,10 +234,10 @@ of_rows make pair content low high limit pairs rows told is =
     ∙ ap (map make) (told ∙ ap (take limit) is ∙ take-map pair limit rows)
     ∙ map_both pair make (take limit rows)
 
-pub rows_read : (t : ℕ) (own : Table) (told : Option Content) (low high : List ℕ) (limit : ℕ) (pairs : List Found) (found : List (List Value)) → All IsType (types_of own) → AllByRecursion (AllFit (types_of own)) found → map row_code found ≡ map (λ (pair : Found). pair.value) pairs → IfSome told (λ content. map entry pairs ≡ take limit (pairs_within content low high)) → IfSome told (AreFirstRows t own low high limit found)
+pub rows_read : (t : ℕ) (own : Table) (told : Option Content) (low high : List ℕ) (limit : ℕ) (pairs : List Found) (found : List (List Value)) → All IsType (types_of own) → AllByRecursion (AllFit (types_of own)) found → map (code_as (types_of own)) found ≡ map (λ (pair : Found). pair.value) pairs → IfSome told (λ content. map entry pairs ≡ take limit (pairs_within content low high)) → IfSome told (AreFirstRows t own low high limit found)
 rows_read t own None low high limit pairs found types fit codes is = tt
 rows_read t own (Some content) low high limit pairs found types fit codes is = λ rows fits range.
-    images_same row_code (AllFit (types_of own)) (λ x y p q e. row_code_injective (types_of own) x y types p q e) found (take limit rows) fit (each_taken (AllFit (types_of own)) limit rows fits)
+    images_same (code_as (types_of own)) (AllFit (types_of own)) (λ x y p q e. row_code_injective (types_of own) x y types p q e) found (take limit rows) fit (each_taken (AllFit (types_of own)) limit rows fits)
     (codes ∙ of_rows (λ (p : Pair). p.1) (row_pair t own) content low high limit pairs rows is range)
 
 pub keys_read : (t : ℕ) (own : Table) (access : Access) (told : Option Content) (low high : List ℕ) (limit : ℕ) (pairs : List Found) (found : List (List Value)) → AllByRecursion (AllFit (sequence_types own access)) found → map (code_of (dirs_of (sequence_of own access))) found ≡ map (λ (pair : Found). drop (length (key_front 0 access)) pair.key) pairs → IfSome told (λ content. map entry pairs ≡ take limit (pairs_within content low high)) → IfSome told (AreFirstValues t own access low high limit found)
@@ -305,7 +305,7 @@ module _ (tables : List Table) (t : ℕ) (number : IsTableNumber tables t) (low 
       (subst (λ (o : Option Content). IfSome o (λ content. map entry pairs ≡ take limit (pairs_within content low high))) (sym from) is)
       error h
 
-  pub rows_answered : (types : List ColType) → types ≡ types_of (table_at tables t) → All IsType types → (result : Result (List (List Value)) Broke) → IfOk result (λ rows. map row_code rows ≡ map (λ (pair : Found). pair.value) pairs) → IfOk result (AllByRecursion (AllFit types)) → IfOk result (λ rows. IfSome told (AreFirstRows t (table_at tables t) low high limit rows))
+  pub rows_answered : (types : List ColType) → types ≡ types_of (table_at tables t) → All IsType types → (result : Result (List (List Value)) Broke) → IfOk result (λ rows. map (code_as types) rows ≡ map (λ (pair : Found). pair.value) pairs) → IfOk result (AllByRecursion (AllFit types)) → IfOk result (λ rows. IfSome told (AreFirstRows t (table_at tables t) low high limit rows))
   rows_answered types same known (Err error) codes fit = tt
   rows_answered types same known (Ok rows) codes fit =
       rows_read t (table_at tables t) told low high limit pairs rows (subst (All IsType) same known) (subst (λ (ts : List ColType). AllByRecursion (AllFit ts) rows) same fit) codes is

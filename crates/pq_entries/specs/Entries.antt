@@ -8,7 +8,7 @@ use Rattle.pq_base.specs.declared.value.ColType.{ColType}
 use Rattle.pq_base.specs.declared.value.Dir.{Dir}
 use Rattle.pq_base.specs.declared.value.Value.{Value}
 use Rattle.pq_key_code.specs.KeyCode.{IsBytes, code_of}
-use Rattle.pq_row_code.specs.RowCode.{row_code}
+use Rattle.pq_row_code.specs.RowCode.{IsNoRowCode}
 use Rattle.pq_schema.specs.declared.table.Access.{Access}
 use Rattle.pq_schema.specs.declared.table.Access.TheVariants.{Primary, Secondary}
 use Rattle.pq_schema.specs.declared.table.Table.{Table}
@@ -58,7 +58,7 @@ pub record TellsPair (pair : Pair) (damage : Damage) : Type 0 where
 -- its value is the code of no row of these types
 pub record IsNoRowPair (types : List ColType) (pair : Pair) (damage : Damage) : Type 0 where
   pub tells : TellsPair pair damage
-  pub no_row : (row : List Value) → AllFit types row → row_code row ≢ pair.1
+  pub no_row : IsNoRowCode types pair.1
 
 -- its key, behind the first bytes, is the code of no values of these types
 pub record IsNoKeyPair (types : List ColType) (dirs : List Dir) (skipped : ℕ) (pair : Pair) (damage : Damage) :

@@ -3,7 +3,7 @@ ghost use Rattle.std.specs.Prelude.{◌≡◌, ◌≤◌, All, map, drop, length
 ghost use Rattle.std.specs.List.{AllByRecursion};
 ghost use Rattle.pq_base.specs.Values.{AllFit};
 ghost use Rattle.pq_key_code.specs.KeyCode.{code_of};
-ghost use Rattle.pq_row_code.specs.RowCode.{row_code};
+ghost use Rattle.pq_row_code.specs.RowCode.{code_as};
 ghost use Rattle.pq_store.specs.Content.{entry};
 ghost use Rattle.pq_entries.specs.Entries.{IsUnread, IsNoRowPair, IsNoKeyPair, OneShows, TellsPair};
 
@@ -25,7 +25,7 @@ fn damage_at(alloc: Global, key: &[u8], value: &[u8]) -> Result<Damage, NoMem>
 
 /// The row of a pair.
 fn decoded_row(alloc: Global, types: &[ColType], pair: &Pair) -> Result<Row, Broke>
-    ensures code { IfOk result (λ row. row_code row ≡ pair.now.value) }
+    ensures code { IfOk result (λ row. code_as types.now row ≡ pair.now.value) }
     ensures fits { IfOk result (AllFit types.now) }
     ensures cause { IfErr result (IsUnread (IsNoRowPair types.now (entry pair.now))) }
 {
@@ -44,7 +44,7 @@ pub(crate) fn decoded_rows(
     types: &[ColType],
     pairs: &[Pair],
 ) -> Result<List<Row>, Broke>
-    ensures codes { IfOk result (λ rows. map row_code rows ≡ map (λ pair. pair.value) pairs.now) }
+    ensures codes { IfOk result (λ rows. map (code_as types.now) rows ≡ map (λ pair. pair.value) pairs.now) }
     ensures fit { IfOk result (AllByRecursion (AllFit types.now)) }
     ensures cause { IfErr result (IsUnread (OneShows (IsNoRowPair types.now) (map entry pairs.now))) }
 {

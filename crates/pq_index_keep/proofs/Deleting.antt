@@ -12,7 +12,7 @@ use Rattle.pq_base.specs.declared.value.Value.{Value}
 use Rattle.pq_base.specs.Values.{IsType, AllFit}
 use Rattle.pq_key_code.specs.KeyCode.{row_key}
 use Rattle.pq_row_code.specs.declared.changes.Change.{Change as Coded}
-use Rattle.pq_row_code.specs.RowCode.{row_code}
+use Rattle.pq_row_code.specs.RowCode.{IsNoRowCode}
 use Rattle.pq_row_code.proofs.Rows.{row_code_injective}
 use Rattle.pq_schema.specs.Definitions.{or_ok}
 use Rattle.pq_schema.specs.Sound.{AreColumns}
@@ -77,7 +77,7 @@ module _ (tables : List Table) (rows : Rows) (others : List Pair) (told : Option
 
 -- over settled pairs no row's value is the code of none
 module _ (tables : List Table) (rows : Rows) (others : List Pair) (told : Option Content) (s : HoldsRows told tables rows others) where
-  unspoiled : (t : ℕ) (key : List Value) (o : Option (List Value)) → row_at tables rows t key ≡ o → (code : List ℕ) → ((row : List Value) → AllFit (types_of (table_at tables t)) row → row_code row ≡ code → ⊥) → option_map row_code o ≡ Some code → ⊥
+  unspoiled : (t : ℕ) (key : List Value) (o : Option (List Value)) → row_at tables rows t key ≡ o → (code : List ℕ) → IsNoRowCode (types_of (table_at tables t)) code → option_map (stored_code (table_at tables t)) o ≡ Some code → ⊥
   unspoiled t key None is code none e = absurd (cc)
   unspoiled t key (Some r) is code none e = none r (row_found tables rows t key r s.keeps is).fits (same_Some _ _ e)
 

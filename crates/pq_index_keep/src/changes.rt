@@ -1,6 +1,6 @@
 //! The changes that a write makes of the pairs of a row.
 ghost use Rattle.std.specs.Prelude.{◌≡◌, ◌≤◌, ◌<◌, ◌+◌, ◌∷◌, ◌++◌, All, length, map, IfOk, OnOk, Some, None};
-ghost use Rattle.pq_row_code.specs.RowCode.{row_code, IsShort};
+ghost use Rattle.pq_row_code.specs.RowCode.{IsShort};
 ghost use Rattle.pq_schema.specs.Sound.{AreColumns, AreParts};
 ghost use Rattle.pq_content.specs.Pairs.{entries_from, entry_changes, puts, removals};
 ghost use Rattle.pq_content.specs.Standing.{change_of};
@@ -15,10 +15,10 @@ use pq_schema::{Index, Table};
 use std::alloc::Global;
 
 /// The change that writes the row at its key.
-fn put_row(alloc: Global, at: Bytes, row: &Row) -> Result<Change, NoMem>
+fn put_row(alloc: Global, at: Bytes, table: &Table, row: &Row) -> Result<Change, NoMem>
     requires columns { length row.now ≤ 32 }
     requires texts { All IsShort row.now }
-    ensures { IfOk result (λ change. change_of change ≡ (at, Some (row_code row.now))) }
+    ensures { IfOk result (λ change. change_of change ≡ (at, Some (stored_code table.now row.now))) }
 {
     let new = Some(encode_row(alloc, row)?);
     Ok(Change { key: at, new })
@@ -42,7 +42,7 @@ pub(crate) fn puts(
         ∷ puts (entries_from number 1 table.now table.now.indexes row.now)) }
 {
     let mut changes = List::new(alloc);
-    changes.push(alloc, put_row(alloc, at, row)?)?;
+    changes.push(alloc, put_row(alloc, at, table, row)?)?;
     put_entries(
         alloc,
         number,
@@ -173,7 +173,7 @@ pub(crate) fn updates(
         ∷ entry_changes number 1 table.now table.now.indexes old.now new.now) }
 {
     let mut changes = List::new(alloc);
-    changes.push(alloc, put_row(alloc, at, new)?)?;
+    changes.push(alloc, put_row(alloc, at, table, new)?)?;
     move_entries(
         alloc,
         number,

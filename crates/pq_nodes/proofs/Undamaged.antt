@@ -15,7 +15,6 @@ use Rattle.pq_base.specs.declared.value.Value.{Value}
 use Rattle.pq_base.proofs.Members.{found, each_in, filter_in, in_left, in_right}
 use Rattle.pq_base.proofs.Sets.{set_members}
 use Rattle.pq_key_code.specs.KeyCode.{row_key, entry_key, code_of}
-use Rattle.pq_row_code.specs.RowCode.{row_code}
 use Rattle.pq_schema.specs.declared.table.Access.{Access}
 use Rattle.pq_schema.specs.declared.table.Access.TheVariants.{Primary, Secondary}
 use Rattle.pq_schema.specs.declared.table.Index.{Index}
@@ -32,7 +31,7 @@ use Rattle.pq_calls.specs.Keys.{sequence_key, sequence_types, named_key}
 use Rattle.pq_calls.specs.World.{World, where_told}
 use Rattle.pq_calls.proofs.Steps.{explained_undamaged}
 use Rattle.pq_content.specs.Pairs.{Pair, AreBeside, pairs_of_row, row_pairs, content_pairs, is_of_rows}
-use Rattle.pq_content.specs.Tables.{Rows, Keeps, rows_of, type_of, types_of, types_at, key_of, value_of, values_of, dirs_of, cells, agrees, row_at}
+use Rattle.pq_content.specs.Tables.{Rows, Keeps, rows_of, type_of, types_of, types_at, key_of, value_of, values_of, dirs_of, cells, agrees, row_at, stored_code}
 use Rattle.pq_content.proofs.Find.{find_front}
 use Rattle.pq_content.proofs.Gets.{get_row}
 use Rattle.pq_content.proofs.Keeping.{row_found}
@@ -198,7 +197,7 @@ module _ (tables : List Table) (rows : Rows) (others : List Pair) (beside : AreB
     no_row_shown damage h =
         unspoiled h.key (row_at tables rows h.table h.key) refl (sym (get_row tables rows others h.table h.key keeps.fit h.kinds beside) ∙ h.shown.there)
       where
-        unspoiled : (key : List Value) (o : Option (List Value)) → row_at tables rows h.table key ≡ o → option_map row_code o ≡ Some h.shown.code → ⊥
+        unspoiled : (key : List Value) (o : Option (List Value)) → row_at tables rows h.table key ≡ o → option_map (stored_code (table_at tables h.table)) o ≡ Some h.shown.code → ⊥
         unspoiled key None is e = none-some _ e
         unspoiled key (Some r) is e = h.shown.no_row r (row_found tables rows h.table key r keeps is).fits (same_Some _ _ e)
 
@@ -239,7 +238,7 @@ module _ (tables : List Table) (rows : Rows) (others : List Pair) (beside : AreB
         row_there h.table is.row is.there
         (unmapped (row_at tables rows h.table (key_of table is.row)) (sym (get_row tables rows others h.table (key_of table is.row) keeps.fit (key_of_kinds table is.row fits) beside) ∙ absent))
       where
-        unmapped : (o : Option (List Value)) → option_map row_code o ≡ None → o ≡ None
+        unmapped : (o : Option (List Value)) → option_map (stored_code (table_at tables h.table)) o ≡ None → o ≡ None
         unmapped None e = refl
         unmapped (Some r) e = absurd (none-some _ (sym e))
 

@@ -1,7 +1,7 @@
 use Rattle.std.proofs.Common.{subst, sym, ap, ◌∙◌, refl}
 use Rattle.std.specs.Prelude.{All}
 use Rattle.pq_base.specs.Values.{IsType}
-use Rattle.pq_row_code.specs.RowCode.{row_code}
+use Rattle.pq_row_code.specs.RowCode.{code_as}
 use Rattle.pq_schema.specs.Rows.{types_of}
 use Rattle.pq_store.specs.declared.store.Pair.{Pair}
 use Rattle.pq_calls.specs.Calls.{seen_world}
@@ -27,7 +27,7 @@ pub returns-clause-few : goal.returns-clause-few
 returns-clause-few g c =
     few_read c.args.catalog.now.tables c.args.number c.requires.sequence.number c.args.low.now c.args.high.now c.args.limit c.items-2.result.now
     (rw c.items-2.ensures c.in_ok-pairs.ensures.part) (g.S.Store.content c.args.calls.now.store.now) (rw c.items-2.ensures c.in_ok-pairs.ensures.answer)
-    row_code (λ (pair : Pair). pair.value) c.decoded_rows.result c.decoded_rows.ensures.codes
+    (code_as c.items.result.now) (λ (pair : Pair). pair.value) c.decoded_rows.result c.decoded_rows.ensures.codes
 
 pub returns-clause-fit : goal.returns-clause-fit
 returns-clause-fit g c =
