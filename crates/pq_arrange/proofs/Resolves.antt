@@ -24,6 +24,7 @@ use Rattle.pq_schema.specs.declared.query.OrderItem.{OrderItem}
 use Rattle.pq_schema.specs.declared.query.Relation.{Relation}
 use Rattle.pq_schema.specs.declared.query.Query.{Query}
 use Rattle.pq_base.specs.Values.{same_kind}
+use Rattle.pq_schema.proofs.TypeKinds.{kind_flip}
 use Rattle.pq_schema.specs.Tables.{table_at, type_at}
 use Rattle.pq_schema.specs.Relations.{relation_at, no_relation, table_of, is_equality}
 use Rattle.pq_schema.specs.Resolved.{IsResolved, IsRelation, IsPredicate, IsOperand, IsColumnOf, IsParam, ref_type, param_type, same_ref, is_param}
@@ -60,17 +61,6 @@ distinct_map e e' f (x ∷ xs) h d = (one xs d.0 (λ y there. h x y (inl refl) (
     one : (ys : List _) → AllByRecursion (λ y. e x y ≡ false) ys → ((y : _) → In y ys → e x y ≡ false → e' (f x) (f y) ≡ false) → AllByRecursion (λ y. e' (f x) y ≡ false) (map f ys)
     one [] a h = tt
     one (y ∷ ys) a h = (h y (inl refl) a.0, one ys a.1 (λ z i. h z (inr i)))
-
-kind_flip : (a b : ColType) → same_kind a b ≡ same_kind b a
-kind_flip type.Int type.Int = refl
-kind_flip type.Int type.Bool = refl
-kind_flip type.Int (type.Text m) = refl
-kind_flip type.Bool type.Int = refl
-kind_flip type.Bool type.Bool = refl
-kind_flip type.Bool (type.Text m) = refl
-kind_flip (type.Text n) type.Int = refl
-kind_flip (type.Text n) type.Bool = refl
-kind_flip (type.Text n) (type.Text m) = refl
 
 module _ (tables : List Table) (query : Query) (r : IsResolved tables query) (order : List ℕ) (p : IsPermutation (range_with_len 1 (length query.relations)) order) where
   abbrev m : ℕ

@@ -3,3 +3,4 @@ pub mod Sets
 pub mod Sorts
 pub mod WordOrder
 pub mod Shuffles
+pub mod TypeFits

@@ -1,5 +1,5 @@
 -- The order of values and of rows. Both are total, also across kinds and lengths.
-use Rattle.std.specs.Prelude.{ℕ, List, [], ◌∷◌}
+use Rattle.std.specs.Prelude.{List, [], ◌∷◌}
 use Rattle.std.specs.Ordering.{nat_cmp, int_cmp, bool_cmp, ordering_then, ordering_reverse}
 use Rattle.std.specs.Cmp.Lexicographic.{slice_cmp}
 use Rattle.std.specs.declared.cmp.Ordering.{Ordering}
@@ -9,18 +9,17 @@ use Rattle.pq_base.specs.declared.value.Value.TheVariants as value
 use Rattle.pq_base.specs.declared.value.Dir.{Dir}
 use Rattle.pq_base.specs.declared.value.Dir.TheVariants.{Asc, Desc}
 
--- values of different kinds are ordered by their kinds
-abbrev pub kind_rank : Value → ℕ
-kind_rank (value.Int n) = 1
-kind_rank (value.Bool b) = 2
-kind_rank (value.Text t) = 3
-
--- numbers by size, false before true, texts by their bytes
+-- numbers by size, before false and then true, before texts by their bytes
 abbrev pub value_cmp : Value → Value → Ordering
 value_cmp (value.Int a) (value.Int b) = int_cmp a b
+value_cmp (value.Int a) (value.Bool b) = Less
+value_cmp (value.Int a) (value.Text b) = Less
+value_cmp (value.Bool a) (value.Int b) = Greater
 value_cmp (value.Bool a) (value.Bool b) = bool_cmp a b
+value_cmp (value.Bool a) (value.Text b) = Less
+value_cmp (value.Text a) (value.Int b) = Greater
+value_cmp (value.Text a) (value.Bool b) = Greater
 value_cmp (value.Text a) (value.Text b) = slice_cmp nat_cmp a b
-value_cmp a b = nat_cmp (kind_rank a) (kind_rank b)
 
 abbrev pub directed_order : Dir → Ordering → Ordering
 directed_order Asc order = order

@@ -1,6 +1,6 @@
 //! Values, rows and their order.
 ghost use Rattle.std.specs.Prelude.{◌≡◌, ◌↔◌, IfOk, IsTrue, All};
-ghost use Rattle.pq_base.specs.Values.{IsValue, IsType, kind_of, kind_of_type, is_kind, SameKind, AreAlike, FitsType, AllFit, fits_type, all_fit};
+ghost use Rattle.pq_base.specs.Values.{IsValue, IsType, kind_of, kind_of_type, is_kind, AreAlike, FitsType, AllFit, fits_type, all_fit};
 ghost use Rattle.pq_base.specs.Order.{value_cmp, position_cmp};
 
 use crate::list::{List, NoMem};
@@ -139,19 +139,18 @@ pub fn all_fit(values: &[Value], types: &[ColType]) -> bool
     }
 }
 
-/// The order of two values of one kind: numbers by size, false before true, texts by their bytes.
+/// The order of two values: numbers by size, before false and then true, before texts by their bytes.
 pub fn cmp_values(a: &Value, b: &Value) -> Ordering
-    requires { SameKind a.now b.now }
     ensures { result ≡ value_cmp a.now b.now }
 {
     match (a, b) {
         (Value::Int(a), Value::Int(b)) => a.cmp(b),
-        (Value::Bool(a), Value::Bool(b)) => a.cmp(b),
-        (Value::Text(a), Value::Text(b)) => a.bytes().cmp(b.bytes()),
         (Value::Int(_), Value::Bool(_) | Value::Text(_)) => Ordering::Less,
         (Value::Bool(_), Value::Int(_)) => Ordering::Greater,
+        (Value::Bool(a), Value::Bool(b)) => a.cmp(b),
         (Value::Bool(_), Value::Text(_)) => Ordering::Less,
         (Value::Text(_), Value::Int(_) | Value::Bool(_)) => Ordering::Greater,
+        (Value::Text(a), Value::Text(b)) => a.bytes().cmp(b.bytes()),
     }
 }
 

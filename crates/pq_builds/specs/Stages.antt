@@ -8,6 +8,7 @@ use Rattle.pq_store.specs.declared.damage.Broke.{Broke}
 use Rattle.pq_store.specs.declared.damage.Damage.{Damage}
 use Rattle.pq_builds.specs.declared.build.Built.{Built}
 use Rattle.pq_builds.specs.declared.build.Built.TheVariants as built
+use Rattle.pq_builds.specs.declared.mark.TheConstants.{READY, BUILDING}
 use Rattle.pq_builds.specs.declared.target.NewQuery.{NewQuery}
 use Rattle.pq_builds.specs.declared.target.Target.{Target}
 use Rattle.pq_builds.specs.Filling.{Enters, EntersSome, row_pairs_in, IsNoRowAmong}
@@ -18,10 +19,10 @@ marked_value query mark = query.format ∷ mark ∷ query.text
 
 -- it is ready, or its index is being filled
 abbrev pub ready_value : NewQuery → List ℕ
-ready_value query = marked_value query 0
+ready_value query = marked_value query READY
 
 abbrev pub building_value : NewQuery → List ℕ
-building_value query = marked_value query 1
+building_value query = marked_value query BUILDING
 
 -- ---- from the mark on
 

@@ -13,6 +13,7 @@ ghost use Rattle.pq_builds.specs.Standing.{Origin, HoldsOrigin, HoldsFilling, Is
 use crate::count::count_rows;
 use crate::entries::put;
 use crate::fill::{fill_rows, miscounted};
+use crate::mark::{BUILDING, READY};
 use crate::target::{NewQuery, Target};
 use pq_base::{Bytes, NoMem};
 use pq_store::{Broke, Damage, Guard, Meter, Store};
@@ -25,11 +26,6 @@ pub enum Built {
     Rows(u32),
     TooMany,
 }
-
-/// The mark of a definition whose index is being filled, and of one that is ready.
-const BUILDING: u8 = 1;
-
-const READY: u8 = 0;
 
 /// The value of a definition: its format, a mark and its text.
 fn value_of(alloc: Global, query: &NewQuery, mark: u8) -> Result<Bytes, NoMem>

@@ -10,8 +10,10 @@ mod count;
 mod entries;
 mod fill;
 pub mod laws;
+mod mark;
 mod target;
 
 pub use bounds::{build_ops, left_ops};
 pub use build::{Built, build_index, complete_index};
+pub use mark::{BUILDING, READY};
 pub use target::{NewQuery, Target};

@@ -1,15 +1,15 @@
 //! What a build is of: the index of a table, and the definition of the query that made it.
 ghost use Rattle.std.specs.Prelude.{◌≡◌, IfOk};
-ghost use Rattle.pq_schema.specs.Sequences.{IsAccess, index_sequence, index_numbered};
+ghost use Rattle.pq_schema.specs.Sequences.{IsAccess, index_numbered};
 ghost use Rattle.pq_schema.specs.Sound.{IsTable, AreColumns, AreParts};
-ghost use Rattle.pq_content.specs.Tables.{value_of, values_of, dirs_of};
+ghost use Rattle.pq_content.specs.Tables.{value_of, values_of};
 ghost use Rattle.pq_builds.specs.Filling.{entry_at};
 ghost use Rattle.pq_builds.specs.Targets.{target_of};
 
-use pq_base::{Bytes, ColType, Dir, List, NoMem, Row, Value};
+use pq_base::{Bytes, ColType, List, NoMem, Row, Value};
 use pq_calls::types_of;
 use pq_key_code::entry_key;
-use pq_schema::{Access, Index, KeyPart, NewIndex, Table, columns_in, sequence};
+use pq_schema::{Access, KeyPart, NewIndex, Table, dirs_of, index_sequence, sequence};
 use std::alloc::Global;
 
 /// An index that is filled: the table's number and its own, from 1, the types of the table's columns,
@@ -60,36 +60,6 @@ impl Target {
     }
 }
 
-fn copy_parts(alloc: Global, parts: &[KeyPart]) -> Result<List<KeyPart>, NoMem>
-    ensures { IfOk result (λ copy. copy ≡ parts.now) }
-{
-    let mut copy = List::new(alloc);
-    for part in parts {
-        copy.push(alloc, *part)?;
-    }
-    Ok(copy)
-}
-
-/// The columns of the index, and then the key columns not among them.
-fn index_sequence(alloc: Global, table: &Table, index: &Index) -> Result<List<KeyPart>, NoMem>
-    requires key { AreColumns table.now.key }
-    requires parts { AreParts index.now.cols }
-    ensures { IfOk result (λ parts. parts ≡ index_sequence table.now index.now) }
-{
-    let set = columns_in(index.cols.items());
-    let mut parts = copy_parts(alloc, index.cols.items())?;
-    for col in table.key.items() {
-        if !set.has(*col) {
-            let part = KeyPart {
-                col: *col,
-                dir: Dir::Asc,
-            };
-            parts.push(alloc, part)?;
-        }
-    }
-    Ok(parts)
-}
-
 fn value_of(alloc: Global, row: &[Value], col: u8) -> Result<Value, NoMem>
     ensures { IfOk result (λ value. value ≡ value_of row.now col) }
 {
@@ -108,16 +78,6 @@ fn values_of(alloc: Global, parts: &[KeyPart], row: &Row) -> Result<Row, NoMem>
         values.push(alloc, value_of(alloc, row.items(), part.col)?)?;
     }
     Ok(values)
-}
-
-fn dirs_of(alloc: Global, parts: &[KeyPart]) -> Result<List<Dir>, NoMem>
-    ensures { IfOk result (λ dirs. dirs ≡ dirs_of parts.now) }
-{
-    let mut dirs = List::new(alloc);
-    for part in parts {
-        dirs.push(alloc, part.dir)?;
-    }
-    Ok(dirs)
 }
 
 /// The key of a row's entry.

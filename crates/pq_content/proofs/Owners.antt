@@ -17,7 +17,8 @@ use Rattle.pq_store.specs.Content.{key_cmp}
 use Rattle.pq_content.specs.Tables.{AllOfKinds, key_of, key_types, types_of, types_at, value_of, values_of, dirs_of, stored_code}
 use Rattle.pq_content.proofs.Keys.{same_key, keys_apart, sequences_apart, not_beside}
 use Rattle.pq_content.proofs.Sequence.{key_from_sequence}
-use Rattle.pq_content.proofs.Values.{kinds_from_fit, key_of_kinds, sequence_fits}
+use Rattle.pq_schema.proofs.TypeKinds.{kinds_from_fit}
+use Rattle.pq_content.proofs.Values.{key_of_kinds, sequence_fits}
 
 -- where an entry of a row is found, it is that of some index
 pub record IsEntry (t i : ℕ) (table : Table) (indexes : List Index) (row : List Value) (q v : List ℕ) : Type 0 where
@@ -87,7 +88,7 @@ entries_share t u table other row row' q v w one fits fits' g h =
     let codes : code_of (dirs_of (sequence table a.index)) (values_of (sequence table a.index) row) ≡ code_of (dirs_of (sequence other b.index)) (values_of (sequence other b.index) row') = cc in
     let aligned : code_of (dirs_of (sequence table a.index)) (values_of (sequence table a.index) row) ≡ code_of (dirs_of (sequence table a.index)) (values_of (sequence table a.index) row') = codes ∙ ap (λ (ps : List KeyPart). code_of (dirs_of ps) (values_of ps row')) (sym parts) in
     let fits'' : AllFit (types_of table) row' = subst (λ (x : Table). AllFit (types_of x) row') (sym same) fits' in
-    let types = types_at table (columns_of (sequence table a.index)) in
+    let types = types_at table.columns (columns_of (sequence table a.index)) in
     let long : length (values_of (sequence table a.index) row) ≤ length (dirs_of (sequence table a.index)) = omega (arith, length-map (sequence table a.index) (λ (part : KeyPart). part.dir), length-map (sequence table a.index) (λ (part : KeyPart). value_of row part.col)) in
     let values : values_of (sequence table a.index) row ≡ values_of (sequence table a.index) row' =
     sequences_apart types (dirs_of (sequence table a.index)) _ _ (kinds_from_fit types _ (sequence_fits table (sequence table a.index) row fits)) (kinds_from_fit types _ (sequence_fits table (sequence table a.index) row' fits'')) long aligned in

@@ -57,9 +57,9 @@ SameKinds_from_prefix (t ∷ ts) (p ∷ ps) (x ∷ xs) f g =
 
 module _ (table : Table) (sequence : List KeyPart) where
   -- a row's code is in the range of a prefix exactly where the row has these values at the sequence's first columns
-  pub in_prefix : (ps row : List Value) → AllOfKinds (take (length ps) (types_at table (columns_of sequence))) ps → length ps ≤ length sequence → AllFit (types_of table) row → in_range (code_of (dirs_of sequence) ps) (code_of (dirs_of sequence) ps ++ 32 ∷ []) (code_of (dirs_of sequence) (values_of sequence row)) ≡ agrees (take (length ps) (columns_of sequence)) ps row
+  pub in_prefix : (ps row : List Value) → AllOfKinds (take (length ps) (types_at table.columns (columns_of sequence))) ps → length ps ≤ length sequence → AllFit (types_of table) row → in_range (code_of (dirs_of sequence) ps) (code_of (dirs_of sequence) ps ++ 32 ∷ []) (code_of (dirs_of sequence) (values_of sequence row)) ≡ agrees (take (length ps) (columns_of sequence)) ps row
   in_prefix ps row kinds short fits =
-      let ts = types_at table (columns_of sequence) in
+      let ts = types_at table.columns (columns_of sequence) in
       let xs = values_of sequence row in
       let own = sequence_kinds table sequence row fits in
       let long : length ps ≤ length xs = omega (arith, length-map sequence (λ (part : KeyPart). value_of row part.col)) in
@@ -69,7 +69,7 @@ module _ (table : Table) (sequence : List KeyPart) where
       ∙ ap (same_values ps) first
       ∙ same_values_sym ps (cells (take (length ps) (columns_of sequence)) row)
 
-  pub within_prefix : (ps : List Value) (rows : List (List Value)) → AllOfKinds (take (length ps) (types_at table (columns_of sequence))) ps → length ps ≤ length sequence → AreRows table rows → filter (λ row. in_range (code_of (dirs_of sequence) ps) (code_of (dirs_of sequence) ps ++ 32 ∷ []) (code_of (dirs_of sequence) (values_of sequence row))) rows ≡ filter (agrees (take (length ps) (columns_of sequence)) ps) rows
+  pub within_prefix : (ps : List Value) (rows : List (List Value)) → AllOfKinds (take (length ps) (types_at table.columns (columns_of sequence))) ps → length ps ≤ length sequence → AreRows table rows → filter (λ row. in_range (code_of (dirs_of sequence) ps) (code_of (dirs_of sequence) ps ++ 32 ∷ []) (code_of (dirs_of sequence) (values_of sequence row))) rows ≡ filter (agrees (take (length ps) (columns_of sequence)) ps) rows
   within_prefix ps [] kinds short h = refl
   within_prefix ps (row ∷ rows) kinds short h =
       λ i. cond (in_prefix ps row kinds short h.0 i) (row ∷ within_prefix ps rows kinds short h.2 i) (within_prefix ps rows kinds short h.2 i)

@@ -43,12 +43,12 @@ primary_bytes table row =
     ∙ (λ i. code_of (sym (dirs_of-primary table.key) i) (sym (values_of-primary table.key row) i))
 
 module _ (tables : List Table) (rows : Rows) (others : List Pair) (fits : EachFits tables rows) (apart : AreApart tables rows) (beside : AreBeside others) (t : ℕ) where
-  rows_in_prefix : (ps : List Value) → AllOfKinds (take (length ps) (types_at (table_at tables t) (table_at tables t).key)) ps → length ps ≤ length (table_at tables t).key → filter (λ row. in_range (code_of (replicate (length ps) Asc) ps) (past_code (code_of (replicate (length ps) Asc) ps)) (key_bytes 0 [] [] (table_at tables t) row)) (rows_of t rows) ≡ group_of t (take (length ps) (table_at tables t).key) ps rows
+  rows_in_prefix : (ps : List Value) → AllOfKinds (take (length ps) (types_at (table_at tables t).columns (table_at tables t).key)) ps → length ps ≤ length (table_at tables t).key → filter (λ row. in_range (code_of (replicate (length ps) Asc) ps) (past_code (code_of (replicate (length ps) Asc) ps)) (key_bytes 0 [] [] (table_at tables t) row)) (rows_of t rows) ≡ group_of t (take (length ps) (table_at tables t).key) ps rows
   rows_in_prefix ps kinds short =
       let table = table_at tables t in
       let sequence = primary_sequence table in
       let cols : columns_of sequence ≡ table.key = columns_of-primary table.key in
-      let whole : AllOfKinds (take (length ps) (types_at table (columns_of sequence))) ps = subst (λ (cs : List ℕ). AllOfKinds (take (length ps) (types_at table cs)) ps) (sym cols) kinds in
+      let whole : AllOfKinds (take (length ps) (types_at table.columns (columns_of sequence))) ps = subst (λ (cs : List ℕ). AllOfKinds (take (length ps) (types_at table.columns cs)) ps) (sym cols) kinds in
       let enough : length ps ≤ length sequence = omega (arith, length-map table.key ascending_part) in
       let code = primary_code table ps short in
       filter_agree _ _ (λ row. (λ i. in_range (code i) (past_code (code i)) (primary_bytes table row i))) (rows_of t rows)
@@ -56,14 +56,14 @@ module _ (tables : List Table) (rows : Rows) (others : List Pair) (fits : EachFi
       ∙ ap (λ (cs : List ℕ). group_of t (take (length ps) cs) ps rows) cols
 
   -- a range of rows under first values of the key: the group that has them, in the order of the key
-  pub rows_under : (ps : List Value) → AllOfKinds (take (length ps) (types_at (table_at tables t) (table_at tables t).key)) ps → length ps ≤ length (table_at tables t).key → pairs_within (content_pairs tables rows others) (row_key t ps) (past_code (row_key t ps)) ≡ map (row_pair t (table_at tables t)) (sort_by (position_cmp (dirs_of (primary_sequence (table_at tables t)))) (values_of (primary_sequence (table_at tables t))) (group_of t (take (length ps) (table_at tables t).key) ps rows))
+  pub rows_under : (ps : List Value) → AllOfKinds (take (length ps) (types_at (table_at tables t).columns (table_at tables t).key)) ps → length ps ≤ length (table_at tables t).key → pairs_within (content_pairs tables rows others) (row_key t ps) (past_code (row_key t ps)) ≡ map (row_pair t (table_at tables t)) (sort_by (position_cmp (dirs_of (primary_sequence (table_at tables t)))) (values_of (primary_sequence (table_at tables t))) (group_of t (take (length ps) (table_at tables t).key) ps rows))
   rows_under ps kinds short =
       let table = table_at tables t in
       let code = code_of (replicate (length ps) Asc) ps in
       row_range t code (past_code code) tables rows others fits apart beside
       ∙ ap (λ (rs : List (List Value)). map (row_pair t table) (sort_by (position_cmp (dirs_of (primary_sequence table))) (values_of (primary_sequence table)) rs)) (rows_in_prefix ps kinds short)
 
-  pub rows_counted : (ps : List Value) → AllOfKinds (take (length ps) (types_at (table_at tables t) (table_at tables t).key)) ps → length ps ≤ length (table_at tables t).key → length (pairs_within (content_pairs tables rows others) (row_key t ps) (past_code (row_key t ps))) ≡ length (group_of t (take (length ps) (table_at tables t).key) ps rows)
+  pub rows_counted : (ps : List Value) → AllOfKinds (take (length ps) (types_at (table_at tables t).columns (table_at tables t).key)) ps → length ps ≤ length (table_at tables t).key → length (pairs_within (content_pairs tables rows others) (row_key t ps) (past_code (row_key t ps))) ≡ length (group_of t (take (length ps) (table_at tables t).key) ps rows)
   rows_counted ps kinds short =
       let code = code_of (replicate (length ps) Asc) ps in
       row_count t code (past_code code) tables rows others fits apart beside
@@ -73,14 +73,14 @@ module _ (tables : List Table) (rows : Rows) (others : List Pair) (fits : EachFi
 
   module _ (place : ℕ) (index : Index) (has : slice_get (table_at tables t).indexes place ≡ Some index) (i : ℕ) (number : 1 + place ≡ i) where
     -- a range of entries under first values of the index: the entries of the group that has them, in its order
-    pub entries_under : (ps : List Value) → AllOfKinds (take (length ps) (types_at (table_at tables t) (columns_of (index_sequence (table_at tables t) index)))) ps → length ps ≤ length (index_sequence (table_at tables t) index) → pairs_within (content_pairs tables rows others) (entry_key t i (dirs_of (index_sequence (table_at tables t) index)) ps) (past_code (entry_key t i (dirs_of (index_sequence (table_at tables t) index)) ps)) ≡ map (entry_pair t i (index_sequence (table_at tables t) index)) (sort_by (position_cmp (dirs_of (index_sequence (table_at tables t) index))) (values_of (index_sequence (table_at tables t) index)) (group_of t (take (length ps) (columns_of (index_sequence (table_at tables t) index))) ps rows))
+    pub entries_under : (ps : List Value) → AllOfKinds (take (length ps) (types_at (table_at tables t).columns (columns_of (index_sequence (table_at tables t) index)))) ps → length ps ≤ length (index_sequence (table_at tables t) index) → pairs_within (content_pairs tables rows others) (entry_key t i (dirs_of (index_sequence (table_at tables t) index)) ps) (past_code (entry_key t i (dirs_of (index_sequence (table_at tables t) index)) ps)) ≡ map (entry_pair t i (index_sequence (table_at tables t) index)) (sort_by (position_cmp (dirs_of (index_sequence (table_at tables t) index))) (values_of (index_sequence (table_at tables t) index)) (group_of t (take (length ps) (columns_of (index_sequence (table_at tables t) index))) ps rows))
     entries_under ps kinds short =
         let sequence = index_sequence (table_at tables t) index in
         let code = code_of (dirs_of sequence) ps in
         entry_range t i code (past_code code) tables place index has number rows others fits apart beside
         ∙ ap (λ (rs : List (List Value)). map (entry_pair t i sequence) (sort_by (position_cmp (dirs_of sequence)) (values_of sequence) rs)) (within_prefix (table_at tables t) sequence ps (rows_of t rows) kinds short (rows_are tables rows t fits apart))
 
-    pub entries_counted : (ps : List Value) → AllOfKinds (take (length ps) (types_at (table_at tables t) (columns_of (index_sequence (table_at tables t) index)))) ps → length ps ≤ length (index_sequence (table_at tables t) index) → length (pairs_within (content_pairs tables rows others) (entry_key t i (dirs_of (index_sequence (table_at tables t) index)) ps) (past_code (entry_key t i (dirs_of (index_sequence (table_at tables t) index)) ps))) ≡ length (group_of t (take (length ps) (columns_of (index_sequence (table_at tables t) index))) ps rows)
+    pub entries_counted : (ps : List Value) → AllOfKinds (take (length ps) (types_at (table_at tables t).columns (columns_of (index_sequence (table_at tables t) index)))) ps → length ps ≤ length (index_sequence (table_at tables t) index) → length (pairs_within (content_pairs tables rows others) (entry_key t i (dirs_of (index_sequence (table_at tables t) index)) ps) (past_code (entry_key t i (dirs_of (index_sequence (table_at tables t) index)) ps))) ≡ length (group_of t (take (length ps) (columns_of (index_sequence (table_at tables t) index))) ps rows)
     entries_counted ps kinds short =
         let sequence = index_sequence (table_at tables t) index in
         let code = code_of (dirs_of sequence) ps in

@@ -21,7 +21,8 @@ use Rattle.pq_content.proofs.Gets.{EachFits}
 use Rattle.pq_content.proofs.Keys.{same_key, sequences_apart}
 use Rattle.pq_base.proofs.Members.{each_filter}
 use Rattle.pq_content.proofs.Sequence.{key_from_sequence}
-use Rattle.pq_content.proofs.Values.{kinds_from_fit, sequence_fits, same_values_decides, AreValues_from_kinds, SameKinds_from_kinds}
+use Rattle.pq_schema.proofs.TypeKinds.{kinds_from_fit}
+use Rattle.pq_content.proofs.Values.{sequence_fits, same_values_decides, AreValues_from_kinds, SameKinds_from_kinds}
 use Rattle.pq_key_code.specs.KeyCode.{code_of}
 use Rattle.pq_key_code.proofs.Order.{codes_cmp}
 
@@ -77,8 +78,8 @@ unfolding Determines
 index_determines table index row other e = key_from_sequence table index row other e
 
 module _ (table : Table) (sequence : List KeyPart) where
-  pub sequence_kinds : (row : List Value) → AllFit (types_of table) row → AllOfKinds (types_at table (columns_of sequence)) (values_of sequence row)
-  sequence_kinds row fits = kinds_from_fit (types_at table (columns_of sequence)) (values_of sequence row) (sequence_fits table sequence row fits)
+  pub sequence_kinds : (row : List Value) → AllFit (types_of table) row → AllOfKinds (types_at table.columns (columns_of sequence)) (values_of sequence row)
+  sequence_kinds row fits = kinds_from_fit (types_at table.columns (columns_of sequence)) (values_of sequence row) (sequence_fits table sequence row fits)
 
   pub long_enough : (row : List Value) → length (values_of sequence row) ≤ length (dirs_of sequence)
   long_enough row = omega (arith, length-map sequence (λ (part : KeyPart). part.dir), length-map sequence (λ (part : KeyPart). value_of row part.col))
@@ -86,7 +87,7 @@ module _ (table : Table) (sequence : List KeyPart) where
   -- the bytes of two rows' codes are in the order of their values
   pub code_order : (row other : List Value) → AllFit (types_of table) row → AllFit (types_of table) other → key_cmp (code_of (dirs_of sequence) (values_of sequence row)) (code_of (dirs_of sequence) (values_of sequence other)) ≡ position_cmp (dirs_of sequence) (values_of sequence row) (values_of sequence other)
   code_order row other f g =
-      let ts = types_at table (columns_of sequence) in
+      let ts = types_at table.columns (columns_of sequence) in
       let xs = values_of sequence row in
       let ys = values_of sequence other in
       codes_cmp (dirs_of sequence) xs ys (AreValues_from_kinds ts xs (sequence_kinds row f)) (AreValues_from_kinds ts ys (sequence_kinds other g)) (SameKinds_from_kinds ts xs ys (sequence_kinds row f) (sequence_kinds other g)) (long_enough row) (long_enough other)
@@ -99,7 +100,7 @@ module _ (table : Table) (sequence : List KeyPart) where
       let b = code_of (dirs_of sequence) (values_of sequence other) in
       elim (eq_by_cmp key_cmp a b) as (λ c. eq_by_cmp key_cmp a b ≡ c → c ≡ false) [
         | true ↦ λ is.
-            let same : values_of sequence row ≡ values_of sequence other = sequences_apart (types_at table (columns_of sequence)) (dirs_of sequence) (values_of sequence row) (values_of sequence other) (sequence_kinds row f) (sequence_kinds other g) (long_enough row) (same_key a b is) in
+            let same : values_of sequence row ≡ values_of sequence other = sequences_apart (types_at table.columns (columns_of sequence)) (dirs_of sequence) (values_of sequence row) (values_of sequence other) (sequence_kinds row f) (sequence_kinds other g) (long_enough row) (same_key a b is) in
             sym ((same_values_decides (key_of table other) (key_of table row)).1 (sym (determines row other same))) ∙ apart
         | false ↦ λ _. refl
       ] refl

@@ -13,6 +13,7 @@ use Rattle.pq_base.specs.declared.value.ColType.TheVariants as type
 use Rattle.pq_base.specs.declared.value.Value.{Value}
 use Rattle.pq_base.specs.declared.value.Value.TheVariants as value
 use Rattle.pq_base.specs.Values.{IsValue, AreValues, SameKind, SameKinds, FitsType, AllFit}
+use Rattle.pq_schema.proofs.TypeKinds.{kinds_alike, kinds_from_fit, value_from_kind}
 use Rattle.pq_schema.specs.declared.table.KeyPart.{KeyPart}
 use Rattle.pq_schema.specs.declared.table.Table.{Table}
 use Rattle.pq_schema.specs.Sequences.{columns_of}
@@ -72,51 +73,6 @@ same_values_sym xs ys = both_ways (same_values xs ys) (same_values ys xs) (turne
 
 -- ---- values that fit, or are of the types' kinds
 
-kind_from_fit : (t : ColType) (x : Value) → FitsType t x → IsOfKind t x
-kind_from_fit type.Int (value.Int a) h = h
-kind_from_fit type.Int (value.Bool a) h = absurd h
-kind_from_fit type.Int (value.Text a) h = absurd h
-kind_from_fit type.Bool (value.Int a) h = absurd h
-kind_from_fit type.Bool (value.Bool a) h = tt
-kind_from_fit type.Bool (value.Text a) h = absurd h
-kind_from_fit (type.Text n) (value.Int a) h = absurd h
-kind_from_fit (type.Text n) (value.Bool a) h = absurd h
-kind_from_fit (type.Text n) (value.Text a) h = h.0
-
-pub kinds_from_fit : (ts : List ColType) (xs : List Value) → AllFit ts xs → AllOfKinds ts xs
-kinds_from_fit [] [] h = tt
-kinds_from_fit [] (x ∷ xs) h = absurd h
-kinds_from_fit (t ∷ ts) [] h = absurd h
-kinds_from_fit (t ∷ ts) (x ∷ xs) h = (kind_from_fit t x h.0, kinds_from_fit ts xs h.1)
-
-value_from_kind : (t : ColType) (x : Value) → IsOfKind t x → IsValue x
-value_from_kind type.Int (value.Int a) h = h
-value_from_kind type.Int (value.Bool a) h = absurd h
-value_from_kind type.Int (value.Text a) h = absurd h
-value_from_kind type.Bool (value.Int a) h = absurd h
-value_from_kind type.Bool (value.Bool a) h = tt
-value_from_kind type.Bool (value.Text a) h = absurd h
-value_from_kind (type.Text n) (value.Int a) h = absurd h
-value_from_kind (type.Text n) (value.Bool a) h = absurd h
-value_from_kind (type.Text n) (value.Text a) h = h
-
-same_kind : (t : ColType) (x y : Value) → IsOfKind t x → IsOfKind t y → SameKind x y
-same_kind type.Int (value.Int a) (value.Int b) f g = tt
-same_kind type.Bool (value.Bool a) (value.Bool b) f g = tt
-same_kind (type.Text n) (value.Text a) (value.Text b) f g = tt
-same_kind type.Int (value.Int a) (value.Bool b) f g = absurd g
-same_kind type.Int (value.Int a) (value.Text b) f g = absurd g
-same_kind type.Int (value.Bool a) y f g = absurd f
-same_kind type.Int (value.Text a) y f g = absurd f
-same_kind type.Bool (value.Bool a) (value.Int b) f g = absurd g
-same_kind type.Bool (value.Bool a) (value.Text b) f g = absurd g
-same_kind type.Bool (value.Int a) y f g = absurd f
-same_kind type.Bool (value.Text a) y f g = absurd f
-same_kind (type.Text n) (value.Text a) (value.Int b) f g = absurd g
-same_kind (type.Text n) (value.Text a) (value.Bool b) f g = absurd g
-same_kind (type.Text n) (value.Int a) y f g = absurd f
-same_kind (type.Text n) (value.Bool a) y f g = absurd f
-
 pub AreValues_from_kinds : (ts : List ColType) (xs : List Value) → AllOfKinds ts xs → AreValues xs
 AreValues_from_kinds [] [] h = tt
 AreValues_from_kinds [] (x ∷ xs) h = absurd h
@@ -129,7 +85,7 @@ SameKinds_from_kinds [] [] (y ∷ ys) f g = absurd g
 SameKinds_from_kinds [] (x ∷ xs) ys f g = absurd f
 SameKinds_from_kinds (t ∷ ts) [] ys f g = absurd f
 SameKinds_from_kinds (t ∷ ts) (x ∷ xs) [] f g = absurd g
-SameKinds_from_kinds (t ∷ ts) (x ∷ xs) (y ∷ ys) f g = (same_kind t x y f.0 g.0, SameKinds_from_kinds ts xs ys f.1 g.1)
+SameKinds_from_kinds (t ∷ ts) (x ∷ xs) (y ∷ ys) f g = (kinds_alike t x y f.0 g.0, SameKinds_from_kinds ts xs ys f.1 g.1)
 
 pub length_from_kinds : (ts : List ColType) (xs : List Value) → AllOfKinds ts xs → length xs ≡ length ts
 length_from_kinds [] [] h = refl
@@ -146,7 +102,7 @@ fits_at (t ∷ ts) (x ∷ xs) zero h = h.0
 fits_at (t ∷ ts) (x ∷ xs) (suc col) h = fits_at ts xs col h.1
 
 -- a row's values at some columns fit their types
-pub fit_at : (table : Table) (cols : List ℕ) (row : List Value) → AllFit (types_of table) row → AllFit (types_at table cols) (cells cols row)
+pub fit_at : (table : Table) (cols : List ℕ) (row : List Value) → AllFit (types_of table) row → AllFit (types_at table.columns cols) (cells cols row)
 fit_at table [] row h = tt
 fit_at table (col ∷ cols) row h = (fits_at (types_of table) row col h, fit_at table cols row h)
 
@@ -161,6 +117,6 @@ pub values_of-columns_of : (parts : List KeyPart) (row : List Value) → values_
 values_of-columns_of [] row = refl
 values_of-columns_of (part ∷ parts) row = ap (λ (xs : List Value). value_of row part.col ∷ xs) (values_of-columns_of parts row)
 
-pub sequence_fits : (table : Table) (parts : List KeyPart) (row : List Value) → AllFit (types_of table) row → AllFit (types_at table (columns_of parts)) (values_of parts row)
+pub sequence_fits : (table : Table) (parts : List KeyPart) (row : List Value) → AllFit (types_of table) row → AllFit (types_at table.columns (columns_of parts)) (values_of parts row)
 sequence_fits table parts row h =
-    subst (AllFit (types_at table (columns_of parts))) (sym (values_of-columns_of parts row)) (fit_at table (columns_of parts) row h)
+    subst (AllFit (types_at table.columns (columns_of parts))) (sym (values_of-columns_of parts row)) (fit_at table (columns_of parts) row h)

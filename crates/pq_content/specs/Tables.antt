@@ -1,13 +1,8 @@
 -- Rows of tables: their keys and types, how they are found, and when they keep their definitions.
-use Rattle.std.specs.Prelude.{◌≡◌, ◌⊎◌, ℕ, ◌<◌, ◌≤◌, not, List, [], ◌∷◌, map, filter, take, length, count_ones, slice_index_or, Contains, FitsSigned, IsUtf8}
-use Rattle.std.specs.Int.{w64}
+use Rattle.std.specs.Prelude.{◌≡◌, ◌⊎◌, ℕ, ◌<◌, ◌≤◌, not, List, [], ◌∷◌, map, filter, take, length, count_ones, Contains}
 use Rattle.std.specs.List.{AllByRecursion}
 use Rattle.pq_base.specs.Columns.{set_of}
 use Rattle.pq_base.specs.declared.value.Value.{Value}
-use Rattle.pq_base.specs.declared.value.Value.TheVariants as value
-use Rattle.pq_base.specs.declared.value.ColType.{ColType}
-use Rattle.pq_base.specs.declared.value.ColType.TheVariants as type
-use Rattle.pq_base.specs.declared.value.Dir.{Dir}
 use Rattle.pq_base.specs.Values.{AllFit}
 use Rattle.pq_schema.specs.declared.table.Foreign.{Foreign}
 use Rattle.pq_schema.specs.declared.table.KeyPart.{KeyPart}
@@ -17,18 +12,12 @@ use Rattle.pq_schema.specs.Sequences.{columns_of}
 pub use Rattle.pq_schema.specs.Keys.{IsOfKind, AllOfKinds, key_types, dirs_of}
 pub use Rattle.pq_schema.specs.Rows.{Rows, rows_of, value_of, cells, types_of, key_of, same_value, same_values, agrees, has_key, row_at, group_of, IsTableNumber, AreApart, IsWithinLimit, HasParent, KeepsSchema}
 use Rattle.pq_schema.specs.Tables.{table_at}
+pub use Rattle.pq_schema.specs.Tables.{type_at, types_at}
 use Rattle.pq_row_code.specs.RowCode.{code_as}
 
 -- the values at the columns of a sequence
 abbrev pub values_of : List KeyPart → List Value → List Value
 values_of parts row = map (λ part. value_of row part.col) parts
-
--- the type of a column
-abbrev pub type_of : Table → ℕ → ColType
-type_of table col = slice_index_or (types_of table) col type.Bool
-
-abbrev pub types_at : Table → List ℕ → List ColType
-types_at table cols = map (type_of table) cols
 
 -- the rows but for the one of a table with this key
 abbrev pub rows_without : List Table → ℕ → List Value → Rows → Rows

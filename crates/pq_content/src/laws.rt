@@ -125,7 +125,7 @@ pub fn range_laws()
     ensures entries { (tables : List Table) (rows : Rows) (others : List Pair) → Keeps tables rows
         → AreBeside others → (t place : ℕ) (index : Index)
         → slice_get (table_at tables t).indexes place ≡ Some index → (prefix : List Value)
-        → AllOfKinds (take (length prefix) (types_at (table_at tables t)
+        → AllOfKinds (take (length prefix) (types_at (table_at tables t).columns
         (columns_of (index_sequence (table_at tables t) index)))) prefix
         → length prefix ≤ length (index_sequence (table_at tables t) index)
         → pairs_within (content_pairs tables rows others)
@@ -140,7 +140,7 @@ pub fn range_laws()
     ensures entry_count { (tables : List Table) (rows : Rows) (others : List Pair) → Keeps tables rows
         → AreBeside others → (t place : ℕ) (index : Index)
         → slice_get (table_at tables t).indexes place ≡ Some index → (prefix : List Value)
-        → AllOfKinds (take (length prefix) (types_at (table_at tables t)
+        → AllOfKinds (take (length prefix) (types_at (table_at tables t).columns
         (columns_of (index_sequence (table_at tables t) index)))) prefix
         → length prefix ≤ length (index_sequence (table_at tables t) index)
         → length (pairs_within (content_pairs tables rows others)

@@ -15,6 +15,7 @@ use Rattle.pq_base.specs.declared.value.Value.TheVariants as value
 use Rattle.pq_base.specs.declared.value.ColType.{ColType}
 use Rattle.pq_base.specs.declared.value.Dir.{Dir}
 use Rattle.pq_base.specs.declared.value.Value.{Value}
+use Rattle.pq_base.proofs.TypeFits.{value_from_fit}
 use Rattle.pq_key_code.specs.KeyCode.{IsBytes, payload, turned_byte, code_of}
 use Rattle.pq_key_code.specs.KeyReading.{key_at}
 use Rattle.pq_key_code.proofs.Order.{IsBytes-append, payload_bytes}
@@ -23,23 +24,12 @@ use Rattle.std.proofs.lemmas.Slice.Eq.{bytes_eq-Decides}
 use Rattle.pq_cursor.specs.Cursors.{IsCursorOf, IsNoCursor, cursor_head, cursor_bytes, cursor_text, position_behind, position_in}
 
 -- ---- the code of values that fit is bytes
-value_fits : (t : ColType) (x : Value) → FitsType t x → IsValue x
-value_fits type.Int (value.Int n) h = h
-value_fits type.Bool (value.Bool b) h = tt
-value_fits (type.Text n) (value.Text t) h = h.0
-value_fits type.Int (value.Bool b) h = absurd h
-value_fits type.Int (value.Text t) h = absurd h
-value_fits type.Bool (value.Int n) h = absurd h
-value_fits type.Bool (value.Text t) h = absurd h
-value_fits (type.Text n) (value.Int z) h = absurd h
-value_fits (type.Text n) (value.Bool b) h = absurd h
-
 code_bytes : (types : List ColType) (dirs : List Dir) (p : List Value) → AllFit types p → IsBytes (code_of dirs p)
 code_bytes types [] p h = tt
 code_bytes types (d ∷ dirs) [] h = tt
 code_bytes [] (d ∷ dirs) (x ∷ p) h = absurd h
 code_bytes (t ∷ types) (d ∷ dirs) (x ∷ p) h =
-    IsBytes-append (16 ∷ map (turned_byte d) (payload x)) (code_of dirs p) (omega arith, IsBytes-turned d (payload x) (payload_bytes x (value_fits t x h.0))) (code_bytes types dirs p h.1)
+    IsBytes-append (16 ∷ map (turned_byte d) (payload x)) (code_of dirs p) (omega arith, IsBytes-turned d (payload x) (payload_bytes x (value_from_fit t x h.0))) (code_bytes types dirs p h.1)
 
 -- the bytes of a text that decodes
 decoded : (r : Result (List ℕ) DecodeError) (bytes : List ℕ) → r ≡ Ok bytes → result_ok r ≡ Some bytes

@@ -29,7 +29,8 @@ use Rattle.pq_content.specs.Pairs.{Pair, HoldsRows, content_pairs}
 use Rattle.pq_content.specs.Tables.{Rows, rows_of, row_at, types_of, key_of, values_of, stored_code}
 use Rattle.pq_content.proofs.Gets.{get_row}
 use Rattle.pq_content.proofs.Keeping.{row_found, rows_with_key}
-use Rattle.pq_content.proofs.Values.{kinds_from_fit, key_of_kinds, same_values_itself}
+use Rattle.pq_schema.proofs.TypeKinds.{kinds_from_fit}
+use Rattle.pq_content.proofs.Values.{key_of_kinds, same_values_itself}
 use Rattle.pq_nodes.specs.Operators.{ShowsRead, no_row, missing_row}
 use Rattle.pq_nodes.proofs.Undamaged.{entry_names, key_column_there}
 use Rattle.pq_entries.specs.Entries.{IsSequence, IsEntryThere}

@@ -19,7 +19,7 @@ use Rattle.pq_base.proofs.Members.{all_member, at_in, in_filter, in_take, map_in
 use Rattle.pq_key_code.specs.KeyCode.{IsBytes, row_key, code_of}
 use Rattle.pq_key_code.specs.KeyReading.{key_at}
 use Rattle.pq_key_code.proofs.Reading.{key_takes, key_again}
-use Rattle.pq_key_code.proofs.StoreKeys.{length_from_fits}
+use Rattle.pq_base.proofs.TypeFits.{length_from_fits}
 use Rattle.pq_row_code.specs.RowCode.{code_as}
 use Rattle.pq_row_code.proofs.Rows.{row_code_injective}
 use Rattle.pq_schema.specs.declared.table.Access.{Access}
@@ -45,7 +45,8 @@ use Rattle.pq_content.proofs.Keys.{sequences_apart}
 use Rattle.pq_content.proofs.Ranges.{in_range, range-cons}
 use Rattle.pq_content.proofs.Scans.{columns_of-primary}
 use Rattle.pq_content.proofs.TableRows.{dirs_of-primary, values_of-primary}
-use Rattle.pq_content.proofs.Values.{kinds_from_fit, sequence_fits}
+use Rattle.pq_schema.proofs.TypeKinds.{kinds_from_fit}
+use Rattle.pq_content.proofs.Values.{sequence_fits}
 use Rattle.pq_nodes.specs.Operators.{ShowsRead, no_row, no_key}
 use Rattle.pq_entries.specs.Entries.{Begins, AreEnds, key_front, IsUnread, IsNoRowPair, IsNoKeyPair, OneShows, AreFirstRows, AreFirstValues, IsKeyThere, pair_of}
 

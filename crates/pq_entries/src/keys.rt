@@ -7,21 +7,10 @@ ghost use Rattle.pq_schema.specs.Sound.{IsTable, AreColumns};
 ghost use Rattle.pq_schema.specs.Tables.{types_at};
 ghost use Rattle.pq_calls.specs.Keys.{sequence_key, named_key};
 
-use pq_base::{Bytes, ColSet, ColType, Dir, List, NoMem, Row, Value};
+use pq_base::{Bytes, ColSet, ColType, List, NoMem, Row, Value};
 use pq_key_code::{entry_front, put_component, row_key};
 use pq_schema::{Access, Column, KeyPart, Table, columns_in, part_at, sequence, type_at};
 use std::alloc::Global;
-
-/// The directions of the parts.
-pub fn dirs_of(alloc: Global, parts: &[KeyPart]) -> Result<List<Dir>, NoMem>
-    ensures { IfOk result (λ dirs. dirs ≡ dirs_of parts.now) }
-{
-    let mut dirs = List::new(alloc);
-    for part in parts {
-        dirs.push(alloc, part.dir)?;
-    }
-    Ok(dirs)
-}
 
 /// The types of the columns of the parts.
 pub fn types_at(

@@ -11,6 +11,6 @@ mod ranges;
 mod sequences;
 
 pub use fetch::named_row;
-pub use keys::{dirs_of, sequence_key, types_at};
+pub use keys::{sequence_key, types_at};
 pub use ranges::{range_rows, range_values};
 pub use sequences::sequence_rows;

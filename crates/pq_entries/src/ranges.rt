@@ -14,10 +14,10 @@ ghost use Rattle.pq_nodes.specs.Operators.{ShowsRead};
 ghost use Rattle.pq_entries.specs.Entries.{IsSequence, AreEnds, AreFirstRows, AreFirstValues, IsKeyThere, key_front};
 
 use crate::decode::{decoded_keys, decoded_rows};
-use crate::keys::{dirs_of, types_at};
+use crate::keys::types_at;
 use pq_base::{ColType, Dir, List, NoMem, Row};
 use pq_calls::{Calls, types_of};
-use pq_schema::{Access, Catalog, Table, sequence};
+use pq_schema::{Access, Catalog, Table, dirs_of, sequence};
 use pq_store::{Broke, Store};
 use std::alloc::Global;
 use std::sync::ledger::Ledger;

@@ -15,33 +15,29 @@ use Rattle.pq_base.specs.declared.value.Dir.TheVariants.{Asc}
 use Rattle.pq_base.specs.declared.value.Value.{Value}
 use Rattle.pq_base.specs.declared.value.Value.TheVariants as value
 use Rattle.pq_base.specs.Values.{AllFit, FitsType}
+use Rattle.pq_base.proofs.TypeFits.{length_from_fits}
 use Rattle.pq_key_code.specs.KeyCode.{row_key}
 use Rattle.pq_row_code.specs.declared.changes.Change.{Change as Coded}
 use Rattle.pq_row_code.specs.Changes.{IsChange}
 use Rattle.pq_row_code.specs.RowCode.{field, fields, IsShort}
+use Rattle.pq_schema.specs.Sound.{IsSized}
 use Rattle.pq_schema.specs.declared.table.Column.{Column}
 use Rattle.pq_schema.specs.declared.table.Index.{Index}
 use Rattle.pq_schema.specs.declared.table.Table.{Table}
 use Rattle.pq_schema.specs.Sequences.{ascending_part, columns_of, without, index_sequence}
 use Rattle.pq_content.specs.Pairs.{Change, entry_pair, entries_from, pairs_of_row, entry_changes, puts, removals}
 use Rattle.pq_content.specs.Standing.{change_of, AreOfRows}
-use Rattle.pq_content.specs.Tables.{types_of, type_of, types_at, key_types, key_of, values_of, same_values, stored_code}
+use Rattle.pq_content.specs.Tables.{types_of, type_at, types_at, key_types, key_of, values_of, same_values, stored_code}
 use Rattle.pq_content.proofs.Lengths.{length-puts, length-removals, length-pairs_of_row, length-update_changes, IsWithinLength, length-code_of, length-entry_key}
 use Rattle.pq_content.proofs.Values.{key_fits}
 use Rattle.pq_content.proofs.Settling.{inserts_of_rows, deletes_of_rows, updates_of_rows}
 use Rattle.pq_index_keep.specs.Promises.{ArePlanned}
-use Rattle.pq_index_keep.specs.Sound.{IsShortType, IsWritable}
+use Rattle.pq_index_keep.specs.Sound.{IsWritable}
 use Rattle.pq_index_keep.proofs.Inserting.{each_is, each_by}
 
 -- ---- a row that fits
 
-pub fit_length : (types : List ColType) (row : List Value) → AllFit types row → length row ≡ length types
-fit_length [] [] h = refl
-fit_length [] (x ∷ xs) h = absurd h
-fit_length (t ∷ ts) [] h = absurd h
-fit_length (t ∷ ts) (x ∷ xs) h = ap suc (fit_length ts xs h.1)
-
-one_short : (t : ColType) (x : Value) → IsShortType t → FitsType t x → IsShort x
+one_short : (t : ColType) (x : Value) → IsSized t → FitsType t x → IsShort x
 one_short type.Int (value.Int n) sized fits = tt
 one_short type.Int (value.Bool b) sized fits = tt
 one_short type.Int (value.Text t) sized fits = absurd fits
@@ -50,9 +46,9 @@ one_short type.Bool (value.Bool b) sized fits = tt
 one_short type.Bool (value.Text t) sized fits = absurd fits
 one_short (type.Text n) (value.Int m) sized fits = tt
 one_short (type.Text n) (value.Bool b) sized fits = tt
-one_short (type.Text n) (value.Text t) sized fits = let le = fits.1 in omega arith
+one_short (type.Text n) (value.Text t) sized fits = let le = fits.1 in let most = sized.1 in omega arith
 
-all_short : (columns : List Column) (row : List Value) → AllByRecursion (λ (column : Column). IsShortType column.ty) columns → AllFit (map (λ (column : Column). column.ty) columns) row → AllByRecursion IsShort row
+all_short : (columns : List Column) (row : List Value) → AllByRecursion (λ (column : Column). IsSized column.ty) columns → AllFit (map (λ (column : Column). column.ty) columns) row → AllByRecursion IsShort row
 all_short [] [] sized fits = tt
 all_short [] (x ∷ xs) sized fits = absurd fits
 all_short (c ∷ cs) [] sized fits = absurd fits
@@ -60,13 +56,13 @@ all_short (c ∷ cs) (x ∷ xs) sized fits = (one_short c.ty x sized.0 fits.0, a
 
 module _ (tables : List Table) (table : Table) (w : IsWritable tables table) (row : List Value) (fits : AllFit (types_of table) row) where
   shorts : AllByRecursion IsShort row
-  shorts = all_short table.columns row (each_by (λ (column : Column). IsShortType column.ty) table.columns w.sized) fits
+  shorts = all_short table.columns row (each_by (λ (column : Column). IsSized column.ty) table.columns w.made.sized) fits
 
   pub fit_texts : All IsShort row
   fit_texts = each_is IsShort row shorts
 
   pub fit_columns : length row ≤ 32
-  fit_columns = omega (arith, fit_length (types_of table) row fits, length-map table.columns (λ (column : Column). column.ty), w.is_table.few_columns)
+  fit_columns = omega (arith, length_from_fits (types_of table) row fits, length-map table.columns (λ (column : Column). column.ty), w.made.few_columns)
 
 field_short : (x : Value) → IsShort x → length (field x) ≤ 1002
 field_short (value.Int z) h = let eight : length (field (value.Int z)) ≡ 8 = refl in omega arith
@@ -92,7 +88,7 @@ code_short tables table w row fits =
 
 -- ---- a key that fits
 
-type_sized : (columns : List Column) (col : ℕ) → AllByRecursion (λ (column : Column). IsShortType column.ty) columns → IsShortType (get_or (map (λ (column : Column). column.ty) columns) col type.Bool)
+type_sized : (columns : List Column) (col : ℕ) → AllByRecursion (λ (column : Column). IsSized column.ty) columns → IsSized (get_or (map (λ (column : Column). column.ty) columns) col type.Bool)
 type_sized [] col sized = tt
 type_sized (c ∷ cs) zero sized = sized.0
 type_sized (c ∷ cs) (suc col) sized = type_sized cs col sized.1
@@ -102,11 +98,11 @@ within_short (value.Int n) h = tt
 within_short (value.Bool b) h = tt
 within_short (value.Text t) h = h
 
-key_within : (table : Table) (cols : List ℕ) (key : List Value) → AllByRecursion (λ (column : Column). IsShortType column.ty) table.columns → AllFit (types_at table cols) key → AllByRecursion (IsWithinLength 1000) key
+key_within : (table : Table) (cols : List ℕ) (key : List Value) → AllByRecursion (λ (column : Column). IsSized column.ty) table.columns → AllFit (types_at table.columns cols) key → AllByRecursion (IsWithinLength 1000) key
 key_within table [] [] sized fits = tt
 key_within table [] (x ∷ xs) sized fits = absurd fits
 key_within table (c ∷ cols) [] sized fits = absurd fits
-key_within table (c ∷ cols) (x ∷ xs) sized fits = (within_short x (one_short (type_of table c) x (type_sized table.columns c sized) fits.0), key_within table cols xs sized fits.1)
+key_within table (c ∷ cols) (x ∷ xs) sized fits = (within_short x (one_short (type_at table.columns c) x (type_sized table.columns c sized) fits.0), key_within table cols xs sized fits.1)
 
 -- ---- changes that an intent can hold
 
@@ -141,15 +137,15 @@ module _ (tables : List Table) (table : Table) (w : IsWritable tables table) (t 
       let parts = length-append index.cols (map ascending_part (without left table.key)) in
       let same = length-map (without left table.key) ascending_part in
       let few = fewer left table.key in
-      let short = w.is_table.short in
+      let short = w.made.key.few in
       omega arith
 
   key_coded : (key : List Value) → AllFit (key_types table) key → length (row_key t key) < 2 ^ 32
   key_coded key fits =
-      let sized = each_by (λ (column : Column). IsShortType column.ty) table.columns w.sized in
+      let sized = each_by (λ (column : Column). IsSized column.ty) table.columns w.made.sized in
       let most = length-code_of 1000 (replicate (length key) Asc) key (key_within table table.key key sized fits) in
-      let long : length key ≡ length table.key = fit_length (key_types table) key fits ∙ length-map table.key (type_of table) in
-      let short = w.is_table.short in
+      let long : length key ≡ length table.key = length_from_fits (key_types table) key fits ∙ length-map table.key (type_at table.columns) in
+      let short = w.made.key.few in
       omega arith
 
   module _ (row : List Value) (fits : AllFit (types_of table) row) where
@@ -177,7 +173,7 @@ module _ (tables : List Table) (table : Table) (w : IsWritable tables table) (t 
     insert_planned changes made =
         let pairs = pairs_of_row t table row in
         let long : length (puts pairs) ≡ suc (length table.indexes) = length-puts pairs ∙ length-pairs_of_row t table row in
-        let few = w.is_table.few_indexes in
+        let few = w.made.few_indexes in
         planned_from (puts pairs) (1 + length table.indexes) changes made ((key_coded (key_of table row) (key_fits table row fits), value_coded), puts_coded 1 table.indexes narrows) (inserts_of_rows t table row) (omega arith) (omega arith) (omega arith)
 
     pub delete_planned : (key : List Value) (at : List ℕ) → AllFit (key_types table) key → at ≡ row_key t key → (changes : List Coded) → map change_of changes ≡ (at, None) ∷ removals (entries_from t 1 table table.indexes row) → ArePlanned (1 + length table.indexes) changes
@@ -185,7 +181,7 @@ module _ (tables : List Table) (table : Table) (w : IsWritable tables table) (t 
         let pairs = pairs_of_row t table row in
         let rest = removals (entries_from t 1 table table.indexes row) in
         let long : suc (length rest) ≡ suc (length table.indexes) = length-removals pairs ∙ length-pairs_of_row t table row in
-        let few = w.is_table.few_indexes in
+        let few = w.made.few_indexes in
         planned_from ((row_key t key, None) ∷ rest) (1 + length table.indexes) changes (made ∙ ap (λ (k : List ℕ). (k, None) ∷ rest) is) ((key_coded key fits_key, tt), removals_coded 1 table.indexes narrows) (refl, (deletes_of_rows t table row).1) (omega arith) (omega arith) (omega arith)
 
     module _ (new : List Value) (fits_new : AllFit (types_of table) new) (of : Scope) where
@@ -213,11 +209,11 @@ module _ (tables : List Table) (table : Table) (w : IsWritable tables table) (t 
           let most : suc (length rest) ≤ 1 + 2 * length (filter (touches_index of table) table.indexes) = length-update_changes (touches_index of table) t table row new stays in
           let same = length-filter (touches_index of table) table.indexes in
           let all = count_by-le-length (touches_index of table) table.indexes in
-          let few = w.is_table.few_indexes in
+          let few = w.made.few_indexes in
           planned_from ((row_key t key, Some (stored_code table new)) ∷ rest) (1 + 2 * count_by (touches_index of table) table.indexes) changes (made ∙ ap (λ (k : List ℕ). (k, Some (stored_code table new)) ∷ rest) is) ((key_coded key fits_key, new_value), moves_coded 1 table.indexes narrows) (refl, (updates_of_rows t table row new).1) (omega arith) (omega arith) (omega arith)
 
-pub short_texts : (table : Table) (row : List Value) → All (λ (column : Column). IsShortType column.ty) table.columns → AllFit (types_of table) row → All IsShort row
-short_texts table row sized fits = each_is IsShort row (all_short table.columns row (each_by (λ (column : Column). IsShortType column.ty) table.columns sized) fits)
+pub short_texts : (table : Table) (row : List Value) → All (λ (column : Column). IsSized column.ty) table.columns → AllFit (types_of table) row → All IsShort row
+short_texts table row sized fits = each_is IsShort row (all_short table.columns row (each_by (λ (column : Column). IsSized column.ty) table.columns sized) fits)
 
 pub few_values : (table : Table) (row : List Value) → length table.columns ≤ 32 → AllFit (types_of table) row → length row ≤ 32
-few_values table row few fits = omega (arith, fit_length (types_of table) row fits, length-map table.columns (λ (column : Column). column.ty))
+few_values table row few fits = omega (arith, length_from_fits (types_of table) row fits, length-map table.columns (λ (column : Column). column.ty))

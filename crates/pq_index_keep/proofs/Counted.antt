@@ -1,7 +1,7 @@
 -- How many pairs stand in the range of a group: as many as the group has rows.
-use Rattle.std.proofs.Common.{◌≡◌, ℕ, zero, suc, ◌+◌, ◌-◌, ◌≤◌, ◌<◌, ◌⊎◌, inl, inr, Bool, true, false, cond, ◌||◌, List, [], ◌∷◌, length, take, map, Option, Some, None, refl, sym, ap, subst, ◌∙◌, arith}
+use Rattle.std.proofs.Common.{◌≡◌, ℕ, zero, suc, ◌+◌, ◌-◌, ◌≤◌, ◌<◌, ◌⊎◌, inl, inr, Bool, true, false, cond, eqb, List, [], ◌∷◌, length, take, map, Option, Some, None, refl, sym, ap, subst, ◌∙◌, arith}
 use Rattle.std.specs.Prelude.{IsSome, slice_get, slice_index_or, unwrap_or, option_map, count_ones, ◌==◌}
-use Rattle.std.specs.List.{position}
+use Rattle.std.specs.List.{position, IsDistinct}
 use Rattle.std.proofs.lemmas.Bool.{eqb-true, eq-eqb, false≢true}
 use Rattle.std.proofs.lemmas.List.{length-map}
 use Rattle.std.proofs.lemmas.List.Quantifiers.{position-Some}
@@ -17,16 +17,17 @@ use Rattle.pq_schema.specs.declared.table.Table.{Table}
 use Rattle.pq_schema.specs.Sequences.{columns_of, primary_sequence, index_sequence, no_index, index_numbered, begins_with, group_access, secondary}
 use Rattle.pq_schema.specs.Tables.{table_at}
 use Rattle.pq_content.specs.Pairs.{Pair, content_pairs}
-use Rattle.pq_content.specs.Tables.{Rows, AllOfKinds, IsOfKind, type_of, types_at, value_of, cells, group_of}
+use Rattle.pq_content.specs.Tables.{Rows, AllOfKinds, IsOfKind, type_at, types_at, value_of, cells, group_of}
 use Rattle.pq_base.specs.Members.{In}
 use Rattle.pq_content.proofs.Scans.{columns_of-primary, rows_counted, entries_counted, group_by_first}
 use Rattle.pq_store.specs.Content.{Content, pairs_within}
 use Rattle.pq_calls.specs.Keys.{sequence_key}
 use Rattle.pq_index_keep.specs.Groups.{access_of, first_values, group_key}
 use Rattle.pq_index_keep.specs.Promises.{HoldsRows}
-use Rattle.pq_index_keep.specs.Sound.{is_among, AreDifferent}
 use Rattle.pq_index_keep.specs.Tested.{given_value}
+use Rattle.pq_base.proofs.Members.{each_in}
 use Rattle.pq_base.proofs.Sets.{set_members, members_set}
+use Rattle.pq_index_keep.proofs.Distinct.{are_distinct}
 
 -- ---- values that columns are given
 
@@ -52,42 +53,29 @@ given_of f (c ∷ cols) d i =
 pub given_at : (cols : List ℕ) (row : List Value) → map (given_value cols (cells cols row)) cols ≡ cells cols row
 given_at cols row = agree_in (given_value cols (cells cols row)) (value_of row) cols (given_of (value_of row) cols)
 
-not_among : (c d : ℕ) (cols : List ℕ) → is_among cols c ≡ false → In d cols → (c == d) ≡ false
-not_among c d [] none i = absurd i
-not_among c d (e ∷ cols) none (inl same) =
-    elim (c == d) as (λ b. (c == d) ≡ b → b ≡ false) [
-      | true ↦ λ is. absurd (false≢true (sym (first (e == c) (is_among cols c) none) ∙ eq-eqb e c (same ∙ sym (eqb-true c d is))))
-      | false ↦ λ is. refl
-    ] refl
-  where
-    first : (a b : Bool) → (a || b) ≡ false → a ≡ false
-    first true b h = absurd (cc)
-    first false b h = refl
-not_among c d (e ∷ cols) none (inr there) = not_among c d cols (rest (e == c) (is_among cols c) none) there
-  where
-    rest : (a b : Bool) → (a || b) ≡ false → b ≡ false
-    rest true b h = absurd (cc)
-    rest false b h = h
-
--- different columns are given just these values
-pub given_all : (types : List ColType) (cols : List ℕ) (values : List Value) → AreDifferent cols → AllOfKinds types values → length types ≡ length cols → map (given_value cols values) cols ≡ values
-given_all types [] [] apart kinds long = refl
-given_all [] [] (x ∷ values) apart kinds long = absurd kinds
-given_all (t ∷ ts) [] (x ∷ values) apart kinds long = absurd (omega arith)
-given_all [] (c ∷ cols) values apart kinds long = absurd (omega arith)
-given_all (t ∷ ts) (c ∷ cols) [] apart kinds long = absurd kinds
-given_all (t ∷ ts) (c ∷ cols) (x ∷ values) apart kinds long =
+given_each : (types : List ColType) (cols : List ℕ) (values : List Value) → IsDistinct eqb cols → AllOfKinds types values → length types ≡ length cols → map (given_value cols values) cols ≡ values
+unfolding IsDistinct
+given_each types [] [] apart kinds long = refl
+given_each [] [] (x ∷ values) apart kinds long = absurd kinds
+given_each (t ∷ ts) [] (x ∷ values) apart kinds long = absurd (omega arith)
+given_each [] (c ∷ cols) values apart kinds long = absurd (omega arith)
+given_each (t ∷ ts) (c ∷ cols) [] apart kinds long = absurd kinds
+given_each (t ∷ ts) (c ∷ cols) (x ∷ values) apart kinds long =
     let here : cond (c == c) x (given_value cols values c) ≡ x = ap (λ b. cond b x (given_value cols values c)) (eq-eqb c c refl) in
-    let others : map (given_value (c ∷ cols) (x ∷ values)) cols ≡ map (given_value cols values) cols = agree_in (given_value (c ∷ cols) (x ∷ values)) (given_value cols values) cols (λ d i. ap (λ b. cond b x (given_value cols values d)) (not_among c d cols apart.0 i)) in
-    let rest : map (given_value cols values) cols ≡ values = given_all ts cols values apart.1 kinds.1 (omega arith) in
+    let others : map (given_value (c ∷ cols) (x ∷ values)) cols ≡ map (given_value cols values) cols = agree_in (given_value (c ∷ cols) (x ∷ values)) (given_value cols values) cols (λ d i. ap (λ b. cond b x (given_value cols values d)) (each_in (λ (d : ℕ). eqb c d ≡ false) cols apart.0 d i)) in
+    let rest : map (given_value cols values) cols ≡ values = given_each ts cols values apart.1 kinds.1 (omega arith) in
     ap (λ (y : Value). y ∷ map (given_value (c ∷ cols) (x ∷ values)) cols) here ∙ ap (λ (ys : List Value). x ∷ ys) (others ∙ rest)
 
-kind_given : (table : Table) (cols : List ℕ) (values : List Value) (d : ℕ) → AllOfKinds (types_at table cols) values → In d cols → IsOfKind (type_of table d) (given_value cols values d)
+-- different columns are given just these values
+pub given_all : (types : List ColType) (cols : List ℕ) (values : List Value) → count_ones (set_of cols) ≡ length cols → AllOfKinds types values → length types ≡ length cols → map (given_value cols values) cols ≡ values
+given_all types cols values different kinds long = given_each types cols values (are_distinct cols different) kinds long
+
+kind_given : (table : Table) (cols : List ℕ) (values : List Value) (d : ℕ) → AllOfKinds (types_at table.columns cols) values → In d cols → IsOfKind (type_at table.columns d) (given_value cols values d)
 kind_given table [] values d kinds i = absurd i
 kind_given table (c ∷ cols) [] d kinds i = absurd kinds
 kind_given table (c ∷ cols) (x ∷ values) d kinds i =
-    elim (c == d) as (λ b. (c == d) ≡ b → IsOfKind (type_of table d) (cond b x (given_value cols values d))) [
-      | true ↦ λ is. subst (λ (n : ℕ). IsOfKind (type_of table n) x) (eqb-true c d is) kinds.0
+    elim (c == d) as (λ b. (c == d) ≡ b → IsOfKind (type_at table.columns d) (cond b x (given_value cols values d))) [
+      | true ↦ λ is. subst (λ (n : ℕ). IsOfKind (type_at table.columns n) x) (eqb-true c d is) kinds.0
       | false ↦ λ is. elim i [
         | inl same ↦ absurd (false≢true (sym is ∙ eq-eqb c d same))
         | inr there ↦ kind_given table cols values d kinds.1 there
@@ -101,10 +89,10 @@ kinds_taken ty f (c ∷ cols) zero h = tt
 kinds_taken ty f (c ∷ cols) (suc n) h = (h c (inl refl), kinds_taken ty f cols n (λ d i. h d (inr i)))
 
 -- the first columns of a sequence that begins with these columns are given values of their kinds
-first_kinds : (table : Table) (cols all : List ℕ) (values : List Value) (n : ℕ) → set_of (take n all) ≡ set_of cols → AllOfKinds (types_at table cols) values
-    → AllOfKinds (take (length (map (given_value cols values) (take n all))) (types_at table all)) (map (given_value cols values) (take n all))
+first_kinds : (table : Table) (cols all : List ℕ) (values : List Value) (n : ℕ) → set_of (take n all) ≡ set_of cols → AllOfKinds (types_at table.columns cols) values
+    → AllOfKinds (take (length (map (given_value cols values) (take n all))) (types_at table.columns all)) (map (given_value cols values) (take n all))
 first_kinds table cols all values n same kinds =
-    kinds_taken (type_of table) (given_value cols values) all n
+    kinds_taken (type_at table.columns) (given_value cols values) all n
     (λ c i. kind_given table cols values c kinds (set_members cols c (subst (λ (set : ℕ). has_col set c ≡ true) same (members_set (take n all) c i))))
 
 first_short : (f : ℕ → Value) (cols : List ℕ) (n : ℕ) → length (map f (take n cols)) ≤ length cols
@@ -152,7 +140,7 @@ module _ (tables : List Table) (rows : Rows) (others : List Pair) (told : Option
   abbrev within : List ℕ → ℕ
   within key = length (pairs_within (content_pairs tables rows others) key (past_code key))
 
-  module _ (cols : List ℕ) (values : List Value) (kinds : AllOfKinds (types_at table cols) values) (own : map (given_value cols values) cols ≡ values) where
+  module _ (cols : List ℕ) (values : List Value) (kinds : AllOfKinds (types_at table.columns cols) values) (own : map (given_value cols values) cols ≡ values) where
     abbrev n : ℕ
     n = count_ones (set_of cols)
 
@@ -162,7 +150,7 @@ module _ (tables : List Table) (rows : Rows) (others : List Pair) (told : Option
         let ps = map (given_value cols values) (take n all) in
         let key : all ≡ table.key = columns_of-primary table.key in
         let same : set_of (take n all) ≡ set_of cols = eqb-true _ _ begins in
-        let of_kinds : AllOfKinds (take (length ps) (types_at table table.key)) ps = subst (λ (cs : List ℕ). AllOfKinds (take (length ps) (types_at table cs)) ps) key (first_kinds table cols all values n same kinds) in
+        let of_kinds : AllOfKinds (take (length ps) (types_at table.columns table.key)) ps = subst (λ (cs : List ℕ). AllOfKinds (take (length ps) (types_at table.columns cs)) ps) key (first_kinds table cols all values n same kinds) in
         let short : length ps ≤ length table.key = subst (λ (cs : List ℕ). length ps ≤ length cs) key (first_short (given_value cols values) all n) in
         rows_counted tables rows others s.keeps.fit s.keeps.apart s.beside t ps of_kinds short
         ∙ ap (λ (cs : List ℕ). length (group_of t (take (length ps) cs) ps rows)) (sym key)

@@ -14,8 +14,9 @@ use Rattle.pq_key_code.specs.KeyCode.{row_key}
 use Rattle.pq_row_code.specs.declared.changes.Change.{Change as Coded}
 use Rattle.pq_row_code.specs.RowCode.{IsNoRowCode}
 use Rattle.pq_row_code.proofs.Rows.{row_code_injective}
+use Rattle.pq_schema.proofs.TypeKinds.{kinds_as}
 use Rattle.pq_schema.specs.Definitions.{or_ok}
-use Rattle.pq_schema.specs.Sound.{AreColumns}
+use Rattle.pq_schema.specs.Sound.{AreColumns, IsSized}
 use Rattle.pq_schema.specs.Tables.{no_table, table_at}
 use Rattle.pq_schema.specs.declared.table.Column.{Column}
 use Rattle.pq_schema.specs.declared.table.Foreign.{Foreign}
@@ -37,22 +38,22 @@ use Rattle.pq_store.specs.Breaks.{IsUndamaged}
 use Rattle.pq_store.specs.declared.damage.Broke.{Broke}
 use Rattle.std.proofs.lemmas.Result.{IfErr-weaker}
 use Rattle.pq_index_keep.specs.Promises.{HoldsRows, MakesRows, Plans}
-use Rattle.pq_index_keep.specs.Sound.{IsShortType, AreWritable, IsWritable, IsLike, AreLike, MayName}
+use Rattle.pq_index_keep.specs.Sound.{AreWritable, IsWritable, MayName}
 use Rattle.pq_calls.specs.declared.rows.StoredRow.{StoredRow}
 use Rattle.pq_index_keep.specs.declared.plan.Planned.TheVariants as planned
 use Rattle.pq_index_keep.specs.declared.write.Write.TheVariants as write
 use Rattle.pq_index_keep.proofs.Changing.{own_removals}
-use Rattle.pq_index_keep.proofs.Inserting.{mapped_none, none_passes, each_weaker, each_is, each_by, writable_at, like_kinds}
+use Rattle.pq_index_keep.proofs.Inserting.{mapped_none, none_passes, each_weaker, each_is, each_by, writable_at}
 use Rattle.pq_index_keep.proofs.Tests.{settled_get}
 
 -- ---- the row that is read
 
-is_type : (ty : ColType) → IsShortType ty → IsType ty
+is_type : (ty : ColType) → IsSized ty → IsType ty
 is_type type.Int h = tt
 is_type type.Bool h = tt
-is_type (type.Text n) h = omega arith
+is_type (type.Text n) h = let most = h.1 in omega arith
 
-are_types : (columns : List Column) → AllByRecursion (λ (column : Column). IsShortType column.ty) columns → AllByRecursion IsType (map (λ (column : Column). column.ty) columns)
+are_types : (columns : List Column) → AllByRecursion (λ (column : Column). IsSized column.ty) columns → AllByRecursion IsType (map (λ (column : Column). column.ty) columns)
 are_types [] h = tt
 are_types (c ∷ cs) h = (is_type c.ty h.0, are_types cs h.1)
 
@@ -61,7 +62,7 @@ module _ (tables : List Table) (rows : Rows) (others : List Pair) (told : Option
   table = table_at tables t
 
   types : All IsType (types_of table)
-  types = each_is IsType (types_of table) (are_types table.columns (each_by (λ (column : Column). IsShortType column.ty) table.columns (writable_at tables t sound number).sized))
+  types = each_is IsType (types_of table) (are_types table.columns (each_by (λ (column : Column). IsSized column.ty) table.columns (writable_at tables t sound number).made.sized))
 
   read_is : (o : Option (List Value)) → row_at tables rows t key ≡ o → (row : Option (List Value)) → IsRead (types_of table) (option_map (stored_code table) o) row → row ≡ o
   read_is None is None read = refl
@@ -102,35 +103,18 @@ none_read found row none is = ap (option_map (λ (stored : StoredRow). stored.ro
 
 -- ---- foreign keys to the row
 
-like_turned : (ts us : List ColType) → AreLike ts us → AreLike us ts
-like_turned [] [] h = tt
-like_turned [] (u ∷ us) h = absurd h
-like_turned (t ∷ ts) [] h = absurd h
-like_turned (t ∷ ts) (u ∷ us) h = (turned t u h.0, like_turned ts us h.1)
-  where
-    turned : (t u : ColType) → IsLike t u → IsLike u t
-    turned type.Int type.Int h = tt
-    turned type.Int type.Bool h = absurd h
-    turned type.Int (type.Text n) h = absurd h
-    turned type.Bool type.Int h = absurd h
-    turned type.Bool type.Bool h = tt
-    turned type.Bool (type.Text n) h = absurd h
-    turned (type.Text m) type.Int h = absurd h
-    turned (type.Text m) type.Bool h = absurd h
-    turned (type.Text m) (type.Text n) h = tt
-
 pub may_name : (tables : List Table) (t : ℕ) (key : List Value) → AreWritable tables → AllOfKinds (key_types (table_at tables t)) key → All (λ (table : Table). All (MayName table t key) table.foreign) tables
 may_name tables t key sound kinds k table lt j f less refers =
-    let r = (sound k table lt).references j f less in
+    let r = (sound k table lt).made.foreign j f less in
     record {
-      apart = r.apart;
-      kinds = like_kinds _ _ key (like_turned _ _ r.alike) (subst (λ (n : ℕ). AllOfKinds (key_types (table_at tables n)) key) (sym refers) kinds);
+      different = r.different;
+      kinds = kinds_as _ _ key r.shape (subst (λ (n : ℕ). AllOfKinds (key_types (table_at tables n)) key) (sym refers) kinds);
     }
 
 pub foreign_columns : (tables : List Table) (table : Table) → IsWritable tables table → All (λ (f : Foreign). AreColumns f.cols) table.foreign
 foreign_columns tables table w k f lt j col less =
-    let inside = (w.linked.foreign k f lt).inside j col less in
-    let few = w.is_table.few_columns in
+    let inside = (w.made.foreign k f lt).inside j col less in
+    let few = w.made.few_columns in
     omega arith
 
 pub drop_here : (tables : List Table) (i : ℕ) (table : Table) → i < length tables → table ≡ get_or tables i table → drop i tables ≡ table ∷ drop (i + 1) tables

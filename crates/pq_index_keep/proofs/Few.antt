@@ -4,6 +4,7 @@ use Rattle.std.specs.Prelude.{if◌then◌else◌}
 use Rattle.std.proofs.lemmas.List.Sums.{sum_by-le, count_by-le-length}
 use Rattle.std.proofs.lemmas.List.Elements.{All-weaker}
 use Rattle.pq_base.specs.declared.number.Bound.{Bound}
+use Rattle.pq_schema.specs.Sound.{IsMadeLimit}
 use Rattle.pq_schema.specs.declared.table.Limit.{Limit}
 use Rattle.pq_schema.specs.declared.table.Foreign.{Foreign}
 use Rattle.pq_schema.specs.declared.table.Table.{Table}
@@ -30,15 +31,15 @@ tests_few : (tables : List Table) (table : Table) (of : Scope) → IsWritable ta
 tests_few tables table of sound =
     let parents = count_by-le-length (λ (f : Foreign). touches of f.cols) table.foreign in
     let limits = count_by-le-length (λ (limit : Limit). touches of limit.cols) table.limits in
-    let rows = sum_by-le (tested_n of) 10000 table.limits (All-weaker (λ (limit : Limit). limit.n ≤ 10000) (λ limit. tested_n of limit ≤ 10000) (λ limit most. n_of (touches of limit.cols) limit.n most) table.limits sound.is_table.sizes) in
-    let few_foreign = sound.few_foreign in
-    let few_limits = sound.is_table.few in
+    let rows = sum_by-le (tested_n of) 10000 table.limits (All-weaker (IsMadeLimit (length table.columns)) (λ limit. tested_n of limit ≤ 10000) (λ limit is. n_of (touches of limit.cols) limit.n is.most) table.limits sound.made.limits) in
+    let few_foreign = sound.made.few_foreign in
+    let few_limits = sound.made.few_limits in
     (omega (arith, parents, limits, few_foreign, few_limits), omega (arith, parents, rows, few_foreign, few_limits))
 
 referring_few : (tables : List Table) (t : ℕ) → AreWritable tables → length tables ≤ 64 → referring_count tables t ≤ 256
 referring_few tables t sound few =
     let each = All-weaker (IsWritable tables) (λ table. refers t table ≤ 4)
-    (λ table w. let most = count_by-le-length (λ (f : Foreign). f.table == t) table.foreign in let short = w.few_foreign in omega (arith, most, short)) tables sound in
+    (λ table w. let most = count_by-le-length (λ (f : Foreign). f.table == t) table.foreign in let short = w.made.few_foreign in omega (arith, most, short)) tables sound in
     omega (arith, sum_by-le (refers t) 4 tables each, few)
 
 commit_few : (n : ℕ) → write_ops n ≤ n + 2
@@ -51,19 +52,19 @@ pub few_of : (tables : List Table) (write : Write) → AreWritable tables → le
 few_of tables (write.Insert t row) sound small is =
     let table = writable_at tables t sound is.number in
     let few = tests_few tables (table_at tables t) scope.All table in
-    let indexes = table.is_table.few_indexes in
+    let indexes = table.made.few_indexes in
     let commits = commit_few (1 + length (table_at tables t).indexes) in
     record { ops = omega (arith, few.0, indexes, commits); entries = omega (arith, few.1) }
 few_of tables (write.Update t key sets) sound small is =
     let table = writable_at tables t sound is.number in
     let few = tests_few tables (table_at tables t) (scope_of sets) table in
-    let indexes = table.is_table.few_indexes in
+    let indexes = table.made.few_indexes in
     let touched = count_by-le-length (touches_index (scope_of sets) (table_at tables t)) (table_at tables t).indexes in
     let commits = commit_few (most_changes tables (write.Update t key sets)) in
     record { ops = omega (arith, few.0, indexes, touched, commits); entries = omega (arith, few.1) }
 few_of tables (write.Delete t key) sound small is =
     let table = writable_at tables t sound is.number in
     let few = referring_few tables t sound small in
-    let indexes = table.is_table.few_indexes in
+    let indexes = table.made.few_indexes in
     let commits = commit_few (1 + length (table_at tables t).indexes) in
     record { ops = omega (arith, few, indexes, commits); entries = omega (arith, few) }

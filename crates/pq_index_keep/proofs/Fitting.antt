@@ -15,7 +15,7 @@ use Rattle.pq_base.specs.declared.value.Value.TheVariants as value
 use Rattle.pq_base.specs.Values.{IsValue, FitsType, AllFit, fits_type}
 use Rattle.pq_schema.specs.declared.table.Column.{Column}
 use Rattle.pq_schema.specs.declared.table.Table.{Table}
-use Rattle.pq_content.specs.Tables.{types_of, type_of, types_at, key_types, IsTableNumber}
+use Rattle.pq_content.specs.Tables.{types_of, type_at, types_at, key_types, IsTableNumber}
 use Rattle.pq_index_keep.specs.Checking.{misfit_refusal, are_among, all_columns, insert_row, insert_names, insert_places, insert_names_refusal, insert_values_refusal, insert_checked, delete_checked, is_insert_wrong, assign_name, names_in, values_in, assigned_misfit, keyed_refusal, set_of_assign, key_given}
 use Rattle.pq_index_keep.specs.Sound.{is_among, IsSet}
 use Rattle.pq_schema.specs.ColumnNames.{is_unknown, place_of, places_of, no_column, unknown_refusal}
@@ -26,33 +26,23 @@ use Rattle.pq_index_keep.specs.declared.write.Write.{Write}
 use Rattle.pq_index_keep.specs.declared.write.Write.TheVariants.{Insert, Delete}
 use Rattle.pq_base.specs.declared.refusal.Stopped.{Stopped}
 use Rattle.pq_base.specs.declared.refusal.Stopped.TheVariants.{Refused, NoMem}
+use Rattle.pq_base.proofs.TypeFits.{fits_exact}
 use Rattle.pq_def_read.specs.declared.statement.Assign.{Assign}
 use Rattle.std.proofs.lemmas.List.Quantifiers.{position-Some}
 use Rattle.pq_index_keep.proofs.Inserting.{each_by}
 use Rattle.pq_index_keep.specs.Tested.{given_value}
 use Rattle.std.proofs.lemmas.List.{length-map}
 
-fits_exact : (t : ColType) (x : Value) → IsValue x → fits_type t x ≡ true → FitsType t x
-fits_exact type.Int (value.Int n) known fits = known
-fits_exact type.Int (value.Bool b) known fits = absurd (false≢true fits)
-fits_exact type.Int (value.Text t) known fits = absurd (false≢true fits)
-fits_exact type.Bool (value.Int n) known fits = absurd (false≢true fits)
-fits_exact type.Bool (value.Bool b) known fits = tt
-fits_exact type.Bool (value.Text t) known fits = absurd (false≢true fits)
-fits_exact (type.Text n) (value.Int m) known fits = absurd (false≢true fits)
-fits_exact (type.Text n) (value.Bool b) known fits = absurd (false≢true fits)
-fits_exact (type.Text n) (value.Text t) known fits = (known, leb-true (length t) n fits)
-
 -- where no value is a misfit, a column among those named is given one that fits
-pub given_fits : (table : Table) (names : List (List ℕ)) (cols : List ℕ) (values : List Value) (c : ℕ) → misfit_refusal table names cols values ≡ None → length names ≡ length cols → length values ≡ length cols → AllByRecursion IsValue values → is_among cols c ≡ true → FitsType (type_of table c) (given_value cols values c)
+pub given_fits : (table : Table) (names : List (List ℕ)) (cols : List ℕ) (values : List Value) (c : ℕ) → misfit_refusal table names cols values ≡ None → length names ≡ length cols → length values ≡ length cols → AllByRecursion IsValue values → is_among cols c ≡ true → FitsType (type_at table.columns c) (given_value cols values c)
 given_fits table names [] values c none named long known among = absurd (false≢true among)
 given_fits table [] (d ∷ cols) values c none named long known among = absurd (omega arith)
 given_fits table (n ∷ names) (d ∷ cols) [] c none named long known among = absurd (omega arith)
 given_fits table (n ∷ names) (d ∷ cols) (x ∷ values) c none named long known among =
-    elim (fits_type (type_of table d) x) as (λ b. fits_type (type_of table d) x ≡ b → cond b (misfit_refusal table names cols values) (Some (refusal.ValueKind table.name n)) ≡ None → FitsType (type_of table c) (cond (d == c) x (given_value cols values c))) [
+    elim (fits_type (type_at table.columns d) x) as (λ b. fits_type (type_at table.columns d) x ≡ b → cond b (misfit_refusal table names cols values) (Some (refusal.ValueKind table.name n)) ≡ None → FitsType (type_at table.columns c) (cond (d == c) x (given_value cols values c))) [
       | true ↦ λ fits rest.
-          elim (d == c) as (λ b. (d == c) ≡ b → (b || is_among cols c) ≡ true → FitsType (type_of table c) (cond b x (given_value cols values c))) [
-            | true ↦ λ is _. subst (λ (k : ℕ). FitsType (type_of table k) x) (eqb-true d c is) (fits_exact (type_of table d) x known.0 fits)
+          elim (d == c) as (λ b. (d == c) ≡ b → (b || is_among cols c) ≡ true → FitsType (type_at table.columns c) (cond b x (given_value cols values c))) [
+            | true ↦ λ is _. subst (λ (k : ℕ). FitsType (type_at table.columns k) x) (eqb-true d c is) (fits_exact (type_at table.columns d) x known.0 fits)
             | false ↦ λ is there. given_fits table names cols values c rest (omega arith) (omega arith) known.1 there
           ] refl among
       | false ↦ λ fits rest. absurd (cc)
@@ -83,11 +73,11 @@ pub insert_fits : (table : Table) (names : List (List ℕ)) (places : List ℕ) 
 insert_fits table names places values all long named none known =
     let types : length (types_of table) ≡ length table.columns = length-map table.columns (λ (column : Column). column.ty) in
     subst (λ (n : ℕ). AllFit (types_of table) (map (given_value places values) (range_with_len 0 n))) types
-    (row_of (types_of table) (given_value places values) 0 (λ c less. subst (λ (j : ℕ). FitsType (type_of table c) (given_value places values j)) (omega arith)
+    (row_of (types_of table) (given_value places values) 0 (λ c less. subst (λ (j : ℕ). FitsType (type_at table.columns c) (given_value places values j)) (omega arith)
     (given_fits table names places values c none named long known (subst (λ (j : ℕ). is_among places j ≡ true) (omega arith) (each_column (is_among places) 0 (length table.columns) all c (omega arith))))))
 
 -- the key of an UPDATE or DELETE fits its columns
-pub key_fits : (table : Table) (names : List (List ℕ)) (places : List ℕ) (values : List Value) (key : List ℕ) → are_among key places ≡ true → length values ≡ length places → length names ≡ length places → misfit_refusal table names places values ≡ None → AllByRecursion IsValue values → AllFit (types_at table key) (map (given_value places values) key)
+pub key_fits : (table : Table) (names : List (List ℕ)) (places : List ℕ) (values : List Value) (key : List ℕ) → are_among key places ≡ true → length values ≡ length places → length names ≡ length places → misfit_refusal table names places values ≡ None → AllByRecursion IsValue values → AllFit (types_at table.columns key) (map (given_value places values) key)
 key_fits table names places values [] all long named none known = tt
 key_fits table names places values (c ∷ key) all long named none known = (
   given_fits table names places values c none named long known (first (is_among places c) (are_among key places) all),
@@ -139,11 +129,11 @@ sets_ok table [] known other none values = tt
 sets_ok table (a ∷ sets) known other none values =
     let here = unknown_none (is_unknown table.columns) no_column a.col (names_in sets) known in
     let apart = either_none (is_among table.key (place_of table.columns a.col)) (list_any (is_among table.key) (places_of table.columns (names_in sets))) other in
-    elim (fits_type (type_of table (place_of table.columns a.col)) a.value) as (λ b. fits_type (type_of table (place_of table.columns a.col)) a.value ≡ b → cond b (assigned_misfit table sets) (Some (refusal.ValueKind table.name a.col)) ≡ None → AllByRecursion (IsSet table) (map (set_of_assign table) (a ∷ sets))) [
+    elim (fits_type (type_at table.columns (place_of table.columns a.col)) a.value) as (λ b. fits_type (type_at table.columns (place_of table.columns a.col)) a.value ≡ b → cond b (assigned_misfit table sets) (Some (refusal.ValueKind table.name a.col)) ≡ None → AllByRecursion (IsSet table) (map (set_of_assign table) (a ∷ sets))) [
       | true ↦ λ fits rest. (
         record {
           inside = place_within table.columns a.col here.0;
-          fits = fits_exact (type_of table (place_of table.columns a.col)) a.value values.0 fits;
+          fits = fits_exact (type_at table.columns (place_of table.columns a.col)) a.value values.0 fits;
           other = apart.0;
         },
         sets_ok table sets here.1 apart.1 rest values.1,

@@ -1,14 +1,11 @@
 -- What an INSERT makes of settled pairs, and what its tests need.
-use Rattle.std.proofs.Common.{◌≡◌, ℕ, zero, suc, ◌+◌, ◌-◌, ◌≤◌, Bool, true, false, cond, not, ltb, List, [], ◌∷◌, length, map, Option, Some, None, refl, sym, ap, subst, ◌∙◌, arith}
+use Rattle.std.proofs.Common.{◌≡◌, ℕ, zero, suc, ◌+◌, ◌-◌, ◌≤◌, Bool, true, false, cond, not, ltb, List, [], ◌∷◌, length, map, get_or, Option, Some, None, refl, sym, ap, subst, ◌∙◌, arith}
 use Rattle.std.specs.Prelude.{All, IsSome, MatchResult, is_some, is_none, option_map}
 use Rattle.std.specs.List.{AllByRecursion, position, prefix_len}
 use Rattle.std.proofs.lemmas.Bool.{leb-false, ltb-false}
 use Rattle.pq_base.specs.Answers.{or_else}
 use Rattle.pq_base.specs.declared.refusal.Refusal.{Refusal}
-use Rattle.pq_base.specs.declared.value.ColType.{ColType}
-use Rattle.pq_base.specs.declared.value.ColType.TheVariants as type
 use Rattle.pq_base.specs.declared.value.Value.{Value}
-use Rattle.pq_base.specs.declared.value.Value.TheVariants as value
 use Rattle.pq_base.specs.Values.{AllFit}
 use Rattle.pq_row_code.specs.declared.changes.Change.{Change as Coded}
 use Rattle.pq_schema.specs.Definitions.{refused_if, or_ok}
@@ -18,14 +15,15 @@ use Rattle.pq_schema.specs.declared.table.Limit.{Limit}
 use Rattle.pq_schema.specs.declared.table.Table.{Table}
 use Rattle.pq_content.specs.Pairs.{Pair, Change, pairs_of_row, puts, changed_content, content_pairs}
 use Rattle.pq_content.specs.Standing.{change_of}
-use Rattle.pq_content.specs.Tables.{Rows, AllOfKinds, IsOfKind, IsTableNumber, HasRoom, HasParent, types_of, key_of, cells, row_at, group_of}
+use Rattle.pq_content.specs.Tables.{Rows, IsTableNumber, HasRoom, HasParent, types_of, types_at, key_types, key_of, cells, row_at, group_of}
 use Rattle.pq_content.proofs.Keeping.{keeps_insert}
-use Rattle.pq_content.proofs.Values.{kinds_from_fit, fit_at}
+use Rattle.pq_schema.proofs.TypeKinds.{kinds_as, kinds_flip, kinds_from_fit}
+use Rattle.pq_content.proofs.Values.{fit_at}
 use Rattle.pq_content.proofs.Writes.{insert_row}
 use Rattle.pq_store.specs.Content.{Content}
 use Rattle.pq_index_keep.specs.Effects.{effect, changes_of, insert_refusal, lacks_parent, lacks_room, no_parent, no_room, is_full}
 use Rattle.pq_index_keep.specs.Promises.{HoldsRows, IsTested, MakesRows, Plans}
-use Rattle.pq_index_keep.specs.Sound.{AreWritable, IsWritable, IsInsert, IsLike, AreLike}
+use Rattle.pq_index_keep.specs.Sound.{AreWritable, IsWritable, IsInsert}
 use Rattle.pq_index_keep.specs.declared.plan.Planned.TheVariants as planned
 use Rattle.pq_index_keep.specs.declared.write.Scope.TheVariants as scope
 use Rattle.pq_index_keep.specs.declared.write.Write.TheVariants as write
@@ -88,26 +86,6 @@ has_room rows t row limit h = let most = leb-false limit.n (length (group_of t l
 pub writable_at : (tables : List Table) (t : ℕ) → AreWritable tables → IsTableNumber tables t → IsWritable tables (table_at tables t)
 writable_at tables t sound number = sound (t - 1) no_table (omega (arith, number.0, number.1))
 
-like_kind : (t u : ColType) (x : Value) → IsLike t u → IsOfKind t x → IsOfKind u x
-like_kind type.Int type.Int x like kind = kind
-like_kind type.Int type.Bool x like kind = absurd like
-like_kind type.Int (type.Text n) x like kind = absurd like
-like_kind type.Bool type.Int x like kind = absurd like
-like_kind type.Bool type.Bool x like kind = kind
-like_kind type.Bool (type.Text n) x like kind = absurd like
-like_kind (type.Text m) type.Int x like kind = absurd like
-like_kind (type.Text m) type.Bool x like kind = absurd like
-like_kind (type.Text m) (type.Text n) (value.Int a) like kind = absurd kind
-like_kind (type.Text m) (type.Text n) (value.Bool a) like kind = absurd kind
-like_kind (type.Text m) (type.Text n) (value.Text a) like kind = kind
-
-pub like_kinds : (ts us : List ColType) (xs : List Value) → AreLike ts us → AllOfKinds ts xs → AllOfKinds us xs
-like_kinds [] [] xs like kinds = kinds
-like_kinds [] (u ∷ us) xs like kinds = absurd like
-like_kinds (t ∷ ts) [] xs like kinds = absurd like
-like_kinds (t ∷ ts) (u ∷ us) [] like kinds = absurd kinds
-like_kinds (t ∷ ts) (u ∷ us) (x ∷ xs) like kinds = (like_kind t u x like.0 kinds.0, like_kinds ts us xs like.1 kinds.1)
-
 pub is_tested : (tables : List Table) (t : ℕ) (row : List Value) → AreWritable tables → IsTableNumber tables t → AllFit (types_of (table_at tables t)) row → IsTested tables (table_at tables t) row
 is_tested tables t row sound number fits =
     let table = table_at tables t in
@@ -115,8 +93,11 @@ is_tested tables t row sound number fits =
     record {
       fits = fits;
       parents = λ k d lt.
-          let f = w.references k d lt in
-          like_kinds _ _ _ f.alike (kinds_from_fit _ _ (fit_at table _ row fits));
+          let f = get_or table.foreign k d in
+          let shape = (w.made.foreign k d lt).shape in
+          kinds_as (key_types (table_at tables f.table)) (types_at table.columns f.cols) (cells f.cols row)
+          (kinds_flip (key_types (table_at tables f.table)) (types_at table.columns f.cols) ∙ shape)
+          (kinds_from_fit (types_at table.columns f.cols) (cells f.cols row) (fit_at table f.cols row fits));
     }
 
 -- ---- the effect

@@ -3,10 +3,11 @@ pub mod CodedKeys
 pub mod Coding
 pub mod Counted
 pub mod Deleting
+pub mod Distinct
 pub mod Few
 pub mod Fitting
-pub mod FromMade
 pub mod Inserting
+pub mod Narrow
 pub mod Steps
 pub mod Tests
 pub mod Touching

@@ -14,9 +14,10 @@ use Rattle.pq_schema.specs.declared.table.Limit.{Limit}
 use Rattle.pq_schema.specs.declared.table.Table.{Table}
 use Rattle.pq_schema.specs.Tables.{table_at}
 use Rattle.pq_content.specs.Pairs.{Pair, content_pairs}
-use Rattle.pq_content.specs.Tables.{Rows, AllOfKinds, types_of, type_of, types_at, key_types, cells, key_of, row_at, group_of, stored_code}
+use Rattle.pq_content.specs.Tables.{Rows, AllOfKinds, types_of, type_at, types_at, key_types, cells, key_of, row_at, group_of, stored_code}
 use Rattle.pq_content.proofs.Gets.{get_row}
-use Rattle.pq_content.proofs.Values.{kinds_from_fit, fit_at, key_of_kinds}
+use Rattle.pq_schema.proofs.TypeKinds.{kinds_from_fit}
+use Rattle.pq_content.proofs.Values.{fit_at, key_of_kinds}
 use Rattle.pq_store.specs.Content.{Content, pairs_within}
 use Rattle.pq_index_keep.specs.Effects.{is_missing, is_full, names_key}
 use Rattle.pq_index_keep.specs.Groups.{group_key}
@@ -68,14 +69,14 @@ capped_one k = grind arith
 
 -- what a count up to n tells of a group
 told_count : (tables : List Table) (rows : Rows) (others : List Pair) (told : Option Content) (t : ℕ) (table : Table) (cols : List ℕ) (values : List Value) (most k : ℕ) → HoldsRows told tables rows others → table ≡ table_at tables t → IsSome (group_access table (set_of cols))
-    → AllOfKinds (types_at table cols) values → map (given_value cols values) cols ≡ values
+    → AllOfKinds (types_at table.columns cols) values → map (given_value cols values) cols ≡ values
     → IfSome told (λ c. k ≡ min most (length (pairs_within c (group_key t table cols values) (past_code (group_key t table cols values))))) → k ≡ min most (length (group_of t cols values rows))
 told_count tables rows others told t table cols values most k s is access kinds own counts =
-    let at : (tb : Table) → tb ≡ table_at tables t → IsSome (group_access tb (set_of cols)) → AllOfKinds (types_at tb cols) values
+    let at : (tb : Table) → tb ≡ table_at tables t → IsSome (group_access tb (set_of cols)) → AllOfKinds (types_at tb.columns cols) values
     → IfSome told (λ c. k ≡ min most (length (pairs_within c (group_key t tb cols values) (past_code (group_key t tb cols values))))) → k ≡ min most (length (group_of t cols values rows)) =
     λ tb same access kinds counts.
     let P : Table → Type 0 = λ tb. IsSome (group_access tb (set_of cols)) in
-    let K : Table → Type 0 = λ tb. AllOfKinds (types_at tb cols) values in
+    let K : Table → Type 0 = λ tb. AllOfKinds (types_at tb.columns cols) values in
     let C : Table → Type 0 = λ tb. IfSome told (λ c. k ≡ min most (length (pairs_within c (group_key t tb cols values) (past_code (group_key t tb cols values))))) in
     subst (λ (o : Option Content). IfSome o (λ c. k ≡ min most (length (pairs_within c (group_key t (table_at tables t) cols values) (past_code (group_key t (table_at tables t) cols values)))))) s.is (subst C same counts)
     ∙ ap (min most) (counted tables rows others told s t cols values (subst K same kinds) own (subst P same access)) in
@@ -84,14 +85,14 @@ told_count tables rows others told t table cols values most k s is access kinds 
 pub told_full : (tables : List Table) (rows : Rows) (others : List Pair) (told : Option Content) (t : ℕ) (table : Table) (row : List Value) (limit : Limit) (k : ℕ) → HoldsRows told tables rows others → table ≡ table_at tables t → IsSome (group_access table (set_of limit.cols)) → AllFit (types_of table) row
     → IfSome told (λ c. k ≡ min limit.n (length (pairs_within c (group_key t table limit.cols (cells limit.cols row)) (past_code (group_key t table limit.cols (cells limit.cols row)))))) → eqb k limit.n ≡ is_full rows t row limit
 told_full tables rows others told t table row limit k s is access fits counts =
-    ap (λ m. eqb m limit.n) (told_count tables rows others told t table limit.cols (cells limit.cols row) limit.n k s is access (kinds_from_fit (types_at table limit.cols) (cells limit.cols row) (fit_at table limit.cols row fits)) (given_at limit.cols row) counts)
+    ap (λ m. eqb m limit.n) (told_count tables rows others told t table limit.cols (cells limit.cols row) limit.n k s is access (kinds_from_fit (types_at table.columns limit.cols) (cells limit.cols row) (fit_at table limit.cols row fits)) (given_at limit.cols row) counts)
     ∙ capped limit.n (length (group_of t limit.cols (cells limit.cols row) rows))
 
 pub told_named : (tables : List Table) (rows : Rows) (others : List Pair) (told : Option Content) (t : ℕ) (key : List Value) (u : ℕ) (table : Table) (foreign : Foreign) (k : ℕ) → HoldsRows told tables rows others → table ≡ table_at tables u → IsSome (group_access table (set_of foreign.cols)) → foreign.table ≡ t → MayName table t key foreign
     → IfSome told (λ c. k ≡ min 1 (length (pairs_within c (group_key u table foreign.cols key) (past_code (group_key u table foreign.cols key))))) → not (eqb k 0) ≡ names_key rows t key u foreign
 told_named tables rows others told t key u table foreign k s is access refers may counts =
     let names = may refers in
-    let long : length (types_at table foreign.cols) ≡ length foreign.cols = length-map foreign.cols (type_of table) in
-    ap (λ m. not (eqb m 0)) (told_count tables rows others told u table foreign.cols key 1 k s is access names.kinds (given_all (types_at table foreign.cols) foreign.cols key names.apart names.kinds long) counts)
+    let long : length (types_at table.columns foreign.cols) ≡ length foreign.cols = length-map foreign.cols (type_at table.columns) in
+    ap (λ m. not (eqb m 0)) (told_count tables rows others told u table foreign.cols key 1 k s is access names.kinds (given_all (types_at table.columns foreign.cols) foreign.cols key names.different names.kinds long) counts)
     ∙ capped_one (length (group_of u foreign.cols key rows))
     ∙ ap (λ b. b && nat_lt 0 (length (group_of u foreign.cols key rows))) (sym (eq-eqb foreign.table t refers))

@@ -41,7 +41,7 @@ use Rattle.pq_index_keep.specs.declared.write.Scope.{Scope}
 use Rattle.pq_index_keep.specs.declared.write.SetCol.{SetCol}
 use Rattle.pq_index_keep.specs.declared.write.Write.TheVariants as write
 use Rattle.pq_index_keep.proofs.Changing.{own_updates}
-use Rattle.pq_index_keep.proofs.Coding.{fit_length}
+use Rattle.pq_base.proofs.TypeFits.{length_from_fits}
 use Rattle.pq_index_keep.proofs.Inserting.{each_is, or_none, mapped_none, not_refused, none_passes, each_weaker, there_is, has_room}
 use Rattle.pq_base.proofs.Sets.{members_set}
 
@@ -156,7 +156,7 @@ module _ (tables : List Table) (rows : Rows) (others : List Pair) (t : ℕ) (key
 
 pub sets_inside : (table : Table) (sets : List SetCol) (row : List Value) → AllByRecursion (IsSet table) sets → AllFit (types_of table) row → All (λ (set : SetCol). set.col < length row) sets
 sets_inside table sets row each fits =
-    let long : length row ≡ length table.columns = fit_length (types_of table) row fits ∙ length-map table.columns (λ (column : Column). column.ty) in
+    let long : length row ≡ length table.columns = length_from_fits (types_of table) row fits ∙ length-map table.columns (λ (column : Column). column.ty) in
     each_is (λ (set : SetCol). set.col < length row) sets (each_weaker (IsSet table) (λ (set : SetCol). set.col < length row) (λ set is. inside set is.inside long) sets each)
   where
     inside : (set : SetCol) → set.col < length table.columns → length row ≡ length table.columns → set.col < length row

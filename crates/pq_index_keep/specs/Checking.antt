@@ -11,7 +11,7 @@ use Rattle.pq_schema.specs.Definitions.{refused_if, or_ok}
 use Rattle.pq_schema.specs.Schema.{Schema, find_table}
 use Rattle.pq_schema.specs.Tables.{table_at}
 use Rattle.pq_schema.specs.declared.table.Table.{Table}
-use Rattle.pq_content.specs.Tables.{type_of, stored_code}
+use Rattle.pq_content.specs.Tables.{type_at, stored_code}
 use Rattle.pq_def_read.specs.declared.statement.Assign.{Assign}
 use Rattle.pq_def_read.specs.declared.statement.Statement.{Statement}
 use Rattle.pq_def_read.specs.declared.statement.Statement.TheVariants as statement
@@ -50,7 +50,7 @@ are_among cols others = list_all (is_among others) cols
 -- the first value that doesn't fit its column, by the column's name
 abbrev pub misfit_refusal : Table → List (List ℕ) → List ℕ → List Value → Option Refusal
 misfit_refusal table (n ∷ ns) (c ∷ cs) (x ∷ xs) =
-    if fits_type (type_of table c) x then misfit_refusal table ns cs xs
+    if fits_type (type_at table.columns c) x then misfit_refusal table ns cs xs
     else Some (refusal.ValueKind table.name n)
 misfit_refusal table _ _ _ = None
 

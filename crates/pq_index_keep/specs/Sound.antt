@@ -1,68 +1,35 @@
--- What every table has over which writes are planned, and what a write has that is planned.
-use Rattle.std.specs.Prelude.{◌≡◌, ℕ, ◌≤◌, ◌<◌, Bool, false, ◌==◌, List, [], ◌∷◌, length, All}
+-- What every table is over which writes are planned, and what a write has that is planned.
+use Rattle.std.specs.Prelude.{◌≡◌, ℕ, ◌≤◌, ◌<◌, Bool, false, ◌==◌, List, count_ones, length, All}
 use Rattle.std.specs.List.{AllByRecursion, list_any}
-use Rattle.pq_base.specs.declared.value.ColType.{ColType}
-use Rattle.pq_base.specs.declared.value.ColType.TheVariants as type
+use Rattle.pq_base.specs.Columns.{set_of}
 use Rattle.pq_base.specs.declared.value.Value.{Value}
 use Rattle.pq_base.specs.Values.{FitsType, AllFit}
-use Rattle.pq_schema.specs.declared.table.Column.{Column}
 use Rattle.pq_schema.specs.declared.table.Foreign.{Foreign}
 use Rattle.pq_schema.specs.declared.table.Index.{Index}
 use Rattle.pq_schema.specs.declared.table.Table.{Table}
-use Rattle.pq_schema.specs.Sound.{IsTable, IsLinked}
+use Rattle.pq_schema.specs.Sound.{IsMade}
 use Rattle.pq_schema.specs.Tables.{table_at}
-use Rattle.pq_content.specs.Tables.{IsTableNumber, AllOfKinds, types_of, type_of, types_at, key_types, stored_code}
+use Rattle.pq_content.specs.Tables.{IsTableNumber, AllOfKinds, types_of, type_at, types_at, key_types, stored_code}
 use Rattle.pq_index_keep.specs.declared.write.SetCol.{SetCol}
 use Rattle.pq_index_keep.specs.declared.write.Write.{Write}
 use Rattle.pq_index_keep.specs.declared.write.Write.TheVariants as write
-
--- a text has at most 1,000 bytes
-abbrev pub IsShortType : ColType → Type 0
-IsShortType type.Int = Unit {0}
-IsShortType type.Bool = Unit {0}
-IsShortType (type.Text n) = n ≤ 1000
 
 -- whether a column is among some columns
 abbrev pub is_among : List ℕ → ℕ → Bool
 is_among cols col = list_any (λ other. other == col) cols
 
--- no column stands twice
-abbrev pub AreDifferent : List ℕ → Type 0
-AreDifferent [] = Unit {0}
-AreDifferent (col ∷ cols) = (is_among cols col ≡ false) × AreDifferent cols
-
--- types of one kind; texts may have different lengths
-abbrev pub IsLike : ColType → ColType → Type 0
-IsLike type.Int type.Int = Unit {0}
-IsLike type.Bool type.Bool = Unit {0}
-IsLike (type.Text m) (type.Text n) = Unit {0}
-IsLike _ _ = ⊥
-
-abbrev pub AreLike : List ColType → List ColType → Type 0
-AreLike [] [] = Unit {0}
-AreLike (t ∷ ts) (u ∷ us) = IsLike t u × AreLike ts us
-AreLike _ _ = ⊥
-
--- a foreign key has different columns, of the kinds of the key that they name
-pub record IsReference (tables : List Table) (table : Table) (foreign : Foreign) : Type 0 where
-  pub apart : AreDifferent foreign.cols
-  pub alike : AreLike (types_at table foreign.cols) (key_types (table_at tables foreign.table))
-
 -- values of a key that the columns of a foreign key may have, where it refers to the key's table
 pub record IsKeyFor (table : Table) (key : List Value) (foreign : Foreign) : Type 0 where
-  pub apart : AreDifferent foreign.cols
-  pub kinds : AllOfKinds (types_at table foreign.cols) key
+  pub different : count_ones (set_of foreign.cols) ≡ length foreign.cols
+  pub kinds : AllOfKinds (types_at table.columns foreign.cols) key
 
 abbrev pub MayName : Table → ℕ → List Value → Foreign → Type 0
 MayName table t key foreign = foreign.table ≡ t → IsKeyFor table key foreign
 
--- what a table has whose rows are written
+-- a table of a schema, whose indexes have few columns
 pub record IsWritable (tables : List Table) (table : Table) : Type 0 where
-  pub is_table : IsTable table
-  pub linked : IsLinked tables table
-  pub sized : All (λ (column : Column). IsShortType column.ty) table.columns
-  pub few_foreign : length table.foreign ≤ 4
-  pub references : All (IsReference tables table) table.foreign
+  pub number : ℕ
+  pub made : IsMade tables number table
   pub narrow : All (λ (index : Index). length index.cols ≤ 36) table.indexes
 
 abbrev pub AreWritable : List Table → Type 0
@@ -71,7 +38,7 @@ AreWritable tables = All (IsWritable tables) tables
 -- a column that is none of the key gets a value that fits it
 pub record IsSet (table : Table) (set : SetCol) : Type 0 where
   pub inside : set.col < length table.columns
-  pub fits : FitsType (type_of table set.col) set.value
+  pub fits : FitsType (type_at table.columns set.col) set.value
   pub other : is_among table.key set.col ≡ false
 
 -- an INSERT of a row that fits its table and is short

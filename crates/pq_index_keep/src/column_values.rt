@@ -2,12 +2,11 @@
 ghost use Rattle.std.specs.Prelude.{◌≡◌};
 ghost use Rattle.pq_base.specs.Answers.{Passes};
 ghost use Rattle.pq_schema.specs.Definitions.{refused_if};
-ghost use Rattle.pq_content.specs.Tables.{type_of};
 ghost use Rattle.pq_index_keep.specs.Checking.{are_among, misfit_refusal};
 ghost use Rattle.pq_index_keep.specs.Sound.{is_among};
 
-use pq_base::{ColType, PText, Refusal, Stopped, Value, fits};
-use pq_schema::Table;
+use pq_base::{PText, Refusal, Stopped, Value, fits};
+use pq_schema::{Table, type_at};
 use std::alloc::Global;
 
 pub(crate) fn is_among(cols: &[u8], col: u8) -> bool
@@ -34,15 +33,6 @@ pub(crate) fn refuse_columns(alloc: Global, table: &Table, wrong: bool) -> Resul
     Ok(())
 }
 
-fn type_of(table: &Table, col: u8) -> ColType
-    ensures { result ≡ type_of table.now col }
-{
-    match table.columns.items().get(col as usize) {
-        Some(column) => column.ty,
-        None => ColType::Bool,
-    }
-}
-
 /// Refuses the first value that doesn't fit its column.
 pub(crate) fn check_fit(
     alloc: Global,
@@ -59,7 +49,7 @@ pub(crate) fn check_fit(
         values.split_first(),
     ) {
         (Some((name, names)), Some((place, places)), Some((value, values))) => {
-            if fits(value, type_of(table, *place)) {
+            if fits(value, type_at(table.columns.items(), *place)) {
                 check_fit(alloc, table, names, places, values)
             } else {
                 let column = name.copy(alloc)?;

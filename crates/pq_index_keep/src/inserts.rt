@@ -3,11 +3,12 @@ ghost use Rattle.std.specs.Prelude.{◌≡◌, ◌≤◌, All, length, IfOk};
 ghost use Rattle.pq_base.specs.Answers.{Answers, Passes};
 ghost use Rattle.pq_base.specs.Values.{AllFit};
 ghost use Rattle.pq_schema.specs.Definitions.{or_ok};
+ghost use Rattle.pq_schema.specs.Sound.{IsSized};
 ghost use Rattle.pq_schema.specs.Tables.{table_at};
 ghost use Rattle.pq_content.specs.Tables.{IsTableNumber, types_of, stored_code};
 ghost use Rattle.pq_row_code.specs.RowCode.{IsShort};
 ghost use Rattle.pq_index_keep.specs.Checking.{all_columns, insert_names, insert_places, insert_names_refusal, is_insert_wrong, insert_row, long_refusal, insert_values_refusal, insert_checked};
-ghost use Rattle.pq_index_keep.specs.Sound.{IsShortType, AreWritable, IsWrite};
+ghost use Rattle.pq_index_keep.specs.Sound.{AreWritable, IsWrite};
 
 use crate::column_values::{are_among, check_fit, refuse_columns};
 use crate::rows::all_given;
@@ -122,7 +123,7 @@ fn check_insert_values(
     values: &[Value],
 ) -> Result<Row, Stopped>
     requires few { length table.now.columns ≤ 32 }
-    requires sized { All (λ column. IsShortType column.ty) table.now.columns }
+    requires sized { All (λ column. IsSized column.ty) table.now.columns }
     requires named { length names.now ≡ length places.now }
     ensures answer { Answers result (or_ok (insert_values_refusal table.now names.now places.now values.now)
         (insert_row table.now places.now values.now)) }

@@ -5,7 +5,7 @@ ghost use Rattle.pq_schema.specs.Sequences.{then_key, index_sequence};
 ghost use Rattle.pq_content.specs.Tables.{value_of, cells, values_of, same_value, same_values};
 ghost use Rattle.pq_index_keep.specs.Tested.{given_value};
 
-use pq_base::{ColSet, List, NoMem, Row, Value};
+use pq_base::{ColSet, List, NoMem, Row, Value, cmp_values};
 use pq_schema::{Index, KeyPart, Table, columns_in};
 use std::alloc::Global;
 
@@ -61,24 +61,15 @@ pub(crate) fn all_given(
     Ok(row)
 }
 
-fn same_value(a: &Value, b: &Value) -> bool
-    ensures { result ≡ same_value a.now b.now }
-{
-    match (a, b) {
-        (Value::Int(a), Value::Int(b)) => a.cmp(b).is_eq(),
-        (Value::Bool(a), Value::Bool(b)) => a.cmp(b).is_eq(),
-        (Value::Text(a), Value::Text(b)) => a.bytes().cmp(b.bytes()).is_eq(),
-        _ => false,
-    }
-}
-
 /// Whether two rows have equal values at a column.
 fn same_at(a: &[Value], b: &[Value], col: u8) -> bool
     ensures { result ≡ same_value (value_of a.now col) (value_of b.now col) }
 {
     let none = Value::Bool(false);
     let place = col as usize;
-    same_value(a.get(place).unwrap_or(&none), b.get(place).unwrap_or(&none))
+    let first = a.get(place).unwrap_or(&none);
+    let second = b.get(place).unwrap_or(&none);
+    cmp_values(first, second).is_eq()
 }
 
 /// Whether two rows have equal values at the columns.

@@ -94,14 +94,14 @@ module _ (tables : List Table) (rows : Rows) (others : List Pair) (keeps : Keeps
       let sequence = sequence_of (table_at tables t) access in
       sort_by (position_cmp (dirs_of sequence)) (values_of sequence) (group_of t (take (length ps) (columns_of sequence)) ps rows)
 
-  pub pairs_under : (access : Access) → IsAccess (table_at tables t) access → (ps : List Value) → AllOfKinds (take (length ps) (types_at (table_at tables t) (columns_of (sequence_of (table_at tables t) access)))) ps → length ps ≤ length (sequence_of (table_at tables t) access)
+  pub pairs_under : (access : Access) → IsAccess (table_at tables t) access → (ps : List Value) → AllOfKinds (take (length ps) (types_at (table_at tables t).columns (columns_of (sequence_of (table_at tables t) access)))) ps → length ps ≤ length (sequence_of (table_at tables t) access)
       → pairs_within (content_pairs tables rows others) (sequence_key t (table_at tables t) access ps) (past_code (sequence_key t (table_at tables t) access ps)) ≡ map (pair_of t (table_at tables t) access) (rows_by access ps)
   pairs_under Primary is ps kinds short =
       let table = table_at tables t in
       let cols = columns_of-primary table.key in
       let long = length-map table.key ascending_part in
       rows_under tables rows others keeps.fit keeps.apart beside t ps
-      (subst (λ (cs : List ℕ). AllOfKinds (take (length ps) (types_at table cs)) ps) cols kinds) (omega (arith, long, short))
+      (subst (λ (cs : List ℕ). AllOfKinds (take (length ps) (types_at table.columns cs)) ps) cols kinds) (omega (arith, long, short))
       ∙ ap (λ (cs : List ℕ). map (row_pair t table) (sort_by (position_cmp (dirs_of (sequence_of table Primary))) (values_of (sequence_of table Primary)) (group_of t (take (length ps) cs) ps rows))) (sym cols)
   pairs_under (Secondary number) is ps kinds short =
       let table = table_at tables t in

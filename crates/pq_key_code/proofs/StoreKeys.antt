@@ -14,12 +14,6 @@ use Rattle.pq_base.specs.Values.{AllFit}
 use Rattle.pq_key_code.specs.KeyCode.{IsBytes, component, code_of, catalog_key}
 use Rattle.pq_key_code.proofs.Bytes.{worth, worth_cmp}
 
-pub length_from_fits : (ts : List ColType) (xs : List Value) → AllFit ts xs → length xs ≡ length ts
-length_from_fits [] [] fits = refl
-length_from_fits [] (x ∷ xs) fits = absurd fits
-length_from_fits (t ∷ ts) [] fits = absurd fits
-length_from_fits (t ∷ ts) (x ∷ xs) fits = ap suc (length_from_fits ts xs fits.1)
-
 pub code_of-ascending : (n : ℕ) (xs : List Value) → length xs ≤ n → code_of (replicate n Asc) xs ≡ code_of (replicate (length xs) Asc) xs
 code_of-ascending n [] le = elim n as (λ n. code_of (replicate n Asc) [] ≡ []) [ zero ↦ refl | suc n ↦ refl ]
 code_of-ascending zero (x ∷ xs) le = absurd (omega arith)

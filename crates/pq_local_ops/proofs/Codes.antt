@@ -12,7 +12,7 @@ use Rattle.pq_base.specs.declared.value.Value.{Value}
 use Rattle.pq_base.proofs.Members.{filter_same}
 use Rattle.pq_key_code.specs.KeyCode.{code_of}
 use Rattle.pq_key_code.proofs.Order.{codes_cmp}
-use Rattle.pq_key_code.proofs.StoreKeys.{length_from_fits}
+use Rattle.pq_base.proofs.TypeFits.{length_from_fits}
 use Rattle.pq_schema.specs.declared.query.ColRef.{ColRef}
 use Rattle.pq_schema.specs.declared.query.OrderItem.{OrderItem}
 use Rattle.pq_schema.specs.declared.query.Query.{Query}
@@ -27,7 +27,7 @@ use Rattle.pq_nodes.specs.Combos.{FitsTables, position_types}
 use Rattle.pq_nodes.proofs.Fitting.{position_fits}
 use Rattle.pq_serving.proofs.Keys.{Fits, fits_values, fits_kinds}
 use Rattle.pq_serving.proofs.Scans.{sort_alike, sort_by-map}
-use Rattle.pq_serving.proofs.Typed.{kind_from_fit}
+use Rattle.pq_schema.proofs.TypeKinds.{kind_from_fit}
 use Rattle.pq_local_ops.specs.Codes.{code_at, is_above, coded_combo}
 use Rattle.pq_local_ops.specs.Lists.{AreOrdered, ArePast, ArePart, IsPositionOf}
 use Rattle.pq_local_ops.proofs.Parts.{part_sort}

@@ -19,7 +19,7 @@ use Rattle.pq_schema.specs.Rows.{Rows, no_value, KeepsSchema}
 use Rattle.pq_schema.specs.Sequences.{columns_of, begins_with, sequence_of}
 use Rattle.pq_plan.specs.Answer.{Question}
 use Rattle.pq_plan.specs.Running.{tied_value, matching, ranged}
-use Rattle.pq_content.specs.Tables.{AllOfKinds, type_of, types_at, first_columns}
+use Rattle.pq_content.specs.Tables.{AllOfKinds, type_at, types_at, first_columns}
 use Rattle.pq_content.proofs.Scans.{group_by_first}
 use Rattle.pq_nodes.specs.Combos.{FitsTables}
 use Rattle.pq_nodes.specs.Tied.{range_sequence, range_prefix, HasRange}
@@ -48,12 +48,12 @@ module _ (tables : List Table) (query : Query) (rows : Rows) (params : List Valu
   as_long : length prefix ≡ length first
   as_long = length-map first (λ col. unwrap_or (tied_value q rel combo col) no_value)
 
-  first_types : take (length prefix) (types_at (table_of tables query rel) (columns_of sequence)) ≡ types_at (table_of tables query rel) first
+  first_types : take (length prefix) (types_at (table_of tables query rel).columns (columns_of sequence)) ≡ types_at (table_of tables query rel).columns first
   first_types =
       let table = table_of tables query rel in
-      take-map (type_of table) (length prefix) (columns_of sequence)
-      ∙ ap (λ n. map (type_of table) (take n (columns_of sequence))) as_long
-      ∙ ap (map (type_of table)) (taken_again (count_ones (set_of cols)) (columns_of sequence))
+      take-map (type_at table.columns) (length prefix) (columns_of sequence)
+      ∙ ap (λ n. map (type_at table.columns) (take n (columns_of sequence))) as_long
+      ∙ ap (map (type_at table.columns)) (taken_again (count_ones (set_of cols)) (columns_of sequence))
 
   pub has_range : HasRange q rel cols access combo
   has_range =

@@ -20,57 +20,19 @@ use Rattle.pq_schema.specs.Relations.{relation_at, table_of, is_equality, is_bef
 use Rattle.pq_schema.specs.Resolved.{IsOperand, IsPredicate, IsResolved, ref_type, param_type}
 use Rattle.pq_schema.specs.Rows.{Rows, rows_of, no_value, value_of, types_of, same_value, agrees, row_at, group_of, KeepsSchema}
 use Rattle.pq_schema.specs.Tables.{type_at}
+use Rattle.pq_schema.proofs.TypeKinds.{kind_as, kind_from_fit, kind_from_param}
 use Rattle.pq_plan.specs.Answer.{Question, row_of, side, compares}
 use Rattle.pq_plan.specs.Meaning.{key_of}
 use Rattle.pq_plan.specs.Running.{tied_value, is_match, matching}
 use Rattle.pq_plan.proofs.Kept.{row_fits}
 use Rattle.pq_base.proofs.Members.{in_map, in_filter, found, all_member, get_at, filter_same, each_by_in}
 use Rattle.pq_base.proofs.Sets.{within_members}
+use Rattle.pq_base.proofs.TypeFits.{length_from_fits}
 use Rattle.pq_content.specs.Tables.{IsOfKind, AllOfKinds, types_at}
 use Rattle.pq_content.proofs.Keeping.{rows_with_key}
 use Rattle.pq_nodes.specs.Combos.{FitsTables}
 use Rattle.pq_nodes.specs.Tied.{tied_cells}
 use Rattle.pq_nodes.proofs.Fitting.{fits_at}
-
--- ---- kinds
-
-kind_of_type : (t : ColType) (v : Value) → FitsType t v → IsOfKind t v
-kind_of_type type.Int (value.Int n) h = h
-kind_of_type type.Int (value.Bool b) h = absurd h
-kind_of_type type.Int (value.Text x) h = absurd h
-kind_of_type type.Bool (value.Int n) h = absurd h
-kind_of_type type.Bool (value.Bool b) h = tt
-kind_of_type type.Bool (value.Text x) h = absurd h
-kind_of_type (type.Text n) (value.Int a) h = absurd h
-kind_of_type (type.Text n) (value.Bool b) h = absurd h
-kind_of_type (type.Text n) (value.Text x) h = h.0
-
-text_of_text : (n m : ℕ) (v : Value) → IsOfKind (type.Text m) v → IsOfKind (type.Text n) v
-text_of_text n m (value.Int a) h = absurd h
-text_of_text n m (value.Bool b) h = absurd h
-text_of_text n m (value.Text x) h = h
-
-kind_of_param : (t : ColType) (v : Value) → FitsType (param_type t) v → IsOfKind t v
-kind_of_param type.Int v h = kind_of_type type.Int v h
-kind_of_param type.Bool v h = kind_of_type type.Bool v h
-kind_of_param (type.Text n) v h = text_of_text n 1000 v (kind_of_type (type.Text 1000) v h)
-
-kind_alike : (t u : ColType) (v : Value) → same_kind t u ≡ true → IsOfKind u v → IsOfKind t v
-kind_alike type.Int type.Int v e h = h
-kind_alike type.Int type.Bool v e h = absurd (false≢true e)
-kind_alike type.Int (type.Text m) v e h = absurd (false≢true e)
-kind_alike type.Bool type.Int v e h = absurd (false≢true e)
-kind_alike type.Bool type.Bool v e h = h
-kind_alike type.Bool (type.Text m) v e h = absurd (false≢true e)
-kind_alike (type.Text n) type.Int v e h = absurd (false≢true e)
-kind_alike (type.Text n) type.Bool v e h = absurd (false≢true e)
-kind_alike (type.Text n) (type.Text m) v e h = text_of_text n m v h
-
-as_many : (types : List ColType) (row : List Value) → AllFit types row → length row ≡ length types
-as_many [] [] h = refl
-as_many [] (x ∷ xs) h = absurd h
-as_many (t ∷ ts) [] h = absurd h
-as_many (t ∷ ts) (x ∷ xs) h = ap suc (as_many ts xs h.1)
 
 -- ---- one column
 
@@ -102,25 +64,25 @@ module _ (tables : List Table) (query : Query) (rows : Rows) (params : List Valu
 
   -- what an equality compares with is there, and of the column's kind
   side_is : (p : Pred) (o : Operand) → is_before rel o ≡ true → IsOperand tables query p o → (v : Value) × (side params combo o ≡ Some v) × IsOfKind (ref_type tables query p.left) v
-  side_is p (operand.Const v) before is = (v, refl, kind_of_param (ref_type tables query p.left) v is)
+  side_is p (operand.Const v) before is = (v, refl, kind_from_param (ref_type tables query p.left) v is)
   side_is p (operand.Param n) before is =
       let low = is.from_one in
       let there = is.there in
-      let long = as_many query.params params given in
+      let long = length_from_fits query.params params given in
       let v = get_or params (n - 1) no_value in
       let fit : FitsType (param_type (ref_type tables query p.left)) v = subst (λ (t : ColType). FitsType t v) is.is_type (fits_at query.params params (n - 1) type.Bool no_value given (omega arith)) in
-      (v, get_at params (n - 1) no_value (omega (arith, long)), kind_of_param (ref_type tables query p.left) v fit)
+      (v, get_at params (n - 1) no_value (omega (arith, long)), kind_from_param (ref_type tables query p.left) v fit)
   side_is p (operand.Col c) before is =
       let earlier : c.rel < rel = ltb-true c.rel rel before in
       let table = table_of tables query c.rel in
       let row = row_of c.rel combo in
       let fit = fits.rows c.rel is.column.from_one (omega (arith, earlier)) in
       let width = length-map table.columns (λ column. column.ty) in
-      let long = as_many (types_of table) row fit in
+      let long = length_from_fits (types_of table) row fit in
       let inside = is.column.inside in
       let v = get_or row c.col no_value in
       let one : FitsType (ref_type tables query c) v = fits_at (types_of table) row c.col type.Bool no_value fit (omega (arith, width, inside)) in
-      (v, get_at row c.col no_value (omega (arith, width, long, inside)), kind_alike (ref_type tables query p.left) (ref_type tables query c) v is.kind (kind_of_type (ref_type tables query c) v one))
+      (v, get_at row c.col no_value (omega (arith, width, long, inside)), kind_as (ref_type tables query p.left) (ref_type tables query c) v is.kind (kind_from_fit (ref_type tables query c) v one))
 
   -- a tied column has a value, of its kind
   pub tied_kind : (col : ℕ) → In col (tied_columns query rel) → (v : Value) × (tied_value q rel combo col ≡ Some v) × IsOfKind (type_at (table_of tables query rel).columns col) v
@@ -141,7 +103,7 @@ module _ (tables : List Table) (query : Query) (rows : Rows) (params : List Valu
 
   -- ---- some columns
 
-  pub tied_kinds : (cols : List ℕ) → ((col : ℕ) → In col cols → In col (tied_columns query rel)) → AllOfKinds (types_at (table_of tables query rel) cols) (tied_cells q rel cols combo)
+  pub tied_kinds : (cols : List ℕ) → ((col : ℕ) → In col cols → In col (tied_columns query rel)) → AllOfKinds (types_at (table_of tables query rel).columns cols) (tied_cells q rel cols combo)
   tied_kinds [] tied = tt
   tied_kinds (col ∷ cols) tied =
       let one = tied_kind col (tied col (inl refl)) in
@@ -156,7 +118,7 @@ module _ (tables : List Table) (query : Query) (rows : Rows) (params : List Valu
       let one = tied_kind col (tied col (inl refl)) in
       let inside = tied_there tables query resolved rel col (tied col (inl refl)) in
       let width = length-map table.columns (λ column. column.ty) in
-      let long = as_many (types_of table) row fit in
+      let long = length_from_fits (types_of table) row fit in
       let there : slice_get row col ≡ Some (value_of row col) = get_at row col no_value (omega (arith, width, long, inside)) in
       let rest = match_agrees cols (λ c here. tied c (inr here)) row fit in
       (λ i. compares op.Eq (there i) (one.1 i) && rest i)

@@ -31,7 +31,7 @@ use Rattle.pq_calls.specs.Keys.{sequence_key, sequence_types, named_key}
 use Rattle.pq_calls.specs.World.{World, where_told}
 use Rattle.pq_calls.proofs.Steps.{explained_undamaged}
 use Rattle.pq_content.specs.Pairs.{Pair, AreBeside, pairs_of_row, row_pairs, content_pairs, is_of_rows}
-use Rattle.pq_content.specs.Tables.{Rows, Keeps, rows_of, type_of, types_of, types_at, key_of, value_of, values_of, dirs_of, cells, agrees, row_at, stored_code}
+use Rattle.pq_content.specs.Tables.{Rows, Keeps, rows_of, type_at, types_of, types_at, key_of, value_of, values_of, dirs_of, cells, agrees, row_at, stored_code}
 use Rattle.pq_content.proofs.Find.{find_front}
 use Rattle.pq_content.proofs.Gets.{get_row}
 use Rattle.pq_content.proofs.Keeping.{row_found}
@@ -39,7 +39,8 @@ use Rattle.pq_content.proofs.Keys.{not_beside, sequences_apart}
 use Rattle.pq_content.proofs.Owners.{pair_found, entry_found}
 use Rattle.pq_content.proofs.Permuted.{found_piece}
 use Rattle.pq_content.proofs.Scans.{columns_of-primary}
-use Rattle.pq_content.proofs.Values.{key_fits, key_of_kinds, kinds_from_fit, length_from_kinds, sequence_fits, same_values_itself, values_of-columns_of}
+use Rattle.pq_schema.proofs.TypeKinds.{kinds_from_fit}
+use Rattle.pq_content.proofs.Values.{key_fits, key_of_kinds, length_from_kinds, sequence_fits, same_values_itself, values_of-columns_of}
 use Rattle.pq_nodes.specs.Operators.{ShowsRead, no_row, missing_row, no_key, StopsReading, IsSoundOverRows}
 
 -- ---- the key that the values of an entry name
@@ -172,7 +173,7 @@ module _ (tables : List Table) (rows : Rows) (others : List Pair) (beside : AreB
         let table = table_at tables t in
         let is = row_key_of t rest value there in
         none (key_of table is.row)
-        (subst (λ (cols : List ℕ). AllFit (types_at table cols) (key_of table is.row)) (sym (columns_of-primary table.key)) (key_fits table is.row (row_fits t is.row is.there)))
+        (subst (λ (cols : List ℕ). AllFit (types_at table.columns cols) (key_of table is.row)) (sym (columns_of-primary table.key)) (key_fits table is.row (row_fits t is.row is.there)))
         (ap (λ (bytes : List ℕ). 2 ∷ t ∷ bytes) (sym is.code))
     no_such_key t (Secondary number) rest value there none =
         let table = table_at tables t in
@@ -223,12 +224,12 @@ module _ (tables : List Table) (rows : Rows) (others : List Pair) (beside : AreB
         let table = table_at tables h.table in
         let index = index_numbered table h.index in
         let sequence = index_sequence table index in
-        let types = types_at table (columns_of sequence) in
+        let types = types_at table.columns (columns_of sequence) in
         let is = entry_key_of h.table h.index (code_of (dirs_of sequence) h.values) h.entry h.there in
         let fits = row_fits h.table is.row is.there in
         let kinds = kinds_from_fit types h.values h.fits in
         let long = length_from_kinds types h.values kinds in
-        let width = length-map (columns_of sequence) (type_of table) in
+        let width = length-map (columns_of sequence) (type_at table.columns) in
         let columns = length-map sequence (λ (part : KeyPart). part.col) in
         let dirs = length-map sequence (λ (part : KeyPart). part.dir) in
         let values : h.values ≡ values_of sequence is.row =

@@ -133,7 +133,7 @@ pub fn tied_laws()
     ensures kinds { (tables : List Table) (query : Query) (rows : Rows) (params : List Value) (rel : ℕ)
         (combo : List (List Value)) (cols : List ℕ) → IsResolved tables query → AllFit query.params params
         → FitsTables tables query (rel - 1) combo → is_column_within (set_of cols) (tied_set query rel) ≡ true
-        → AllOfKinds (types_at (table_of tables query rel) cols)
+        → AllOfKinds (types_at (table_of tables query rel).columns cols)
         (tied_cells (record { tables = tables; query = query; rows = rows; params = params }) rel cols combo) }
 
     // The rows that match are those of the group with these values.

@@ -4,5 +4,5 @@
 mod operands;
 mod ties;
 
-pub use operands::{cell, compares, meets, order_of, side};
+pub use operands::{cell, compares, meets, side};
 pub use ties::{tied_cells, tied_value};

@@ -1,9 +1,8 @@
 //! Operands and comparisons.
 ghost use Rattle.std.specs.Prelude.{◌≡◌, option_copied};
-ghost use Rattle.pq_base.specs.Order.{kind_rank, value_cmp};
 ghost use Rattle.pq_plan.specs.Answer.{side, cell, meets, compares};
 
-use pq_base::{Row, Value};
+use pq_base::{Row, Value, cmp_values};
 use pq_plan::Combo;
 use pq_schema::{ColRef, Op, Operand};
 use std::cmp::Ordering;
@@ -43,36 +42,12 @@ pub fn meets(op: Op, order: Ordering) -> bool
     }
 }
 
-/// The rank of a value's kind.
-fn kind_rank(value: &Value) -> u8
-    ensures { result ≡ kind_rank value.now }
-{
-    match value {
-        Value::Int(_) => 1,
-        Value::Bool(_) => 2,
-        Value::Text(_) => 3,
-    }
-}
-
-/// The order of two values: by their kinds, and of one kind numbers by size, false before true, texts by
-/// their bytes.
-pub fn order_of(a: &Value, b: &Value) -> Ordering
-    ensures { result ≡ value_cmp a.now b.now }
-{
-    match (a, b) {
-        (Value::Int(a), Value::Int(b)) => a.cmp(b),
-        (Value::Bool(a), Value::Bool(b)) => a.cmp(b),
-        (Value::Text(a), Value::Text(b)) => a.bytes().cmp(b.bytes()),
-        _ => kind_rank(a).cmp(&kind_rank(b)),
-    }
-}
-
 /// Whether both values are there, and their order meets the operator.
 pub fn compares(op: Op, left: Option<&Value>, right: Option<&Value>) -> bool
     ensures { result ≡ compares op (option_copied left.entry) (option_copied right.entry) }
 {
     match (left, right) {
-        (Some(left), Some(right)) => meets(op, order_of(left, right)),
+        (Some(left), Some(right)) => meets(op, cmp_values(left, right)),
         _ => false,
     }
 }

@@ -9,6 +9,7 @@ use Rattle.pq_base.specs.declared.value.ColType.{ColType}
 use Rattle.pq_base.specs.declared.refusal.Stopped.{Stopped}
 use Rattle.pq_base.specs.declared.refusal.Stopped.TheVariants as stopped
 use Rattle.pq_base.specs.declared.value.Value.{Value}
+use Rattle.pq_base.proofs.TypeFits.{length_from_fits}
 use Rattle.pq_cursor.specs.Cursors.{IsCursorOf, position_in}
 use Rattle.pq_cursor.proofs.Cursors.{cursor_again}
 use Rattle.pq_nodes.specs.Combos.{position_types}
@@ -59,12 +60,6 @@ whenever_ok P (Err error) holds = tt
 
 -- ---- the length of a position
 
-fit_long : (types : List ColType) (values : List Value) → AllFit types values → length values ≡ length types
-fit_long [] [] fits = refl
-fit_long [] (x ∷ xs) fits = absurd fits
-fit_long (t ∷ ts) [] fits = absurd fits
-fit_long (t ∷ ts) (x ∷ xs) fits = ap suc (fit_long ts xs fits.1)
-
 -- each value of a position has a direction
 pub cursor_long : (tables : List Table) (query : Query) (position : List Value) → AllFit (position_types tables query) position → length position ≡ length (position_dirs tables query)
-cursor_long tables query position fits = fit_long (position_types tables query) position fits ∙ same_long tables query
+cursor_long tables query position fits = length_from_fits (position_types tables query) position fits ∙ same_long tables query

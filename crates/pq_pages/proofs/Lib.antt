@@ -1,4 +1,3 @@
 pub mod Begins
 pub mod Columns
 pub mod Pages
-pub mod Params

@@ -27,6 +27,7 @@ use Rattle.pq_plan.specs.Meaning.{keeps, mean}
 use Rattle.pq_plan.specs.Rewrites.{tree_of_reads, placed_stops, pushed_tree}
 use Rattle.pq_base.proofs.Members.{each_by_in, in_filter, map_in, all_at, all_from, any_at, filter_in, all_member, get_at, in_range, range_in}
 use Rattle.pq_base.proofs.Sets.{members_within}
+use Rattle.pq_base.proofs.TypeFits.{length_from_fits}
 use Rattle.pq_plan.proofs.ValueOrder.{value_cmp_total}
 use Rattle.pq_plan.proofs.Apart.{same_test}
 use Rattle.pq_plan.proofs.Kept.{row_fits, parent_kept}
@@ -54,12 +55,6 @@ same_each [] ys r w h e i = absurd i
 same_each (x ∷ xs) [] r w h e i = absurd i
 same_each (x ∷ xs) (y ∷ ys) r w h e (inl s) = let first : get_or r y no_value ≡ get_or w x no_value = cc in ap (λ (p : ℕ × ℕ). get_or r p.1 no_value) (sym s) ∙ first ∙ ap (λ (p : ℕ × ℕ). get_or w p.0 no_value) s
 same_each (x ∷ xs) (y ∷ ys) r w h e (inr i) = let rest : cells ys r ≡ cells xs w = cc in same_each xs ys r w rest e i
-
-fit_length : (types : List ColType) (row : List Value) → AllFit types row → length row ≡ length types
-fit_length [] [] h = refl
-fit_length [] (x ∷ xs) h = absurd h
-fit_length (t ∷ ts) [] h = absurd h
-fit_length (t ∷ ts) (x ∷ xs) h = ap suc (fit_length ts xs h.1)
 
 column_is : (o : Operand) (rel col : ℕ) → is_column o rel col ≡ true → (at : ColRef) × (o ≡ operand.Col at) × (at.rel ≡ rel) × (at.col ≡ col)
 column_is (operand.Const v) rel col h = absurd (false≢true h)
@@ -125,8 +120,8 @@ module _ (tables : List Table) (query : Query) (rows : List (ℕ × List Value))
         let a = and_parts _ _ b.0 in
         let right = column_is p.right j e.0 d.1 in
         let among = zip_in f.cols (table_of tables query i).key e any.1 in
-        let row_long : length r ≡ length (table_of tables query i).columns = fit_length _ r (row_fits tables rows kept (relation_at query i).table r at) ∙ length-map (table_of tables query i).columns (λ (column : Column). column.ty) in
-        let other_long : length (row_of j c) ≡ length (table_of tables query j).columns = fit_length _ (row_of j c) (row_fits tables rows kept (relation_at query j).table (row_of j c) inside) ∙ length-map (table_of tables query j).columns (λ (column : Column). column.ty) in
+        let row_long : length r ≡ length (table_of tables query i).columns = length_from_fits _ r (row_fits tables rows kept (relation_at query i).table r at) ∙ length-map (table_of tables query i).columns (λ (column : Column). column.ty) in
+        let other_long : length (row_of j c) ≡ length (table_of tables query j).columns = length_from_fits _ (row_of j c) (row_fits tables rows kept (relation_at query j).table (row_of j c) inside) ∙ length-map (table_of tables query j).columns (λ (column : Column). column.ty) in
         let short : e.1 < length (table_of tables query i).columns = all_member (λ col. col < length (table_of tables query i).columns) (table_of tables query i).key (linked tables query rows params sound kept (relation_at query i).table own).key e.1 among.1 in
         let other_short : e.0 < length (table_of tables query j).columns = all_member (λ col. col < length (table_of tables query j).columns) f.cols foreign.inside e.0 among.0 in
         let left_is : cell (c ++ r ∷ []) p.left ≡ Some (get_or r e.1 no_value) =

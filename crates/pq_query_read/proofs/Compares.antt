@@ -17,6 +17,8 @@ use Rattle.pq_schema.specs.ColumnNames.{repeated_name}
 use Rattle.pq_schema.specs.Definitions.{refused_if}
 use Rattle.pq_schema.specs.Resolved.{same_ref, param_type}
 use Rattle.pq_base.specs.Values.{same_kind}
+use Rattle.pq_base.proofs.TypeFits.{fits_exact}
+use Rattle.pq_schema.proofs.TypeKinds.{kind_flip}
 use Rattle.pq_schema.specs.declared.query.ColRef.{ColRef}
 use Rattle.pq_schema.specs.declared.query.Op.{Op}
 use Rattle.pq_schema.specs.declared.query.Op.TheVariants as op
@@ -45,28 +47,6 @@ use Rattle.pq_query_read.proofs.Refs.{push_each, distinct_push, nothing_distinct
 module _ (tables : List Table) (relations : List Relation) where
   -- ---- WHERE
 
-  kinds_turned : (t u : ColType) → same_kind t u ≡ true → same_kind u t ≡ true
-  kinds_turned type.Int type.Int is = refl
-  kinds_turned type.Int type.Bool is = is
-  kinds_turned type.Int (type.Text n) is = is
-  kinds_turned type.Bool type.Int is = is
-  kinds_turned type.Bool type.Bool is = refl
-  kinds_turned type.Bool (type.Text n) is = is
-  kinds_turned (type.Text m) type.Int is = is
-  kinds_turned (type.Text m) type.Bool is = is
-  kinds_turned (type.Text m) (type.Text n) is = refl
-
-  fits_exact : (t : ColType) (x : Value) → IsValue x → fits_type t x ≡ true → FitsType t x
-  fits_exact type.Int (value.Int n) known fits = known
-  fits_exact type.Int (value.Bool b) known fits = absurd (false≢true fits)
-  fits_exact type.Int (value.Text t) known fits = absurd (false≢true fits)
-  fits_exact type.Bool (value.Int n) known fits = absurd (false≢true fits)
-  fits_exact type.Bool (value.Bool b) known fits = tt
-  fits_exact type.Bool (value.Text t) known fits = absurd (false≢true fits)
-  fits_exact (type.Text n) (value.Int z) known fits = absurd (false≢true fits)
-  fits_exact (type.Text n) (value.Bool b) known fits = absurd (false≢true fits)
-  fits_exact (type.Text n) (value.Text t) known fits = (known, leb-true (length t) n fits)
-
   pub record IsJoin (o : Op) (left right : ColRef) : Type 0 where
     pub equal : o ≡ op.Eq
     pub column : IsIn tables relations right
@@ -87,7 +67,7 @@ module _ (tables : List Table) (relations : List Relation) where
       elim (nat_lt left.rel right.rel) as (λ b. nat_lt left.rel right.rel ≡ b → IsCompared (if b then record { left = right; op = o; right = operand.Col left } else record { left = left; op = o; right = operand.Col right })) [
         | true ↦ λ less. record {
           left = right_in;
-          right = record { equal = equal; column = left_in; earlier = ltb-true left.rel right.rel less; kind = kinds_turned (type_of tables relations left) (type_of tables relations right) parts.1 };
+          right = record { equal = equal; column = left_in; earlier = ltb-true left.rel right.rel less; kind = kind_flip (type_of tables relations right) (type_of tables relations left) ∙ parts.1 };
         }
         | false ↦ λ not_less. record {
           left = left_in;

@@ -11,10 +11,9 @@ use Rattle.std.proofs.lemmas.Str.{is_utf8-from_IsUtf8, IsUtf8-from_ascii}
 use Rattle.std.proofs.lemmas.Bool.{leb-true, and_parts}
 use Rattle.std.proofs.lemmas.Bool.Decides.{nat_tests}
 use Rattle.pq_base.specs.Words.{uppercase_byte, keywords}
-use Rattle.pq_schema.specs.Names.{is_letter, is_name_byte, is_keyword, is_name, IsName}
+use Rattle.pq_schema.specs.Names.{is_small_letter, is_name_byte, is_keyword, is_name, IsName}
 use Rattle.pq_schema.specs.Names.{is_word as is_name_word}
-use Rattle.pq_text.specs.Bytes.{is_word_byte}
-use Rattle.pq_text.specs.Bytes.{is_letter as is_text_letter}
+use Rattle.pq_text.specs.Bytes.{is_letter, is_word_byte}
 use Rattle.pq_text.specs.Forms.{is_word_form}
 use Rattle.pq_shape.specs.Shapes.{word_place, lowercase_bytes, utf8_text, named_shape, name_shape, keyword_or, word_shape}
 use Rattle.pq_shape.specs.declared.shape.Shape.TheVariants as shape
@@ -30,10 +29,10 @@ not_true : (b : Bool) → not b ≡ true → b ≡ false
 not_true true e = absurd cc
 not_true false e = refl
 
-name_letter : (b : ℕ) → is_letter b ≡ true → is_text_letter b ≡ true
+name_letter : (b : ℕ) → is_small_letter b ≡ true → is_letter b ≡ true
 name_letter b h = grind (arith, nat_tests)
 
-letter_byte : (b : ℕ) → is_letter b ≡ true → is_name_byte b ≡ true
+letter_byte : (b : ℕ) → is_small_letter b ≡ true → is_name_byte b ≡ true
 letter_byte b h = rw h refl
 
 name_word_byte : (b : ℕ) → is_name_byte b ≡ true → is_word_byte b ≡ true
@@ -48,7 +47,7 @@ all_word_bytes (b ∷ bs) all =
 of_word : (name : List ℕ) → is_name_word name ≡ true → (list_all is_name_byte name ≡ true) × (is_word_form name ≡ true)
 of_word [] is = absurd cc
 of_word (b ∷ bs) is =
-    let parts = and_parts (is_letter b) (list_all is_name_byte bs) is in
+    let parts = and_parts (is_small_letter b) (list_all is_name_byte bs) is in
     (rw (letter_byte b parts.0, parts.1) refl, rw (name_letter b parts.0, all_word_bytes bs parts.1) refl)
 
 parts_of : (name : List ℕ) → IsName name → NameParts name
@@ -139,7 +138,7 @@ raised_lowered : (bs : List ℕ) → map uppercase_byte (lowercase_bytes bs) ≡
 raised_lowered [] = refl
 raised_lowered (b ∷ bs) = rw (raised_lower b) (ap (λ (v : List ℕ). uppercase_byte b ∷ v) (raised_lowered bs))
 
-lower_letter : (b : ℕ) → is_text_letter b ≡ true → is_letter (to_ascii_lowercase b) ≡ true
+lower_letter : (b : ℕ) → is_letter b ≡ true → is_small_letter (to_ascii_lowercase b) ≡ true
 lower_letter b h = grind (arith, nat_tests)
 
 lower_word_byte : (b : ℕ) → is_word_byte b ≡ true → is_name_byte (to_ascii_lowercase b) ≡ true
@@ -154,7 +153,7 @@ lower_bytes (b ∷ bs) all =
 lowered_name : (w : List ℕ) → is_word_form w ≡ true → nat_le (length w) 32 ≡ true → word_place keywords (map uppercase_byte w) ≡ None → IsName (lowercase_bytes w)
 lowered_name [] is short none = absurd cc
 lowered_name (b ∷ bs) is short none =
-    let parts = and_parts (is_text_letter b) (list_all is_word_byte bs) is in
+    let parts = and_parts (is_letter b) (list_all is_word_byte bs) is in
     name_from (lowercase_bytes (b ∷ bs)) (rw (lower_letter b parts.0, lower_bytes bs parts.1) refl)
     (ap (λ (n : ℕ). nat_le n 32) (length-map (b ∷ bs) to_ascii_lowercase) ∙ short)
     (ap (λ (v : List ℕ). list_any (bytes_eq v) keywords) (raised_lowered (b ∷ bs)) ∙ unplaced keywords (map uppercase_byte (b ∷ bs)) none)

@@ -55,7 +55,11 @@ abbrev pub compare : Op → OperandDef → List Shape → Type 0
 compare o (operand.Const v) = mark (operator o) ⋅ a_value v
 compare o (operand.Param z) = mark (operator o) ⋅ param z
 compare op.Eq (operand.Ref r) = mark EQUAL ⋅ ref r
-compare _ (operand.Ref r) = λ w. ⊥
+compare op.Ne (operand.Ref r) = λ w. ⊥
+compare op.Lt (operand.Ref r) = λ w. ⊥
+compare op.Le (operand.Ref r) = λ w. ⊥
+compare op.Gt (operand.Ref r) = λ w. ⊥
+compare op.Ge (operand.Ref r) = λ w. ⊥
 
 -- ref op ( value | param ) | ref "=" ref
 abbrev pub pred : PredDef → List Shape → Type 0

@@ -6,7 +6,8 @@ use Rattle.std.specs.Option.{option_map}
 use Rattle.std.specs.Str.{is_utf8}
 use Rattle.std.proofs.lemmas.Bool.{eqb-true}
 use Rattle.std.proofs.lemmas.List.{drop_at}
-use Rattle.pq_text.specs.Bytes.{next_is, is_white, is_digit, is_letter, is_word_byte, is_mark, is_double_mark}
+use Rattle.std.specs.Char.{is_ascii_digit}
+use Rattle.pq_text.specs.Bytes.{next_is, is_white, is_letter, is_word_byte, is_mark, is_double_mark}
 use Rattle.pq_text.specs.Forms.{Form, LeftOut, Of}
 use Rattle.pq_text.specs.Forms.{text_end}
 use Rattle.pq_text.specs.Scanning.{text_or_open, left_out, first_token}
@@ -108,11 +109,11 @@ cut_word b bs rest letter all e =
     cut_run kind.Word b bs rest (token_front b (bs ++ rest) (length bs + 1) kind.Word (simp (letter_not_white b letter, letter_not_dash b letter))
     (simp letter (ap (λ (v : List ℕ). let t : Kind × ℕ = (kind.Word, length v + 1) in t) (while_exact is_word_byte bs rest all e))))
 
-pub cut_number : (b : ℕ) (bs rest : List ℕ) → is_digit b ≡ true → list_all is_digit bs ≡ true → next_is is_digit rest ≡ false → cut 0 (b ∷ (bs ++ rest)) ≡ number_or_other (digits_number (b ∷ bs)) ∷ cut 0 rest
+pub cut_number : (b : ℕ) (bs rest : List ℕ) → is_ascii_digit b ≡ true → list_all is_ascii_digit bs ≡ true → next_is is_ascii_digit rest ≡ false → cut 0 (b ∷ (bs ++ rest)) ≡ number_or_other (digits_number (b ∷ bs)) ∷ cut 0 rest
 unfolding left_out first_token
 cut_number b bs rest digit all e =
     cut_run kind.Number b bs rest (token_front b (bs ++ rest) (length bs + 1) kind.Number (simp (digit_not_white b digit, digit_not_dash b digit))
-    (simp (digit_not_letter b digit, digit) (ap (λ (v : List ℕ). let t : Kind × ℕ = (kind.Number, length v + 1) in t) (while_exact is_digit bs rest all e))))
+    (simp (digit_not_letter b digit, digit) (ap (λ (v : List ℕ). let t : Kind × ℕ = (kind.Number, length v + 1) in t) (while_exact is_ascii_digit bs rest all e))))
 
 pub cut_mark : (b : ℕ) (rest : List ℕ) → is_mark b ≡ true → next_is (is_double_mark b) rest ≡ false → cut 0 (b ∷ rest) ≡ shape.Mark b ∷ cut 0 rest
 unfolding left_out first_token
@@ -135,14 +136,14 @@ negative_out : (bs : List ℕ) → next_is (λ c. eqb c 45) bs ≡ false → lef
 unfolding left_out
 negative_out bs out = rw out refl
 
-negative_token : (bs : List ℕ) → next_is is_digit bs ≡ true → first_token 45 bs ≡ (kind.Number, length (take_while is_digit bs) + 1)
+negative_token : (bs : List ℕ) → next_is is_ascii_digit bs ≡ true → first_token 45 bs ≡ (kind.Number, length (take_while is_ascii_digit bs) + 1)
 unfolding first_token
 negative_token bs digit = rw digit refl
 
-pub cut_negative : (d : ℕ) (ds rest : List ℕ) → is_digit d ≡ true → list_all is_digit (d ∷ ds) ≡ true → next_is is_digit rest ≡ false → cut 0 (45 ∷ (d ∷ (ds ++ rest))) ≡ number_or_other (digits_number (45 ∷ d ∷ ds)) ∷ cut 0 rest
+pub cut_negative : (d : ℕ) (ds rest : List ℕ) → is_ascii_digit d ≡ true → list_all is_ascii_digit (d ∷ ds) ≡ true → next_is is_ascii_digit rest ≡ false → cut 0 (45 ∷ (d ∷ (ds ++ rest))) ≡ number_or_other (digits_number (45 ∷ d ∷ ds)) ∷ cut 0 rest
 cut_negative d ds rest digit all e =
     cut_run kind.Number 45 (d ∷ ds) rest (token_front 45 (d ∷ (ds ++ rest)) (length (d ∷ ds) + 1) kind.Number (negative_out (d ∷ (ds ++ rest)) (digit_not_dash d digit))
-    (negative_token (d ∷ (ds ++ rest)) digit ∙ ap (λ (v : List ℕ). let t : Kind × ℕ = (kind.Number, length v + 1) in t) (while_exact is_digit (d ∷ ds) rest all e)))
+    (negative_token (d ∷ (ds ++ rest)) digit ∙ ap (λ (v : List ℕ). let t : Kind × ℕ = (kind.Number, length v + 1) in t) (while_exact is_ascii_digit (d ∷ ds) rest all e)))
 
 -- ---- texts
 

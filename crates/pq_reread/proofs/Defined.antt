@@ -19,6 +19,7 @@ use Rattle.pq_schema.specs.Definitions.{has_type, column_of, refused_if, is_outs
 use Rattle.pq_schema.specs.Sequences.{ascending_part, group_access, with_group}
 use Rattle.pq_base.specs.Values.{same_kind}
 use Rattle.pq_schema.proofs.Counts.{name_there}
+use Rattle.pq_schema.proofs.TypeKinds.{same_length}
 use Rattle.pq_schema.specs.Tables.{no_table, table_at, type_at, types_at, same_kinds}
 use Rattle.pq_schema.specs.Schema.{Schema, is_table, number_of, find_table}
 use Rattle.pq_base.specs.Columns.{set_of}
@@ -128,18 +129,12 @@ found_has P schema name t all e =
     let index : t - 1 ≡ place.0 = omega (arith, place.2) in
     subst (λ (i : ℕ). P (slice_index_or schema.tables i no_table)) (sym index) (all place.0 no_table there.0)
 
-same_lengths : (ts us : List ColType) → same_kinds ts us ≡ true → length ts ≡ length us
-same_lengths [] [] e = refl
-same_lengths [] (u ∷ us) e = absurd cc
-same_lengths (t ∷ ts) [] e = absurd cc
-same_lengths (t ∷ ts) (u ∷ us) e = ap suc (same_lengths ts us (both (same_kind t u) (same_kinds ts us) e).1)
-
 -- as many columns as the key has
 pub reference_length : (schema : Schema) (cs : List Column) (number : ℕ) (f : ForeignDef) (t : ℕ) → reference_refusal schema cs number f (Some t) ≡ None → length f.cols ≡ length (table_at schema.tables t).key
 reference_length schema cs number f t e =
     let other = table_at schema.tables t in
     let kinds = not_false (has_shape cs f.cols other) (not_refused _ _ e) in
-    let lengths = same_lengths (types_at cs (places_of cs f.cols)) (types_at other.columns other.key) kinds in
+    let lengths = same_length (types_at cs (places_of cs f.cols)) (types_at other.columns other.key) kinds in
     let left : length (types_at cs (places_of cs f.cols)) ≡ length f.cols = length-map (places_of cs f.cols) (type_at cs) ∙ length-map f.cols (place_of cs) in
     let right : length (types_at other.columns other.key) ≡ length other.key = length-map other.key (type_at other.columns) in
     sym left ∙ lengths ∙ right

@@ -14,7 +14,8 @@ use Rattle.std.proofs.Math.Seq.{get_or-append_seam}
 use Rattle.std.proofs.lemmas.Bool.{eqb-true}
 use Rattle.std.proofs.lemmas.List.{drop_at}
 use Rattle.std.proofs.lemmas.Bool.Decides.{nat_tests}
-use Rattle.pq_text.specs.Bytes.{next_is, is_digit, is_letter, is_word_byte, is_mark, is_double_mark}
+use Rattle.std.specs.Char.{is_ascii_digit}
+use Rattle.pq_text.specs.Bytes.{next_is, is_letter, is_word_byte, is_mark, is_double_mark}
 use Rattle.pq_text.specs.Forms.{is_word_form}
 use Rattle.pq_text.specs.Tokens.{tokens_of}
 use Rattle.pq_grammar.specs.Language.{◌⋅◌, nothing, one, each, separated_by}
@@ -65,12 +66,12 @@ all_ascii : (bs : List ℕ) → list_all is_word_byte bs ≡ true → IsAscii bs
 all_ascii [] all = IsAscii-nil
 all_ascii (b ∷ bs) all = let parts = both (is_word_byte b) (list_all is_word_byte bs) all in ascii_more b bs (word_ascii b parts.0) (all_ascii bs parts.1)
 
-digit_ascii : (b : ℕ) → is_digit b ≡ true → b < 128
+digit_ascii : (b : ℕ) → is_ascii_digit b ≡ true → b < 128
 digit_ascii b h = grind (arith, nat_tests)
 
-digits_ascii : (bs : List ℕ) → list_all is_digit bs ≡ true → IsAscii bs
+digits_ascii : (bs : List ℕ) → list_all is_ascii_digit bs ≡ true → IsAscii bs
 digits_ascii [] all = IsAscii-nil
-digits_ascii (b ∷ bs) all = let parts = both (is_digit b) (list_all is_digit bs) all in ascii_more b bs (digit_ascii b parts.0) (digits_ascii bs parts.1)
+digits_ascii (b ∷ bs) all = let parts = both (is_ascii_digit b) (list_all is_ascii_digit bs) all in ascii_more b bs (digit_ascii b parts.0) (digits_ascii bs parts.1)
 
 -- a quote stands between whole characters
 doubled_step : (b : ℕ) (bs front : List ℕ) → ((front : List ℕ) → IsUtf8 (front ++ bs) → IsUtf8 (front ++ flat_map doubled_quotes bs)) → (q : Bool) → eqb b 39 ≡ q → IsUtf8 (front ++ b ∷ bs) → IsUtf8 (front ++ (cond q (39 ∷ 39 ∷ []) (b ∷ []) ++ flat_map doubled_quotes bs))
@@ -188,7 +189,7 @@ text_prints t is = record {
 -- ---- numbers
 
 record Digits (n : ℕ) (ds : List ℕ) : Type 0 where
-  all : list_all is_digit ds ≡ true
+  all : list_all is_ascii_digit ds ≡ true
   value : digits_after 0 ds ≡ n
 
 digits_more : (m : ℕ) (ds es : List ℕ) → digits_after m (ds ++ es) ≡ digits_after (digits_after m ds) es
@@ -196,7 +197,7 @@ unfolding digits_after
 digits_more m [] es = refl
 digits_more m (d ∷ ds) es = digits_more (m * 10 + (d - 48)) ds es
 
-digit_is : (n : ℕ) → n < 10 → is_digit (48 + n) ≡ true
+digit_is : (n : ℕ) → n < 10 → is_ascii_digit (48 + n) ≡ true
 digit_is n h = grind (arith, nat_tests)
 
 one_digit : (n : ℕ) → n < 10 → Digits n ((48 + n) ∷ [])
@@ -208,20 +209,20 @@ unfolding digits_after
 more_digits n ds h p =
     let small : n % 10 < 10 = omega arith in
     record {
-      all = list_all-append is_digit ds ((48 + n % 10) ∷ []) ∙ rw (p.all, digit_is (n % 10) small) refl;
+      all = list_all-append is_ascii_digit ds ((48 + n % 10) ∷ []) ∙ rw (p.all, digit_is (n % 10) small) refl;
       value = digits_more 0 ds ((48 + n % 10) ∷ []) ∙ ap (λ (m : ℕ). m * 10 + ((48 + n % 10) - 48)) p.value ∙ omega arith;
     }
 
 decimal_digits : (n : ℕ) → n < 2 ^ 64 → Digits n (decimal n)
 decimal_digits n h = decimal_by_steps Digits one_digit more_digits n h
 
-digit_not_dash : (b : ℕ) → is_digit b ≡ true → eqb b 45 ≡ false
+digit_not_dash : (b : ℕ) → is_ascii_digit b ≡ true → eqb b 45 ≡ false
 digit_not_dash b h = grind (arith, nat_tests)
 
-number_by : (n : ℕ) (ds : List ℕ) → n < 2 ^ 63 → 0 < length ds → Digits n ds → Prints (number (pos n)) joins_none ds is_digit
+number_by : (n : ℕ) (ds : List ℕ) → n < 2 ^ 63 → 0 < length ds → Digits n ds → Prints (number (pos n)) joins_none ds is_ascii_digit
 number_by n [] small some d = absurd (omega arith)
 number_by n (b ∷ bs) small some d =
-    let parts = both (is_digit b) (list_all is_digit bs) d.all in
+    let parts = both (is_ascii_digit b) (list_all is_ascii_digit bs) d.all in
     let value : digits_number (b ∷ bs) ≡ Some (pos n) = rw (digit_not_dash b parts.0) (ap (λ (m : ℕ). fitting_number (pos m)) d.value ∙ fitting_pos n small) in
     record {
       shapes = shape.Number (pos n) ∷ [];
@@ -231,10 +232,10 @@ number_by n (b ∷ bs) small some d =
       utf8 = IsUtf8-from_ascii (b ∷ bs) (ascii_more b bs (digit_ascii b parts.0) (digits_ascii bs parts.1));
     }
 
-negative_by : (n : ℕ) (ds : List ℕ) → n < 2 ^ 63 → 0 < length ds → Digits (suc n) ds → Prints (number (negsuc n)) joins_none (45 ∷ ds) is_digit
+negative_by : (n : ℕ) (ds : List ℕ) → n < 2 ^ 63 → 0 < length ds → Digits (suc n) ds → Prints (number (negsuc n)) joins_none (45 ∷ ds) is_ascii_digit
 negative_by n [] small some d = absurd (omega arith)
 negative_by n (b ∷ bs) small some d =
-    let parts = both (is_digit b) (list_all is_digit bs) d.all in
+    let parts = both (is_ascii_digit b) (list_all is_ascii_digit bs) d.all in
     let value : digits_number (45 ∷ b ∷ bs) ≡ Some (negsuc n) = ap (λ (m : ℕ). fitting_number (neg_ℤ (pos m))) d.value ∙ fitting_neg (suc n) (omega arith) in
     record {
       shapes = shape.Number (negsuc n) ∷ [];
@@ -245,11 +246,11 @@ negative_by n (b ∷ bs) small some d =
     }
 
 -- a number of 63 bits without a sign
-pub number_prints : (n : ℕ) → n < 2 ^ 63 → Prints (number (pos n)) joins_none (decimal n) is_digit
+pub number_prints : (n : ℕ) → n < 2 ^ 63 → Prints (number (pos n)) joins_none (decimal n) is_ascii_digit
 number_prints n small = number_by n (decimal n) small (decimal_nonempty n (omega arith)) (decimal_digits n (omega arith))
 
 -- a number of 64 bits
-pub signed_prints : (z : ℤ) → FitsSigned w64 z → Prints (number z) joins_none (signed_decimal z) is_digit
+pub signed_prints : (z : ℤ) → FitsSigned w64 z → Prints (number z) joins_none (signed_decimal z) is_ascii_digit
 signed_prints (pos n) fits = number_prints n fits.sfits
 signed_prints (negsuc n) fits =
     let small : n < 2 ^ 63 = fits.sfits in

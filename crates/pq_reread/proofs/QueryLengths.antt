@@ -36,7 +36,7 @@ use Rattle.pq_query_read.proofs.Names.{name_short}
 use Rattle.pq_reread.specs.Orderly.{AreOrderly}
 use Rattle.pq_reread.proofs.Alls.{one_by_one}
 use Rattle.pq_reread.proofs.Lengths.{separated_short, number_short}
-use Rattle.pq_reread.proofs.Parameters.{few_params}
+use Rattle.pq_schema.proofs.FewParams.{few_params}
 use Rattle.pq_reread.proofs.SelectPrints.{relation_known, table_known, column_known}
 
 -- ---- values

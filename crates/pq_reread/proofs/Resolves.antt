@@ -42,7 +42,8 @@ use Rattle.pq_reread.specs.Orderly.{AreOrderly}
 use Rattle.pq_reread.proofs.SaidQuery.{said_relation, said_stop, said_ref, said_operand, said_pred, said_item, said_query}
 use Rattle.pq_reread.proofs.Alls.{one_by_one}
 use Rattle.pq_reread.proofs.Orders.{found_at, column_found, table_found}
-use Rattle.pq_reread.proofs.Parameters.{few_params, params_again}
+use Rattle.pq_schema.proofs.FewParams.{few_params}
+use Rattle.pq_reread.proofs.Parameters.{params_again}
 use Rattle.pq_reread.proofs.SelectPrints.{table_of_known}
 
 -- ---- one after the other

@@ -3,6 +3,7 @@ use Rattle.std.proofs.Common.{◌≡◌, ℕ, pos, ◌-◌, ◌^◌, ◌<◌, �
 use Rattle.std.specs.Prelude.{codes, IfSome}
 use Rattle.std.specs.Fmt.{decimal}
 use Rattle.std.proofs.lemmas.Bool.{or_parts}
+use Rattle.std.specs.Char.{is_ascii_digit}
 use Rattle.pq_base.specs.Values.{IsValue, FitsType}
 use Rattle.pq_base.specs.declared.value.ColType.{ColType}
 use Rattle.pq_base.specs.declared.value.ColType.TheVariants as type
@@ -10,6 +11,7 @@ use Rattle.pq_base.specs.declared.value.Dir.{Dir}
 use Rattle.pq_base.specs.declared.value.Dir.TheVariants as dir
 use Rattle.pq_base.specs.declared.value.Value.{Value}
 use Rattle.pq_base.specs.declared.value.Value.TheVariants as value
+use Rattle.pq_base.proofs.TypeFits.{value_from_fit}
 use Rattle.pq_schema.specs.Candidates.{stop_size}
 use Rattle.pq_schema.specs.Names.{IsName}
 use Rattle.pq_schema.specs.Relations.{no_relation, relation_at, table_of}
@@ -30,7 +32,7 @@ use Rattle.pq_schema.specs.declared.table.Column.{Column}
 use Rattle.pq_schema.specs.declared.table.Table.{Table}
 use Rattle.pq_grammar.specs.Language.{◌⋅◌, nothing, separated_by}
 use Rattle.pq_grammar.proofs.Lists.{regroup}
-use Rattle.pq_text.specs.Bytes.{is_letter, is_digit, is_word_byte, is_double_mark}
+use Rattle.pq_text.specs.Bytes.{is_letter, is_word_byte, is_double_mark}
 use Rattle.pq_shape.specs.Parts.{word, mark, comma, name as a_name, number, a_value}
 use Rattle.pq_shape.specs.declared.keyword.TheConstants.{AND, AS, BY, DESC, FROM, LIMIT, ORDER, PAGINATE, PREPARE, SELECT, WHERE}
 use Rattle.pq_shape.specs.declared.shape.Shape.{Shape}
@@ -47,7 +49,7 @@ use Rattle.pq_reread.proofs.SaidQuery.{said_relation, said_stop, said_ref, said_
 use Rattle.pq_reread.proofs.Alls.{each_place, one_by_one}
 use Rattle.pq_reread.proofs.Keywords.{false_prints, keyword_prints, true_prints}
 use Rattle.pq_reread.proofs.Pairs.{pairs_of}
-use Rattle.pq_reread.proofs.Parameters.{few_params}
+use Rattle.pq_schema.proofs.FewParams.{few_params}
 use Rattle.pq_reread.proofs.Prints.{Prints, join, respelled, nothing_prints, space, spaced, looser, mark_prints, two_marks_print, number_prints, signed_prints, text_prints, separated_prints}
 use Rattle.pq_reread.proofs.Tables.{name_prints, comma_prints}
 
@@ -58,24 +60,13 @@ joins_value b = is_word_byte b || is_quote b
 word_end : {S : List Shape → Type 0} {t : ℕ → Bool} {a : List ℕ} → Prints S t a is_word_byte → Prints S t a joins_value
 word_end p = looser joins_value (λ b e. (or_parts (is_word_byte b) (is_quote b) e).0) p
 
-number_end : {S : List Shape → Type 0} {t : ℕ → Bool} {a : List ℕ} → Prints S t a is_digit → Prints S t a joins_value
-number_end p = looser joins_value (λ b e. (or_parts (is_letter b) (is_digit b) (or_parts (is_word_byte b) (is_quote b) e).0).1) p
+number_end : {S : List Shape → Type 0} {t : ℕ → Bool} {a : List ℕ} → Prints S t a is_ascii_digit → Prints S t a joins_value
+number_end p = looser joins_value (λ b e. (or_parts (is_letter b) (is_ascii_digit b) (or_parts (is_word_byte b) (is_quote b) e).0).1) p
 
 text_end : {S : List Shape → Type 0} {t : ℕ → Bool} {a : List ℕ} → Prints S t a is_quote → Prints S t a joins_value
 text_end p = looser joins_value (λ b e. (or_parts (is_word_byte b) (is_quote b) e).1) p
 
 -- ---- values
-
-pub fits_value : (t : ColType) (v : Value) → FitsType t v → IsValue v
-fits_value type.Int (value.Int n) fits = fits
-fits_value type.Bool (value.Bool b) fits = tt
-fits_value (type.Text n) (value.Text t) fits = fits.0
-fits_value type.Int (value.Bool b) fits = absurd fits
-fits_value type.Int (value.Text t) fits = absurd fits
-fits_value type.Bool (value.Int n) fits = absurd fits
-fits_value type.Bool (value.Text t) fits = absurd fits
-fits_value (type.Text n) (value.Int z) fits = absurd fits
-fits_value (type.Text n) (value.Bool b) fits = absurd fits
 
 value_prints : (v : Value) → IsValue v → Prints (a_value v) joins_none (value_text v) joins_value
 value_prints (value.Int z) is = number_end (signed_prints z is)
@@ -85,9 +76,9 @@ value_prints (value.Text t) is = text_end (text_prints t is)
 
 param_prints : (n : ℕ) → n < 2 ^ 63 → Prints (param (pos n)) joins_none (codes "[" ++ decimal n ++ codes "]") joins_value
 param_prints n small =
-    let alone : Prints (number (pos n) ⋅ nothing) joins_none (decimal n) is_digit =
+    let alone : Prints (number (pos n) ⋅ nothing) joins_none (decimal n) is_ascii_digit =
     respelled (λ w h. record { front = w; back = []; fits_front = h; fits_back = refl; parts = sym (append-nil w) }) (number_prints n small) in
-    respelled (λ w h. (None, h)) (join (mark_prints 91 joins_none refl refl) (join alone (looser joins_value (λ b may. refl) (mark_prints 93 is_digit refl refl))))
+    respelled (λ w h. (None, h)) (join (mark_prints 91 joins_none refl refl) (join alone (looser joins_value (λ b may. refl) (mark_prints 93 is_ascii_digit refl refl))))
 
 -- an operator, a space and an operand
 op_then : (o : Op) {S : List Shape → Type 0} {a : List ℕ} → Prints S joins_none a joins_value → Prints (mark (operator o) ⋅ S) joins_none (op_text o ++ (32 ∷ a)) joins_value
@@ -170,7 +161,7 @@ module _ (tables : List Table) (query : Query) (are : AreOrderly tables) (is : I
       (respelled (λ w h. inl h) (space is_word_byte refl (join (keyword_prints AS refl) (space is_word_byte refl (name_prints relation.alias known.alias))))))
 
   compare_prints : (pred : Pred) (right : Operand) → IsOperand tables query pred right → Prints (compare pred.op (said_operand tables query right)) joins_none (op_text pred.op ++ (32 ∷ operand_text tables query right)) joins_value
-  compare_prints pred (operand.Const v) fits = op_then pred.op (value_prints v (fits_value (param_type (ref_type tables query pred.left)) v fits))
+  compare_prints pred (operand.Const v) fits = op_then pred.op (value_prints v (value_from_fit (param_type (ref_type tables query pred.left)) v fits))
   compare_prints pred (operand.Param number) known =
       op_then pred.op (param_prints number (let high = known.there in let few = few_params tables query is in omega (arith, high, few)))
   compare_prints pred (operand.Col ref) joined =

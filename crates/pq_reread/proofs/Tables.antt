@@ -6,6 +6,7 @@ use Rattle.std.specs.Str.{is_utf8}
 use Rattle.std.specs.Option.{is_some, option_map, unwrap_or}
 use Rattle.std.specs.List.{All, AllByRecursion}
 use Rattle.std.proofs.lemmas.Bool.Decides.{nat_tests}
+use Rattle.std.specs.Char.{is_ascii_digit}
 use Rattle.pq_base.specs.declared.value.ColType.TheVariants as type
 use Rattle.pq_schema.specs.Definitions.{text_size, column_type, has_type, column_of}
 use Rattle.pq_schema.specs.Names.{IsName, IsKind, IsColumnDef, IsLimitDef, IsForeignDef, IsTableDef}
@@ -20,7 +21,7 @@ use Rattle.pq_schema.specs.declared.table.Foreign.{Foreign}
 use Rattle.pq_schema.specs.declared.table.Table.{Table}
 use Rattle.pq_grammar.specs.Language.{◌⋅◌, each}
 use Rattle.pq_grammar.proofs.Lists.{regroup}
-use Rattle.pq_text.specs.Bytes.{is_digit, is_word_byte}
+use Rattle.pq_text.specs.Bytes.{is_word_byte}
 use Rattle.pq_text.specs.Tokens.{tokens_of}
 use Rattle.pq_shape.specs.Parts.{comma, name as a_name, number}
 use Rattle.pq_shape.specs.declared.keyword.TheConstants.{BOOL, CARDINALITY, CREATE, FOREIGN, INT, KEY, LIMIT, PRIMARY, REFERENCES, TABLE, TEXT}
@@ -57,7 +58,7 @@ bool_prints = respelled (λ w h. inr (inr (refl, h))) (keyword_prints BOOL refl)
 text_prints : (n : ℕ) → n < 2 ^ 63 → Prints (a_kind (text_kind (pos n))) joins_none (codes "TEXT(" ++ decimal n ++ codes ")") is_word_byte
 text_prints n small =
     let sized : Prints (sized_text (pos n)) joins_none (codes "TEXT" ++ ((40 ∷ []) ++ (decimal n ++ (41 ∷ [])))) joins_none =
-    join (keyword_prints TEXT refl) (join (mark_prints 40 is_word_byte refl refl) (join (number_prints n small) (mark_prints 41 is_digit refl refl))) in
+    join (keyword_prints TEXT refl) (join (mark_prints 40 is_word_byte refl refl) (join (number_prints n small) (mark_prints 41 is_ascii_digit refl refl))) in
     looser is_word_byte (λ b may. refl) (respelled (λ w h. inl (pos n, refl, h)) sized)
 
 pub size_is : (z : ℤ) → is_some (option_map type.Text (text_size z)) ≡ true → (n : ℕ) × (z ≡ pos n) × (n < 2 ^ 63) × (text_size z ≡ Some n)
@@ -125,11 +126,11 @@ cols_prints table names places are says =
 limit_prints : (table : Table) (l : LimitDef) (printed : Limit) → IsLimitDef l → SaysLimit table.columns l printed → Prints (limit l) joins_none (limit_text table.columns printed) is_word_byte
 unfolding limit_text
 limit_prints table l printed are says =
-    let number : Prints (number l.n) joins_none (decimal printed.n) is_digit = subst (λ (z : ℤ). Prints (number z) joins_none (decimal printed.n) is_digit) (sym says.n) (number_prints printed.n says.small) in
+    let number : Prints (number l.n) joins_none (decimal printed.n) is_ascii_digit = subst (λ (z : ℤ). Prints (number z) joins_none (decimal printed.n) is_ascii_digit) (sym says.n) (number_prints printed.n says.small) in
     subst (λ (v : List ℕ). Prints (limit l) joins_none v is_word_byte) (ap (λ (v : List ℕ). codes "CARDINALITY LIMIT " ++ v) (sym (append_assoc (decimal printed.n) (codes " ") (columns_text table.columns printed.cols))))
     (join (keyword_prints CARDINALITY refl)
     (space is_word_byte refl (join (keyword_prints LIMIT refl)
-    (space is_word_byte refl (join number (space is_digit refl (looser is_word_byte (λ b may. refl) (cols_prints table l.cols printed.cols are says.cols))))))))
+    (space is_word_byte refl (join number (space is_ascii_digit refl (looser is_word_byte (λ b may. refl) (cols_prints table l.cols printed.cols are says.cols))))))))
 
 foreign_prints : (tables : List Table) (table : Table) (f : ForeignDef) (printed : Foreign) → IsForeignDef f → SaysForeign tables table.columns f printed → Prints (foreign f) joins_none (foreign_text tables table.columns printed) is_word_byte
 unfolding foreign_text

@@ -2,7 +2,8 @@
 use Rattle.std.specs.Prelude.{◌≡◌, ℕ, ℤ, ◌==◌, true, false, Bool, List, [], ◌∷◌, flat_map, FitsSigned, IsUtf8}
 use Rattle.std.specs.Int.{w64}
 use Rattle.std.specs.Fmt.{signed_decimal}
-use Rattle.pq_text.specs.Bytes.{next_is, is_digit, is_word_byte, is_double_mark}
+use Rattle.std.specs.Char.{is_ascii_digit}
+use Rattle.pq_text.specs.Bytes.{next_is, is_word_byte, is_double_mark}
 use Rattle.pq_text.specs.Forms.{is_word_form, is_whole_mark}
 use Rattle.pq_shape.specs.Shapes.{word_shape, mark_code}
 use Rattle.pq_shape.specs.declared.shape.Shape.{Shape}
@@ -52,7 +53,7 @@ joins_mark (a ∷ c ∷ m) b = false
 -- the bytes that would join the piece, right behind it
 abbrev pub joins : Piece → ℕ → Bool
 joins (Word w) b = is_word_byte b
-joins (Number z) b = is_digit b
+joins (Number z) b = is_ascii_digit b
 joins (Text t) b = is_quote b
 joins (Mark m) b = joins_mark m b
 joins Space b = false

@@ -17,7 +17,7 @@ use Rattle.pq_key_code.specs.KeyCode.{IsBytes, truth_byte}
 use Rattle.pq_key_code.specs.KeyReading.{◌>>=◌, text_within}
 use Rattle.pq_key_code.proofs.Loop.{rows_behind, rows_regroup}
 use Rattle.pq_key_code.proofs.Reading.{IsBytes-drop, bind_some, chosen, none_some, Takes, checked_is, checked_again}
-use Rattle.pq_key_code.proofs.StoreKeys.{length_from_fits}
+use Rattle.pq_base.proofs.TypeFits.{length_from_fits}
 use Rattle.pq_row_code.specs.RowCode.{field, fields, row_code}
 use Rattle.pq_row_code.proofs.Widths.{Takes-then, wide16, wide64, bits_takes, bits_again}
 use Rattle.pq_row_code.specs.RowReading.{bits_at, flag_at, string_at, field_at, fields_at, row_decoded}

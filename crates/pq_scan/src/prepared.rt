@@ -6,9 +6,8 @@ ghost use Rattle.pq_schema.specs.Sound.{IsQuery};
 ghost use Rattle.pq_scan.specs.Prepared.{IsPrepared, subject_of, item_directions};
 
 use pq_base::{ColSet, Dir, List, NoMem, Row};
-use pq_entries::dirs_of;
 use pq_predicates::{fixed, position_columns, table_number, table_of};
-use pq_schema::{Access, Catalog, KeyPart, OrderItem, Query, sequence};
+use pq_schema::{Access, Catalog, KeyPart, OrderItem, Query, dirs_of, sequence};
 use std::alloc::Global;
 
 /// What a stop scan of a relation goes by.

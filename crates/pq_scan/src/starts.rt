@@ -4,8 +4,7 @@ ghost use Rattle.pq_base.specs.Order.{directed_order, value_cmp};
 ghost use Rattle.pq_serving.specs.Starts.{start_of};
 ghost use Rattle.pq_scan.specs.Ends.{bound_of};
 
-use pq_base::{Dir, NoMem, Row, Value};
-use pq_operands::order_of;
+use pq_base::{Dir, NoMem, Row, Value, cmp_values};
 use std::alloc::Global;
 use std::cmp::Ordering;
 
@@ -21,8 +20,8 @@ fn order_in(dir: Dir, a: &Value, b: &Value) -> Ordering
     ensures { result ≡ directed_order dir (value_cmp a.now b.now) }
 {
     match dir {
-        Dir::Asc => order_of(a, b),
-        Dir::Desc => order_of(a, b).reverse(),
+        Dir::Asc => cmp_values(a, b),
+        Dir::Desc => cmp_values(a, b).reverse(),
     }
 }
 

@@ -23,6 +23,7 @@ use Rattle.pq_schema.specs.Sound.{IsTable, IsLinked, IsForeign, IsNamedSide, IsN
 use Rattle.pq_base.specs.Values.{same_kind}
 use Rattle.pq_schema.specs.Tables.{no_table, table_at, type_at, types_at, same_kinds}
 use Rattle.pq_schema.specs.Valid.{IsValid}
+use Rattle.pq_schema.proofs.TypeKinds.{same_length}
 use Rattle.pq_schema.proofs.Valid.{valid_made}
 
 -- columns below a width of at most 32
@@ -44,13 +45,7 @@ table_made tables number table made =
       few_columns = few;
     }
 
-same_length : (ts us : List ColType) → same_kinds ts us ≡ true → length ts ≡ length us
-same_length [] [] same = refl
-same_length [] (u ∷ us) same = absurd (false≢true same)
-same_length (t ∷ ts) [] same = absurd (false≢true same)
-same_length (t ∷ ts) (u ∷ us) same = ap suc (same_length ts us (and_parts (same_kind t u) (same_kinds ts us) same).1)
-
-foreign_linked : (tables : List Table) (number : ℕ) (table : Table) (f : Foreign) → IsMadeForeign tables number table.columns f → IsForeign tables table f
+pub foreign_linked : (tables : List Table) (number : ℕ) (table : Table) (f : Foreign) → IsMadeForeign tables number table.columns f → IsForeign tables table f
 foreign_linked tables number table f made =
     let parent = table_at tables f.table in
     record {

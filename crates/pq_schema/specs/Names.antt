@@ -1,5 +1,6 @@
 -- Names in small letters, and the definitions of tables whose words are names and kinds.
 use Rattle.std.specs.Prelude.{◌≡◌, ◌⊎◌, ℕ, ℤ, pos, Bool, true, false, not, ◌==◌, ◌&&◌, ◌||◌, nat_le, All, List, [], ◌∷◌, map, length, codes}
+use Rattle.std.specs.Char.{is_ascii_digit, is_ascii_lowercase}
 use Rattle.std.specs.Str.{bytes_eq}
 use Rattle.std.specs.List.{list_any, list_all}
 use Rattle.pq_base.specs.Words.{uppercase_byte, keywords}
@@ -9,19 +10,16 @@ use Rattle.pq_schema.specs.declared.definition.ForeignDef.{ForeignDef}
 use Rattle.pq_schema.specs.declared.definition.TableDef.{TableDef}
 
 -- a small letter or `_`
-abbrev pub is_letter : ℕ → Bool
-is_letter b = b == 95 || nat_le 97 b && nat_le b 122
-
-abbrev pub is_digit : ℕ → Bool
-is_digit b = nat_le 48 b && nat_le b 57
+abbrev pub is_small_letter : ℕ → Bool
+is_small_letter b = b == 95 || is_ascii_lowercase b
 
 abbrev pub is_name_byte : ℕ → Bool
-is_name_byte b = is_letter b || is_digit b
+is_name_byte b = is_small_letter b || is_ascii_digit b
 
--- letters and digits, the first a letter
+-- small letters and digits, the first a letter
 abbrev pub is_word : List ℕ → Bool
 is_word [] = false
-is_word (b ∷ bs) = is_letter b && list_all is_name_byte bs
+is_word (b ∷ bs) = is_small_letter b && list_all is_name_byte bs
 
 -- a keyword in any letter case
 abbrev pub is_keyword : List ℕ → Bool

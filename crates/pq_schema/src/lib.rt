@@ -20,7 +20,8 @@ pub use made::{Def, Definition, Made};
 pub use names::{NAME_BYTES, is_name};
 pub use query::{ColRef, Op, Operand, OrderItem, Pred, Query, Relation, Stop};
 pub use sequences::{
-    begins, columns_in, group_access, index_begins, part_at, primary_begins, sequence,
+    begins, columns_in, dirs_of, group_access, index_begins, index_sequence, part_at,
+    primary_begins, sequence,
 };
 pub use table::{
     Access, Column, Foreign, Index, KeyPart, KeyParts, Limit, NewIndex, Referring, Table,

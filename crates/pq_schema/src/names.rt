@@ -2,7 +2,7 @@
 
 ghost use Rattle.std.specs.Prelude.{◌≡◌, ◌↔◌, All, IsTrue};
 ghost use Rattle.std.specs.List.{list_all};
-ghost use Rattle.pq_schema.specs.Names.{is_letter, is_digit, is_name_byte, is_word, is_keyword, is_name, IsName, IsKind, IsColumnDef, IsLimitDef, IsForeignDef, IsTableDef};
+ghost use Rattle.pq_schema.specs.Names.{is_small_letter, is_name_byte, is_word, is_keyword, is_name, IsName, IsKind, IsColumnDef, IsLimitDef, IsForeignDef, IsTableDef};
 
 use crate::definition::{ColumnDef, ForeignDef, LimitDef, TableDef};
 use pq_base::{PText, keyword_table};
@@ -10,22 +10,16 @@ use pq_base::{PText, keyword_table};
 /// The greatest number of bytes of a name.
 pub const NAME_BYTES: usize = 32;
 
-fn is_letter(b: u8) -> bool
-    ensures { result ≡ is_letter b }
+fn is_small_letter(b: u8) -> bool
+    ensures { result ≡ is_small_letter b }
 {
-    b == b'_' || b'a' <= b && b <= b'z'
-}
-
-fn is_digit(b: u8) -> bool
-    ensures { result ≡ is_digit b }
-{
-    b'0' <= b && b <= b'9'
+    b == b'_' || b.is_ascii_lowercase()
 }
 
 fn is_name_byte(b: u8) -> bool
     ensures { result ≡ is_name_byte b }
 {
-    is_letter(b) || is_digit(b)
+    is_small_letter(b) || b.is_ascii_digit()
 }
 
 fn are_name_bytes(bytes: &[u8]) -> bool
@@ -39,7 +33,7 @@ fn is_word(bytes: &[u8]) -> bool
 {
     match bytes.split_first() {
         None => false,
-        Some((first, rest)) => is_letter(*first) && are_name_bytes(rest),
+        Some((first, rest)) => is_small_letter(*first) && are_name_bytes(rest),
     }
 }
 

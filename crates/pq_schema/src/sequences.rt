@@ -1,6 +1,7 @@
 //! The sequences of a table, walked without memory.
 
 ghost use Rattle.std.specs.Prelude.{◌≡◌, ◌==◌, ◌&&◌, ◌<◌, ◌≤◌, ◌∷◌, [], All, IfOk, length, map, slice_get, position};
+ghost use Rattle.pq_schema.specs.Keys.{dirs_of};
 ghost use Rattle.pq_schema.specs.Sound.{IsTable, AreColumns, AreParts};
 ghost use Rattle.pq_schema.specs.Sequences.{ascending_part, then_key, begins_with, columns_of, primary_sequence, index_sequence, sequence_of, IsAccess, group_access};
 ghost use Rattle.pq_base.specs.Columns.{set_of};
@@ -137,6 +138,16 @@ fn parts_then_key(
     Ok(made)
 }
 
+/// The columns of the index, and then the key columns not among them.
+pub fn index_sequence(alloc: Global, table: &Table, index: &Index) -> Result<List<KeyPart>, NoMem>
+    requires key { AreColumns table.now.key }
+    requires parts { AreParts index.now.cols }
+    ensures { IfOk result (λ parts. parts ≡ index_sequence table.now index.now) }
+{
+    let parts = index.cols.items();
+    parts_then_key(alloc, parts, columns_in(parts), table.key.items())
+}
+
 /// The primary sequence, or that of an index of the table.
 #[tactic(auto, using(crate::proofs::Places::all_left))]
 pub fn sequence(alloc: Global, table: &Table, access: Access) -> Result<List<KeyPart>, NoMem>
@@ -144,13 +155,21 @@ pub fn sequence(alloc: Global, table: &Table, access: Access) -> Result<List<Key
     requires access { IsAccess table.now access }
     ensures { IfOk result (λ parts. parts ≡ sequence_of table.now access) }
 {
-    let key = table.key.items();
     match access {
-        Access::Primary => parts_then_key(alloc, &[], ColSet::empty(), key),
+        Access::Primary => parts_then_key(alloc, &[], ColSet::empty(), table.key.items()),
         Access::Secondary(number) => {
-            let index = &table.indexes.items()[number as usize - 1];
-            let parts = index.cols.items();
-            parts_then_key(alloc, parts, columns_in(parts), key)
+            index_sequence(alloc, table, &table.indexes.items()[number as usize - 1])
         }
     }
+}
+
+/// The directions of the parts.
+pub fn dirs_of(alloc: Global, parts: &[KeyPart]) -> Result<List<Dir>, NoMem>
+    ensures { IfOk result (λ dirs. dirs ≡ dirs_of parts.now) }
+{
+    let mut dirs = List::new(alloc);
+    for part in parts {
+        dirs.push(alloc, part.dir)?;
+    }
+    Ok(dirs)
 }

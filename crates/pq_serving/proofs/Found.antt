@@ -14,14 +14,15 @@ use Rattle.pq_base.specs.Values.{AllFit}
 use Rattle.pq_base.proofs.Sorts.{IsPermutation-sort_by}
 use Rattle.pq_base.specs.Members.{In}
 use Rattle.pq_base.specs.Sorting.{sort_by}
-use Rattle.pq_key_code.proofs.StoreKeys.{length_from_fits}
+use Rattle.pq_base.proofs.TypeFits.{length_from_fits}
 use Rattle.pq_schema.specs.declared.table.Column.{Column}
 use Rattle.pq_schema.specs.declared.table.Table.{Table}
 use Rattle.pq_schema.specs.declared.query.ColRef.{ColRef}
 use Rattle.pq_schema.specs.Resolved.{ref_type}
 use Rattle.pq_schema.specs.Tables.{type_at}
 use Rattle.pq_content.specs.Tables.{types_of, IsOfKind}
-use Rattle.pq_serving.proofs.Typed.{kind_from_fit, fit_get}
+use Rattle.pq_schema.proofs.TypeKinds.{kind_from_fit}
+use Rattle.pq_serving.proofs.Typed.{fit_get}
 use Rattle.pq_schema.specs.declared.query.OrderItem.{OrderItem}
 use Rattle.pq_schema.specs.Sequences.{columns_of}
 use Rattle.pq_schema.specs.Relations.{table_of, tied_set, position_columns}

@@ -14,6 +14,7 @@ use Rattle.pq_base.specs.declared.value.Value.TheVariants as value
 use Rattle.pq_base.specs.declared.value.ColType.{ColType}
 use Rattle.pq_base.specs.declared.value.ColType.TheVariants as type
 use Rattle.pq_base.specs.Values.{IsValue, AreValues, SameKind, SameKinds}
+use Rattle.pq_schema.proofs.TypeKinds.{kinds_alike, value_from_kind}
 use Rattle.pq_schema.specs.Keys.{dirs_of}
 use Rattle.pq_schema.specs.declared.table.KeyPart.{KeyPart}
 use Rattle.pq_key_code.specs.KeyCode.{code_of}
@@ -38,45 +39,18 @@ abbrev pub AreFit : List ColType → List Bound → Type 0
 AreFit ts bs = AllByRecursion (λ b. Fits ts b.values) bs
 
 -- ---- kinds
-kind_value : (t : ColType) (x : Value) → IsOfKind t x → IsValue x
-kind_value type.Int (value.Int n) h = h
-kind_value type.Int (value.Bool b) h = absurd h
-kind_value type.Int (value.Text s) h = absurd h
-kind_value type.Bool (value.Int n) h = absurd h
-kind_value type.Bool (value.Bool b) h = tt
-kind_value type.Bool (value.Text s) h = absurd h
-kind_value (type.Text m) (value.Int n) h = absurd h
-kind_value (type.Text m) (value.Bool b) h = absurd h
-kind_value (type.Text m) (value.Text s) h = h
-
-kinds_same : (t : ColType) (x y : Value) → IsOfKind t x → IsOfKind t y → SameKind x y
-kinds_same type.Int (value.Int n) (value.Int m) g h = tt
-kinds_same type.Int (value.Int n) (value.Bool b) g h = absurd h
-kinds_same type.Int (value.Int n) (value.Text s) g h = absurd h
-kinds_same type.Int (value.Bool b) y g h = absurd g
-kinds_same type.Int (value.Text s) y g h = absurd g
-kinds_same type.Bool (value.Bool a) (value.Bool b) g h = tt
-kinds_same type.Bool (value.Bool a) (value.Int n) g h = absurd h
-kinds_same type.Bool (value.Bool a) (value.Text s) g h = absurd h
-kinds_same type.Bool (value.Int n) y g h = absurd g
-kinds_same type.Bool (value.Text s) y g h = absurd g
-kinds_same (type.Text m) (value.Text s) (value.Text r) g h = tt
-kinds_same (type.Text m) (value.Text s) (value.Int n) g h = absurd h
-kinds_same (type.Text m) (value.Text s) (value.Bool b) g h = absurd h
-kinds_same (type.Text m) (value.Int n) y g h = absurd g
-kinds_same (type.Text m) (value.Bool b) y g h = absurd g
 
 pub fits_values : (ts : List ColType) (xs : List Value) → Fits ts xs → AreValues xs
 fits_values [] [] h = tt
 fits_values (t ∷ ts) [] h = tt
 fits_values [] (x ∷ xs) h = absurd h
-fits_values (t ∷ ts) (x ∷ xs) h = (kind_value t x h.0, fits_values ts xs h.1)
+fits_values (t ∷ ts) (x ∷ xs) h = (value_from_kind t x h.0, fits_values ts xs h.1)
 
 pub fits_kinds : (ts : List ColType) (ps xs : List Value) → Fits ts ps → Fits ts xs → SameKinds ps xs
 fits_kinds ts [] xs g h = tt
 fits_kinds ts (p ∷ ps) [] g h = tt
 fits_kinds [] (p ∷ ps) (x ∷ xs) g h = absurd g
-fits_kinds (t ∷ ts) (p ∷ ps) (x ∷ xs) g h = (kinds_same t p x g.0 h.0, fits_kinds ts ps xs g.1 h.1)
+fits_kinds (t ∷ ts) (p ∷ ps) (x ∷ xs) g h = (kinds_alike t p x g.0 h.0, fits_kinds ts ps xs g.1 h.1)
 
 fits_long : (ts : List ColType) (xs : List Value) → Fits ts xs → length xs ≤ length ts
 fits_long [] [] h = omega arith

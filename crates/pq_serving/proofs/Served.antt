@@ -7,7 +7,7 @@ use Rattle.std.proofs.lemmas.List.{length-map}
 use Rattle.pq_base.specs.Columns.{has_col, set_of}
 use Rattle.pq_base.specs.declared.value.Value.{Value}
 use Rattle.pq_base.specs.Members.{In}
-use Rattle.pq_key_code.proofs.StoreKeys.{length_from_fits}
+use Rattle.pq_base.proofs.TypeFits.{length_from_fits}
 use Rattle.pq_schema.specs.declared.table.KeyPart.{KeyPart}
 use Rattle.pq_schema.specs.declared.table.Table.{Table}
 use Rattle.pq_schema.specs.declared.table.Column.{Column}

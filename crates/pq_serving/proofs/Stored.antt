@@ -16,12 +16,13 @@ use Rattle.pq_schema.specs.Tables.{table_at}
 use Rattle.pq_schema.specs.Relations.{relation_at}
 use Rattle.pq_content.specs.Pairs.{Pair, AreBeside, row_pair, entry_pair, content_pairs}
 use Rattle.pq_store.specs.Content.{pairs_within}
-use Rattle.pq_content.specs.Tables.{rows_of, type_of, types_at, value_of, key_of, values_of, dirs_of, AllOfKinds}
+use Rattle.pq_content.specs.Tables.{rows_of, type_at, types_at, value_of, key_of, values_of, dirs_of, AllOfKinds}
 use Rattle.pq_content.proofs.EntryRanges.{entry_range, entry_bytes}
 use Rattle.pq_content.proofs.Ranges.{in_range}
 use Rattle.pq_content.proofs.RowRanges.{row_range, key_bytes}
 use Rattle.pq_content.proofs.TableRows.{values_of-primary, dirs_of-primary}
-use Rattle.pq_content.proofs.Values.{kinds_from_fit, sequence_fits, values_of-columns_of}
+use Rattle.pq_schema.proofs.TypeKinds.{kinds_from_fit}
+use Rattle.pq_content.proofs.Values.{sequence_fits, values_of-columns_of}
 use Rattle.pq_plan.specs.Answer.{Question, rows_at, no_value}
 use Rattle.pq_plan.specs.Kept.{KeepsSchema}
 use Rattle.pq_plan.proofs.Kept.{row_fits}
@@ -45,7 +46,7 @@ pub record IsTyped (q : Question) (p : ℕ) (sequence : List KeyPart) (c : List 
 
 module _ (q : Question) (p : ℕ) (sequence : List KeyPart) (c : List (List Value)) (after : Option (List Value)) (others : List Pair)
     (kept : KeepsSchema q.tables q.rows) (beside : AreBeside others)
-    (typed : IsTyped q p sequence c after (types_at (table_at q.tables (relation_at q.query p).table) (columns_of sequence))) where
+    (typed : IsTyped q p sequence c after (types_at (table_at q.tables (relation_at q.query p).table).columns (columns_of sequence))) where
   abbrev t : ℕ
   t = (relation_at q.query p).table
 
@@ -63,13 +64,13 @@ module _ (q : Question) (p : ℕ) (sequence : List KeyPart) (c : List (List Valu
 
   test_is : (r : List Value) → In r (rows_of t q.rows) → in_range low high (code_of (dirs_of sequence) (values_of sequence r)) ≡ lies r
   test_is r here =
-      let ts = types_at table (columns_of sequence) in
+      let ts = types_at table.columns (columns_of sequence) in
       let fit = row_fits q.tables q.rows kept t r here in
       let same = values_of-columns_of sequence r in
       let kinds : Fits ts (cells_of q p sequence r) = subst (Fits ts) same (kinds_fit ts (values_of sequence r) (kinds_from_fit ts (values_of sequence r) (sequence_fits table sequence r fit))) in
       ap (λ (xs : List Value). in_range low high (code_of (dirs_of sequence) xs)) same
       ∙ key_range q p sequence c after ts (cells_of q p sequence r)
-      (length-map (columns_of sequence) (type_of table) ∙ length-map sequence (λ (part : KeyPart). part.col) ∙ sym (length-map sequence (λ (part : KeyPart). part.dir)))
+      (length-map (columns_of sequence) (type_at table.columns) ∙ length-map sequence (λ (part : KeyPart). part.col) ∙ sym (length-map sequence (λ (part : KeyPart). part.dir)))
       (length-map (columns_of sequence) (λ (col : ℕ). get_or r col no_value) ∙ length-map sequence (λ (part : KeyPart). part.col) ∙ sym (length-map sequence (λ (part : KeyPart). part.dir)))
       kinds typed.tied typed.above typed.below
 
@@ -86,7 +87,7 @@ module _ (q : Question) (p : ℕ) (c : List (List Value)) (after : Option (List 
 
   -- of an index: the first k entries of one range
   pub entries_are : (place : ℕ) (index : Index) (has : slice_get (table_at q.tables at).indexes place ≡ Some index) (i : ℕ) (number : 1 + place ≡ i) →
-      IsTyped q p (index_sequence (table_at q.tables at) index) c after (types_at (table_at q.tables at) (columns_of (index_sequence (table_at q.tables at) index))) →
+      IsTyped q p (index_sequence (table_at q.tables at) index) c after (types_at (table_at q.tables at).columns (columns_of (index_sequence (table_at q.tables at) index))) →
       pairs_within (content_pairs q.tables q.rows others) (3 ∷ at ∷ i ∷ range_low q p (index_sequence (table_at q.tables at) index) c after) (3 ∷ at ∷ i ∷ range_high q p (index_sequence (table_at q.tables at) index) c)
       ≡ map (entry_pair at i (index_sequence (table_at q.tables at) index)) (lying q p (index_sequence (table_at q.tables at) index) after c)
   entries_are place index has i number typed =
@@ -99,7 +100,7 @@ module _ (q : Question) (p : ℕ) (c : List (List Value)) (after : Option (List 
       ∙ ap (map f) (rows_lie q p sequence c after others kept beside typed (λ row. in_range low high (entry_bytes at i low high table index row)) (λ r here. refl))
 
   -- of the rows themselves: the first k pairs of one range
-  pub rows_are_found : IsTyped q p (primary_sequence (table_at q.tables at)) c after (types_at (table_at q.tables at) (columns_of (primary_sequence (table_at q.tables at)))) →
+  pub rows_are_found : IsTyped q p (primary_sequence (table_at q.tables at)) c after (types_at (table_at q.tables at).columns (columns_of (primary_sequence (table_at q.tables at)))) →
       pairs_within (content_pairs q.tables q.rows others) (2 ∷ at ∷ range_low q p (primary_sequence (table_at q.tables at)) c after) (2 ∷ at ∷ range_high q p (primary_sequence (table_at q.tables at)) c)
       ≡ map (row_pair at (table_at q.tables at)) (lying q p (primary_sequence (table_at q.tables at)) after c)
   rows_are_found typed =

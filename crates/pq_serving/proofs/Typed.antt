@@ -26,12 +26,13 @@ use Rattle.pq_schema.specs.Resolved.{IsOperand, IsJoined, IsParam, IsPredicate, 
 use Rattle.pq_schema.specs.Sequences.{columns_of}
 use Rattle.pq_base.specs.Values.{same_kind}
 use Rattle.pq_schema.specs.Relations.{table_of, belongs_to, ties, tied_set, is_rest, part_of, position_columns}
-use Rattle.pq_content.specs.Tables.{types_of, type_of, types_at, IsOfKind}
+use Rattle.pq_content.specs.Tables.{types_of, type_at, types_at, IsOfKind}
 use Rattle.pq_plan.specs.Answer.{Question, row_of, side, compares, no_value}
 use Rattle.pq_plan.specs.Running.{tied_value}
 use Rattle.pq_base.proofs.Members.{all_at, found}
 use Rattle.pq_base.proofs.Members.{all_member, each_by_in, in_map, map_in, in_filter, filter_in, in_flat_map, in_either}
 use Rattle.pq_base.proofs.Sets.{members_set}
+use Rattle.pq_schema.proofs.TypeKinds.{kind_as, kind_from_fit, kind_from_param}
 use Rattle.pq_plan.proofs.Fixed.{ties_belong}
 use Rattle.pq_serving.specs.Starts.{Bound, by_case, start_of, under, lower, upper, at_value, past_value}
 use Rattle.pq_serving.specs.Scanning.{first_direction, constant_value, constants, position_directions, own_preds, is_operand, is_tied, passes_one, passes, bounds_with, lowers, uppers, starts, front, rest, ties as tie_values, lows, highs}
@@ -41,38 +42,7 @@ use Rattle.pq_serving.proofs.Places.{own_is, own}
 use Rattle.pq_serving.proofs.Served.{IsServed, front_tied}
 use Rattle.pq_serving.proofs.Stored.{IsTyped}
 
--- ---- kinds
-pub kind_from_fit : (t : ColType) (x : Value) → FitsType t x → IsOfKind t x
-kind_from_fit type.Int (value.Int a) h = h
-kind_from_fit type.Int (value.Bool a) h = absurd h
-kind_from_fit type.Int (value.Text a) h = absurd h
-kind_from_fit type.Bool (value.Int a) h = absurd h
-kind_from_fit type.Bool (value.Bool a) h = tt
-kind_from_fit type.Bool (value.Text a) h = absurd h
-kind_from_fit (type.Text n) (value.Int a) h = absurd h
-kind_from_fit (type.Text n) (value.Bool a) h = absurd h
-kind_from_fit (type.Text n) (value.Text a) h = h.0
-
-kind_from_param : (t : ColType) (x : Value) → FitsType (param_type t) x → IsOfKind t x
-kind_from_param type.Int x h = kind_from_fit type.Int x h
-kind_from_param type.Bool x h = kind_from_fit type.Bool x h
-kind_from_param (type.Text n) (value.Int a) h = absurd h
-kind_from_param (type.Text n) (value.Bool a) h = absurd h
-kind_from_param (type.Text n) (value.Text a) h = h.0
-
-kind_as : (t u : ColType) (x : Value) → same_kind t u ≡ true → IsOfKind u x → IsOfKind t x
-kind_as type.Int type.Int x e h = h
-kind_as type.Int type.Bool x e h = absurd (false≢true e)
-kind_as type.Int (type.Text m) x e h = absurd (false≢true e)
-kind_as type.Bool type.Int x e h = absurd (false≢true e)
-kind_as type.Bool type.Bool x e h = h
-kind_as type.Bool (type.Text m) x e h = absurd (false≢true e)
-kind_as (type.Text n) type.Int x e h = absurd (false≢true e)
-kind_as (type.Text n) type.Bool x e h = absurd (false≢true e)
-kind_as (type.Text n) (type.Text m) (value.Int a) e h = absurd h
-kind_as (type.Text n) (type.Text m) (value.Bool a) e h = absurd h
-kind_as (type.Text n) (type.Text m) (value.Text a) e h = h
-
+-- ---- values that fit
 pub fit_get : (ts : List ColType) (xs : List Value) (k : ℕ) (v : Value) → AllFit ts xs → slice_get xs k ≡ Some v → FitsType (get_or ts k type.Bool) v
 fit_get [] [] k v h e = absurd (none-some v e)
 fit_get [] (x ∷ xs) k v h e = absurd h
@@ -97,7 +67,7 @@ fits_append [] us (x ∷ xs) ys l g h = absurd g
 fits_append (t ∷ ts) us [] ys l g h = absurd (omega arith)
 fits_append (t ∷ ts) us (x ∷ xs) ys l g h = (g.0, fits_append ts us xs ys (omega arith) g.1 h)
 
-fits_map : (table : Table) (value_at : ℕ → Value) (cols : List ℕ) → ((k : ℕ) → In k cols → IsOfKind (type_of table k) (value_at k)) → Fits (types_at table cols) (map value_at cols)
+fits_map : (table : Table) (value_at : ℕ → Value) (cols : List ℕ) → ((k : ℕ) → In k cols → IsOfKind (type_at table.columns k) (value_at k)) → Fits (types_at table.columns cols) (map value_at cols)
 fits_map table value_at [] h = tt
 fits_map table value_at (col ∷ cols) h = (h col (inl refl), fits_map table value_at cols (λ k here. h k (inr here)))
 
@@ -167,11 +137,11 @@ module _ (q : Question) (p : ℕ) (sequence : List KeyPart) (s : IsServed q p se
   table = table_of q.tables q.query p
 
   -- an operand is of its column's kind
-  side_kind : (pred : Pred) → In pred (own_preds q p) → (v : Value) → side q.params c pred.right ≡ Some v → IsOfKind (type_of table pred.left.col) v
+  side_kind : (pred : Pred) → In pred (own_preds q p) → (v : Value) → side q.params c pred.right ≡ Some v → IsOfKind (type_at table.columns pred.left.col) v
   side_kind pred here v is =
       let f = in_filter (λ pred. belongs_to pred == p) pred q.query.preds here in
       let left = (s.own pred f.0 (eqb-true _ _ f.1)).left in
-      subst (λ (n : ℕ). IsOfKind (type_of (table_of q.tables q.query n) pred.left.col) v) left
+      subst (λ (n : ℕ). IsOfKind (type_at (table_of q.tables q.query n).columns pred.left.col) v) left
       (of left pred.right (all_member (IsPredicate q.tables q.query) q.query.preds resolved.preds pred f.0).right is)
     where
       of : pred.left.rel ≡ p → (o : Operand) → IsOperand q.tables q.query pred o → side q.params c o ≡ Some v → IsOfKind (ref_type q.tables q.query pred.left) v
@@ -191,7 +161,7 @@ module _ (q : Question) (p : ℕ) (sequence : List KeyPart) (s : IsServed q p se
   passes_tied pred tied passed = sym (ap (λ b. cond b (compares pred.op (tied_value q p c pred.left.col) (side q.params c pred.right)) (is_operand (side q.params c pred.right))) tied) ∙ passed
 
   -- a tied value is of its column's kind
-  tie_kind : (k : ℕ) → In k (front q p sequence) → IsOfKind (type_of table k) (unwrap_or (tied_value q p c k) no_value)
+  tie_kind : (k : ℕ) → In k (front q p sequence) → IsOfKind (type_at table.columns k) (unwrap_or (tied_value q p c k) no_value)
   tie_kind k here =
       let m = in_map (λ (pred : Pred). pred.left.col) k (filter (ties p) q.query.preds) (front_tied q p sequence s k here) in
       let at = in_filter (ties p) m.0 q.query.preds m.1 in
@@ -199,7 +169,7 @@ module _ (q : Question) (p : ℕ) (sequence : List KeyPart) (s : IsServed q p se
       of_first k f.0 f.1 f.2 f.3
     where
       -- of the equality that ties the column
-      of_first : (k : ℕ) (pred : Pred) → find (λ pred. ties p pred && (pred.left.col == k)) q.query.preds ≡ Some pred → In pred q.query.preds → (ties p pred && (pred.left.col == k)) ≡ true → IsOfKind (type_of table k) (unwrap_or (tied_value q p c k) no_value)
+      of_first : (k : ℕ) (pred : Pred) → find (λ pred. ties p pred && (pred.left.col == k)) q.query.preds ≡ Some pred → In pred q.query.preds → (ties p pred && (pred.left.col == k)) ≡ true → IsOfKind (type_at table.columns k) (unwrap_or (tied_value q p c k) no_value)
       of_first k pred is there h =
           let both = and_parts (ties p pred) (pred.left.col == k) h in
           let own_pred : In pred (own_preds q p) = filter_in (λ pred. belongs_to pred == p) pred q.query.preds there (eq-eqb _ _ (ties_belong p pred both.0)) in
@@ -207,30 +177,30 @@ module _ (q : Question) (p : ℕ) (sequence : List KeyPart) (s : IsServed q p se
           let passed = all_at (passes_one q p c) (own_preds q p) pass pred own_pred in
           let w = right_there pred.op (tied_value q p c pred.left.col) (side q.params c pred.right) (passes_tied pred tied passed) in
           let value : unwrap_or (tied_value q p c k) no_value ≡ w.0 = ap (λ (o : Option Pred). unwrap_or (option_and_then (λ (pred : Pred). side q.params c pred.right) o) no_value) is ∙ ap (λ (o : Option Value). unwrap_or o no_value) w.1 in
-          subst (λ (v : Value). IsOfKind (type_of table k) v) (sym value) (subst (λ (n : ℕ). IsOfKind (type_of table n) w.0) (eqb-true pred.left.col k both.1) (side_kind pred own_pred w.0 w.1))
+          subst (λ (v : Value). IsOfKind (type_at table.columns k) v) (sym value) (subst (λ (n : ℕ). IsOfKind (type_at table.columns n) w.0) (eqb-true pred.left.col k both.1) (side_kind pred own_pred w.0 w.1))
 
   abbrev front_types : List ColType
-  front_types = types_at table (front q p sequence)
+  front_types = types_at table.columns (front q p sequence)
 
   abbrev rest_types : List ColType
-  rest_types = types_at table (columns_of (rest q p sequence))
+  rest_types = types_at table.columns (columns_of (rest q p sequence))
 
-  types_are : types_at table (columns_of sequence) ≡ front_types ++ rest_types
+  types_are : types_at table.columns (columns_of sequence) ≡ front_types ++ rest_types
   types_are =
       let many = count_ones (tied_set q.query p) in
-      ap (types_at table) (sym (take-append-drop many (columns_of sequence)) ∙ ap (λ (l : List ℕ). front q p sequence ++ l) (drop-map (λ (part : KeyPart). part.col) many sequence))
-      ∙ map-append (type_of table) (front q p sequence) (columns_of (rest q p sequence))
+      ap (types_at table.columns) (sym (take-append-drop many (columns_of sequence)) ∙ ap (λ (l : List ℕ). front q p sequence ++ l) (drop-map (λ (part : KeyPart). part.col) many sequence))
+      ∙ map-append (type_at table.columns) (front q p sequence) (columns_of (rest q p sequence))
 
   ties_fit : Fits front_types (tie_values q p sequence c)
   ties_fit = fits_map table (λ col. unwrap_or (tied_value q p c col) no_value) (front q p sequence) tie_kind
 
-  under_fit : (bs : List Bound) → ((b : Bound) → In b bs → Fits rest_types b.values) → AreFit (types_at table (columns_of sequence)) (map (under (tie_values q p sequence c)) bs)
+  under_fit : (bs : List Bound) → ((b : Bound) → In b bs → Fits rest_types b.values) → AreFit (types_at table.columns (columns_of sequence)) (map (under (tie_values q p sequence c)) bs)
   under_fit bs h = each_by_in _ (map (under (tie_values q p sequence c)) bs) (λ b here.
       let m = in_map (under (tie_values q p sequence c)) b bs here in
-      subst (λ (b : Bound). Fits (types_at table (columns_of sequence)) b.values) m.2
+      subst (λ (b : Bound). Fits (types_at table.columns (columns_of sequence)) b.values) m.2
       (subst (λ (ts : List ColType). Fits ts (tie_values q p sequence c ++ m.0.values)) (sym types_are)
       (fits_append front_types rest_types (tie_values q p sequence c) m.0.values
-      (length-map (front q p sequence) (type_of table) ∙ sym (length-map (front q p sequence) (λ col. unwrap_or (tied_value q p c col) no_value)))
+      (length-map (front q p sequence) (type_at table.columns) ∙ sym (length-map (front q p sequence) (λ col. unwrap_or (tied_value q p c col) no_value)))
       ties_fit (h m.0 m.1))))
 
   -- a bound that a predicate makes
@@ -238,9 +208,9 @@ module _ (q : Question) (p : ℕ) (sequence : List KeyPart) (s : IsServed q p se
   operand_fits pred here untied w is b alone =
       let f = in_filter (λ pred. belongs_to pred == p) pred q.query.preds here in
       let r = s.ranges pred f.0 (eqb-true _ _ f.1) untied in
-      let kind : IsOfKind (type_of table r.part.col) w = subst (λ (n : ℕ). IsOfKind (type_of table n) w) (sym r.column) (side_kind pred here w is) in
+      let kind : IsOfKind (type_at table.columns r.part.col) w = subst (λ (n : ℕ). IsOfKind (type_at table.columns n) w) (sym r.column) (side_kind pred here w is) in
       subst (λ (vs : List Value). Fits rest_types vs) (sym alone)
-      (subst (λ (parts : List KeyPart). Fits (types_at table (columns_of parts)) (w ∷ [])) (sym r.first) (kind, fits_none (types_at table (columns_of r.parts))))
+      (subst (λ (parts : List KeyPart). Fits (types_at table.columns (columns_of parts)) (w ∷ [])) (sym r.first) (kind, fits_none (types_at table.columns (columns_of r.parts))))
 
   from_pred : (make : Op → Value → List Bound) → ((o : Op) (w : Value) (b : Bound) → In b (make o w) → b.values ≡ w ∷ []) → (pred : Pred) → In pred (own_preds q p) → (b : Bound) → In b (cond (is_tied q p pred) [] (bounds_with q p (make pred.op) (side q.params c pred.right))) → Fits rest_types b.values
   from_pred make alone pred here b there =
@@ -258,11 +228,11 @@ module _ (q : Question) (p : ℕ) (sequence : List KeyPart) (s : IsServed q p se
     own_types =
         own_is (is_rest p (tied_set q.query p)) (constant_value q p c) (constant_value q p c) (constant_value q p c) (λ (item : OrderItem). ref_type q.tables q.query item.col) (position_columns q.tables q.query)
         ∙ sym (of_relation (filter (is_rest p (tied_set q.query p)) (position_columns q.tables q.query)) (λ item here. eqb-true _ _ (and_parts _ _ (in_filter (is_rest p (tied_set q.query p)) item (position_columns q.tables q.query) here).1).0))
-        ∙ ap (λ (parts : List KeyPart). types_at table (columns_of parts)) s.rest_is
+        ∙ ap (λ (parts : List KeyPart). types_at table.columns (columns_of parts)) s.rest_is
       where
-        of_relation : (items : List OrderItem) → ((item : OrderItem) → In item items → item.col.rel ≡ p) → types_at table (columns_of (map part_of items)) ≡ map (λ (item : OrderItem). ref_type q.tables q.query item.col) items
+        of_relation : (items : List OrderItem) → ((item : OrderItem) → In item items → item.col.rel ≡ p) → types_at table.columns (columns_of (map part_of items)) ≡ map (λ (item : OrderItem). ref_type q.tables q.query item.col) items
         of_relation [] h = refl
-        of_relation (item ∷ items) h = λ i. type_of (table_of q.tables q.query (sym (h item (inl refl)) i)) item.col.col ∷ of_relation items (λ x here. h x (inr here)) i
+        of_relation (item ∷ items) h = λ i. type_at (table_of q.tables q.query (sym (h item (inl refl)) i)).columns item.col.col ∷ of_relation items (λ x here. h x (inr here)) i
 
     start_fits : (o : Option (List Value)) → after ≡ o → (b : Bound) → In b (starts q p c o) → Fits rest_types b.values
     start_fits None is b i = absurd i
@@ -273,7 +243,7 @@ module _ (q : Question) (p : ℕ) (sequence : List KeyPart) (s : IsServed q p se
         (fits_start _ (position_directions q p) (constants q p c) at (fits_all _ at (cursor at is))))
 
     -- the bounds of an input that passes are typed
-    pub typed : IsTyped q p sequence c after (types_at table (columns_of sequence))
+    pub typed : IsTyped q p sequence c after (types_at table.columns (columns_of sequence))
     typed = record {
       tied = subst (λ (ts : List ColType). Fits ts (tie_values q p sequence c)) (sym types_are) (fits_more front_types rest_types (tie_values q p sequence c) ties_fit);
       above = under_fit (lows q p sequence c after) (λ b here. elim (in_either b (starts q p c after) _ here) [

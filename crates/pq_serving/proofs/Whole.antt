@@ -4,7 +4,7 @@ use Rattle.std.proofs.lemmas.List.{length-map}
 use Rattle.pq_base.specs.Columns.{set_of}
 use Rattle.pq_base.specs.declared.value.Value.{Value}
 use Rattle.pq_base.specs.Members.{In}
-use Rattle.pq_key_code.proofs.StoreKeys.{length_from_fits}
+use Rattle.pq_base.proofs.TypeFits.{length_from_fits}
 use Rattle.pq_schema.specs.declared.table.Access.{Access}
 use Rattle.pq_schema.specs.declared.table.Access.TheVariants.{Primary, Secondary}
 use Rattle.pq_schema.specs.declared.table.Index.{Index}
@@ -110,7 +110,7 @@ module _ (q : Question) (p : ℕ) (is : IsScanned q p) where
     pub wide_is : (r : List Value) → In r (rows_at q p) → HasColumns sequence r
     wide_is = wide q.tables q.query q.rows q.params query_is schema_is is.asked.resolved p is.relation.from_one is.relation.there is.can sequence (inside access s.0)
 
-    pub typed_is : (after : Option (List Value)) → IsCursor q.tables q.query after → (c : List (List Value)) → IsInput q p c → IsTyped q p sequence c after (types_at (table_of q.tables q.query p) (columns_of sequence))
+    pub typed_is : (after : Option (List Value)) → IsCursor q.tables q.query after → (c : List (List Value)) → IsInput q p c → IsTyped q p sequence c after (types_at (table_of q.tables q.query p).columns (columns_of sequence))
     typed_is after cursor c input =
         typed q p sequence served_is is.asked.resolved is.asked.params_fit
         c (λ j low high. let fits = input.fits in fits.rows j low (omega arith)) input.passes after (cursor_at q.tables q.query after cursor)

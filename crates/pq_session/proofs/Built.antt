@@ -29,7 +29,8 @@ use Rattle.pq_store.specs.declared.damage.Broke.TheVariants.{Failed, NoMem, Dama
 use Rattle.pq_store.specs.declared.damage.Damage.{Damage}
 use Rattle.pq_store.specs.declared.store.Pair.{Pair as Found}
 use Rattle.pq_content.specs.Pairs.{Pair}
-use Rattle.pq_content.proofs.Values.{AreValues_from_kinds, kinds_from_fit}
+use Rattle.pq_schema.proofs.TypeKinds.{kinds_from_fit}
+use Rattle.pq_content.proofs.Values.{AreValues_from_kinds}
 use Rattle.pq_calls.specs.Keys.{sequence_types}
 use Rattle.pq_nodes.specs.Operators.{ShowsRead, no_key}
 use Rattle.pq_entries.specs.Entries.{AreEnds, Begins, key_front}

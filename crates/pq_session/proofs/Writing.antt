@@ -43,7 +43,7 @@ use Rattle.pq_key_code.specs.KeyCode.{intent_key}
 use Rattle.pq_index_keep.specs.Sound as writable
 use Rattle.pq_index_keep.specs.Sound.{IsWrite}
 use Rattle.pq_index_keep.proofs.Few.{IsFew, few_of}
-use Rattle.pq_index_keep.proofs.FromMade.{valid_writable}
+use Rattle.pq_index_keep.proofs.Narrow.{valid_writable}
 use Rattle.pq_nodes.specs.Operators.{no_row}
 use Rattle.pq_schema.specs.Valid.{IsValid}
 use Rattle.pq_session.specs.Matches.{Matches}

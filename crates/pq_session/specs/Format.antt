@@ -1,6 +1,7 @@
 -- What stands before the text in a definition's pair: its format and its mark.
 use Rattle.std.specs.Prelude.{ℕ, ◌==◌, Bool, false, List, ◌∷◌, length, drop, Option, Some, None, option_map, if◌then◌else◌}
 use Rattle.std.specs.Str.{is_utf8}
+use Rattle.pq_builds.specs.declared.mark.TheConstants.{READY, BUILDING}
 use Rattle.pq_schema.specs.declared.made.Definition.{Definition}
 use Rattle.pq_schema.specs.declared.made.Definition.TheVariants.{OfTable, OfQuery}
 use Rattle.pq_schema.specs.Schema.{Schema, definition_at}
@@ -17,7 +18,8 @@ last_definition schema = definition_at schema (length schema.definitions)
 
 -- behind the format the mark that the definition is ready, or that its index is being filled
 abbrev pub mark_of : List ℕ → Option Mark
-mark_of (format ∷ mark ∷ text) = if mark == 0 then Some Ready else if mark == 1 then Some Building else None
+mark_of (format ∷ mark ∷ text) =
+    if mark == READY then Some Ready else if mark == BUILDING then Some Building else None
 mark_of _ = None
 
 -- the mark, and behind it a text

@@ -13,6 +13,7 @@ use Rattle.pq_content.specs.Pairs.{Pair, content_pairs}
 use Rattle.pq_store.specs.Content.{Content}
 use Rattle.pq_content.specs.Tables.{Keeps}
 use Rattle.pq_builds.specs.Standing.{IsFilling}
+use Rattle.pq_builds.specs.declared.mark.TheConstants.{READY}
 use Rattle.pq_builds.specs.declared.target.NewQuery.{NewQuery}
 use Rattle.pq_session.specs.Format.{format_of, last_definition}
 use Rattle.pq_intent.specs.Settling.{Settles}
@@ -20,7 +21,7 @@ use Rattle.pq_session.specs.Model.{Model}
 
 -- the format, the mark that the definition is ready, and its canonical text
 abbrev pub catalog_value : Definition → List ℕ → List ℕ
-catalog_value definition text = format_of definition ∷ 0 ∷ text
+catalog_value definition text = format_of definition ∷ READY ∷ text
 
 abbrev pub catalog_pair : List Table → ℕ → Definition → Pair
 catalog_pair tables number definition = (catalog_key number, catalog_value definition (text_of tables definition))

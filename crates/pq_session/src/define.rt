@@ -35,7 +35,7 @@ ghost use Rattle.pq_schema.specs.Names.{IsName, IsTableDef};
 ghost use Rattle.pq_schema.specs.Tables.{table_at};
 ghost use Rattle.pq_content.specs.Tables.{IsTableNumber};
 
-use crate::format::{QUERY_FORMAT, READY, last_format};
+use crate::format::{QUERY_FORMAT, last_format};
 use crate::lines::table_lines;
 use crate::planning::{PlannedQuery, planned_lines};
 use crate::reports::{
@@ -43,7 +43,7 @@ use crate::reports::{
 };
 use crate::session::Session;
 use pq_base::{Bytes, List, NoMem, Refusal, Stopped};
-use pq_builds::{Built, NewQuery, Target, build_index};
+use pq_builds::{Built, NewQuery, READY, Target, build_index};
 use pq_compile::Compiled;
 use pq_key_code::catalog_key;
 use pq_plan::BoundedPlan;

@@ -3,14 +3,9 @@ ghost use Rattle.std.specs.Prelude.{◌≡◌, ◌≤◌, length, IfOk, IsSome};
 ghost use Rattle.pq_session.specs.Format.{format_of, last_definition, mark_of, marked_text, has_format};
 
 use pq_base::{NoMem, PText};
+use pq_builds::{BUILDING, READY};
 use pq_schema::{Catalog, Definition};
 use std::alloc::Global;
-
-/// The mark that a definition is ready.
-pub(crate) const READY: u8 = 0;
-
-/// The mark that the index that a definition made is being filled.
-const BUILDING: u8 = 1;
 
 /// Whether a definition is ready, or the index that it made is being filled.
 #[derive(Clone, Copy, Debug, PartialEq, Eq)]

@@ -1,12 +1,13 @@
 -- Which bytes exclude one another.
 use Rattle.std.proofs.Common.{◌≡◌, ℕ, true, false, eqb, arith}
 use Rattle.std.proofs.lemmas.Bool.Decides.{nat_tests}
-use Rattle.pq_text.specs.Bytes.{is_white, is_digit, is_letter, is_mark, is_double_mark}
+use Rattle.std.specs.Char.{is_ascii_digit}
+use Rattle.pq_text.specs.Bytes.{is_white, is_letter, is_mark, is_double_mark}
 
 pub letter_not_white : (b : ℕ) → is_letter b ≡ true → is_white b ≡ false
 letter_not_white b h = grind (arith, nat_tests)
 
-pub letter_not_digit : (b : ℕ) → is_letter b ≡ true → is_digit b ≡ false
+pub letter_not_digit : (b : ℕ) → is_letter b ≡ true → is_ascii_digit b ≡ false
 letter_not_digit b h = grind (arith, nat_tests)
 
 pub letter_not_mark : (b : ℕ) → is_letter b ≡ true → is_mark b ≡ false
@@ -18,19 +19,19 @@ letter_not_dash b h = grind (arith, nat_tests)
 pub letter_not_quote : (b : ℕ) → is_letter b ≡ true → eqb b 39 ≡ false
 letter_not_quote b h = grind (arith, nat_tests)
 
-pub digit_not_white : (b : ℕ) → is_digit b ≡ true → is_white b ≡ false
+pub digit_not_white : (b : ℕ) → is_ascii_digit b ≡ true → is_white b ≡ false
 digit_not_white b h = grind (arith, nat_tests)
 
-pub digit_not_letter : (b : ℕ) → is_digit b ≡ true → is_letter b ≡ false
+pub digit_not_letter : (b : ℕ) → is_ascii_digit b ≡ true → is_letter b ≡ false
 digit_not_letter b h = grind (arith, nat_tests)
 
-pub digit_not_mark : (b : ℕ) → is_digit b ≡ true → is_mark b ≡ false
+pub digit_not_mark : (b : ℕ) → is_ascii_digit b ≡ true → is_mark b ≡ false
 digit_not_mark b h = grind (arith, nat_tests)
 
-pub digit_not_dash : (b : ℕ) → is_digit b ≡ true → eqb b 45 ≡ false
+pub digit_not_dash : (b : ℕ) → is_ascii_digit b ≡ true → eqb b 45 ≡ false
 digit_not_dash b h = grind (arith, nat_tests)
 
-pub digit_not_quote : (b : ℕ) → is_digit b ≡ true → eqb b 39 ≡ false
+pub digit_not_quote : (b : ℕ) → is_ascii_digit b ≡ true → eqb b 39 ≡ false
 digit_not_quote b h = grind (arith, nat_tests)
 
 pub mark_not_white : (b : ℕ) → is_mark b ≡ true → is_white b ≡ false
@@ -39,7 +40,7 @@ mark_not_white b h = grind (arith, nat_tests)
 pub mark_not_letter : (b : ℕ) → is_mark b ≡ true → is_letter b ≡ false
 mark_not_letter b h = grind (arith, nat_tests)
 
-pub mark_not_digit : (b : ℕ) → is_mark b ≡ true → is_digit b ≡ false
+pub mark_not_digit : (b : ℕ) → is_mark b ≡ true → is_ascii_digit b ≡ false
 mark_not_digit b h = grind (arith, nat_tests)
 
 pub mark_not_dash : (b : ℕ) → is_mark b ≡ true → eqb b 45 ≡ false
@@ -51,7 +52,7 @@ mark_not_quote b h = grind (arith, nat_tests)
 pub white_not_letter : (b : ℕ) → is_white b ≡ true → is_letter b ≡ false
 white_not_letter b h = grind (arith, nat_tests)
 
-pub white_not_digit : (b : ℕ) → is_white b ≡ true → is_digit b ≡ false
+pub white_not_digit : (b : ℕ) → is_white b ≡ true → is_ascii_digit b ≡ false
 white_not_digit b h = grind (arith, nat_tests)
 
 pub white_not_mark : (b : ℕ) → is_white b ≡ true → is_mark b ≡ false

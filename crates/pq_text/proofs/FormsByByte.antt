@@ -1,7 +1,8 @@
 -- The form of bytes by their first byte.
 use Rattle.std.proofs.Common.{◌≡◌, ℕ, Bool, true, false, cond, eqb, List, [], ◌∷◌, length, Some, None, refl, ◌&&◌, not}
 use Rattle.std.specs.List.{list_all}
-use Rattle.pq_text.specs.Bytes.{next_is, is_white, is_digit, is_letter, is_word_byte, is_mark, is_double_mark}
+use Rattle.std.specs.Char.{is_ascii_digit}
+use Rattle.pq_text.specs.Bytes.{next_is, is_white, is_letter, is_word_byte, is_mark, is_double_mark}
 use Rattle.pq_text.specs.Forms.{LeftOut, Of, form_of, text_end, is_at, is_nowhere}
 use Rattle.pq_text.specs.declared.token.Kind.TheVariants as kind
 use Rattle.pq_text.proofs.Apart.{letter_not_white, letter_not_digit, letter_not_mark, letter_not_dash, letter_not_quote, digit_not_white, digit_not_letter, digit_not_mark, digit_not_dash, digit_not_quote, mark_not_white, mark_not_letter, mark_not_digit, mark_not_dash, mark_not_quote, white_not_letter, white_not_digit, white_not_mark, white_not_dash, white_not_quote, double_needs_mark}
@@ -11,12 +12,12 @@ form_letter last b [] h = simp (h, letter_not_white b h, letter_not_digit b h, l
 form_letter last b (c ∷ []) h = simp (h, letter_not_white b h, letter_not_digit b h, letter_not_dash b h, letter_not_quote b h, double_needs_mark b c (letter_not_mark b h))
 form_letter last b (c ∷ d ∷ w) h = simp (h, letter_not_white b h, letter_not_digit b h, letter_not_dash b h, letter_not_quote b h)
 
-pub form_digit : (last : Bool) (b : ℕ) (w : List ℕ) → is_digit b ≡ true → form_of last (b ∷ w) ≡ cond (list_all is_digit w) (Some (Of kind.Number)) None
+pub form_digit : (last : Bool) (b : ℕ) (w : List ℕ) → is_ascii_digit b ≡ true → form_of last (b ∷ w) ≡ cond (list_all is_ascii_digit w) (Some (Of kind.Number)) None
 form_digit last b [] h = simp (h, digit_not_white b h, digit_not_letter b h, digit_not_mark b h, digit_not_dash b h, digit_not_quote b h)
 form_digit last b (c ∷ []) h = simp (h, digit_not_white b h, digit_not_letter b h, digit_not_dash b h, digit_not_quote b h, double_needs_mark b c (digit_not_mark b h))
 form_digit last b (c ∷ d ∷ w) h = simp (h, digit_not_white b h, digit_not_letter b h, digit_not_dash b h, digit_not_quote b h)
 
-pub form_negative : (last : Bool) (c : ℕ) (w : List ℕ) → is_digit c ≡ true → form_of last (45 ∷ c ∷ w) ≡ cond (list_all is_digit w) (Some (Of kind.Number)) None
+pub form_negative : (last : Bool) (c : ℕ) (w : List ℕ) → is_ascii_digit c ≡ true → form_of last (45 ∷ c ∷ w) ≡ cond (list_all is_ascii_digit w) (Some (Of kind.Number)) None
 form_negative last c [] h = simp (h, digit_not_dash c h)
 form_negative last c (d ∷ w) h = simp (h, digit_not_dash c h)
 
@@ -24,7 +25,7 @@ pub form_comment : (last : Bool) (w : List ℕ) → form_of last (45 ∷ 45 ∷ 
 form_comment last [] = refl
 form_comment last (d ∷ w) = refl
 
-pub form_dash : (last : Bool) (w : List ℕ) → next_is (λ c. eqb c 45) w ≡ false → next_is is_digit w ≡ false → form_of last (45 ∷ w) ≡ None
+pub form_dash : (last : Bool) (w : List ℕ) → next_is (λ c. eqb c 45) w ≡ false → next_is is_ascii_digit w ≡ false → form_of last (45 ∷ w) ≡ None
 form_dash last [] h g = refl
 form_dash last (c ∷ []) h g = simp (h, g)
 form_dash last (c ∷ d ∷ w) h g = simp (h, g)
@@ -50,7 +51,7 @@ form_two_marks last b c h = simp (mark_not_letter b h, mark_not_digit b h, mark_
 pub form_mark_more : (last : Bool) (b c d : ℕ) (w : List ℕ) → is_mark b ≡ true → form_of last (b ∷ c ∷ d ∷ w) ≡ None
 form_mark_more last b c d w h = simp (mark_not_letter b h, mark_not_digit b h, mark_not_dash b h, mark_not_quote b h)
 
-pub form_other : (last : Bool) (b : ℕ) (w : List ℕ) → is_white b ≡ false → is_letter b ≡ false → is_digit b ≡ false → is_mark b ≡ false → eqb b 45 ≡ false → eqb b 39 ≡ false → form_of last (b ∷ w) ≡ None
+pub form_other : (last : Bool) (b : ℕ) (w : List ℕ) → is_white b ≡ false → is_letter b ≡ false → is_ascii_digit b ≡ false → is_mark b ≡ false → eqb b 45 ≡ false → eqb b 39 ≡ false → form_of last (b ∷ w) ≡ None
 form_other last b [] white letter digit mark dash quote = simp (white, letter, digit, mark, dash, quote)
 form_other last b (c ∷ []) white letter digit mark dash quote = simp (letter, digit, double_needs_mark b c mark, dash, quote)
 form_other last b (c ∷ d ∷ w) white letter digit mark dash quote = simp (letter, digit, dash, quote)

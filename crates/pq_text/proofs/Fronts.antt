@@ -3,7 +3,8 @@ use Rattle.std.proofs.Common.{◌≡◌, ◌≢◌, ℕ, zero, suc, ◌+◌, ◌
 use Rattle.std.specs.List.{list_all, take_while}
 use Rattle.std.proofs.lemmas.Bool.{eqb-true, eq-eqb}
 use Rattle.std.proofs.lemmas.List.{length-take-le, take_all}
-use Rattle.pq_text.specs.Bytes.{next_is, is_white, is_digit, is_letter, is_word_byte, is_mark, is_double_mark}
+use Rattle.std.specs.Char.{is_ascii_digit}
+use Rattle.pq_text.specs.Bytes.{next_is, is_white, is_letter, is_word_byte, is_mark, is_double_mark}
 use Rattle.pq_text.specs.Forms.{Form, LeftOut, Of, form_of, form_at, text_end}
 use Rattle.pq_text.specs.Tokens.{Front, or_shorter, longest, char_len, or_character, front_of}
 use Rattle.pq_text.specs.Scanning.{text_or_open, first_token, left_out}
@@ -149,16 +150,16 @@ told_comment (c ∷ bs) h =
     subst (λ (d : ℕ). Told 45 (d ∷ bs)) same
     (inl (length (take_while (λ d. not (eqb d 10)) (45 ∷ bs)) + 1, refl, omega arith, front_run_two (λ d. not (eqb d 10)) 45 45 bs LeftOut refl form_comment))
 
-told_negative : (bs : List ℕ) → next_is (λ c. eqb c 45) bs ≡ false → next_is is_digit bs ≡ true → Told 45 bs
+told_negative : (bs : List ℕ) → next_is (λ c. eqb c 45) bs ≡ false → next_is is_ascii_digit bs ≡ true → Told 45 bs
 unfolding left_out first_token
 told_negative [] out h = absurd cc
-told_negative (c ∷ bs) out h = told_token 45 (c ∷ bs) kind.Number (length (take_while is_digit (c ∷ bs)) + 1) (rw out refl) (rw h refl) (front_run_two is_digit 45 c bs (Of kind.Number) h (λ last w. form_negative last c w h))
+told_negative (c ∷ bs) out h = told_token 45 (c ∷ bs) kind.Number (length (take_while is_ascii_digit (c ∷ bs)) + 1) (rw out refl) (rw h refl) (front_run_two is_ascii_digit 45 c bs (Of kind.Number) h (λ last w. form_negative last c w h))
 
-told_dash : (bs : List ℕ) → next_is (λ c. eqb c 45) bs ≡ false → next_is is_digit bs ≡ false → Told 45 bs
+told_dash : (bs : List ℕ) → next_is (λ c. eqb c 45) bs ≡ false → next_is is_ascii_digit bs ≡ false → Told 45 bs
 unfolding left_out first_token
-told_dash bs out h = told_token 45 bs kind.Other (min (char_len 45) (length bs + 1)) (rw out refl) (rw h refl) (front_character 45 bs (λ i le. form_dash (is_last i bs) (take i bs) (next_take (λ c. eqb c 45) bs i out) (next_take is_digit bs i h)))
+told_dash bs out h = told_token 45 bs kind.Other (min (char_len 45) (length bs + 1)) (rw out refl) (rw h refl) (front_character 45 bs (λ i le. form_dash (is_last i bs) (take i bs) (next_take (λ c. eqb c 45) bs i out) (next_take is_ascii_digit bs i h)))
 
-told_by_second : (bs : List ℕ) (v w : Bool) → next_is (λ c. eqb c 45) bs ≡ v → next_is is_digit bs ≡ w → Told 45 bs
+told_by_second : (bs : List ℕ) (v w : Bool) → next_is (λ c. eqb c 45) bs ≡ v → next_is is_ascii_digit bs ≡ w → Told 45 bs
 told_by_second bs true w e f = told_comment bs e
 told_by_second bs false true e f = told_negative bs e f
 told_by_second bs false false e f = told_dash bs e f
@@ -167,9 +168,9 @@ told_letter : (b : ℕ) (bs : List ℕ) → is_letter b ≡ true → Told b bs
 unfolding left_out first_token
 told_letter b bs h = told_token b bs kind.Word (length (take_while is_word_byte bs) + 1) (simp (letter_not_white b h, letter_not_dash b h)) (simp h) (front_run is_word_byte b bs (Of kind.Word) (λ last w. form_letter last b w h))
 
-told_digit : (b : ℕ) (bs : List ℕ) → is_digit b ≡ true → Told b bs
+told_digit : (b : ℕ) (bs : List ℕ) → is_ascii_digit b ≡ true → Told b bs
 unfolding left_out first_token
-told_digit b bs h = told_token b bs kind.Number (length (take_while is_digit bs) + 1) (simp (digit_not_white b h, digit_not_dash b h)) (simp (digit_not_letter b h, h)) (front_run is_digit b bs (Of kind.Number) (λ last w. form_digit last b w h))
+told_digit b bs h = told_token b bs kind.Number (length (take_while is_ascii_digit bs) + 1) (simp (digit_not_white b h, digit_not_dash b h)) (simp (digit_not_letter b h, h)) (front_run is_ascii_digit b bs (Of kind.Number) (λ last w. form_digit last b w h))
 
 told_mark : (b : ℕ) (bs : List ℕ) (double : Bool) → is_mark b ≡ true → next_is (is_double_mark b) bs ≡ double → Told b bs
 unfolding left_out first_token
@@ -181,15 +182,15 @@ unfolding left_out first_token
 told_quote bs None e = told_token 39 bs kind.Other (length bs + 1) refl (ap (λ (o : Option ℕ). text_or_open o (length bs + 1)) e) (front_open_text bs e)
 told_quote bs (Some n) e = told_token 39 bs kind.Text (n + 1) refl (ap (λ (o : Option ℕ). text_or_open o (length bs + 1)) e) (front_text bs n e)
 
-told_other : (b : ℕ) (bs : List ℕ) → is_white b ≡ false → is_letter b ≡ false → is_digit b ≡ false → is_mark b ≡ false → eqb b 45 ≡ false → eqb b 39 ≡ false → Told b bs
+told_other : (b : ℕ) (bs : List ℕ) → is_white b ≡ false → is_letter b ≡ false → is_ascii_digit b ≡ false → is_mark b ≡ false → eqb b 45 ≡ false → eqb b 39 ≡ false → Told b bs
 unfolding left_out first_token
 told_other b bs white letter digit mark dash quote =
     told_token b bs kind.Other (min (char_len b) (length bs + 1)) (simp (white, dash)) (simp (letter, digit, dash, quote, mark)) (front_character b bs (λ i le. form_other _ b (take i bs) white letter digit mark dash quote))
 
-told_by : (b : ℕ) (bs : List ℕ) (white dash letter digit quote mark : Bool) → is_white b ≡ white → eqb b 45 ≡ dash → is_letter b ≡ letter → is_digit b ≡ digit → eqb b 39 ≡ quote → is_mark b ≡ mark → Told b bs
+told_by : (b : ℕ) (bs : List ℕ) (white dash letter digit quote mark : Bool) → is_white b ≡ white → eqb b 45 ≡ dash → is_letter b ≡ letter → is_ascii_digit b ≡ digit → eqb b 39 ≡ quote → is_mark b ≡ mark → Told b bs
 unfolding left_out
 told_by b bs true dash letter digit quote mark w d l g q m = inl (1, simp w, omega arith, front_white b bs w)
-told_by b bs false true letter digit quote mark w d l g q m = subst (λ (c : ℕ). Told c bs) (sym (eqb-true b 45 d)) (told_by_second bs (next_is (λ c. eqb c 45) bs) (next_is is_digit bs) refl refl)
+told_by b bs false true letter digit quote mark w d l g q m = subst (λ (c : ℕ). Told c bs) (sym (eqb-true b 45 d)) (told_by_second bs (next_is (λ c. eqb c 45) bs) (next_is is_ascii_digit bs) refl refl)
 told_by b bs false false true digit quote mark w d l g q m = told_letter b bs l
 told_by b bs false false false true quote mark w d l g q m = told_digit b bs g
 told_by b bs false false false false true mark w d l g q m = subst (λ (c : ℕ). Told c bs) (sym (eqb-true b 39 q)) (told_quote bs (text_end bs) refl)
@@ -197,7 +198,7 @@ told_by b bs false false false false false true w d l g q m = told_mark b bs (ne
 told_by b bs false false false false false false w d l g q m = told_other b bs w l g m d q
 
 told : (b : ℕ) (bs : List ℕ) → Told b bs
-told b bs = told_by b bs (is_white b) (eqb b 45) (is_letter b) (is_digit b) (eqb b 39) (is_mark b) refl refl refl refl refl refl
+told b bs = told_by b bs (is_white b) (eqb b 45) (is_letter b) (is_ascii_digit b) (eqb b 39) (is_mark b) refl refl refl refl refl refl
 
 pub left_front : (b : ℕ) (bs : List ℕ) (n : ℕ) → left_out b bs ≡ n → 0 < n → front_of b bs ≡ record { len = n; form = LeftOut }
 left_front b bs n e some = elim (told b bs) [ inl t ↦ t.3 ∙ ap (λ (k : ℕ). let front : Front = record { len = k; form = LeftOut } in front) (sym t.1 ∙ e) | inr t ↦ absurd (omega (arith, t.0)) ]

@@ -1,21 +1,18 @@
--- Which bytes are white, digits, letters and marks.
+-- Which bytes are white, letters and marks.
+use Rattle.std.specs.Char.{is_ascii_alphabetic, is_ascii_digit}
 use Rattle.std.specs.Prelude.{ℕ, Bool, false, List, [], ◌∷◌, ◌==◌, ◌||◌, ◌&&◌, nat_le}
 
 -- space, tab, line feed, carriage return
 abbrev pub is_white : ℕ → Bool
 is_white b = b == 32 || b == 9 || b == 10 || b == 13
 
--- 0 to 9
-abbrev pub is_digit : ℕ → Bool
-is_digit b = nat_le 48 b && nat_le b 57
-
 -- A to Z, a to z, or _
 abbrev pub is_letter : ℕ → Bool
-is_letter b = (nat_le 65 b && nat_le b 90) || (nat_le 97 b && nat_le b 122) || b == 95
+is_letter b = is_ascii_alphabetic b || b == 95
 
 -- what a word goes on with
 abbrev pub is_word_byte : ℕ → Bool
-is_word_byte b = is_letter b || is_digit b
+is_word_byte b = is_letter b || is_ascii_digit b
 
 -- ( ) * , . : ; < = > [ ]
 abbrev pub is_mark : ℕ → Bool

@@ -2,7 +2,8 @@
 use Rattle.std.specs.Prelude.{ℕ, ◌+◌, Bool, true, false, not, ◌==◌, ◌&&◌, ◌||◌, List, [], ◌∷◌, length, take, Option, Some, None, if◌then◌else◌}
 use Rattle.std.specs.List.{list_all}
 use Rattle.std.specs.Option.{option_map}
-use Rattle.pq_text.specs.Bytes.{is_white, is_digit, is_letter, is_word_byte, is_mark, is_double_mark}
+use Rattle.std.specs.Char.{is_ascii_digit}
+use Rattle.pq_text.specs.Bytes.{is_white, is_letter, is_word_byte, is_mark, is_double_mark}
 use Rattle.pq_text.specs.declared.token.Kind.{Kind}
 use Rattle.pq_text.specs.declared.token.Kind.TheVariants as kind
 
@@ -14,7 +15,7 @@ is_word_form (b ∷ bs) = is_letter b && list_all is_word_byte bs
 -- one or more digits
 abbrev pub is_digits : List ℕ → Bool
 is_digits [] = false
-is_digits (b ∷ bs) = is_digit b && list_all is_digit bs
+is_digits (b ∷ bs) = is_ascii_digit b && list_all is_ascii_digit bs
 
 -- digits, with a dash before them or not
 abbrev pub is_number : List ℕ → Bool

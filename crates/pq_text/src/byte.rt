@@ -1,6 +1,6 @@
-//! Which bytes are white, digits, letters and marks.
+//! Which bytes are white, letters and marks.
 ghost use Rattle.std.specs.Prelude.{◌≡◌};
-ghost use Rattle.pq_text.specs.Bytes.{is_white, is_digit, is_letter, is_word_byte, is_mark, is_double_mark};
+ghost use Rattle.pq_text.specs.Bytes.{is_white, is_letter, is_word_byte, is_mark, is_double_mark};
 
 /// Space, tab, line feed or carriage return.
 pub fn white(byte: u8) -> bool
@@ -9,25 +9,18 @@ pub fn white(byte: u8) -> bool
     byte == b' ' || byte == b'\t' || byte == b'\n' || byte == b'\r'
 }
 
-/// `0` to `9`.
-pub fn digit(byte: u8) -> bool
-    ensures { result ≡ is_digit byte }
-{
-    b'0' <= byte && byte <= b'9'
-}
-
 /// `A` to `Z`, `a` to `z` or `_`.
 pub fn letter(byte: u8) -> bool
     ensures { result ≡ is_letter byte }
 {
-    (b'A' <= byte && byte <= b'Z') || (b'a' <= byte && byte <= b'z') || byte == b'_'
+    byte.is_ascii_alphabetic() || byte == b'_'
 }
 
 /// What a word goes on with.
 pub fn word_byte(byte: u8) -> bool
     ensures { result ≡ is_word_byte byte }
 {
-    letter(byte) || digit(byte)
+    letter(byte) || byte.is_ascii_digit()
 }
 
 /// A mark of one byte.

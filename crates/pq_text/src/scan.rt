@@ -1,11 +1,12 @@
 //! The tokens of a text, found in one pass.
 ghost use Rattle.std.specs.Prelude.{◌≡◌, ◌+◌, ◌-◌, ◌<◌, ◌≤◌, ◌==◌, ◌^◌, length, drop, take_while, not, IfOk, IfSome, if◌then◌else◌};
-ghost use Rattle.pq_text.specs.Bytes.{next_is, is_digit, is_word_byte, is_double_mark};
+ghost use Rattle.std.specs.Char.{is_ascii_digit};
+ghost use Rattle.pq_text.specs.Bytes.{next_is, is_word_byte, is_double_mark};
 ghost use Rattle.pq_text.specs.Forms.{text_end};
 ghost use Rattle.pq_text.specs.Scanning.{first_token, left_out};
 ghost use Rattle.pq_text.specs.Tokens.{text_limit, char_len, tokens_of, InOrder, HaveForms};
 
-use crate::byte::{digit, double_mark, letter, mark, white, word_byte};
+use crate::byte::{double_mark, letter, mark, white, word_byte};
 use crate::token::{Kind, Token};
 use pq_base::{List, NoMem, PText};
 use std::alloc::Global;
@@ -18,10 +19,13 @@ fn word_count(bytes: &[u8]) -> usize
 }
 
 fn digit_count(bytes: &[u8]) -> usize
-    ensures count { result ≡ length (take_while is_digit bytes.now) }
+    ensures count { result ≡ length (take_while is_ascii_digit bytes.now) }
     ensures within { result ≤ length bytes.now }
 {
-    bytes.iter().take_while(|byte| digit(**byte)).count()
+    bytes
+        .iter()
+        .take_while(|byte| byte.is_ascii_digit())
+        .count()
 }
 
 /// How many bytes stand before the end of the line.
@@ -60,10 +64,10 @@ fn next_is_dash(bytes: &[u8]) -> bool
 }
 
 fn next_is_digit(bytes: &[u8]) -> bool
-    ensures { result ≡ next_is is_digit bytes.now }
+    ensures { result ≡ next_is is_ascii_digit bytes.now }
 {
     match bytes {
-        [c, ..] => digit(*c),
+        [c, ..] => c.is_ascii_digit(),
         [] => false,
     }
 }
@@ -121,7 +125,7 @@ fn first(byte: u8, rest: &[u8]) -> (Kind, usize)
     if letter(byte) {
         return (Kind::Word, word_count(rest) + 1);
     }
-    if digit(byte) || (byte == b'-' && next_is_digit(rest)) {
+    if byte.is_ascii_digit() || (byte == b'-' && next_is_digit(rest)) {
         return (Kind::Number, digit_count(rest) + 1);
     }
     if byte == b'\'' {

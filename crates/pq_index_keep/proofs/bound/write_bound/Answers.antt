@@ -1,4 +1,4 @@
-use Rattle.pq_index_keep.proofs.FromMade.{valid_writable}
+use Rattle.pq_index_keep.proofs.Narrow.{valid_writable}
 use Rattle.pq_index_keep.proofs.bound.write_bound.Goals as goal
 
 pub write_tests-tests-requires-clause-sound : goal.write_tests-tests-requires-clause-sound

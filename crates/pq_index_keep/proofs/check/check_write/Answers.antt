@@ -1,4 +1,4 @@
-use Rattle.pq_index_keep.proofs.FromMade.{valid_writable}
+use Rattle.pq_index_keep.proofs.Narrow.{valid_writable}
 use Rattle.pq_index_keep.proofs.check.check_write.Goals as goal
 
 pub check_into-requires : goal.check_into-requires

@@ -2,7 +2,7 @@ use Rattle.std.proofs.Common.{◌≡◌, ◌∙◌, ap, sym, subst}
 use Rattle.pq_base.specs.declared.refusal.Refusal.TheVariants.{NoRow}
 use Rattle.pq_schema.specs.declared.table.Table.{Table}
 use Rattle.pq_content.specs.Tables.{row_at}
-use Rattle.pq_content.proofs.Values.{kinds_from_fit}
+use Rattle.pq_schema.proofs.TypeKinds.{kinds_from_fit}
 use Rattle.pq_index_keep.specs.Effects.{no_row}
 use Rattle.pq_index_keep.specs.Promises.{Plans}
 use Rattle.pq_index_keep.specs.declared.plan.Planned.{Planned}

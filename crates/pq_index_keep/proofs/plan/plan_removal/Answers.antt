@@ -1,6 +1,6 @@
 use Rattle.std.proofs.Common.{◌∙◌, sym}
 use Rattle.pq_schema.specs.Tables.{table_at}
-use Rattle.pq_content.proofs.Values.{kinds_from_fit}
+use Rattle.pq_schema.proofs.TypeKinds.{kinds_from_fit}
 use Rattle.pq_index_keep.proofs.Changing.{own_removal}
 use Rattle.pq_index_keep.proofs.Coding.{delete_planned}
 use Rattle.pq_index_keep.proofs.Deleting.{may_name, delete_refused, delete_made}

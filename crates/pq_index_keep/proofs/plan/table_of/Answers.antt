@@ -1,3 +1,4 @@
+use Rattle.pq_schema.proofs.Soundness.{table_made}
 use Rattle.pq_index_keep.specs.Sound.{IsWritable}
 use Rattle.pq_index_keep.proofs.Deleting.{foreign_columns}
 use Rattle.pq_index_keep.proofs.Inserting.{writable_at}
@@ -7,13 +8,14 @@ pub returns : goal.returns
 returns c =
     let tables = c.args.catalog.now.tables in
     let w : IsWritable tables c.table.result.now = rw c.table.ensures (writable_at tables c.args.number c.requires.sound c.requires.number) in
+    let is_table = table_made tables w.number c.table.result.now w.made in
     record {
       table = c.table.ensures;
-      is_table = w.is_table;
+      is_table = is_table;
       columns = foreign_columns tables c.table.result.now w;
-      few = w.few_foreign;
-      access = w.linked.limit_groups;
-      key = w.is_table.key;
-      parts = w.is_table.indexes;
-      few_indexes = w.is_table.few_indexes;
+      few = w.made.few_foreign;
+      access = w.made.limit_groups;
+      key = is_table.key;
+      parts = is_table.indexes;
+      few_indexes = w.made.few_indexes;
     }

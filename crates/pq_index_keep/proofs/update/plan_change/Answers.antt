@@ -14,7 +14,7 @@ pub scope_of-scope-requires : goal.scope_of-scope-requires
 scope_of-scope-requires g c =
     let tables = c.args.catalog.now.tables in
     let w : IsWritable tables (table_at tables c.args.number) = writable_at tables c.args.number c.requires.sound c.requires.update.number in
-    sets_small (table_at tables c.args.number) c.args.sets.now w.is_table.few_columns c.requires.update.each
+    sets_small (table_at tables c.args.number) c.args.sets.now w.made.few_columns c.requires.update.each
 
 pub new_row-requires : goal.new_row-requires
 new_row-requires g c =

@@ -7,7 +7,7 @@ use Rattle.pq_schema.specs.Schema.{query_at}
 use Rattle.pq_schema.specs.declared.query.Query.{Query}
 use Rattle.pq_runnable.proofs.Staying.{query_resolved}
 use Rattle.pq_pages.specs.Running.{params_refusal}
-use Rattle.pq_pages.proofs.Params.{few_params}
+use Rattle.pq_schema.proofs.FewParams.{few_params}
 use Rattle.pq_pages.proofs.Begins.{begins_passed, begins_refused, whenever_ok}
 use Rattle.pq_pages.proofs.beginning.begin.Goals as goal
 

@@ -1,26 +1,20 @@
--- The tables of a built schema are ones whose rows can be written.
-use Rattle.std.proofs.Common.{◌≡◌, ℕ, suc, ◌+◌, ◌-◌, ◌^◌, ◌<◌, ◌≤◌, true, false, ◌||◌, ◌⊎◌, inl, inr, List, [], ◌∷◌, ◌++◌, length, map, fold, get_or, count_ones, filter, Option, Some, None, Result, Ok, Err, cond, refl, sym, ap, ◌∙◌, subst, arith, length-append}
-use lib.Count.{ones}
+-- The indexes of a valid schema have few columns, so that the rows of its tables can be written.
+use Rattle.std.proofs.Common.{◌≡◌, ℕ, ◌+◌, ◌-◌, ◌<◌, ◌≤◌, inl, inr, List, [], ◌∷◌, ◌++◌, length, map, fold, get_or, filter, Option, Some, None, Result, Ok, Err, cond, sym, ap, ◌∙◌, subst, arith, length-append}
 use Rattle.std.specs.Prelude.{All, IfSome, is_some, nat_le}
-use Rattle.std.specs.Int.{bit_at}
 use Rattle.std.specs.List.{AllByRecursion, range_with_len}
 use Rattle.std.proofs.Math.Seq.{get_or-append_seam}
-use Rattle.std.proofs.lemmas.Bool.{cases_eq, cases_lt, ne_eqb, and_parts, cond_both, false≢true}
-use Rattle.std.proofs.lemmas.Nat.Bits.{bit_at_or, bit_at-pow_same, bit_at-pow_other, bit_at-lt, same_from_bits}
+use Rattle.std.proofs.lemmas.Bool.{cases_lt, cond_both}
 use Rattle.std.proofs.lemmas.List.{length-map, get_or_past}
 use Rattle.std.proofs.lemmas.List.Elements.{All-nil, All-push, All-set, All-get_or, All-from_get_or, All-weaker}
 use Rattle.std.proofs.lemmas.List.FromFn.{length-range_with_len}
 use Rattle.std.proofs.lemmas.List.Sums.{length-filter, count_by-le-length}
-use Rattle.pq_base.specs.Columns.{with_col, has_col, set_of}
+use Rattle.pq_base.specs.Columns.{has_col, set_of}
 use Rattle.pq_base.specs.declared.number.Choice.{Choice}
 use Rattle.pq_base.specs.declared.number.Choice.TheVariants.{Whole, Stop}
 use Rattle.pq_base.specs.declared.refusal.Refusal.{Refusal}
 use Rattle.pq_base.specs.declared.refusal.Refusal.TheVariants as refusal
-use Rattle.pq_base.specs.declared.value.ColType.{ColType}
-use Rattle.pq_base.specs.declared.value.ColType.TheVariants as type
 use Rattle.pq_schema.specs.declared.definition.TableDef.{TableDef}
 use Rattle.pq_schema.specs.declared.query.Query.{Query}
-use Rattle.pq_schema.specs.declared.table.Column.{Column}
 use Rattle.pq_schema.specs.declared.table.Foreign.{Foreign}
 use Rattle.pq_schema.specs.declared.table.Index.{Index}
 use Rattle.pq_schema.specs.declared.table.Limit.{Limit}
@@ -32,142 +26,29 @@ use Rattle.pq_schema.specs.Relations.{relation_at, table_of, tied_set, order_res
 use Rattle.pq_schema.specs.Schema.{Schema, with_new_index, with_wanted}
 use Rattle.pq_schema.specs.Sequences.{ascending_part, group_access, groups, with_group, serving_access, new_index}
 use Rattle.pq_schema.specs.Sound.{IsMade, IsMadeLimit, IsMadeForeign, AreMade}
-use Rattle.pq_schema.specs.Sound as sound
-use Rattle.pq_base.specs.Values.{same_kind}
-use Rattle.pq_schema.specs.Tables.{table_at, no_table, same_kinds}
+use Rattle.pq_schema.specs.Tables.{table_at, no_table}
 use Rattle.pq_schema.specs.Valid.{IsValid}
 use Rattle.pq_schema.specs.Valid.IsValid.{empty, then_table, then_query}
 use Rattle.pq_schema.specs.Wanted.{is_large, index_at, index_of, too_many_indexes, ChosenCandidate, with_index, chosen_of, IsWanted}
 use Rattle.pq_schema.proofs.Accepted.{all_groups, made_is}
-use Rattle.pq_schema.proofs.Counts.{count_with}
 use Rattle.pq_schema.proofs.Groups.{IsAsBefore, group_index, groups_as_before}
-use Rattle.pq_schema.proofs.Soundness.{table_made, table_linked, all_made}
+use Rattle.pq_schema.proofs.Soundness.{foreign_linked, all_made}
 use Rattle.pq_schema.proofs.Valid.{valid_made}
-use Rattle.pq_content.specs.Tables.{type_of, types_at, key_types}
-use Rattle.pq_index_keep.specs.Sound.{IsShortType, is_among, AreDifferent, IsLike, AreLike, IsReference, IsWritable, AreWritable}
-
--- ---- different columns
-
-with_same : (s c : ℕ) → bit_at s c ≡ 1 → with_col s c ≡ s
-with_same s c has = same_from_bits (with_col s c) s (λ k. elim (cases_eq k c) [
-  | inl same ↦
-      let here : bit_at s k ≡ 1 = ap (bit_at s) same ∙ has in
-      let one : bit_at (2 ^ c) k ≡ 1 = ap (bit_at (2 ^ c)) same ∙ bit_at-pow_same c in
-      omega (arith, here, one, bit_at_or s (2 ^ c) k)
-  | inr other ↦ omega (arith, bit_at-pow_other c k other, bit_at_or s (2 ^ c) k)
-])
-
-bit_is : (s c : ℕ) → (bit_at s c ≡ 0) ⊎ (bit_at s c ≡ 1)
-bit_is s c = elim (cases_eq (bit_at s c) 1) [
-  | inl one ↦ inr one
-  | inr other ↦ inl (omega (arith, bit_at-lt s c, other))
-]
-
--- a set gets at most as many more columns as are named
-most_ones : (cols : List ℕ) (s : ℕ) → count_ones (fold with_col s cols) ≤ count_ones s + length cols
-most_ones [] s = omega arith
-most_ones (c ∷ cs) s = elim (bit_is s c) [
-  | inl none ↦ omega (arith, count_with s c none, most_ones cs (with_col s c))
-  | inr has ↦
-      let same : count_ones (with_col s c) ≡ count_ones s = ap count_ones (with_same s c has) in
-      omega (arith, same, most_ones cs (with_col s c))
-]
-
--- different columns, of which none is in the set
-record AreNew (s : ℕ) (cols : List ℕ) : Type 0 where
-  absent : AllByRecursion (λ col. bit_at s col ≡ 0) cols
-  different : AreDifferent cols
-
-not_among : (s c : ℕ) (cols : List ℕ) → AllByRecursion (λ col. bit_at (with_col s c) col ≡ 0) cols → is_among cols c ≡ false
-not_among s c [] none = refl
-not_among s c (d ∷ ds) none = elim (cases_eq d c) [
-  | inl same ↦
-      let zero : bit_at (with_col s c) d ≡ 0 = none.0 in
-      let one : bit_at (2 ^ c) d ≡ 1 = ap (bit_at (2 ^ c)) same ∙ bit_at-pow_same c in
-      absurd (omega (arith, zero, one, bit_at_or s (2 ^ c) d))
-  | inr other ↦ ap (λ b. b || is_among ds c) (ne_eqb d c other) ∙ not_among s c ds none.1
-]
-
-absent_before : (s c : ℕ) (cols : List ℕ) → AllByRecursion (λ col. bit_at (with_col s c) col ≡ 0) cols → AllByRecursion (λ col. bit_at s col ≡ 0) cols
-absent_before s c [] none = tt
-absent_before s c (d ∷ ds) none =
-    let zero : bit_at (with_col s c) d ≡ 0 = none.0 in
-    (omega (arith, zero, bit_at_or s (2 ^ c) d), absent_before s c ds none.1)
-
-are_new : (cols : List ℕ) (s : ℕ) → count_ones (fold with_col s cols) ≡ count_ones s + length cols → AreNew s cols
-are_new [] s is = record { absent = tt; different = tt }
-are_new (c ∷ cs) s is = elim (bit_is s c) [
-  | inl none ↦
-      let one = count_with s c none in
-      let rest = are_new cs (with_col s c) (omega (arith, one, is)) in
-      record { absent = (none, absent_before s c cs rest.absent); different = (not_among s c cs rest.absent, rest.different) }
-  | inr has ↦
-      let same : count_ones (with_col s c) ≡ count_ones s = ap count_ones (with_same s c has) in
-      absurd (omega (arith, same, is, most_ones cs (with_col s c)))
-]
-
-zero_ones : count_ones 0 ≡ 0
-unfolding ones
-zero_ones = refl
-
--- columns are different whose set has as many as they are
-are_different : (cols : List ℕ) → count_ones (set_of cols) ≡ length cols → AreDifferent cols
-are_different cols is = (are_new cols 0 (omega (arith, is, zero_ones))).different
-
--- ---- references
-
-is_like : (t u : ColType) → same_kind t u ≡ true → IsLike t u
-is_like type.Int type.Int same = tt
-is_like type.Int type.Bool same = absurd (false≢true same)
-is_like type.Int (type.Text n) same = absurd (false≢true same)
-is_like type.Bool type.Int same = absurd (false≢true same)
-is_like type.Bool type.Bool same = tt
-is_like type.Bool (type.Text n) same = absurd (false≢true same)
-is_like (type.Text m) type.Int same = absurd (false≢true same)
-is_like (type.Text m) type.Bool same = absurd (false≢true same)
-is_like (type.Text m) (type.Text n) same = tt
-
-are_like : (ts us : List ColType) → same_kinds ts us ≡ true → AreLike ts us
-are_like [] [] same = tt
-are_like [] (u ∷ us) same = absurd (false≢true same)
-are_like (t ∷ ts) [] same = absurd (false≢true same)
-are_like (t ∷ ts) (u ∷ us) same =
-    let parts = and_parts (same_kind t u) (same_kinds ts us) same in
-    (is_like t u parts.0, are_like ts us parts.1)
-
-is_reference : (tables : List Table) (number : ℕ) (table : Table) (foreign : Foreign) → IsMadeForeign tables number table.columns foreign → IsReference tables table foreign
-is_reference tables number table foreign made = record {
-  apart = are_different foreign.cols made.different;
-  alike = are_like (types_at table foreign.cols) (key_types (table_at tables foreign.table)) made.shape;
-}
-
--- ---- tables
-
-is_sized : (ty : ColType) → sound.IsSized ty → IsShortType ty
-is_sized type.Int is = tt
-is_sized type.Bool is = tt
-is_sized (type.Text n) is = is.1
+use Rattle.pq_index_keep.specs.Sound.{IsWritable, AreWritable}
 
 -- an index's own columns are at most those of a table and of an order
 abbrev IsNarrow : Index → Type 0
 IsNarrow index = length index.cols ≤ 36
 
-is_writable : (tables : List Table) (number : ℕ) (table : Table) → IsMade tables number table → All IsNarrow table.indexes → IsWritable tables table
-is_writable tables number table made narrow = record {
-  is_table = table_made tables number table made;
-  linked = table_linked tables number table made;
-  sized = All-weaker (λ (column : Column). sound.IsSized column.ty) (λ (column : Column). IsShortType column.ty) (λ column is. is_sized column.ty is) table.columns made.sized;
-  few_foreign = made.few_foreign;
-  references = All-weaker (IsMadeForeign tables number table.columns) (IsReference tables table) (is_reference tables number table) table.foreign made.foreign;
-  narrow = narrow;
-}
-
 -- made tables with indexes of few columns are ones whose rows can be written
-pub writable : (tables : List Table) → AreMade tables → (narrow : All (λ (t : Table). All (λ (index : Index). length index.cols ≤ 36) t.indexes) tables) → AreWritable tables
+writable : (tables : List Table) → AreMade tables → All (λ (t : Table). All IsNarrow t.indexes) tables → AreWritable tables
 writable tables made narrow = All-from_get_or (IsWritable tables) tables no_table (λ i there.
     let place : i + 1 - 1 ≡ i = omega arith in
-    let is : IsMade tables (i + 1) (get_or tables i no_table) = subst (λ n. IsMade tables (i + 1) (get_or tables n no_table)) place (made (i + 1) (omega arith) (omega arith)) in
-    is_writable tables (i + 1) (get_or tables i no_table) is (All-get_or (λ (t : Table). All IsNarrow t.indexes) tables i no_table there narrow))
+    record {
+      number = i + 1;
+      made = subst (λ n. IsMade tables (i + 1) (get_or tables n no_table)) place (made (i + 1) (omega arith) (omega arith));
+      narrow = All-get_or (λ (t : Table). All IsNarrow t.indexes) tables i no_table there narrow;
+    })
 
 -- ---- the indexes of a new table
 
@@ -183,21 +64,11 @@ groups_narrow : (gs : List (List ℕ)) (table : Table) → All IsNarrow table.in
 groups_narrow [] table all short = all
 groups_narrow (g ∷ gs) table all short = groups_narrow gs (with_group table g) (group_narrow table g all short.0) short.1
 
-like_long : (ts us : List ColType) → AreLike ts us → length ts ≡ length us
-like_long [] [] like = refl
-like_long [] (u ∷ us) like = absurd like
-like_long (t ∷ ts) [] like = absurd like
-like_long (t ∷ ts) (u ∷ us) like = ap suc (like_long ts us like.1)
-
 module _ (tables : List Table) (number : ℕ) (table : Table) (keys : (k : ℕ) → 1 ≤ k → k < number → length (table_at tables k).key ≤ 4) where
   foreign_short : (foreign : Foreign) → IsMadeForeign tables number table.columns foreign → IsShort foreign.cols
   foreign_short foreign made =
-      let parent = table_at tables foreign.table in
       let few = keys foreign.table made.from_one made.earlier in
-      let same = like_long (types_at table foreign.cols) (key_types parent) (is_reference tables number table foreign made).alike in
-      let own : length (types_at table foreign.cols) ≡ length foreign.cols = length-map foreign.cols (type_of table) in
-      let theirs : length (key_types parent) ≡ length parent.key = length-map parent.key (type_of parent) in
-      omega (arith, few, same, own, theirs)
+      omega (arith, few, (foreign_linked tables number table foreign made).long)
 
   -- the columns of each limit and of each foreign key are at most 4
   groups_short : IsMade tables number table → AllByRecursion IsShort (groups table)

@@ -1,6 +1,0 @@
-use Rattle.std.proofs.Common.{◌≡◌, take}
-use Rattle.pq_content.specs.Tables.{dirs_of}
-use Rattle.pq_builds.proofs.target.dirs_of.Given as goal
-
-abbrev pub invariant-loop-part : goal.invariant-loop-part
-invariant-loop-part l = l.dirs ≡ dirs_of (take l.part-index l.parts)
