@@ -1,4 +1,4 @@
 pub mod Places
 pub mod Views
-pub mod Held
+pub mod HeldPairs
 pub mod Uses

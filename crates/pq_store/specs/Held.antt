@@ -1,7 +1,36 @@
--- What the map in memory stands for: its keys are vectors of bytes.
-use Rattle.std.specs.Prelude.{ℕ, List, map}
-use Rattle.std.specs.declared.vec.Vec.{Vec}
+-- What a piece of memory stands for, that has the length of a key, the key, and its value.
+use Rattle.std.specs.Prelude.{ℕ, ◌+◌, ◌/◌, ◌%◌, ◌==◌, if◌then◌else◌, List, [], ◌∷◌, ◌++◌, take, drop, replicate}
+use Rattle.std.specs.Cmp.{IsTotalOrder, on_total}
+use Rattle.std.specs.Cmp.Lexicographic.{nat_list_cmp_total}
+use Rattle.std.specs.Coded.{Coded, coded_list, coded_ℕ, coded×}
+use Rattle.std.specs.Ordering.{on}
+use Rattle.std.specs.declared.cmp.Ordering.{Ordering}
+use Rattle.pq_store.specs.Content.{key_cmp}
 
--- the entries of the map, with the bytes of each key
-abbrev pub held_pairs : {Z : Type 0} → List (Vec ℕ Z × List ℕ) → List (List ℕ × List ℕ)
-held_pairs es = map (λ e. (e.0.items, e.1)) es
+-- a length in bytes: one of 255 for each 255 in it, and the rest
+abbrev pub len_bytes : ℕ → List ℕ
+len_bytes n = replicate (n / 255) 255 ++ (n % 255) ∷ []
+
+-- the length at the beginning of some bytes
+abbrev pub key_len : List ℕ → ℕ
+key_len [] = 0
+key_len (b ∷ bs) = if b == 255 then 255 + key_len bs else b
+
+-- what stands behind it
+abbrev pub behind_len : List ℕ → List ℕ
+behind_len [] = []
+behind_len (b ∷ bs) = if b == 255 then behind_len bs else bs
+
+-- the key and the value
+abbrev pub held_pair : List ℕ → List ℕ × List ℕ
+held_pair bytes = (take (key_len bytes) (behind_len bytes), drop (key_len bytes) (behind_len bytes))
+
+abbrev pub held_code : Coded (List ℕ × List ℕ)
+held_code = coded× (coded_list coded_ℕ) (coded_list coded_ℕ)
+
+-- pairs are ordered by their keys
+abbrev pub held_cmp : List ℕ × List ℕ → List ℕ × List ℕ → Ordering
+held_cmp = on (λ pair. pair.0) key_cmp
+
+pub held_total : IsTotalOrder held_cmp
+held_total = on_total (λ (pair : List ℕ × List ℕ). pair.0) nat_list_cmp_total

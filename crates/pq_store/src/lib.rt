@@ -8,6 +8,7 @@
 mod allowance;
 mod damage;
 mod failing;
+mod held;
 mod mem;
 mod meter;
 mod store;

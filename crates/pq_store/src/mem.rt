@@ -1,16 +1,17 @@
-//! A store in memory: an ordered map from keys to values, seen as its content.
+//! A store in memory: an ordered set of pairs, each in one piece of memory, seen as its content.
 ghost use Rattle.std.specs.Prelude.{◌≡◌, ◌↔◌, IsTrue, IfOk, IfErr, IsOk, OnOk, OnErr, map, take, length, min, if◌then◌else◌};
+ghost use Rattle.std.specs.Option.{option_map, option_copied};
 ghost use Rattle.std.specs.FinMap.{empty, entries, get as value_at, insert, remove};
 ghost use Rattle.std.specs.Ordering.{eq_by_cmp, is_lt};
-ghost use Rattle.pq_store.specs.Content.{is_rising, entry, pairs_within, key_cmp, admits};
-ghost use Rattle.pq_store.specs.Held.{held_pairs};
+ghost use Rattle.pq_store.specs.Content.{is_rising, entry, pairs_within, key_cmp, admits, written_content};
 ghost use Rattle.pq_store.specs.NotPairs.{GivesBack};
 
+use crate::held::HeldPair;
 use crate::meter::Meter;
 use crate::store::{Guard, Pair, Store, StoreErr};
 use pq_base::{Bytes, List, NoMem};
 use std::alloc::Global;
-use std::collections::{BTreeMap, btree_map};
+use std::collections::{BTreeSet, btree_set};
 use std::marker::Model;
 use std::ops::Range;
 use std::sync::ledger::Ledger;
@@ -20,22 +21,21 @@ use std::sync::ledger::Ledger;
 /// as they answer entries.
 #[derive(Drop)]
 pub struct MemStore {
-    held: BTreeMap<Vec<u8>, Bytes>,
+    held: BTreeSet<HeldPair>,
 }
 
 impl Model for MemStore {
     ghost use Rattle.std.specs.Prelude.{IsTrue};
     ghost use Rattle.std.specs.FinMap.{from_sorted};
     ghost use Rattle.pq_store.specs.Content.{Content, content_code, is_rising};
-    ghost use Rattle.pq_store.specs.Held.{held_pairs};
 
     ghost Value = { Content };
 
     ghost coded = { content_code };
 
-    ghost view = { λ a. from_sorted (held_pairs a.held.entries) };
+    ghost view = { λ a. from_sorted a.held.keys };
 
-    ghost invariant = { λ a. IsTrue (is_rising (held_pairs a.held.entries)) };
+    ghost invariant = { λ a. IsTrue (is_rising a.held.keys) };
 }
 
 /// Why pairs make no store.
@@ -53,7 +53,7 @@ impl MemStore {
         ensures { result ≡ empty }
     {
         MemStore {
-            held: BTreeMap::new(alloc),
+            held: BTreeSet::new(alloc),
         }
     }
 
@@ -63,8 +63,8 @@ impl MemStore {
         ensures { IfOk result (λ pairs. map entry pairs ≡ entries self.now) }
     {
         let mut pairs = List::new(alloc);
-        for (key, value) in &self.held {
-            pairs.push(alloc, copy_of(alloc, key, value)?)?;
+        for pair in &self.held {
+            pairs.push(alloc, copy_of(alloc, pair)?)?;
         }
         Ok(pairs)
     }
@@ -85,12 +85,18 @@ impl MemStore {
         }
     }
 
-    #[tactic(auto, using(crate::proofs::Held::get_held))]
-    fn find(&self, alloc: Global, key: &[u8]) -> Result<Option<Bytes>, NoMem>
+    fn find(&self, alloc: Global, key: &[u8]) -> Result<Option<&HeldPair>, NoMem>
+        ensures { IfOk result (λ found. option_map (λ pair. pair.1) (option_copied found) ≡ value_at self.now key.now) }
+    {
+        let asked = HeldPair::new(alloc, key, &[])?;
+        Ok(self.held.get(&asked))
+    }
+
+    fn value(&self, alloc: Global, key: &[u8]) -> Result<Option<Bytes>, NoMem>
         ensures { IfOk result (λ found. found ≡ value_at self.now key.now) }
     {
-        match self.held.get(key) {
-            Some(value) => Ok(Some(Bytes::of_bytes(alloc, value.items())?)),
+        match self.find(alloc, key)? {
+            Some(pair) => Ok(Some(Bytes::of_bytes(alloc, pair.value())?)),
             None => Ok(None),
         }
     }
@@ -109,73 +115,83 @@ impl MemStore {
         Ok(self.held.range(bounds).take(cap as usize).count() as u32)
     }
 
-    #[tactic(auto, using(crate::proofs::Held::get_held))]
-    fn admits(&self, key: &[u8], guard: Guard) -> bool
-        ensures { result ≡ admits guard.entry (value_at self.now key.now) }
+    fn admits(&self, alloc: Global, key: &[u8], guard: Guard) -> Result<bool, NoMem>
+        ensures { IfOk result (λ admitted. admitted ≡ admits guard.entry (value_at self.now key.now)) }
     {
         match guard {
-            Guard::Any => true,
-            Guard::Absent => self.held.get(key).is_none(),
-            Guard::Is(value) => match self.held.get(key) {
-                Some(held) => are_same(held.items(), value),
-                None => false,
+            Guard::Any => Ok(true),
+            Guard::Absent => Ok(self.find(alloc, key)?.is_none()),
+            Guard::Is(value) => match self.find(alloc, key)? {
+                Some(held) => Ok(are_same(held.value(), value)),
+                None => Ok(false),
             },
         }
     }
 
+    // A pair that is there already stays at first, and the new one is made again.
     fn set(&mut self, alloc: Global, key: &[u8], value: &[u8]) -> Result<(), NoMem>
         ensures ok { OnOk result (self.new ≡ insert self.old key.now value.now) }
         ensures err { OnErr result (self.new ≡ self.old) }
     {
-        let key = Vec::from_slice(alloc, key)?;
-        let value = Bytes::of_bytes(alloc, value)?;
-        self.held.insert(key, value)?;
+        if !self.held.insert(HeldPair::new(alloc, key, value)?)? {
+            self.held.replace(HeldPair::new(alloc, key, value)?)?;
+        }
         Ok(())
     }
 
-    fn remove(&mut self, key: &[u8])
-        ensures { self.new ≡ remove self.old key.now }
+    fn remove(&mut self, alloc: Global, key: &[u8]) -> Result<(), NoMem>
+        ensures ok { OnOk result (self.new ≡ remove self.old key.now) }
+        ensures err { OnErr result (self.new ≡ self.old) }
     {
-        let _ = self.held.remove(key);
+        let asked = HeldPair::new(alloc, key, &[])?;
+        self.held.remove(&asked);
+        Ok(())
+    }
+
+    // Makes a write that is admitted.
+    fn change(&mut self, alloc: Global, key: &[u8], new: Option<&[u8]>) -> Result<(), NoMem>
+        ensures ok { OnOk result (self.new ≡ written_content key.now (option_copied new.entry) self.old) }
+        ensures err { OnErr result (self.new ≡ self.old) }
+    {
+        match new {
+            None => self.remove(alloc, key),
+            Some(value) => self.set(alloc, key, value),
+        }
     }
 }
 
 // The bounds of a range from a low key up to a high one. Where that is below the low one, they are both the low one.
-fn bounds_of(alloc: Global, low: &[u8], high: &[u8]) -> Result<Range<Vec<u8>>, NoMem>
-    ensures start { IfOk result (λ bounds. bounds.start.items ≡ low.now) }
-    ensures end { IfOk result (λ bounds. bounds.end.items
+fn bounds_of(alloc: Global, low: &[u8], high: &[u8]) -> Result<Range<HeldPair>, NoMem>
+    ensures start { IfOk result (λ bounds. bounds.start.0 ≡ low.now) }
+    ensures end { IfOk result (λ bounds. bounds.end.0
         ≡ (if is_lt (key_cmp low.now high.now) then high.now else low.now)) }
 {
-    let start = Vec::from_slice(alloc, low)?;
-    let end = if low.cmp(high).is_lt() {
-        Vec::from_slice(alloc, high)?
-    } else {
-        Vec::from_slice(alloc, low)?
-    };
-    Ok(start..end)
+    let start = HeldPair::new(alloc, low, &[])?;
+    let end = if low.cmp(high).is_lt() { high } else { low };
+    Ok(start..HeldPair::new(alloc, end, &[])?)
 }
 
 // Copies of the first pairs of a range, or of all where there are fewer.
 fn copy_first(
     alloc: Global,
-    range: btree_map::Range<'_, Vec<u8>, Bytes>,
+    range: btree_set::Range<'_, HeldPair>,
     limit: u32,
 ) -> Result<List<Pair>, NoMem>
-    ensures { IfOk result (λ copies. map entry copies ≡ take limit (held_pairs range.entry)) }
+    ensures { IfOk result (λ copies. map entry copies ≡ take limit range.entry) }
 {
     let mut copies = List::new(alloc);
-    for (key, value) in range.take(limit as usize) {
-        copies.push(alloc, copy_of(alloc, key, value)?)?;
+    for pair in range.take(limit as usize) {
+        copies.push(alloc, copy_of(alloc, pair)?)?;
     }
     Ok(copies)
 }
 
 // A pair of copies.
-fn copy_of(alloc: Global, key: &Vec<u8>, value: &Bytes) -> Result<Pair, NoMem>
-    ensures { IfOk result (λ pair. entry pair ≡ (key.now.items, value.now)) }
+fn copy_of(alloc: Global, pair: &HeldPair) -> Result<Pair, NoMem>
+    ensures { IfOk result (λ copy. entry copy ≡ pair.now) }
 {
-    let key = Bytes::of_bytes(alloc, key.as_slice())?;
-    let value = Bytes::of_bytes(alloc, value.items())?;
+    let key = Bytes::of_bytes(alloc, pair.key())?;
+    let value = Bytes::of_bytes(alloc, pair.value())?;
     Ok(Pair { key, value })
 }
 
@@ -196,14 +212,14 @@ fn rises(pairs: &[Pair]) -> bool
     true
 }
 
-// The map of pairs whose keys strictly rise.
-fn held_of(alloc: Global, pairs: List<Pair>) -> Result<BTreeMap<Vec<u8>, Bytes>, NoMem>
+// The set of pairs whose keys strictly rise.
+fn held_of(alloc: Global, pairs: List<Pair>) -> Result<BTreeSet<HeldPair>, NoMem>
     requires { IsTrue (is_rising (map entry pairs)) }
-    ensures { IfOk result (λ held. held_pairs held.entries ≡ map entry pairs) }
+    ensures { IfOk result (λ held. held.keys ≡ map entry pairs) }
 {
-    let mut held = BTreeMap::new(alloc);
-    for Pair { key, value } in pairs.into_vec() {
-        held.insert(key.into_vec(), value)?;
+    let mut held = BTreeSet::new(alloc);
+    for pair in pairs.items() {
+        held.insert(HeldPair::new(alloc, pair.key.items(), pair.value.items())?)?;
     }
     Ok(held)
 }
@@ -227,7 +243,7 @@ impl<L: Ledger> Store<L> for MemStore {
         key: &[u8],
         meter: &mut Meter<L>,
     ) -> Result<Option<Bytes>, StoreErr> {
-        match self.find(alloc, key) {
+        match self.value(alloc, key) {
             Ok(None) => {
                 meter.charge(0);
                 Ok(None)
@@ -292,16 +308,14 @@ impl<L: Ledger> Store<L> for MemStore {
         meter: &mut Meter<L>,
     ) -> Result<bool, StoreErr> {
         meter.charge(0);
-        if !self.admits(key, guard) {
-            return Ok(false);
+        match self.admits(alloc, key, guard) {
+            Ok(true) => {}
+            Ok(false) => return Ok(false),
+            Err(_) => return Err(StoreErr::NoMem),
         }
-        match new {
-            None => self.remove(key),
-            Some(value) => match self.set(alloc, key, value) {
-                Ok(()) => {}
-                Err(_) => return Err(StoreErr::NoMem),
-            },
+        match self.change(alloc, key, new) {
+            Ok(()) => Ok(true),
+            Err(_) => Err(StoreErr::NoMem),
         }
-        Ok(true)
     }
 }
