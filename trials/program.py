@@ -9,6 +9,7 @@ from dataclasses import dataclass
 
 TOP = pathlib.Path(__file__).resolve().parent.parent
 BUILD = TOP / "crates/piql/out/piql"
+EXAMPLES = TOP / "crates/piql_examples/data"
 # The seconds after which a run counts as one that hangs.
 LIMIT = 60
 OPENING = b"open defs 0 bound 2 257 used 2 0\n"
@@ -26,16 +27,17 @@ class Ended:
 
 
 def examples():
-    """The scripts of examples/, by name."""
-    return {path.stem: path.read_bytes() for path in sorted((TOP / "examples").glob("*.piql"))}
+    """The scripts of the examples, by name."""
+    return {path.stem: path.read_bytes() for path in sorted(EXAMPLES.glob("*.piql"))}
 
 
 def is_fresh(build):
     """Whether the build is there and no source is newer, as bin/piql finds it."""
     if not os.access(build, os.X_OK):
         return False
-    words = ["find", TOP / "crates", TOP / "crates.txt", "-name", "out", "-prune", "-o", "-type", "f", "-newer", build]
-    return subprocess.run([*words, "-print"], capture_output=True, check=True).stdout == b""
+    sources = ["find", TOP / "crates", TOP / "crates.txt", "(", "-name", "out", "-o", "-name", "data", ")", "-prune"]
+    words = [*sources, "-o", "-type", "f", "-newer", build, "-print"]
+    return subprocess.run(words, capture_output=True, check=True).stdout == b""
 
 
 def run(build, script, environment=None):
