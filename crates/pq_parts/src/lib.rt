@@ -8,6 +8,7 @@
 mod clip;
 mod part;
 mod part_store;
+mod placing;
 mod tally;
 
 pub use part::Part;

@@ -5,10 +5,11 @@ ghost use Rattle.std.specs.FinMap.{get as value_at};
 ghost use Rattle.pq_store.specs.Counts.{charged_counts};
 ghost use Rattle.pq_store.specs.Content.{entry, pairs_within, after_write, admits, got_entries, ranged_entries, counted_entries, IsPartOf, HasCause};
 ghost use Rattle.pq_parts.specs.Tally.{counted_call, HasAsked};
-ghost use Rattle.pq_parts.specs.Spans.{IsPlacement, are_rising, part_has_key, first_from, firsts, spans, joined_content, number_met, faults_of};
+ghost use Rattle.pq_parts.specs.Spans.{IsPlacement, part_has_key, first_from, firsts, spans, joined_content, number_met, faults_of};
 ghost use Rattle.pq_parts.specs.Gathered.{IsGathered, IsPieceAt, IsCountAt};
 
 use crate::part::Part;
+use crate::placing::are_placed;
 use crate::tally::Tally;
 use pq_base::{Bytes, List, NoMem};
 use pq_store::{Guard, Meter, Pair, Store, StoreErr};
@@ -16,8 +17,7 @@ use std::alloc::Global;
 use std::marker::Model;
 use std::sync::ledger::Ledger;
 
-/// A store over parts in the order of their keys. The calls of its nodes are counted on a meter of
-/// its own.
+/// A store over parts in the order of their keys. The calls of its nodes are counted on a meter of its own.
 #[derive(Drop)]
 pub struct PartStore<S, N: Ledger> {
     parts: Vec<Part<S>>,
@@ -32,33 +32,6 @@ impl<S, N: Ledger> Model for PartStore<S, N> {
     ghost view = { λ p. record { parts = p.parts.items; tally = p.tally } };
 
     ghost invariant = { λ p. IsPlacement p.parts.items };
-}
-
-// Whether the parts begin at the empty key, are at most 64, and strictly rise.
-fn are_placed<S>(parts: &[Part<S>]) -> bool
-    ensures { IsTrue result ↔ IsPlacement parts.now }
-{
-    match parts.first() {
-        Some(first) => parts.len() <= 64 && first.from.items().is_empty() && rise(parts),
-        None => false,
-    }
-}
-
-// Whether the first keys strictly rise.
-fn rise<S>(parts: &[Part<S>]) -> bool
-    ensures { result ≡ are_rising parts.now }
-{
-    let Some((first, rest)) = parts.split_first() else {
-        return true;
-    };
-    let mut last = first;
-    for part in rest {
-        if !last.from.items().cmp(part.from.items()).is_lt() {
-            return false;
-        }
-        last = part;
-    }
-    true
 }
 
 impl<S, N: Ledger> PartStore<S, N> {
@@ -123,8 +96,7 @@ impl<S: Store<N>, N: Ledger> PartStore<S, N> {
         ensures cause { HasCause (faults_of S.faults self.old.parts) (faults_of S.faults self.new.parts) result }
         ensures places { firsts self.new.parts ≡ firsts self.old.parts }
         ensures nodes { HasAsked self.old.tally self.new.tally
-            (number_met low.now high.now (spans S.content self.old.parts)) limit (ranged_entries result)
-            result }
+            (number_met low.now high.now (spans S.content self.old.parts)) limit (ranged_entries result) result }
     {
         let mut found = List::new(alloc);
         for at in 0..self.parts.len() {
@@ -347,8 +319,7 @@ impl<S: Store<N>, N: Ledger, L: Ledger> Store<L> for PartStore<S, N> {
         ensures meter { meter.new ≡ charged_counts meter.old (ranged_entries result) }
         ensures places { firsts self.new.parts ≡ firsts self.old.parts }
         ensures nodes { HasAsked self.old.tally self.new.tally
-            (number_met low.now high.now (spans S.content self.old.parts)) limit (ranged_entries result)
-            result }
+            (number_met low.now high.now (spans S.content self.old.parts)) limit (ranged_entries result) result }
     {
         match self.collect(alloc, low, high, limit) {
             Ok(found) => {

@@ -4,7 +4,7 @@ use Rattle.std.specs.declared.cmp.Ordering.TheVariants.{Less}
 use Rattle.pq_store.specs.Content.{key_cmp}
 use Rattle.pq_store.proofs.Places.{rising_more}
 use Rattle.pq_parts.specs.Spans.{are_rising, firsts}
-use Rattle.pq_parts.proofs.part_store.rise.Goals as goal
+use Rattle.pq_parts.proofs.placing.rise.Goals as goal
 
 pub loop-part-preserved : goal.loop-part-preserved
 loop-part-preserved g c =

@@ -1,6 +1,6 @@
 use Rattle.std.proofs.Common.{◌≡◌, drop, ◌∷◌}
 use Rattle.pq_parts.specs.Spans.{are_rising}
-use Rattle.pq_parts.proofs.part_store.rise.Given as goal
+use Rattle.pq_parts.proofs.placing.rise.Given as goal
 
 -- all rise exactly if those from the last one on do
 abbrev pub invariant-loop-part : goal.invariant-loop-part
