@@ -6,8 +6,9 @@
 ghost use Rattle.std.specs.Prelude.{◌≡◌};
 
 use pq_base::{Bytes, List, NoMem, PText};
-use pq_shell::{MemSink, MemSource, Status, WordsErr, read_words, run_piql};
+use pq_shell::{MemSink, MemSource, Status, WordsErr, read_words};
 use pq_store::{MemStore, Meter, Opening};
+use pq_test_tools::run_piql_words;
 use std::alloc::Global;
 use std::marker::Brand;
 use std::process::ExitCode;
@@ -45,13 +46,9 @@ fn run_over<L: Ledger>(
     requires parts { blank.parts ≡ L.parts }
     requires two { blank.parts ≡ 2 }
 {
-    let mut words = List::new(alloc);
-    if let Some(word) = PText::from_bytes(alloc, b"run")? {
-        words.push(alloc, word)?;
-    }
     let mut meter = Meter::<L>::start(Opening::of(blank));
     let mut store = MemStore::new(alloc);
-    Ok(run_piql(alloc, words.items(), source, &mut store, sink, &mut meter))
+    run_piql_words(alloc, &["run"], source, &mut store, sink, &mut meter)
 }
 
 // Whether the run of a script writes the text, and ends as one that writes it.

@@ -2,72 +2,14 @@
 ghost use Rattle.std.specs.Prelude.{◌≡◌};
 
 use crate::rows::{build, complete, marked_store, plain_store, same};
-use pq_base::{Bytes, List, NoMem};
+use pq_base::NoMem;
 use pq_builds::Built;
-use pq_store::{Broke, Damage, Guard, MemStore, Meter, Opening, Pair, Store, StoreErr};
+use pq_store::{Broke, Damage, Meter, Opening};
+use pq_test_tools::MiscountStore;
 use std::alloc::Global;
 use std::marker::Brand;
 use std::sync::ledger::{Blank, Ledger};
 use std::test;
-
-// A store that tells no content, and counts so many pairs in any range.
-#[derive(Drop)]
-struct Recounted {
-    inner: MemStore,
-    counted: u32,
-}
-
-impl<L: Ledger> Store<L> for Recounted {
-    ghost use Rattle.std.specs.Prelude.{None};
-
-    ghost content = { λ _. None };
-
-    ghost faults = { λ _. 0 };
-
-    fn get(
-        &mut self,
-        alloc: Global,
-        key: &[u8],
-        meter: &mut Meter<L>,
-    ) -> Result<Option<Bytes>, StoreErr> {
-        self.inner.get(alloc, key, meter)
-    }
-
-    fn range(
-        &mut self,
-        alloc: Global,
-        low: &[u8],
-        high: &[u8],
-        limit: u32,
-        meter: &mut Meter<L>,
-    ) -> Result<List<Pair>, StoreErr> {
-        self.inner.range(alloc, low, high, limit, meter)
-    }
-
-    fn count(
-        &mut self,
-        _alloc: Global,
-        _low: &[u8],
-        _high: &[u8],
-        cap: u32,
-        meter: &mut Meter<L>,
-    ) -> Result<u32, StoreErr> {
-        let count = self.counted.min(cap);
-        meter.charge(count);
-        Ok(count)
-    }
-
-    fn write(
-        &mut self,
-        alloc: Global,
-        key: &[u8],
-        guard: Guard,
-        new: Option<&[u8]>,
-        meter: &mut Meter<L>,
-    ) -> Result<bool, StoreErr> {
-        self.inner.write(alloc, key, guard, new, meter)
-    }
-}
 
 // Rows, and another number of them that is counted.
 const COUNTS: [(u32, u32); 5] = [(3, 2), (3, 4), (0, 1), (255, 256), (256, 255)];
@@ -88,7 +30,7 @@ fn is_built_told<L: Ledger>(
     meter: &mut Meter<L>,
 ) -> Result<bool, NoMem> {
     let inner = plain_store(alloc, rows)?;
-    let mut store = Recounted { inner, counted };
+    let mut store = MiscountStore::new(inner, counted);
     match build(alloc, &mut store, meter) {
         Err(Broke::Damaged(damage)) => Ok(names_definition(&damage)),
         _ => Ok(false),
@@ -103,7 +45,7 @@ fn is_left_told<L: Ledger>(
     meter: &mut Meter<L>,
 ) -> Result<bool, NoMem> {
     let inner = marked_store(alloc, rows)?;
-    let mut store = Recounted { inner, counted };
+    let mut store = MiscountStore::new(inner, counted);
     match complete(alloc, &mut store, meter) {
         Err(Broke::Damaged(damage)) => Ok(names_definition(&damage)),
         _ => Ok(false),
@@ -117,10 +59,10 @@ fn is_too_large<L: Ledger>(
     meter: &mut Meter<L>,
 ) -> Result<bool, Broke> {
     let inner = plain_store(alloc, 3)?;
-    let mut store = Recounted { inner, counted };
+    let mut store = MiscountStore::new(inner, counted);
     let built = build(alloc, &mut store, meter)?;
     let plain = plain_store(alloc, 3)?;
-    Ok(built == Built::TooMany && same(alloc, &store.inner, &plain)?)
+    Ok(built == Built::TooMany && same(alloc, store.inner(), &plain)?)
 }
 
 // The first count that isn't told as damage.

@@ -3,10 +3,10 @@
 //! Each test has files of its own in the folder that it is run in, and leaves none.
 ghost use Rattle.std.specs.Prelude.{◌≡◌};
 
-use crate::runs::{RUNS, writes};
 use pq_base::NoMem;
 use pq_sql_store::FileSqlStore;
 use pq_store::{Meter, Opening, StoreErr};
+use pq_test_tools::{RUNS, writes};
 use std::io::{self, Write};
 use std::marker::Brand;
 use std::sync::ledger::{Blank, Ledger};

@@ -1,73 +1,14 @@
 //! Queries that want an index over more rows than one is filled over.
 ghost use Rattle.std.specs.Prelude.{◌≡◌};
 
-use crate::runs::run_script;
-use pq_base::{Bytes, List, NoMem};
+use pq_base::NoMem;
 use pq_shell::Status;
-use pq_store::{Guard, MemStore, Meter, Opening, Pair, Store, StoreErr};
+use pq_store::{MemStore, Meter, Opening};
+use pq_test_tools::{MiscountStore, run_script};
 use std::alloc::Global;
 use std::marker::Brand;
 use std::sync::ledger::{Blank, Ledger};
 use std::test;
-
-// A store that tells no content, and counts this many pairs in any range, whatever it has.
-#[derive(Drop)]
-struct Crowded {
-    inner: MemStore,
-    rows: u32,
-}
-
-impl<L: Ledger> Store<L> for Crowded {
-    ghost use Rattle.std.specs.Prelude.{None};
-
-    ghost content = { λ _. None };
-
-    ghost faults = { λ _. 0 };
-
-    fn get(
-        &mut self,
-        alloc: Global,
-        key: &[u8],
-        meter: &mut Meter<L>,
-    ) -> Result<Option<Bytes>, StoreErr> {
-        self.inner.get(alloc, key, meter)
-    }
-
-    fn range(
-        &mut self,
-        alloc: Global,
-        low: &[u8],
-        high: &[u8],
-        limit: u32,
-        meter: &mut Meter<L>,
-    ) -> Result<List<Pair>, StoreErr> {
-        self.inner.range(alloc, low, high, limit, meter)
-    }
-
-    fn count(
-        &mut self,
-        _alloc: Global,
-        _low: &[u8],
-        _high: &[u8],
-        cap: u32,
-        meter: &mut Meter<L>,
-    ) -> Result<u32, StoreErr> {
-        let count = self.rows.min(cap);
-        meter.charge(count);
-        Ok(count)
-    }
-
-    fn write(
-        &mut self,
-        alloc: Global,
-        key: &[u8],
-        guard: Guard,
-        new: Option<&[u8]>,
-        meter: &mut Meter<L>,
-    ) -> Result<bool, StoreErr> {
-        self.inner.write(alloc, key, guard, new, meter)
-    }
-}
 
 // The first two want an index. The third goes by the key and wants none.
 const SCRIPT: &[u8] = b"CREATE TABLE m (id INT, v INT, PRIMARY KEY (id));
@@ -100,8 +41,7 @@ fn run_crowded<L: Ledger>(
     requires two { blank.parts ≡ 2 }
 {
     let mut meter = Meter::<L>::start(Opening::of(blank));
-    let inner = MemStore::new(alloc);
-    let mut store = Crowded { inner, rows };
+    let mut store = MiscountStore::new(MemStore::new(alloc), rows);
     run_script(alloc, SCRIPT, &mut store, &mut meter)
 }
 

@@ -1,11 +1,11 @@
 //! A feed in which each call of the store fails once: its run stops there, and opened again nothing is there by half.
 ghost use Rattle.std.specs.Prelude.{◌≡◌};
 
-use crate::runs::run_script;
 use crate::stated::written;
 use pq_base::{List, NoMem};
 use pq_shell::Status;
 use pq_store::{Fail, FailingStore, MemStore, Meter, Opening};
+use pq_test_tools::run_script;
 use std::alloc::Global;
 use std::marker::Brand;
 use std::sync::ledger::{Blank, Ledger};

@@ -2,6 +2,8 @@
 #![tactic(auto)]
 
 #[cfg(test)]
+mod contents;
+#[cfg(test)]
 mod crowded;
 #[cfg(test)]
 mod cursors;
@@ -15,6 +17,10 @@ mod definitions;
 mod failing;
 #[cfg(test)]
 mod forms;
+#[cfg(test)]
+mod pages;
+#[cfg(test)]
+mod parents;
 #[cfg(test)]
 mod queries;
 #[cfg(test)]

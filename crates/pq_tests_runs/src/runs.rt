@@ -1,10 +1,11 @@
 //! Whole runs: what they write, but for the used numbers, and how they end.
 ghost use Rattle.std.specs.Prelude.{◌≡◌};
 
-use pq_base::{Bytes, List, NoMem, PText};
-use pq_shell::{MemSink, MemSource, Status, run_piql};
-use pq_store::{MemStore, Meter, Opening, Store};
-use std::alloc::{AllocError, Global};
+use pq_base::{Bytes, List, NoMem};
+use pq_shell::{MemSink, MemSource, Status};
+use pq_store::{MemStore, Meter, Opening};
+use pq_test_tools::run_words;
+use std::alloc::Global;
 use std::marker::Brand;
 use std::sync::ledger::{Blank, Ledger};
 use std::test;
@@ -56,66 +57,12 @@ const SHOWN_TEXT: &[u8] = b"open defs 0 bound 2 257
 
 const OPENED: &[u8] = b"open defs 0 bound 2 257\n";
 
-fn words_of(alloc: Global, texts: &[&str]) -> Result<List<PText>, NoMem> {
-    let mut words = List::new(alloc);
-    for text in texts {
-        if let Some(word) = PText::from_bytes(alloc, text.as_bytes())? {
-            words.push(alloc, word)?;
-        }
-    }
-    Ok(words)
-}
-
 fn calls_of(alloc: Global, failing: u64) -> Result<List<u64>, NoMem> {
     let mut fails = List::new(alloc);
     if failing > 0 {
         fails.push(alloc, failing)?;
     }
     Ok(fails)
-}
-
-// The text without what stands behind ` used ` in each line.
-fn without_used(alloc: Global, text: &[u8]) -> Result<Vec<u8>, AllocError> {
-    let mut kept = Vec::new(alloc);
-    let mut leaving_out = false;
-    for (i, byte) in text.iter().enumerate() {
-        if *byte == b'\n' {
-            leaving_out = false;
-        } else if text[i..].starts_with(b" used ") {
-            leaving_out = true;
-        }
-        if !leaving_out {
-            kept.push(*byte)?;
-        }
-    }
-    Ok(kept)
-}
-
-/// How a run of these words over a store ends, and what it writes but for the used numbers.
-fn run_words<S: Store<L>, L: Ledger>(
-    alloc: Global,
-    words: &[&str],
-    source: &mut MemSource,
-    store: &mut S,
-    sink: &mut MemSink,
-    meter: &mut Meter<L>,
-) -> Result<(Status, Vec<u8>), NoMem> {
-    let words = words_of(alloc, words)?;
-    let status = run_piql(alloc, words.items(), source, store, sink, meter);
-    let text = without_used(alloc, sink.held())?;
-    Ok((status, text))
-}
-
-/// The same of the run of a script, over a sink with ample room.
-pub fn run_script<S: Store<L>, L: Ledger>(
-    alloc: Global,
-    script: &[u8],
-    store: &mut S,
-    meter: &mut Meter<L>,
-) -> Result<(Status, Vec<u8>), NoMem> {
-    let mut source = MemSource::new(Bytes::of_bytes(alloc, script)?, List::new(alloc));
-    let mut sink = MemSink::new(alloc, 65_536, List::new(alloc))?;
-    run_words(alloc, &["run"], &mut source, store, &mut sink, meter)
 }
 
 // The caller's proof picks the ledger of the blank.

@@ -1,10 +1,10 @@
 //! Statements with their reports: each over a store that is opened again for it, and all in one run.
 ghost use Rattle.std.specs.Prelude.{◌≡◌};
 
-use crate::runs::run_script;
 use pq_base::NoMem;
 use pq_shell::Status;
 use pq_store::{MemStore, Meter, Opening, Pair};
+use pq_test_tools::run_script;
 use std::alloc::{AllocError, Global};
 use std::marker::Brand;
 use std::sync::ledger::{Blank, Ledger};

@@ -1,10 +1,10 @@
 //! A write, a build and a sorted join that are stopped at each of their calls, done or not done.
 ghost use Rattle.std.specs.Prelude.{◌≡◌};
 
-use crate::runs::run_script;
 use pq_base::{List, NoMem};
 use pq_shell::Status;
 use pq_store::{Fail, FailingStore, MemStore, Meter, Opening};
+use pq_test_tools::run_script;
 use std::alloc::Global;
 use std::marker::Brand;
 use std::sync::ledger::{Blank, Ledger};

@@ -1,11 +1,11 @@
 //! A write and a build that are stopped at each of their calls, where the opening behind it is stopped as well.
 ghost use Rattle.std.specs.Prelude.{◌≡◌};
 
-use crate::runs::run_script;
 use crate::stopped::{BUILD, Stop, WRITE};
 use pq_base::{List, NoMem};
 use pq_shell::Status;
 use pq_store::{Fail, FailingStore, MemStore, Meter, Opening};
+use pq_test_tools::run_script;
 use std::alloc::Global;
 use std::marker::Brand;
 use std::sync::ledger::{Blank, Ledger};

@@ -1,10 +1,10 @@
 //! Runs over a store that has other rows from a call on: one that answers from rows that it kept is seen.
 ghost use Rattle.std.specs.Prelude.{◌≡◌};
 
-use crate::runs::run_script;
 use pq_base::{Bytes, List, NoMem};
 use pq_shell::Status;
 use pq_store::{Guard, MemStore, Meter, Opening, Pair, Store, StoreErr};
+use pq_test_tools::run_script;
 use std::alloc::Global;
 use std::marker::Brand;
 use std::sync::ledger::{Blank, Ledger};

@@ -1,0 +1,122 @@
+//! Runs over any store: how they end, and what they write but for the used numbers.
+use pq_base::{Bytes, List, NoMem, PText};
+use pq_shell::{MemSink, MemSource, Status, run_piql};
+use pq_store::{Meter, Store};
+use std::alloc::{AllocError, Global};
+use std::sync::ledger::Ledger;
+
+/// Scripts in a row over one store: each with its text.
+pub const RUNS: [(&[u8], &[u8]); 3] = [
+    (b"", b"open defs 0 bound 2 257\n"),
+    (
+        b"CREATE TABLE m (id INT, v INT, PRIMARY KEY (id));
+INSERT INTO m VALUES (1, 7);
+PREPARE one AS SELECT m.v FROM m WHERE m.id = [1];
+RUN one (1);
+",
+        b"open defs 0 bound 2 257
+1 ok bound 1 0
+2 ok bound 2 1
+query one whole bound 1 1
+3 ok bound 1 0
+row 7
+4 ok rows 1 bound 1 1
+",
+    ),
+    (
+        b"SHOW;
+CREATE TABLE c (id INT, p INT, PRIMARY KEY (id), FOREIGN KEY (p) REFERENCES m);
+INSERT INTO c VALUES (1, 1);
+INSERT INTO c VALUES (2, 99);
+DELETE FROM m WHERE id = 1;
+",
+        b"open defs 2 bound 2 257
+def 1 CREATE TABLE m (id INT, v INT, PRIMARY KEY (id));
+def 2 PREPARE one AS SELECT m.v FROM m AS m WHERE m.id = [1];
+1 ok bound 0 0
+index c 1 (p)
+2 ok bound 1 0
+3 ok bound 6 2
+4 refused E505 c 1 bound 6 2
+5 refused E506 c 1 bound 3 2
+",
+    ),
+];
+
+fn words_of(alloc: Global, texts: &[&str]) -> Result<List<PText>, NoMem> {
+    let mut words = List::new(alloc);
+    for text in texts {
+        if let Some(word) = PText::from_bytes(alloc, text.as_bytes())? {
+            words.push(alloc, word)?;
+        }
+    }
+    Ok(words)
+}
+
+// The text without what stands behind ` used ` in each line.
+fn without_used(alloc: Global, text: &[u8]) -> Result<Vec<u8>, AllocError> {
+    let mut kept = Vec::new(alloc);
+    let mut leaving_out = false;
+    for (i, byte) in text.iter().enumerate() {
+        if *byte == b'\n' {
+            leaving_out = false;
+        } else if text[i..].starts_with(b" used ") {
+            leaving_out = true;
+        }
+        if !leaving_out {
+            kept.push(*byte)?;
+        }
+    }
+    Ok(kept)
+}
+
+/// How a run of these words over a store ends.
+pub fn run_piql_words<S: Store<L>, L: Ledger>(
+    alloc: Global,
+    words: &[&str],
+    source: &mut MemSource,
+    store: &mut S,
+    sink: &mut MemSink,
+    meter: &mut Meter<L>,
+) -> Result<Status, NoMem> {
+    let words = words_of(alloc, words)?;
+    Ok(run_piql(alloc, words.items(), source, store, sink, meter))
+}
+
+/// The same, and what it writes but for the used numbers.
+pub fn run_words<S: Store<L>, L: Ledger>(
+    alloc: Global,
+    words: &[&str],
+    source: &mut MemSource,
+    store: &mut S,
+    sink: &mut MemSink,
+    meter: &mut Meter<L>,
+) -> Result<(Status, Vec<u8>), NoMem> {
+    let status = run_piql_words(alloc, words, source, store, sink, meter)?;
+    let text = without_used(alloc, sink.held())?;
+    Ok((status, text))
+}
+
+/// The same of the run of a script, over a sink with ample room.
+pub fn run_script<S: Store<L>, L: Ledger>(
+    alloc: Global,
+    script: &[u8],
+    store: &mut S,
+    meter: &mut Meter<L>,
+) -> Result<(Status, Vec<u8>), NoMem> {
+    let mut source = MemSource::new(Bytes::of_bytes(alloc, script)?, List::new(alloc));
+    let mut sink = MemSink::new(alloc, 65_536, List::new(alloc))?;
+    run_words(alloc, &["run"], &mut source, store, &mut sink, meter)
+}
+
+/// Whether the run of the script writes the text, but for the used numbers.
+pub fn writes<S: Store<L>, L: Ledger>(
+    alloc: Global,
+    script: &[u8],
+    text: &[u8],
+    store: &mut S,
+    meter: &mut Meter<L>,
+) -> Result<bool, NoMem> {
+    let (_, written) = run_script(alloc, script, store, meter)?;
+    Ok(written.as_slice() == text)
+}
