@@ -12,12 +12,12 @@ use Rattle.pq_base.specs.declared.value.ColType.{ColType}
 use Rattle.pq_base.specs.declared.value.ColType.TheVariants as type
 use Rattle.pq_base.specs.declared.value.Value.{Value}
 use Rattle.pq_base.specs.declared.value.Value.TheVariants as value
-use Rattle.pq_base.specs.Values.{IsValue, AreValues, SameKind, SameKinds, FitsType, AllFit}
+use Rattle.pq_base.specs.Values.{AreValues, SameKinds, FitsType, AllFit}
 use Rattle.pq_schema.proofs.TypeKinds.{kinds_alike, kinds_from_fit, value_from_kind}
 use Rattle.pq_schema.specs.declared.table.KeyPart.{KeyPart}
 use Rattle.pq_schema.specs.declared.table.Table.{Table}
 use Rattle.pq_schema.specs.Sequences.{columns_of}
-use Rattle.pq_content.specs.Tables.{IsOfKind, AllOfKinds, same_value, same_values, value_of, cells, values_of, key_of, types_of, types_at, key_types}
+use Rattle.pq_content.specs.Tables.{AllOfKinds, same_value, same_values, value_of, cells, values_of, key_of, types_of, types_at, key_types}
 
 -- ---- equality by test
 

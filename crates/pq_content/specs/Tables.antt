@@ -1,5 +1,5 @@
 -- Rows of tables: their keys and types, how they are found, and when they keep their definitions.
-use Rattle.std.specs.Prelude.{◌≡◌, ◌⊎◌, ℕ, ◌<◌, ◌≤◌, not, List, [], ◌∷◌, map, filter, take, length, count_ones, Contains}
+use Rattle.std.specs.Prelude.{◌≡◌, ◌⊎◌, ℕ, ◌<◌, ◌≤◌, not, List, [], map, filter, take, length, count_ones, Contains}
 use Rattle.std.specs.List.{AllByRecursion}
 use Rattle.pq_base.specs.Columns.{set_of}
 use Rattle.pq_base.specs.declared.value.Value.{Value}

@@ -9,9 +9,7 @@ use Rattle.base64.specs.Engines.{url_safe_no_pad}
 use Rattle.base64.specs.GeneralPurpose.{encode_of, decode_of, decoded_of}
 use Rattle.base64.specs.declared.decode.DecodeError.{DecodeError}
 use Rattle.base64.proofs.EngineFacts.{decode_of_strict, decode_of-encode_of}
-use Rattle.pq_base.specs.Values.{IsValue, FitsType, AllFit}
-use Rattle.pq_base.specs.declared.value.ColType.TheVariants as type
-use Rattle.pq_base.specs.declared.value.Value.TheVariants as value
+use Rattle.pq_base.specs.Values.{AllFit}
 use Rattle.pq_base.specs.declared.value.ColType.{ColType}
 use Rattle.pq_base.specs.declared.value.Dir.{Dir}
 use Rattle.pq_base.specs.declared.value.Value.{Value}

@@ -1,5 +1,5 @@
 -- How many pairs stand in the range of a group: as many as the group has rows.
-use Rattle.std.proofs.Common.{◌≡◌, ℕ, zero, suc, ◌+◌, ◌-◌, ◌≤◌, ◌<◌, ◌⊎◌, inl, inr, Bool, true, false, cond, eqb, List, [], ◌∷◌, length, take, map, Option, Some, None, refl, sym, ap, subst, ◌∙◌, arith}
+use Rattle.std.proofs.Common.{◌≡◌, ℕ, zero, suc, ◌+◌, ◌-◌, ◌≤◌, ◌<◌, ◌⊎◌, inl, inr, true, false, cond, eqb, List, [], ◌∷◌, length, take, map, Option, Some, None, refl, sym, ap, subst, ◌∙◌, arith}
 use Rattle.std.specs.Prelude.{IsSome, slice_get, slice_index_or, unwrap_or, option_map, count_ones, ◌==◌}
 use Rattle.std.specs.List.{position, IsDistinct}
 use Rattle.std.proofs.lemmas.Bool.{eqb-true, eq-eqb, false≢true}

@@ -1,15 +1,14 @@
 -- Fixed columns have tied values, of the columns' kinds, and a range has just the rows with these.
-use Rattle.std.proofs.Common.{◌≡◌, Option, Some, None, ℕ, suc, ◌-◌, ◌<◌, true, ◌&&◌, ◌==◌, inl, inr, List, [], ◌∷◌, length, get_or, map, filter, take, slice_get, option_and_then, option_to_list, refl, sym, ap, ◌∙◌, subst, arith}
+use Rattle.std.proofs.Common.{◌≡◌, Option, Some, None, ℕ, ◌-◌, ◌<◌, true, ◌&&◌, ◌==◌, inl, inr, List, [], ◌∷◌, length, get_or, map, filter, take, slice_get, option_and_then, option_to_list, refl, sym, ap, ◌∙◌, subst, arith}
 use Rattle.std.specs.Prelude.{unwrap_or}
-use Rattle.std.proofs.lemmas.Bool.{and_parts, and_from, eqb-true, eq-eqb, ltb-true, false≢true}
+use Rattle.std.proofs.lemmas.Bool.{and_parts, and_from, eqb-true, eq-eqb, ltb-true}
 use Rattle.std.proofs.lemmas.List.{length-map}
 use Rattle.pq_base.specs.Columns.{is_column_within, set_of}
 use Rattle.pq_base.specs.Members.{In}
-use Rattle.pq_base.specs.Values.{FitsType, AllFit, same_kind}
+use Rattle.pq_base.specs.Values.{FitsType, AllFit}
 use Rattle.pq_base.specs.declared.value.ColType.{ColType}
 use Rattle.pq_base.specs.declared.value.ColType.TheVariants as type
 use Rattle.pq_base.specs.declared.value.Value.{Value}
-use Rattle.pq_base.specs.declared.value.Value.TheVariants as value
 use Rattle.pq_schema.specs.declared.query.Op.TheVariants as op
 use Rattle.pq_schema.specs.declared.query.Operand.{Operand}
 use Rattle.pq_schema.specs.declared.query.Operand.TheVariants as operand

@@ -1,17 +1,13 @@
 -- The predicates, the order and the stop of a query that is resolved.
-use Rattle.std.proofs.Common.{◌≡◌, ℕ, ℤ, pos, negsuc, ◌+◌, ◌<◌, ◌≤◌, true, false, not, ◌&&◌, inl, inr, List, [], ◌∷◌, ◌++◌, length, map, Some, None, Result, Ok, refl, sym, subst, arith}
+use Rattle.std.proofs.Common.{◌≡◌, ℕ, ℤ, pos, negsuc, ◌+◌, ◌<◌, ◌≤◌, true, false, not, ◌&&◌, inl, inr, List, [], ◌∷◌, ◌++◌, length, map, Some, None, Result, Ok, refl, ◌∙◌, sym, subst, arith}
 use Rattle.std.specs.Prelude.{nat_le, nat_lt, ◌==◌, if◌then◌else◌, IfSome}
 use Rattle.std.specs.List.{AllByRecursion, IsDistinct, list_any}
-use Rattle.std.proofs.lemmas.Bool.{and_parts, not-false, not-true, ltb-true, ltb-false, leb-true, eqb-false, false≢true, cases_eq}
+use Rattle.std.proofs.lemmas.Bool.{and_parts, not-false, not-true, ltb-true, ltb-false, leb-true, eqb-false, cases_eq}
 use Rattle.std.proofs.lemmas.Option.{none-some, same_Some}
-use Rattle.pq_base.specs.Values.{IsValue, FitsType, fits_type}
+use Rattle.pq_base.specs.Values.{FitsType}
 use Rattle.pq_base.specs.declared.count_word.TheConstants as count_word
 use Rattle.pq_base.specs.declared.refusal.Refusal.{Refusal}
 use Rattle.pq_base.specs.declared.refusal.Refusal.TheVariants as refusal
-use Rattle.pq_base.specs.declared.value.ColType.{ColType}
-use Rattle.pq_base.specs.declared.value.ColType.TheVariants as type
-use Rattle.pq_base.specs.declared.value.Value.{Value}
-use Rattle.pq_base.specs.declared.value.Value.TheVariants as value
 use Rattle.pq_schema.specs.Candidates.{stop_size as size_of}
 use Rattle.pq_schema.specs.ColumnNames.{repeated_name}
 use Rattle.pq_schema.specs.Definitions.{refused_if}

@@ -1,5 +1,5 @@
 -- The table that a definition makes says what the definition says.
-use Rattle.std.proofs.Common.{◌≡◌, ℕ, ℤ, pos, negsuc, suc, ◌+◌, ◌-◌, ◌^◌, ◌<◌, Bool, true, false, cond, not, ◌&&◌, List, [], ◌∷◌, ◌++◌, length, map, get_or, Option, Some, None, Ok, refl, sym, ap, subst, ◌∙◌, arith}
+use Rattle.std.proofs.Common.{◌≡◌, ℕ, ℤ, pos, negsuc, ◌+◌, ◌-◌, ◌^◌, ◌<◌, Bool, true, false, cond, not, ◌&&◌, List, [], ◌∷◌, ◌++◌, length, map, get_or, Option, Some, None, Ok, refl, sym, ap, subst, ◌∙◌, arith}
 use Rattle.std.specs.Prelude.{nat_le, position, find, slice_index_or, unwrap_or, is_some, fold, All}
 use Rattle.std.specs.Option.{option_map}
 use Rattle.std.specs.List.{list_all}
@@ -17,16 +17,13 @@ use Rattle.pq_schema.specs.declared.table.Table.{Table}
 use Rattle.pq_schema.specs.ColumnNames.{is_unknown, place_of, places_of, no_column, unknown_refusal, names_refusal}
 use Rattle.pq_schema.specs.Definitions.{has_type, column_of, refused_if, is_outside, cardinality, or_ok, name_refusal, counts_refusal, columns_refusal, key_refusal, limit_refusal, limits_refusal, has_shape, reference_refusal, foreign_refusal, foreigns_refusal, groups_refusal, table_refusal, limit_of_def, foreign_of_def, bare_table, table_of_def, new_table}
 use Rattle.pq_schema.specs.Sequences.{ascending_part, group_access, with_group}
-use Rattle.pq_base.specs.Values.{same_kind}
 use Rattle.pq_schema.proofs.Counts.{name_there}
 use Rattle.pq_schema.proofs.TypeKinds.{same_length}
-use Rattle.pq_schema.specs.Tables.{no_table, table_at, type_at, types_at, same_kinds}
+use Rattle.pq_schema.specs.Tables.{no_table, table_at, type_at, types_at}
 use Rattle.pq_schema.specs.Schema.{Schema, is_table, number_of, find_table}
 use Rattle.pq_base.specs.Columns.{set_of}
-use Rattle.pq_base.specs.declared.value.ColType.{ColType}
 use Rattle.pq_schema.specs.declared.definition.LimitDef.{LimitDef}
 use Rattle.pq_schema.specs.declared.definition.ForeignDef.{ForeignDef}
-use Rattle.pq_reread.proofs.Cut.{both}
 use Rattle.pq_print.specs.Canonical.{column_name}
 use Rattle.pq_schema.specs.Names.{IsTableDef}
 use Rattle.pq_text.specs.Tokens.{tokens_of}

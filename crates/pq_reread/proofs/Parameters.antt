@@ -1,20 +1,20 @@
 -- Reading a query again gives the types of its parameters.
-use Rattle.std.proofs.Common.{◌≡◌, ℕ, zero, suc, ◌+◌, ◌-◌, ◌≤◌, ◌<◌, Bool, true, false, not, eqb, ◌||◌, ◌&&◌, List, [], ◌∷◌, length, map, get_or, Some, Ok, refl, sym, ap, subst, ◌∙◌, arith, inl, inr, eq-eqb}
+use Rattle.std.proofs.Common.{◌≡◌, ℕ, ◌+◌, ◌-◌, ◌≤◌, ◌<◌, Bool, true, false, not, eqb, ◌||◌, ◌&&◌, List, length, get_or, Some, Ok, refl, sym, ap, subst, ◌∙◌, arith, inl, inr, eq-eqb}
 use Rattle.std.specs.Prelude.{nat_lt}
 use Rattle.std.specs.List.{list_any, list_all}
-use Rattle.std.proofs.lemmas.Bool.{eqb-true, or_cases, and_from, cases_eq, cases_lt}
+use Rattle.std.proofs.lemmas.Bool.{eqb-true, and_from, cases_eq, cases_lt}
 use Rattle.std.proofs.lemmas.Bool.Decides.{nat_tests}
-use Rattle.std.proofs.lemmas.List.{ext_get_or, length-map}
+use Rattle.std.proofs.lemmas.List.{ext_get_or}
 use Rattle.std.proofs.lemmas.List.FromFn.{length-map-range_with_len, get_or-map-range_with_len}
 use Rattle.std.proofs.lemmas.Option.{none-some, same_Some}
 use Rattle.pq_base.specs.Members.{In}
-use Rattle.pq_base.proofs.Members.{all_from, all_member, any_at, any_from, map_in}
+use Rattle.pq_base.proofs.Members.{all_from, all_member, any_at, any_from}
 use Rattle.pq_base.specs.Values.{same_kind}
 use Rattle.pq_base.specs.declared.refusal.Refusal.TheVariants as refusal
 use Rattle.pq_base.specs.declared.value.ColType.{ColType}
 use Rattle.pq_base.specs.declared.value.ColType.TheVariants as type
 use Rattle.pq_schema.specs.Definitions.{refused_if}
-use Rattle.pq_schema.specs.Resolved.{IsParam, IsOperand, IsPredicate, IsResolved, is_param, is_used, param_type}
+use Rattle.pq_schema.specs.Resolved.{IsParam, IsOperand, IsPredicate, IsResolved, is_param, param_type}
 use Rattle.pq_schema.specs.declared.query.Operand.{Operand}
 use Rattle.pq_schema.specs.declared.query.Operand.TheVariants as operand
 use Rattle.pq_schema.specs.declared.query.Pred.{Pred}

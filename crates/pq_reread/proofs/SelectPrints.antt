@@ -4,9 +4,7 @@ use Rattle.std.specs.Prelude.{codes, IfSome}
 use Rattle.std.specs.Fmt.{decimal}
 use Rattle.std.proofs.lemmas.Bool.{or_parts}
 use Rattle.std.specs.Char.{is_ascii_digit}
-use Rattle.pq_base.specs.Values.{IsValue, FitsType}
-use Rattle.pq_base.specs.declared.value.ColType.{ColType}
-use Rattle.pq_base.specs.declared.value.ColType.TheVariants as type
+use Rattle.pq_base.specs.Values.{IsValue}
 use Rattle.pq_base.specs.declared.value.Dir.{Dir}
 use Rattle.pq_base.specs.declared.value.Dir.TheVariants as dir
 use Rattle.pq_base.specs.declared.value.Value.{Value}

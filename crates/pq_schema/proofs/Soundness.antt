@@ -1,10 +1,8 @@
 -- Tables that are made are sound, and queries over them are those that planning takes.
-use Rattle.std.proofs.Common.{◌≡◌, ℕ, suc, ◌+◌, ◌-◌, ◌<◌, ◌≤◌, true, List, [], ◌∷◌, length, get_or, refl, sym, ap, ◌∙◌, subst, arith}
+use Rattle.std.proofs.Common.{◌≡◌, ℕ, ◌+◌, ◌-◌, ◌<◌, ◌≤◌, List, length, get_or, sym, ◌∙◌, subst, arith}
 use Rattle.std.specs.Prelude.{All}
-use Rattle.std.proofs.lemmas.Bool.{and_parts, false≢true}
 use Rattle.std.proofs.lemmas.List.{length-map}
 use Rattle.std.proofs.lemmas.List.Elements.{All-from_get_or, All-weaker}
-use Rattle.pq_base.specs.declared.value.ColType.{ColType}
 use Rattle.pq_schema.specs.declared.query.ColRef.{ColRef}
 use Rattle.pq_schema.specs.declared.query.Operand.{Operand}
 use Rattle.pq_schema.specs.declared.query.Operand.TheVariants as operand
@@ -20,8 +18,7 @@ use Rattle.pq_schema.specs.Relations.{relation_at, no_relation}
 use Rattle.pq_schema.specs.Resolved.{IsRelation, IsColumnOf, IsOperand, IsPredicate, IsResolved}
 use Rattle.pq_schema.specs.Schema.{Schema}
 use Rattle.pq_schema.specs.Sound.{IsTable, IsLinked, IsForeign, IsNamedSide, IsNamedPred, IsQuery, AreColumns, AreParts, IsMade, IsMadeLimit, IsMadeForeign, AreMade}
-use Rattle.pq_base.specs.Values.{same_kind}
-use Rattle.pq_schema.specs.Tables.{no_table, table_at, type_at, types_at, same_kinds}
+use Rattle.pq_schema.specs.Tables.{no_table, table_at, type_at, types_at}
 use Rattle.pq_schema.specs.Valid.{IsValid}
 use Rattle.pq_schema.proofs.TypeKinds.{same_length}
 use Rattle.pq_schema.proofs.Valid.{valid_made}

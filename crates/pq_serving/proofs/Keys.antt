@@ -10,10 +10,8 @@ use Rattle.std.proofs.lemmas.Bool.{false≢true}
 use Rattle.std.proofs.lemmas.Bool.Decides.{nat_tests}
 use Rattle.pq_base.specs.declared.value.Dir.{Dir}
 use Rattle.pq_base.specs.declared.value.Value.{Value}
-use Rattle.pq_base.specs.declared.value.Value.TheVariants as value
 use Rattle.pq_base.specs.declared.value.ColType.{ColType}
-use Rattle.pq_base.specs.declared.value.ColType.TheVariants as type
-use Rattle.pq_base.specs.Values.{IsValue, AreValues, SameKind, SameKinds}
+use Rattle.pq_base.specs.Values.{AreValues, SameKinds}
 use Rattle.pq_schema.proofs.TypeKinds.{kinds_alike, value_from_kind}
 use Rattle.pq_schema.specs.Keys.{dirs_of}
 use Rattle.pq_schema.specs.declared.table.KeyPart.{KeyPart}

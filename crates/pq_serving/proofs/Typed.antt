@@ -8,7 +8,6 @@ use Rattle.std.proofs.lemmas.List.{length-map, drop-map}
 use Rattle.pq_base.specs.declared.value.Dir.{Dir}
 use Rattle.pq_base.specs.declared.value.Dir.TheVariants.{Asc, Desc}
 use Rattle.pq_base.specs.declared.value.Value.{Value}
-use Rattle.pq_base.specs.declared.value.Value.TheVariants as value
 use Rattle.pq_base.specs.declared.value.ColType.{ColType}
 use Rattle.pq_base.specs.declared.value.ColType.TheVariants as type
 use Rattle.pq_base.specs.Order.{value_cmp, directed_order}
@@ -24,7 +23,6 @@ use Rattle.pq_schema.specs.declared.query.Pred.{Pred}
 use Rattle.pq_schema.specs.declared.query.OrderItem.{OrderItem}
 use Rattle.pq_schema.specs.Resolved.{IsOperand, IsJoined, IsParam, IsPredicate, IsResolved, ref_type, param_type}
 use Rattle.pq_schema.specs.Sequences.{columns_of}
-use Rattle.pq_base.specs.Values.{same_kind}
 use Rattle.pq_schema.specs.Relations.{table_of, belongs_to, ties, tied_set, is_rest, part_of, position_columns}
 use Rattle.pq_content.specs.Tables.{types_of, type_at, types_at, IsOfKind}
 use Rattle.pq_plan.specs.Answer.{Question, row_of, side, compares, no_value}
