@@ -50,6 +50,15 @@ impl<T> List<T> {
         }
     }
 
+    /// The empty list, with room for so many items.
+    pub fn with_room(alloc: Global, room: usize) -> Result<List<T>, NoMem>
+        ensures { IfOk result (λ list. list ≡ []) }
+    {
+        Ok(List {
+            held: Vec::with_capacity(alloc, room)?,
+        })
+    }
+
     /// The items of a vector, which takes no memory.
     pub fn from_vec(held: Vec<T>) -> List<T>
         ensures { result ≡ held.items }

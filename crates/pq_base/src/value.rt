@@ -98,7 +98,7 @@ impl List<Value> {
     pub fn copy(&self, alloc: Global) -> Result<Row, NoMem>
         ensures { IfOk result (λ copy. copy ≡ self.now) }
     {
-        let mut copy = List::new(alloc);
+        let mut copy = List::with_room(alloc, self.items().len())?;
         for value in self.items() {
             copy.push(alloc, value.copy(alloc)?)?;
         }

@@ -22,7 +22,7 @@ fn all_columns(alloc: Global, table: &Table) -> Result<List<u8>, NoMem>
     requires { length table.now.columns ≤ 32 }
     ensures { IfOk result (λ cols. cols ≡ all_columns table.now) }
 {
-    let mut cols = List::new(alloc);
+    let mut cols = List::with_room(alloc, table.columns.items().len())?;
     for col in 0..table.columns.items().len() {
         cols.push(alloc, col as u8)?;
     }
@@ -32,7 +32,7 @@ fn all_columns(alloc: Global, table: &Table) -> Result<List<u8>, NoMem>
 fn copy_names(alloc: Global, names: &[PText]) -> Result<List<PText>, NoMem>
     ensures { IfOk result (λ copy. copy ≡ names.now) }
 {
-    let mut copy = List::new(alloc);
+    let mut copy = List::with_room(alloc, names.len())?;
     for name in names {
         copy.push(alloc, name.copy(alloc)?)?;
     }

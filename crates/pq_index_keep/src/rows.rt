@@ -22,7 +22,7 @@ fn value_of(alloc: Global, row: &[Value], col: u8) -> Result<Value, NoMem>
 pub(crate) fn values_at(alloc: Global, row: &[Value], cols: &[u8]) -> Result<Row, NoMem>
     ensures { IfOk result (λ values. values ≡ cells cols.now row.now) }
 {
-    let mut values = List::new(alloc);
+    let mut values = List::with_room(alloc, cols.len())?;
     for col in cols {
         values.push(alloc, value_of(alloc, row, *col)?)?;
     }
@@ -54,7 +54,7 @@ pub(crate) fn all_given(
 ) -> Result<Row, NoMem>
     ensures { IfOk result (λ row. row ≡ map (given_value cols.now values.now) wanted.now) }
 {
-    let mut row = List::new(alloc);
+    let mut row = List::with_room(alloc, wanted.len())?;
     for col in wanted {
         row.push(alloc, given(alloc, cols, values, *col)?)?;
     }

@@ -28,6 +28,10 @@ checked_answer n bs (Ok None) le h = sym (checked_err n bs le h)
 checked_answer n bs (Ok (Some t)) le h = ap Some h.1 ∙ sym (checked_ok n bs le h.0)
 checked_answer n bs (Err e) le h = tt
 
+pub gathered_answer : (n : ℕ) (bs : List ℕ) (o : Option (List ℕ)) → length bs ≤ n → MatchOption o (IsUtf8 bs → ⊥) (λ t. IsUtf8 bs × (t ≡ bs)) → o ≡ text_within n bs
+gathered_answer n bs None le h = sym (checked_err n bs le h)
+gathered_answer n bs (Some t) le h = ap Some h.1 ∙ sym (checked_ok n bs le h.0)
+
 -- what was read before, and what is still read
 abbrev pub texts_behind : List ℕ → Option (List ℕ × List ℕ) → Option (List ℕ × List ℕ)
 texts_behind front read = read >>= λ x. Some (front ++ x.0, x.1)

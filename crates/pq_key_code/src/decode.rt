@@ -53,7 +53,7 @@ fn truth_of(dir: Dir, bytes: &[u8]) -> Option<(bool, &[u8])>
 fn text_of(alloc: Global, dir: Dir, bytes: &[u8]) -> Result<Option<(Bytes, &[u8])>, NoMem>
     ensures { IfOk result (λ read. option_map (λ x. (x.0, x.1.now)) read ≡ text_value_at dir bytes.now) }
 {
-    let mut text = Bytes::new(alloc);
+    let mut text = Bytes::with_room(alloc, bytes.len())?;
     let mut i = 0;
     while i + 1 < bytes.len() {
         let byte = turn(dir, bytes[i]);
@@ -84,6 +84,16 @@ pub fn checked_text(alloc: Global, bytes: &[u8], most: u16) -> Result<Option<PTe
     PText::from_bytes(alloc, bytes)
 }
 
+// The same of bytes that were gathered for it, which takes no memory.
+fn gathered_text(bytes: Bytes, most: u16) -> Option<PText>
+    ensures { result ≡ text_within most bytes }
+{
+    if bytes.items().len() > most as usize {
+        return None;
+    }
+    PText::from_vec(bytes.into_vec())
+}
+
 #[tactic(auto, unfolding(crate::specs::KeyReading::payload_at))]
 fn payload_of(
     alloc: Global,
@@ -106,7 +116,7 @@ fn payload_of(
             let Some((text, rest)) = text_of(alloc, dir, bytes)? else {
                 return Ok(None);
             };
-            match checked_text(alloc, text.items(), most)? {
+            match gathered_text(text, most) {
                 Some(text) => Ok(Some((Value::Text(text), rest))),
                 None => Ok(None),
             }
@@ -138,7 +148,7 @@ fn row_of<'a>(
     requires { length types.now ≡ length dirs.now }
     ensures { IfOk result (λ read. option_map (λ x. (x.0, x.1.now)) read ≡ row_key_at types.now dirs.now bytes.now) }
 {
-    let mut row = Row::new(alloc);
+    let mut row = Row::with_room(alloc, types.len())?;
     let mut rest = bytes;
     for i in 0..types.len() {
         let Some((value, after)) = component_of(alloc, types[i], dirs[i], rest)? else {

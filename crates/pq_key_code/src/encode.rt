@@ -22,13 +22,24 @@ fn above_least_of(number: i64) -> u64
     number.cast_unsigned().wrapping_add(1 << 63)
 }
 
-fn put_turned(alloc: Global, out: &mut Bytes, dir: Dir, bytes: &[u8]) -> Result<(), NoMem>
+fn put_each_turned(alloc: Global, out: &mut Bytes, dir: Dir, bytes: &[u8]) -> Result<(), NoMem>
     ensures { OnOk result (out.new ≡ out.old ++ map (turned_byte dir) bytes.now) }
 {
     for byte in bytes {
         out.push(alloc, turn(dir, *byte))?;
     }
     Ok(())
+}
+
+// Ascending bytes stay as they are.
+#[tactic(auto, using(crate::proofs::Escapes::ascending))]
+fn put_turned(alloc: Global, out: &mut Bytes, dir: Dir, bytes: &[u8]) -> Result<(), NoMem>
+    ensures { OnOk result (out.new ≡ out.old ++ map (turned_byte dir) bytes.now) }
+{
+    match dir {
+        Dir::Asc => out.extend(alloc, bytes),
+        Dir::Desc => put_each_turned(alloc, out, dir, bytes),
+    }
 }
 
 #[tactic(auto, using(crate::proofs::Escapes::escaped_one))]
@@ -42,12 +53,31 @@ fn put_text_byte(alloc: Global, out: &mut Bytes, dir: Dir, byte: u8) -> Result<(
     Ok(())
 }
 
-fn put_text(alloc: Global, out: &mut Bytes, dir: Dir, bytes: &[u8]) -> Result<(), NoMem>
-    ensures { OnOk result (out.new ≡ out.old ++ map (turned_byte dir) (payload (values.Text bytes.now))) }
+fn put_escaped(alloc: Global, out: &mut Bytes, dir: Dir, bytes: &[u8]) -> Result<(), NoMem>
+    ensures { OnOk result (out.new ≡ out.old ++ map (turned_byte dir) (escaped_text bytes.now)) }
 {
     for byte in bytes {
         put_text_byte(alloc, out, dir, *byte)?;
     }
+    Ok(())
+}
+
+// A text without zeros has nothing to escape.
+#[tactic(auto, using(crate::proofs::Escapes::escaped_plain))]
+fn put_text_bytes(alloc: Global, out: &mut Bytes, dir: Dir, bytes: &[u8]) -> Result<(), NoMem>
+    ensures { OnOk result (out.new ≡ out.old ++ map (turned_byte dir) (escaped_text bytes.now)) }
+{
+    if bytes.contains(&0) {
+        put_escaped(alloc, out, dir, bytes)
+    } else {
+        put_turned(alloc, out, dir, bytes)
+    }
+}
+
+fn put_text(alloc: Global, out: &mut Bytes, dir: Dir, bytes: &[u8]) -> Result<(), NoMem>
+    ensures { OnOk result (out.new ≡ out.old ++ map (turned_byte dir) (payload (values.Text bytes.now))) }
+{
+    put_text_bytes(alloc, out, dir, bytes)?;
     out.push(alloc, turn(dir, 0))?;
     out.push(alloc, turn(dir, 1))
 }
@@ -64,6 +94,18 @@ pub fn put_component(alloc: Global, out: &mut Bytes, dir: Dir, value: &Value) ->
         Value::Bool(truth) => put_turned(alloc, out, dir, &[u8::from(*truth)]),
         Value::Text(text) => put_text(alloc, out, dir, text.bytes()),
     }
+}
+
+// Most keys have no more bytes than this.
+const KEY_ROOM: usize = 40;
+
+/// The bytes that a key begins with, with room for those of most keys.
+pub(crate) fn begun(alloc: Global, front: &[u8]) -> Result<Bytes, NoMem>
+    ensures { IfOk result (λ bytes. bytes ≡ front.now) }
+{
+    let mut bytes = Bytes::with_room(alloc, KEY_ROOM)?;
+    bytes.extend(alloc, front)?;
+    Ok(bytes)
 }
 
 /// Puts a row's key code behind what is there.
@@ -87,7 +129,7 @@ pub fn encode_key(alloc: Global, row: &Row, dirs: &[Dir]) -> Result<Bytes, NoMem
     requires { length row.now ≡ length dirs.now }
     ensures { IfOk result (λ code. code ≡ code_of dirs.now row.now) }
 {
-    let mut code = Bytes::new(alloc);
+    let mut code = begun(alloc, &[])?;
     put_code(alloc, &mut code, row.items(), dirs)?;
     Ok(code)
 }

@@ -3,7 +3,7 @@ ghost use Rattle.std.specs.Prelude.{◌≡◌, ◌++◌, [], length, replicate, 
 ghost use Rattle.pq_base.specs.declared.value.Dir.TheVariants.{Asc};
 ghost use Rattle.pq_key_code.specs.KeyCode.{code_of, past_code, row_key, entry_key, catalog_key, intent_key};
 
-use crate::encode::{put_code, put_component};
+use crate::encode::{begun, put_code, put_component};
 use pq_base::{Bytes, Dir, NoMem, Row};
 use std::alloc::Global;
 
@@ -30,7 +30,7 @@ fn put_ascending(alloc: Global, out: &mut Bytes, row: &Row) -> Result<(), NoMem>
 pub fn row_front(alloc: Global, table: u8) -> Result<Bytes, NoMem>
     ensures { IfOk result (λ bytes. bytes ≡ row_key table []) }
 {
-    Bytes::of_bytes(alloc, &[0x02, table])
+    begun(alloc, &[0x02, table])
 }
 
 /// The key of the row with this primary key: space 02, the table's number, and the key's code.
@@ -47,7 +47,7 @@ pub fn row_key(alloc: Global, table: u8, key: &Row) -> Result<Bytes, NoMem>
 pub fn entry_front(alloc: Global, table: u8, index: u8) -> Result<Bytes, NoMem>
     ensures { IfOk result (λ bytes. bytes ≡ entry_key table index [] []) }
 {
-    Bytes::of_bytes(alloc, &[0x03, table, index])
+    begun(alloc, &[0x03, table, index])
 }
 
 /// The key of an index entry, or, with the first values of a sequence only, the beginning of such

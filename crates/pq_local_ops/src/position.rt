@@ -55,7 +55,7 @@ fn value_at(alloc: Global, combo: &Combo, col: ColRef) -> Result<Value, NoMem>
 pub(crate) fn values_at(alloc: Global, combo: &Combo, cols: &[ColRef]) -> Result<Row, NoMem>
     ensures { IfOk result (λ values. values ≡ values_at combo.now cols.now) }
 {
-    let mut values = Row::new(alloc);
+    let mut values = Row::with_room(alloc, cols.len())?;
     for col in cols {
         values.push(alloc, value_at(alloc, combo, *col)?)?;
     }

@@ -40,6 +40,22 @@ fn put_change(alloc: Global, out: &mut Bytes, change: &Change) -> Result<(), NoM
     }
 }
 
+// At least as many bytes as the changes take, wherever there is memory for them.
+fn changes_room(changes: &[Change]) -> usize {
+    let mut room = 2usize;
+    for change in changes {
+        let value = match &change.new {
+            None => 0,
+            Some(value) => value.items().len(),
+        };
+        room = room
+            .saturating_add(9)
+            .saturating_add(change.key.items().len())
+            .saturating_add(value);
+    }
+    room
+}
+
 /// The bytes of a change list: the number of changes in two bytes, and then each change. A key has
 /// four bytes of length before its own, and then comes 00 for a removal, or 01 and the value with
 /// four bytes of length. The highest byte of a number comes first.
@@ -48,7 +64,8 @@ pub fn encode_changes(alloc: Global, changes: &List<Change>) -> Result<Bytes, No
     requires each { All IsChange changes.now }
     ensures { IfOk result (λ code. code ≡ changes_code changes.now) }
 {
-    let mut code = Bytes::of_bytes(alloc, &(changes.items().len() as u16).to_be_bytes())?;
+    let mut code = Bytes::with_room(alloc, changes_room(changes.items()))?;
+    code.extend(alloc, &(changes.items().len() as u16).to_be_bytes())?;
     for change in changes.items() {
         put_change(alloc, &mut code, change)?;
     }

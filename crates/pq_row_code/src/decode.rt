@@ -92,7 +92,7 @@ fn fields_of<'a>(
 ) -> Result<Option<(Row, &'a [u8])>, NoMem>
     ensures { IfOk result (λ read. option_map (λ x. (x.0, x.1.now)) read ≡ fields_at types.now bytes.now) }
 {
-    let mut row = Row::new(alloc);
+    let mut row = Row::with_room(alloc, types.len())?;
     let mut rest = bytes;
     for ty in types {
         let Some((value, after)) = field_of(alloc, *ty, rest)? else {

@@ -51,7 +51,8 @@ pub fn encode_row(alloc: Global, row: &Row) -> Result<Bytes, NoMem>
     requires texts { All IsShort row.now }
     ensures { IfOk result (λ code. code ≡ row_code row.now) }
 {
-    let mut code = Bytes::of_bytes(alloc, &[row.items().len() as u8])?;
+    let mut code = Bytes::with_room(alloc, row_code_len(row) as usize)?;
+    code.push(alloc, row.items().len() as u8)?;
     for value in row.items() {
         put_field(alloc, &mut code, value)?;
     }

@@ -123,5 +123,6 @@ pub(crate) fn position(
 ) -> Result<Row, NoMem>
     ensures { IfOk result (λ position. position ≡ filled_values constants.now (drop tied values.now)) }
 {
-    filled_behind(alloc, constants, values_from(values, tied), Row::new(alloc))
+    let row = Row::with_room(alloc, constants.len())?;
+    filled_behind(alloc, constants, values_from(values, tied), row)
 }

@@ -43,7 +43,7 @@ fn first_unknown<'a>(columns: &[Column], names: &'a [PText]) -> Option<&'a PText
 pub fn names_of(alloc: Global, columns: &[Column]) -> Result<List<PText>, NoMem>
     ensures { IfOk result (λ names. names ≡ names_of columns.now) }
 {
-    let mut names = List::new(alloc);
+    let mut names = List::with_room(alloc, columns.len())?;
     for column in columns {
         names.push(alloc, column.name.copy(alloc)?)?;
     }

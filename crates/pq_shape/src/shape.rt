@@ -185,7 +185,7 @@ fn shape_at(alloc: Global, text: &[u8], token: Token) -> Result<Shape, NoMem>
 pub fn shapes(alloc: Global, text: &[u8], tokens: &[Token]) -> Result<List<Shape>, NoMem>
     ensures { IfOk result (λ found. found ≡ shapes_of text.now tokens.now) }
 {
-    let mut found = List::new(alloc);
+    let mut found = List::with_room(alloc, tokens.len())?;
     for token in tokens {
         found.push(alloc, shape_at(alloc, text, *token)?)?;
     }
