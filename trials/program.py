@@ -9,7 +9,7 @@ from dataclasses import dataclass
 
 TOP = pathlib.Path(__file__).resolve().parent.parent
 BUILD = TOP / "crates/piql/out/piql"
-EXAMPLES = TOP / "crates/piql_examples/data"
+EXAMPLES = TOP / "examples"
 # The seconds after which a run counts as one that hangs.
 LIMIT = 60
 OPENING = b"open defs 0 bound 2 257 used 2 0\n"
