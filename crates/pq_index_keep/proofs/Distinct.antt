@@ -40,13 +40,16 @@ record AreNew (s : ℕ) (cols : List ℕ) : Type 0 where
 
 none_of : (s c : ℕ) (cols : List ℕ) → AllByRecursion (λ col. bit_at (with_col s c) col ≡ 0) cols → AllByRecursion (λ col. eqb c col ≡ false) cols
 none_of s c [] none = tt
-none_of s c (d ∷ ds) none = (elim (cases_eq c d) [
-  | inl same ↦
-      let zero : bit_at (with_col s c) d ≡ 0 = none.0 in
-      let one : bit_at (2 ^ c) d ≡ 1 = ap (bit_at (2 ^ c)) (sym same) ∙ bit_at-pow_same c in
-      absurd (omega (arith, zero, one, bit_at_or s (2 ^ c) d))
-  | inr other ↦ ne_eqb c d other
-], none_of s c ds none.1)
+none_of s c (d ∷ ds) none = (
+  elim (cases_eq c d) [
+    | inl same ↦
+        let zero : bit_at (with_col s c) d ≡ 0 = none.0 in
+        let one : bit_at (2 ^ c) d ≡ 1 = ap (bit_at (2 ^ c)) (sym same) ∙ bit_at-pow_same c in
+        absurd (omega (arith, zero, one, bit_at_or s (2 ^ c) d))
+    | inr other ↦ ne_eqb c d other
+  ],
+  none_of s c ds none.1,
+)
 
 absent_before : (s c : ℕ) (cols : List ℕ) → AllByRecursion (λ col. bit_at (with_col s c) col ≡ 0) cols → AllByRecursion (λ col. bit_at s col ≡ 0) cols
 absent_before s c [] none = tt
