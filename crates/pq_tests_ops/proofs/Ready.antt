@@ -53,37 +53,6 @@ under P (tree.Sort' p below) input is all = part P below input sort is all
 under P (tree.Cut' p below k) input is all = part P below input (cut k) is all
 under P (tree.Project' p below) input is all = part P below input project is all
 
--- ---- what a node costs over nine inputs
-
-module _ (allowed : AllowedCounts) (share : Affords allowed 200000 200000) (n : ℕ) (few : n ≤ 9) where
-  abbrev ops_left : 200000 ≤ allowed.left.ops
-  ops_left = share.ops_left
-
-  abbrev entries_left : 200000 ≤ allowed.left.entries
-  entries_left = share.entries_left
-
-  within : (ops entries : ℕ) → ops ≤ 200000 → entries ≤ 200000 → Affords allowed ops entries
-  within ops entries low small =
-      let left = ops_left in
-      let rest = entries_left in
-      record { ops_left = omega arith; entries_left = omega arith }
-
-  each_of : (m most : ℕ) → m ≤ most → 9 * most ≤ 200000 → n * m ≤ 200000
-  each_of m most low small =
-      let product = mul-le n m 9 most few low in
-      omega (arith, product)
-
-  pub lookup_share : (rel : ℕ) → AffordsNode allowed n (lookup rel)
-  lookup_share rel = within _ _ (each_of 1 1 (omega arith) (omega arith)) (each_of 1 1 (omega arith) (omega arith))
-
-  pub limit_share : (rel limit m : ℕ) (access : Access) → m ≤ 10000 → AffordsNode allowed n (limit_range rel limit m access)
-  limit_share rel limit m Primary low = within _ _ (each_of 1 1 (omega arith) (omega arith)) (each_of m 10000 low (omega arith))
-  limit_share rel limit m (Secondary index) low = within _ _ (each_of (1 + m) 10001 (omega arith) (omega arith)) (each_of (2 * m) 20000 (omega arith) (omega arith))
-
-  pub stop_share : (rel k : ℕ) (access : Access) → k ≤ 1000 → AffordsNode allowed n (stop_scan rel k access)
-  stop_share rel k Primary low = let product = mul-le n k 9 1000 few low in within _ _ (omega (arith, few)) (omega (arith, product))
-  stop_share rel k (Secondary index) low = let product = mul-le n k 9 1000 few low in within _ _ (omega (arith, few, low)) (omega (arith, product, low))
-
 -- ---- the node that reads a relation is the last one
 
 pub last_ready : (tables : List Table) (query : Query) (front : List Node) (make : ℕ → Node) (at rel : ℕ) → at ≡ rel → AllByRecursion (IsReadyNode tables query) (front ++ make at ∷ []) → IsReadyNode tables query (make rel)
