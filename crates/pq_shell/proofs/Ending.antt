@@ -21,7 +21,7 @@ use Rattle.pq_session.specs.Model.{Model}
 use Rattle.pq_session.specs.Matches.{Matches}
 use Rattle.pq_session.specs.Stands.{Opens}
 use Rattle.pq_session.proofs.Standing.{settled_opens}
-use Rattle.pq_shell.specs.Fold.{Moment, MadeReports, Served, StoppedItem}
+use Rattle.pq_shell.specs.Fold.{Moment, MadeReports, ServedItems, StoppedItem}
 use Rattle.pq_shell.specs.Forms.{HasItems, HasOpening, OpensAt, StandsIn, close, shown_report}
 use Rattle.pq_shell.specs.Items.{Item, Cut, Rest, cut_items, rest_items, items_of}
 use Rattle.pq_shell.specs.Making.{ReadsSource, MakesItem, moment}
@@ -95,7 +95,7 @@ shown_printed (Fill k) read n = absurd read
 
 -- the rest is reported, where there is one
 served_rest : (f : Form) → ReadsSource f → (s : Schema) (a : Moment) (h' : Option (List ℕ)) (n : ℕ) (flag refused : Bool) → h' ≡ append_known a.held (rest_text flag n)
-    → Served f s s a (moment a.content h' a.counts) n (rest_items flag) refused (refused || flag)
+    → ServedItems f s s a (moment a.content h' a.counts) n (rest_items flag) refused (refused || flag)
 served_rest f read s a h' n true refused text =
     Served-one refused (refused || true) (Made-one f Rest n s s a.content a.content a.held h' a.counts a.counts (rest_report n) (rest_made f read n s a.content a.counts) (text ∙ ap (append_known a.held) (sym (shown_printed f read n)))) refl
 served_rest f read s a h' n false refused text = record {
@@ -110,7 +110,7 @@ record FromStart (f : Form) (ending : Ending) (left left_now : Option (List ℕ)
   took : TookBytes ending left left_now bytes
   told : List Piece
   fed : FedPieces start_summary bytes told now.splitter
-  served : Served f first last from to 1 (cut_items told) false now.tally.refused
+  served : ServedItems f first last from to 1 (cut_items told) false now.tally.refused
   counted : now.tally.count + 1 ≡ 1 + length (cut_items told)
 
 from_start : {f : Form} {ending : Ending} {left left' : Option (List ℕ)} {s t : Schema} {a b : Moment} {p q : Progress} → p.splitter ≡ start_summary → p.tally.count ≡ 0 → p.tally.refused ≡ false → ConsumedSource f ending left left' s t a b p q → FromStart f ending left left' s t a b q
@@ -123,7 +123,7 @@ from_start {f = f} {s = s} {t = t} {a = a} {b = b} {p = p} {q = q} fresh none cl
       took = c.took;
       told = told;
       fed = subst (λ s. FedPieces s c.bytes told q.splitter) fresh progressed.fed;
-      served = subst (λ y. Served f s t a b 1 (cut_items told) y q.tally.refused) clean (subst (λ n. Served f s t a b n (cut_items told) p.tally.refused q.tally.refused) number progressed.served);
+      served = subst (λ y. ServedItems f s t a b 1 (cut_items told) y q.tally.refused) clean (subst (λ n. ServedItems f s t a b n (cut_items told) p.tally.refused q.tally.refused) number progressed.served);
       counted = omega (arith, progressed.counted, none, length-map told Cut);
     }
 
@@ -168,8 +168,8 @@ module _ {f : Form} (read : ReadsSource f) {left left' : Option (List ℕ)} {s t
 
     pub Finished-of : (ended : Ended) → ReportsRest ending q ended c.held h' → FinishedRun f ended.ending ended.refused (at_end left a) (at_end left' (with_held c h'))
     Finished-of ended rest =
-        let last : Served f t t c (with_held c h') (1 + length (cut_items from.told)) (rest_items flag) q.tally.refused (q.tally.refused || flag) =
-        subst (λ n. Served f t t c (with_held c h') n (rest_items flag) q.tally.refused (q.tally.refused || flag)) from.counted (served_rest f read t c h' (q.tally.count + 1) flag q.tally.refused rest.text) in
+        let last : ServedItems f t t c (with_held c h') (1 + length (cut_items from.told)) (rest_items flag) q.tally.refused (q.tally.refused || flag) =
+        subst (λ n. ServedItems f t t c (with_held c h') n (rest_items flag) q.tally.refused (q.tally.refused || flag)) from.counted (served_rest f read t c h' (q.tally.count + 1) flag q.tally.refused rest.text) in
         let all = Served-append from.served last in
         subst (λ e. FinishedRun f e ended.refused (at_end left a) (at_end left' (with_held c h'))) (sym rest.ending_is)
         (record {

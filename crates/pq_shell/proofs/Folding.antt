@@ -16,7 +16,7 @@ use Rattle.pq_session.specs.Model.{Model}
 use Rattle.pq_session.specs.Matches.{Matches}
 use Rattle.pq_session.specs.Promise.{IsWithinFixed}
 use Rattle.pq_session.proofs.Promises.{within_none, within_reported}
-use Rattle.pq_shell.specs.Fold.{Moment, IsReport, Reports, RisesBy, IsWithinItem, IsPart, after, ReportedItems, Halts, MadeReports, Served, ShowsDamage, StoppedItem, schema_behind}
+use Rattle.pq_shell.specs.Fold.{Moment, IsReport, Reports, RisesBy, IsWithinItem, IsPart, after, ReportedItems, Halts, MadeReports, ServedItems, ShowsDamage, StoppedItem, schema_behind}
 use Rattle.pq_shell.specs.Forms.{HasOpening, StandsIn, OpensAt, asked_item, item_step, shown_report}
 use Rattle.pq_shell.specs.Items.{Item}
 use Rattle.pq_shell.specs.Making.{MakesItem, moment}
@@ -97,17 +97,17 @@ or-assoc : (a b c : Bool) → ((a || b) || c) ≡ (a || (b || c))
 or-assoc true b c = refl
 or-assoc false b c = refl
 
-pub Served-none : (f : Form) (s : Schema) (a : Moment) (n : ℕ) (any : Bool) → Served f s s a a n [] any any
+pub Served-none : (f : Form) (s : Schema) (a : Moment) (n : ℕ) (any : Bool) → ServedItems f s s a a n [] any any
 Served-none f s a n any = record { reports = []; made = Made-none f s a n; refusal = or-false any }
 
-pub Served-append : {f : Form} {r s t : Schema} {a b c : Moment} {n : ℕ} {xs ys : List Item} {y y' y'' : Bool} → Served f r s a b n xs y y' → Served f s t b c (n + length xs) ys y' y'' → Served f r t a c n (xs ++ ys) y y''
+pub Served-append : {f : Form} {r s t : Schema} {a b c : Moment} {n : ℕ} {xs ys : List Item} {y y' y'' : Bool} → ServedItems f r s a b n xs y y' → ServedItems f s t b c (n + length xs) ys y' y'' → ServedItems f r t a c n (xs ++ ys) y y''
 Served-append {y = y} p q = record {
   reports = p.reports ++ q.reports;
   made = Made-append p.made q.made;
   refusal = q.refusal ∙ ap (λ v. v || list_any is_refusal q.reports) p.refusal ∙ or-assoc y _ _ ∙ ap (λ v. y || v) (sym (list_any-append is_refusal p.reports q.reports));
 }
 
-pub Served-one : {f : Form} {s t : Schema} {a b : Moment} {n : ℕ} {item : Item} {report : Report} (y y' : Bool) → MadeReports f s t a b n (item ∷ []) (report ∷ []) → y' ≡ (y || is_refusal report) → Served f s t a b n (item ∷ []) y y'
+pub Served-one : {f : Form} {s t : Schema} {a b : Moment} {n : ℕ} {item : Item} {report : Report} (y y' : Bool) → MadeReports f s t a b n (item ∷ []) (report ∷ []) → y' ≡ (y || is_refusal report) → ServedItems f s t a b n (item ∷ []) y y'
 Served-one {report = report} y y' made refusal = record { reports = report ∷ []; made = made; refusal = refusal ∙ ap (λ v. y || v) (or-false (is_refusal report)) }
 
 -- ---- stops

@@ -6,7 +6,7 @@ use Rattle.pq_schema.specs.Schema.{Schema}
 use Rattle.pq_text.specs.declared.piece.Piece.{Piece}
 use Rattle.pq_text.specs.Pieces.{piece_list}
 use Rattle.pq_text.specs.Summaries.{Summary, pieces_from, unfinished_from}
-use Rattle.pq_shell.specs.Fold.{Moment, Served, StoppedItem}
+use Rattle.pq_shell.specs.Fold.{Moment, ServedItems, StoppedItem}
 use Rattle.pq_shell.specs.Items.{Cut, cut_items}
 use Rattle.pq_shell.specs.Serving.{FedPieces, ProgressedRun}
 use Rattle.pq_shell.specs.declared.serving.Progress.{Progress}
@@ -48,15 +48,15 @@ Progressed-more {bytes = bytes} {p = p} part u before fed = record {
 
 -- more was fed, at whose end a piece ended
 pub Progressed-piece : {f : Form} {s t u : Schema} {a b c : Moment} {bytes : List ℕ} {p q r : Progress} (part : List ℕ) (piece : Piece) → ProgressedRun f s t a b bytes p q → FedPieces q.splitter part (piece ∷ []) r.splitter
-    → Served f t u b c (q.tally.count + 1) (Cut piece ∷ []) q.tally.refused r.tally.refused → r.tally.count ≡ q.tally.count + 1 → 0 < length part → ProgressedRun f s u a c (bytes ++ part) p r
+    → ServedItems f t u b c (q.tally.count + 1) (Cut piece ∷ []) q.tally.refused r.tally.refused → r.tally.count ≡ q.tally.count + 1 → 0 < length part → ProgressedRun f s u a c (bytes ++ part) p r
 Progressed-piece {f = f} {s = s} {t = t} {u = u} {a = a} {b = b} {c = c} {bytes = bytes} {p = p} {q = q} {r = r} part piece before fed served counted some =
     let number = number_on p.tally.count q.tally.count before.told before.counted in
-    let on : Served f t u b c ((p.tally.count + 1) + length (cut_items before.told)) (cut_items (piece ∷ [])) q.tally.refused r.tally.refused =
-    subst (λ n. Served f t u b c n (cut_items (piece ∷ [])) q.tally.refused r.tally.refused) number served in
+    let on : ServedItems f t u b c ((p.tally.count + 1) + length (cut_items before.told)) (cut_items (piece ∷ [])) q.tally.refused r.tally.refused =
+    subst (λ n. ServedItems f t u b c n (cut_items (piece ∷ [])) q.tally.refused r.tally.refused) number served in
     record {
       told = before.told ++ piece ∷ [];
       fed = Fed-append before.fed fed;
-      served = subst (λ items. Served f s u a c (p.tally.count + 1) items p.tally.refused r.tally.refused) (sym (map-append Cut before.told (piece ∷ []))) (Served-append before.served on);
+      served = subst (λ items. ServedItems f s u a c (p.tally.count + 1) items p.tally.refused r.tally.refused) (sym (map-append Cut before.told (piece ∷ []))) (Served-append before.served on);
       counted = omega (arith, counted, before.counted, length-append before.told (piece ∷ []));
       few = omega (arith, counted, before.few, length-append bytes part, some);
     }
@@ -108,12 +108,12 @@ Progressed-at {f = f} {s = s} {t = t} {a = a} {b = b} {p = p} {q = q} e progress
 pub Progressed-append : {f : Form} {s t u : Schema} {a b c : Moment} {xs ys : List ℕ} {p q r : Progress} → ProgressedRun f s t a b xs p q → ProgressedRun f t u b c ys q r → ProgressedRun f s u a c (xs ++ ys) p r
 Progressed-append {f = f} {s = s} {t = t} {u = u} {a = a} {b = b} {c = c} {xs = xs} {ys = ys} {p = p} {q = q} {r = r} first next =
     let number = number_on p.tally.count q.tally.count first.told first.counted in
-    let on : Served f t u b c ((p.tally.count + 1) + length (cut_items first.told)) (cut_items next.told) q.tally.refused r.tally.refused =
-    subst (λ n. Served f t u b c n (cut_items next.told) q.tally.refused r.tally.refused) number next.served in
+    let on : ServedItems f t u b c ((p.tally.count + 1) + length (cut_items first.told)) (cut_items next.told) q.tally.refused r.tally.refused =
+    subst (λ n. ServedItems f t u b c n (cut_items next.told) q.tally.refused r.tally.refused) number next.served in
     record {
       told = first.told ++ next.told;
       fed = Fed-append first.fed next.fed;
-      served = subst (λ items. Served f s u a c (p.tally.count + 1) items p.tally.refused r.tally.refused) (sym (map-append Cut first.told next.told)) (Served-append first.served on);
+      served = subst (λ items. ServedItems f s u a c (p.tally.count + 1) items p.tally.refused r.tally.refused) (sym (map-append Cut first.told next.told)) (Served-append first.served on);
       counted = omega (arith, first.counted, next.counted, length-append first.told next.told);
       few = omega (arith, first.few, next.few, length-append xs ys);
     }

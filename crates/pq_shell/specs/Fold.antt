@@ -124,7 +124,7 @@ pub record MadeReports (form : Form) (first last : Schema) (from to : Moment) (n
   pub rises : RisesBy reports from.counts to.counts
 
 -- the same, and whether one of the reports is a refusal
-pub record Served (form : Form) (first last : Schema) (from to : Moment) (number : ℕ) (items : List Item)
+pub record ServedItems (form : Form) (first last : Schema) (from to : Moment) (number : ℕ) (items : List Item)
     (refused refused_now : Bool) : Type 0 where
   pub reports : List Report
   pub made : MadeReports form first last from to number items reports

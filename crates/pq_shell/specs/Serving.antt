@@ -11,7 +11,7 @@ use Rattle.pq_text.specs.Summaries.{Summary, pieces_from, unfinished_from}
 use Rattle.pq_print.specs.Report.{printed_report}
 use Rattle.pq_print.specs.declared.report.Report.{Report}
 use Rattle.pq_session.specs.Step.{refusal_report}
-use Rattle.pq_shell.specs.Fold.{Moment, Served, StoppedItem}
+use Rattle.pq_shell.specs.Fold.{Moment, ServedItems, StoppedItem}
 use Rattle.pq_shell.specs.Items.{cut_items}
 use Rattle.pq_shell.specs.Reading.{TookBytes}
 use Rattle.pq_shell.specs.Stops.{CutsOff}
@@ -31,7 +31,8 @@ pub record ProgressedRun (form : Form) (first last : Schema) (from to : Moment) 
     (old now : Progress) : Type 0 where
   pub told : List Piece
   pub fed : FedPieces old.splitter bytes told now.splitter
-  pub served : Served form first last from to (old.tally.count + 1) (cut_items told) old.tally.refused now.tally.refused
+  pub served : ServedItems form first last from to (old.tally.count + 1) (cut_items told) old.tally.refused
+      now.tally.refused
   pub counted : now.tally.count ≡ old.tally.count + length told
   pub few : now.tally.count ≤ old.tally.count + length bytes
 

@@ -5,7 +5,7 @@ ghost use Rattle.pq_store.specs.Content.{HasRisen};
 ghost use Rattle.pq_text.specs.Summaries.{start_summary, pieces_from};
 ghost use Rattle.pq_print.specs.Report.{printed_report};
 ghost use Rattle.pq_fill.specs.declared.words.Form.TheVariants as Form;
-ghost use Rattle.pq_shell.specs.Fold.{Served, StoppedItem};
+ghost use Rattle.pq_shell.specs.Fold.{ServedItems, StoppedItem};
 ghost use Rattle.pq_shell.specs.Items.{Cut, cut_items};
 ghost use Rattle.pq_shell.specs.Making.{BreaksAt, ReadsSource, MakesItem, moment};
 ghost use Rattle.pq_shell.specs.Serving.{ProgressedRun, ReportsRest, StoppedAtRest, has_rest, rest_report};
@@ -118,7 +118,7 @@ fn serve<S: Store<L>, O: Sink, L: Ledger>(
 ) -> Result<Session, Stop>
     requires few { tally.old.count + 1 < 2 ^ 32 }
     requires read { ReadsSource form }
-    ensures ok { IfOk result (λ next. Served form session next
+    ensures ok { IfOk result (λ next. ServedItems form session next
         (moment (S.content store.old) (O.held sink.old) meter.old)
         (moment (S.content store.new) (O.held sink.new) meter.new)
         (tally.old.count + 1) (Cut piece.now ∷ []) tally.old.refused tally.new.refused) }
