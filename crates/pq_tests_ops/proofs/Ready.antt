@@ -1,22 +1,17 @@
--- Nodes of a compiled plan can be run, and an ample allowance suffices for each.
-use Rattle.std.proofs.Common.{◌≡◌, ℕ, ◌<◌, ◌≤◌, ◌+◌, ◌*◌, true, false, List, [], ◌∷◌, ◌++◌, length, length-append, Some, None, sym, subst, arith}
+-- Nodes of a compiled plan can be run.
+use Rattle.std.proofs.Common.{◌≡◌, ℕ, ◌<◌, ◌+◌, List, [], ◌∷◌, ◌++◌, length, length-append, Some, None, subst, arith}
 use Rattle.std.specs.List.{AllByRecursion}
-use Rattle.std.proofs.lemmas.Nat.{mul-le}
 use Rattle.std.proofs.lemmas.Option.{none-some, same_Some}
 use Rattle.pq_schema.specs.declared.query.Query.{Query}
-use Rattle.pq_schema.specs.declared.table.Access.{Access}
-use Rattle.pq_schema.specs.declared.table.Access.TheVariants.{Primary, Secondary}
 use Rattle.pq_schema.specs.declared.table.Table.{Table}
 use Rattle.pq_schema.specs.Sound.{IsQuery}
-use Rattle.pq_store.specs.Counts.{AllowedCounts}
-use Rattle.pq_calls.specs.World.{Affords}
 use Rattle.pq_plan.specs.declared.physical.Physical.{Physical}
 use Rattle.pq_plan.specs.declared.physical.Physical.TheVariants as tree
 use Rattle.pq_plan.specs.Nodes.{Node, lookup, limit_range, stop_scan, keep, sort, cut, project, nodes}
 use Rattle.pq_compile.specs.declared.compiler.Compiled.{Compiled}
 use Rattle.pq_compile.specs.Chosen.{IsCompiled}
 use Rattle.pq_nodes.specs.Inverse.{IsNodeOf, HasIndex}
-use Rattle.pq_nodes.specs.Operators.{IsReadyNode, AffordsNode}
+use Rattle.pq_nodes.specs.Operators.{IsReadyNode}
 use Rattle.pq_runnable.proofs.Runnable.{compiled_runnable}
 use Rattle.pq_tests_ops.specs.Reads.{input_of}
 
