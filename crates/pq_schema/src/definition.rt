@@ -2,12 +2,13 @@
 
 use pq_base::{List, PText};
 
-/// A column: its kind is INT, BOOL or TEXT, and its size is that of TEXT, else 0.
+/// A column: its kind is INT, BOOL or TEXT, its size is that of TEXT, else 0, and NULL may be of it.
 #[derive(Debug, Drop)]
 pub struct ColumnDef {
     pub name: PText,
     pub kind: PText,
     pub size: i64,
+    pub nullable: bool,
 }
 
 /// A limit: at most n rows agree on the columns.
