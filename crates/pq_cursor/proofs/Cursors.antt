@@ -1,5 +1,5 @@
 -- A text is read as the position whose cursor it is.
-use Rattle.std.proofs.Common.{inl, inr, ◌≡◌, ℕ, ◌/◌, List, [], ◌∷◌, ◌++◌, length, map, take, drop, Some, None, Result, Ok, Err, refl, sym, ap, subst, ◌∙◌, arith, take-append-drop, mod-lt}
+use Rattle.std.proofs.Common.{inl, inr, ◌≡◌, ◌<◌, ℕ, ◌/◌, List, [], ◌∷◌, ◌++◌, length, map, take, drop, Some, None, Result, Ok, Err, refl, sym, ap, subst, ◌∙◌, arith, take-append-drop, mod-lt}
 use Rattle.std.specs.Prelude.{Bool, true, Option, IfOk, IfSome, IfNone, if◌then◌else◌}
 use Rattle.std.specs.Option.{option_and_then}
 use Rattle.std.specs.Result.{result_ok}
@@ -12,9 +12,11 @@ use Rattle.base64.proofs.EngineFacts.{decode_of_strict, decode_of-encode_of}
 use Rattle.pq_base.specs.Values.{AllFit}
 use Rattle.pq_base.specs.declared.value.ColType.{ColType}
 use Rattle.pq_base.specs.declared.value.Dir.{Dir}
+use Rattle.pq_base.specs.declared.value.Dir.TheVariants.{Asc, Desc}
 use Rattle.pq_base.specs.declared.value.Value.{Value}
+use Rattle.pq_base.specs.declared.value.Value.TheVariants as value
 use Rattle.pq_base.proofs.TypeFits.{value_from_fit}
-use Rattle.pq_key_code.specs.KeyCode.{IsBytes, payload, turned_byte, code_of}
+use Rattle.pq_key_code.specs.KeyCode.{IsBytes, payload, turned_byte, marker, component, code_of}
 use Rattle.pq_key_code.specs.KeyReading.{key_at}
 use Rattle.pq_key_code.proofs.Order.{IsBytes-append, payload_bytes}
 use Rattle.pq_key_code.proofs.Reading.{IsBytes_at, IsBytes-drop, IsBytes-turned, key_takes, key_again, chosen}
@@ -22,12 +24,19 @@ use Rattle.std.proofs.lemmas.Slice.Eq.{bytes_eq-Decides}
 use Rattle.pq_cursor.specs.Cursors.{IsCursorOf, IsNoCursor, cursor_head, cursor_bytes, cursor_text, position_behind, position_in}
 
 -- ---- the code of values that fit is bytes
+marker_byte : (d : Dir) (x : Value) → marker d x < 256
+marker_byte Asc value.Null = omega arith
+marker_byte Desc value.Null = omega arith
+marker_byte d (value.Int z) = omega arith
+marker_byte d (value.Bool b) = omega arith
+marker_byte d (value.Text t) = omega arith
+
 code_bytes : (types : List ColType) (dirs : List Dir) (p : List Value) → AllFit types p → IsBytes (code_of dirs p)
 code_bytes types [] p h = tt
 code_bytes types (d ∷ dirs) [] h = tt
 code_bytes [] (d ∷ dirs) (x ∷ p) h = absurd h
 code_bytes (t ∷ types) (d ∷ dirs) (x ∷ p) h =
-    IsBytes-append (16 ∷ map (turned_byte d) (payload x)) (code_of dirs p) (omega arith, IsBytes-turned d (payload x) (payload_bytes x (value_from_fit t x h.0))) (code_bytes types dirs p h.1)
+    IsBytes-append (component d x) (code_of dirs p) (marker_byte d x, IsBytes-turned d (payload x) (payload_bytes x (value_from_fit t x h.0))) (code_bytes types dirs p h.1)
 
 -- the bytes of a text that decodes
 decoded : (r : Result (List ℕ) DecodeError) (bytes : List ℕ) → r ≡ Ok bytes → result_ok r ≡ Some bytes

@@ -1,6 +1,5 @@
 -- Each reader of one token reads what that token spells.
-use Rattle.std.proofs.Common.{◌≡◌, ℕ, ℤ, pos, Bool, true, false, cond, eqb, eq-eqb, List, [], ◌∷◌, Option, Some, None, Ok, refl, sym, ap, codes, ◌∙◌}
-use Rattle.std.specs.Str.{bytes_eq}
+use Rattle.std.proofs.Common.{◌≡◌, ℕ, ℤ, pos, Bool, true, false, cond, eqb, eq-eqb, List, [], ◌∷◌, Option, Some, None, Ok, refl, sym, ap, ◌∙◌}
 use Rattle.std.proofs.lemmas.Bool.{eqb-true, false≢true}
 use Rattle.std.proofs.lemmas.Slice.Eq.{bytes_eq-Decides}
 use Rattle.pq_base.specs.Values.{is_null}
@@ -234,7 +233,7 @@ constant_is_value [] e = e
 constant_is_value (t ∷ w) e = ap (λ (b : Bool). cond (is_soft_shape soft_word.Null t) true b) e ∙ or_true (is_soft_shape soft_word.Null t)
 
 pub value_opens : (v : Value) (w : List Shape) → a_value v w → begins is_value w ≡ true
-value_opens value.Null w h = one_opens is_value (shape.Name (codes "null")) (ap (λ b. cond b true (is_constant (shape.Name (codes "null")))) (soft_passes soft_word.Null)) w h
+value_opens value.Null w h = one_opens is_value (shape.Name (soft_name soft_word.Null)) (ap (λ b. cond b true (is_constant (shape.Name (soft_name soft_word.Null)))) (soft_passes soft_word.Null)) w h
 value_opens (value.Int z) w h = constant_is_value w (constant_opens (value.Int z) w h)
 value_opens (value.Text t) w h = constant_is_value w (constant_opens (value.Text t) w h)
 value_opens (value.Bool b) w h = constant_is_value w (constant_opens (value.Bool b) w h)
