@@ -1,7 +1,6 @@
 -- The classes of columns: what a chain of equalities joins, and which columns a list of members has.
 use Rattle.std.proofs.Common.{◌≡◌, ℕ, zero, suc, ◌+◌, ◌<◌, ◌≤◌, Bool, true, false, cond, ◌==◌, ◌⊎◌, inl, inr, List, [], ◌∷◌, ◌++◌, length, map, filter, flat_map, Option, Some, None, refl, sym, ap, ◌∙◌, subst, arith}
 use Rattle.std.specs.List.{range_with_len}
-use Rattle.std.specs.Cmp.{eq_by_cmp_equiv}
 use Rattle.std.proofs.lemmas.Bool.{eqb-true, false≢true, eq-eqb, and_parts, and_from}
 use Rattle.pq_base.specs.declared.value.Value.{Value}
 use Rattle.pq_base.specs.Members.{In}
@@ -16,12 +15,12 @@ use Rattle.pq_schema.specs.Relations.{table_of, is_equality}
 use Rattle.pq_schema.specs.Resolved.{IsColumnOf, same_ref}
 use Rattle.pq_plan.specs.Answer.{cell, side, compares, holds}
 use Rattle.pq_base.proofs.Members.{in_filter, filter_in, in_map, map_in, in_flat_map, flat_map_in, in_either, in_range, range_in}
-use Rattle.pq_plan.proofs.ValueOrder.{value_cmp_total}
+use Rattle.pq_plan.proofs.Fixed.{both_are}
 use Rattle.pq_arrange.specs.Classes.{is_ref, is_join, merged_classes, joined_with, class_of, is_in, column_refs_at, members}
 use Rattle.pq_arrange.proofs.Moved.{equality, equal_sides}
 
 -- ---- equal values that are there
--- This relation is symmetric and transitive; a column with no value is not equal to itself. No more of it is used.
+-- This relation is symmetric and transitive; a column with no value or NULL is not equal to itself. No more of it is used.
 abbrev pub Equal : Option Value → Option Value → Type 0
 Equal a b = compares op.Eq a b ≡ true
 
@@ -29,10 +28,7 @@ pub equal_back : (a b : Option Value) → Equal a b → Equal b a
 equal_back a b h = equal_sides b a ∙ h
 
 pub equal_on : (a b c : Option Value) → Equal a b → Equal b c → Equal a c
-equal_on None b c h g = absurd (false≢true h)
-equal_on (Some x) None c h g = absurd (false≢true h)
-equal_on (Some x) (Some y) None h g = absurd (false≢true g)
-equal_on (Some x) (Some y) (Some z) h g = (eq_by_cmp_equiv value_cmp_total).congr x y z h ∙ g
+equal_on a b c h g = let both = both_are b c g in subst (Equal a) (both.1 ∙ sym both.2) h
 
 -- ---- columns
 pub ref_same : (a b : ColRef) → same_ref a b ≡ true → a ≡ b

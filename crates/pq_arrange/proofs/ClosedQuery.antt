@@ -1,5 +1,5 @@
 -- With its equalities closed a query is again one that reading gives over the tables.
-use Rattle.std.proofs.Common.{◌≡◌, ℕ, ◌+◌, ◌<◌, ◌≤◌, Bool, true, false, not, ◌&&◌, inl, inr, List, [], ◌∷◌, length, map, filter, flat_map, Option, Some, None, refl, sym, ◌∙◌, subst, arith}
+use Rattle.std.proofs.Common.{◌≡◌, ℕ, ◌+◌, ◌<◌, ◌≤◌, Bool, true, false, not, ◌&&◌, inl, inr, List, [], ◌∷◌, length, map, filter, flat_map, Option, Some, None, refl, sym, ap, ◌∙◌, subst, arith}
 use Rattle.std.specs.List.{range_with_len, find}
 use Rattle.std.specs.Option.{option_map_or}
 use Rattle.std.proofs.lemmas.Bool.{false≢true, and_parts, ltb-true, ltb-false}
@@ -8,6 +8,7 @@ use Rattle.pq_base.specs.Values.{FitsType}
 use Rattle.pq_base.specs.declared.value.ColType.{ColType}
 use Rattle.pq_base.specs.declared.value.ColType.TheVariants as type
 use Rattle.pq_base.specs.Members.{In}
+use Rattle.pq_schema.proofs.TypeKinds.{param_same, same_from_params}
 use Rattle.pq_schema.specs.declared.table.Table.{Table}
 use Rattle.pq_schema.specs.declared.query.ColRef.{ColRef}
 use Rattle.pq_schema.specs.declared.query.Operand.{Operand}
@@ -16,7 +17,7 @@ use Rattle.pq_schema.specs.declared.query.Pred.{Pred}
 use Rattle.pq_schema.specs.declared.query.OrderItem.{OrderItem}
 use Rattle.pq_schema.specs.declared.query.Query.{Query}
 use Rattle.pq_base.specs.Values.{same_kind}
-use Rattle.pq_schema.specs.Relations.{table_of, is_equality}
+use Rattle.pq_schema.specs.Relations.{table_of, is_equality, is_null_test}
 use Rattle.pq_schema.specs.Resolved.{IsResolved, IsPredicate, IsOperand, IsColumnOf, IsParam, ref_type, param_type, is_param}
 use Rattle.pq_base.proofs.Members.{each_by_in, in_filter, in_map, map_in, in_flat_map, flat_map_in, in_either, in_left, in_right, in_range, all_member, any_at, any_from}
 use Rattle.pq_arrange.specs.Classes.{is_ref, is_given, class_of, is_in, classes, column_refs_at, members, gives, equality_of, is_later, beside, class_joins, class_preds, others, closed_query}
@@ -24,43 +25,18 @@ use Rattle.pq_arrange.specs.Laws.{ResolvedWhenClosed, NoMorePredicates}
 use Rattle.pq_arrange.proofs.Chains.{within_class, ref_same, member_in, in_members, Rises, members_rise}
 use Rattle.pq_arrange.proofs.Closes.{find_parts, others_in, stays_or_gives, class_there, not_true}
 use Rattle.pq_arrange.proofs.Counted.{no_more}
+use Rattle.pq_arrange.proofs.Moved.{equality}
 
 pub no_more_predicates : NoMorePredicates
 no_more_predicates tables query = no_more tables query
 
 -- ---- kinds
-abbrev unkind : ColType → Type 0
-unkind type.Int = Unit {0}
-unkind type.Bool = ⊥
-unkind (type.Text n) = ⊥
-
-abbrev unbool : ColType → Type 0
-unbool type.Int = ⊥
-unbool type.Bool = Unit {0}
-unbool (type.Text n) = ⊥
-
 -- two types are of one kind exactly where what is compared with them has one type
 kind_param : (a b : ColType) → same_kind a b ≡ true → param_type a ≡ param_type b
-kind_param type.Int type.Int h = refl
-kind_param type.Bool type.Bool h = refl
-kind_param (type.Text n) (type.Text m) h = refl
-kind_param type.Int type.Bool h = absurd (false≢true h)
-kind_param type.Int (type.Text m) h = absurd (false≢true h)
-kind_param type.Bool type.Int h = absurd (false≢true h)
-kind_param type.Bool (type.Text m) h = absurd (false≢true h)
-kind_param (type.Text n) type.Int h = absurd (false≢true h)
-kind_param (type.Text n) type.Bool h = absurd (false≢true h)
+kind_param = param_same
 
 param_kind : (a b : ColType) → param_type a ≡ param_type b → same_kind a b ≡ true
-param_kind type.Int type.Int h = refl
-param_kind type.Bool type.Bool h = refl
-param_kind (type.Text n) (type.Text m) h = refl
-param_kind type.Int type.Bool h = absurd (subst unkind h tt)
-param_kind type.Int (type.Text m) h = absurd (subst unkind h tt)
-param_kind type.Bool type.Int h = absurd (subst unbool h tt)
-param_kind type.Bool (type.Text m) h = absurd (subst unbool h tt)
-param_kind (type.Text n) type.Int h = absurd (subst unkind (sym h) tt)
-param_kind (type.Text n) type.Bool h = absurd (subst unbool (sym h) tt)
+param_kind = same_from_params
 
 module _ (tables : List Table) (query : Query) (r : IsResolved tables query) where
   abbrev old : List Pred
@@ -102,10 +78,10 @@ module _ (tables : List Table) (query : Query) (r : IsResolved tables query) whe
     right = record { equal = refl; column = column_kept b d; earlier = low; kind = param_kind (ref_type tables query a) (ref_type tables query b) (alike a b e) };
   }
 
-  operand_kept : (a : ColRef) (pred : Pred) (right : Operand) → is_ref right ≡ false → IsOperand tables query pred right → Alike a pred.left → IsOperand tables query' (equality_of right a) right
-  operand_kept a pred (operand.Const value) n o e = subst (λ (t : ColType). FitsType t value) (sym e) o
-  operand_kept a pred (operand.Param number) n o e = subst (λ (t : ColType). IsParam query.params number t) (sym e) o
-  operand_kept a pred (operand.Col other) n o e = absurd (false≢true (sym n))
+  operand_kept : (a : ColRef) (pred : Pred) (right : Operand) → is_ref right ≡ false → is_null_test pred.op ≡ false → IsOperand tables query pred right → Alike a pred.left → IsOperand tables query' (equality_of right a) right
+  operand_kept a pred (operand.Const value) n c o e = (λ _. subst (λ (t : ColType). FitsType t value) (sym e) (o.0 c), λ h. absurd (false≢true h))
+  operand_kept a pred (operand.Param number) n c o e = (refl, subst (λ (t : ColType). IsParam query.params number t) (sym e) o.1)
+  operand_kept a pred (operand.Col other) n c o e = absurd (false≢true (sym n))
 
   joins_kept : (class : ColRef) (refs : List ColRef) → ((ref : ColRef) → In ref refs → IsColumnOf tables query ref × (class_of old ref ≡ class)) → Rises tables query refs → (pred : Pred) → In pred (class_joins refs) → IsPredicate tables query' pred
   joins_kept class [] known up pred i = absurd i
@@ -148,7 +124,7 @@ module _ (tables : List Table) (query : Query) (r : IsResolved tables query) whe
           let one : class_of old x.0 ≡ class_of old p.left = in_members tables query class x.0 x.1 ∙ sym (ref_same (class_of old p.left) class parts.1) in
           subst (IsPredicate tables query') x.2 (record {
             left = column_kept x.0 (member_column class x.0 x.1);
-            right = operand_kept x.0 p p.right (not_true (is_ref p.right) (and_parts (is_equality p.op) (not (is_ref p.right)) parts.0).1) (predicate p f.0).right (alike x.0 p.left one);
+            right = operand_kept x.0 p p.right (not_true (is_ref p.right) (and_parts (is_equality p.op) (not (is_ref p.right)) parts.0).1) (ap is_null_test (equality p.op (and_parts (is_equality p.op) (not (is_ref p.right)) parts.0).0)) (predicate p f.0).right (alike x.0 p.left one);
           })
 
   predicate_kept : (pred : Pred) → IsPredicate tables query pred → IsPredicate tables query' pred

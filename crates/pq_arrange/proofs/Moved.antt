@@ -1,5 +1,5 @@
 -- A predicate of a query holds of a combination where the moved one holds of the combination in the new order.
-use Rattle.std.proofs.Common.{◌≡◌, ℕ, suc, ◌<◌, true, false, cond, ◌&&◌, ◌==◌, nat_lt, inl, inr, List, [], ◌∷◌, length, get_or, map, Option, Some, None, refl, sym, ap, ◌∙◌, arith}
+use Rattle.std.proofs.Common.{◌≡◌, ℕ, suc, ◌<◌, Bool, true, false, cond, not, ◌&&◌, ◌||◌, ◌==◌, nat_lt, inl, inr, List, [], ◌∷◌, length, get_or, map, Option, Some, None, refl, sym, ap, ◌∙◌, arith}
 use Rattle.std.specs.Prelude.{slice_get}
 use Rattle.std.specs.List.{list_all}
 use Rattle.std.specs.Cmp.{eq_by_cmp_equiv}
@@ -7,6 +7,7 @@ use Rattle.std.proofs.lemmas.Bool.{eqb-true, false≢true, eq-eqb, and_parts}
 use Rattle.std.proofs.lemmas.List.{get_or-map}
 use Rattle.pq_base.specs.declared.value.Value.{Value}
 use Rattle.pq_base.specs.Members.{In}
+use Rattle.pq_base.specs.Values.{is_null}
 use Rattle.pq_schema.specs.declared.query.ColRef.{ColRef}
 use Rattle.pq_schema.specs.declared.query.Op.{Op}
 use Rattle.pq_schema.specs.declared.query.Op.TheVariants as op
@@ -25,13 +26,20 @@ equality op.Lt h = absurd (false≢true h)
 equality op.Le h = absurd (false≢true h)
 equality op.Gt h = absurd (false≢true h)
 equality op.Ge h = absurd (false≢true h)
+equality op.IsNull h = absurd (false≢true h)
+
+either_side : (a b : Bool) → (a || b) ≡ (b || a)
+either_side true true = refl
+either_side true false = refl
+either_side false true = refl
+either_side false false = refl
 
 -- an equality holds from either side
 pub equal_sides : (a b : Option Value) → compares op.Eq a b ≡ compares op.Eq b a
 equal_sides None None = refl
 equal_sides None (Some y) = refl
 equal_sides (Some x) None = refl
-equal_sides (Some x) (Some y) = (eq_by_cmp_equiv value_cmp_total).symm x y
+equal_sides (Some x) (Some y) = λ i. not (either_side (is_null x) (is_null y) i) && (eq_by_cmp_equiv value_cmp_total).symm x y i
 
 pub place_is : (order : List ℕ) (rel : ℕ) → In rel order → (n : ℕ) × (order_place order rel ≡ suc n) × (n < length order) × (get_or order n 0 ≡ rel)
 place_is [] rel i = absurd i

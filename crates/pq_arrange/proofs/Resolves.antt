@@ -26,7 +26,7 @@ use Rattle.pq_base.specs.Values.{same_kind}
 use Rattle.pq_schema.proofs.TypeKinds.{kind_flip}
 use Rattle.pq_schema.specs.Tables.{table_at, type_at}
 use Rattle.pq_schema.specs.Relations.{relation_at, no_relation, table_of, is_equality}
-use Rattle.pq_schema.specs.Resolved.{IsResolved, IsRelation, IsPredicate, IsOperand, IsColumnOf, IsParam, ref_type, param_type, same_ref, is_param}
+use Rattle.pq_schema.specs.Resolved.{IsConstant, IsResolved, IsRelation, IsPredicate, IsOperand, IsColumnOf, IsParam, ref_type, param_type, same_ref, is_param}
 use Rattle.pq_base.proofs.Members.{range_in, all_member, any_at, any_from, map_in, in_map}
 use Rattle.pq_arrange.specs.Moves.{order_place, move, move_operand, move_item, swap_sides, later_left_with, move_pred, reordered_query}
 use Rattle.pq_arrange.specs.Laws.{ResolvedInAnyOrder}
@@ -130,8 +130,8 @@ module _ (tables : List Table) (query : Query) (r : IsResolved tables query) (or
       same_type = type_moved pred.left h.left
 
       by_right : (right : Operand) → IsOperand tables query pred right → IsPredicate tables query' (later_left_with (record { left = move order pred.left; op = pred.op; right = move_operand order right }) (move_operand order right))
-      by_right (operand.Const value) o = record { left = left; right = subst (λ (t : ColType). FitsType (param_type t) value) (sym same_type) o }
-      by_right (operand.Param number) o = record { left = left; right = subst (λ (t : ColType). IsParam query.params number (param_type t)) (sym same_type) o }
+      by_right (operand.Const value) o = record { left = left; right = subst (λ (t : ColType). IsConstant pred.op (param_type t) value) (sym same_type) o }
+      by_right (operand.Param number) o = record { left = left; right = (o.0, subst (λ (t : ColType). IsParam query.params number (param_type t)) (sym same_type) o.1) }
       by_right (operand.Col other) o =
           let a : ℕ = order_place order pred.left.rel in
           let b : ℕ = order_place order other.rel in

@@ -9,8 +9,15 @@ use Rattle.pq_base.specs.declared.value.Value.TheVariants as value
 use Rattle.pq_base.specs.declared.value.Dir.{Dir}
 use Rattle.pq_base.specs.declared.value.Dir.TheVariants.{Asc, Desc}
 
--- numbers by size, before false and then true, before texts by their bytes
+-- NULL first, numbers by size, before false and then true, before texts by their bytes
 abbrev pub value_cmp : Value → Value → Ordering
+value_cmp value.Null value.Null = Equal
+value_cmp value.Null (value.Int b) = Less
+value_cmp value.Null (value.Bool b) = Less
+value_cmp value.Null (value.Text b) = Less
+value_cmp (value.Int a) value.Null = Greater
+value_cmp (value.Bool a) value.Null = Greater
+value_cmp (value.Text a) value.Null = Greater
 value_cmp (value.Int a) (value.Int b) = int_cmp a b
 value_cmp (value.Int a) (value.Bool b) = Less
 value_cmp (value.Int a) (value.Text b) = Less

@@ -35,6 +35,7 @@ refusal_names =
     ∷ (place.FOREIGN_SHAPE, codes "E205")
     ∷ (place.COUNT, codes "E206")
     ∷ (place.TOO_MANY_ROWS, codes "E207")
+    ∷ (place.NULLABLE_KEY, codes "E208")
     ∷ (place.ALIAS, codes "E301")
     ∷ (place.OPERAND_KIND, codes "E302")
     ∷ (place.PARAMS, codes "E303")

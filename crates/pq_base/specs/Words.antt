@@ -70,6 +70,7 @@ refusals =
     ∷ codes "E205"
     ∷ codes "E206"
     ∷ codes "E207"
+    ∷ codes "E208"
     ∷ codes "E301"
     ∷ codes "E302"
     ∷ codes "E303"
@@ -106,3 +107,7 @@ counts =
     ∷ codes "stop"
     ∷ codes "tables"
     ∷ codes "text" ∷ []
+
+-- the words that are known in their places alone
+abbrev pub softs : List (List ℕ)
+softs = codes "IS" ∷ codes "NULL" ∷ []

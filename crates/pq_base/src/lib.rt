@@ -21,7 +21,7 @@ pub use number::{Bound, Choice, Used};
 pub use refusal::{Refusal, Stopped};
 pub use text::PText;
 pub use value::{
-    ColType, DataKind, Dir, Row, Value, all_fit, cmp_positions, cmp_values, fits, known_types,
-    known_value, known_values,
+    ColType, DataKind, Dir, Row, Value, all_fit, cmp_positions, cmp_values, fits, has_null,
+    known_types, known_value, known_values,
 };
-pub use word_table::{WordTable, count_words, keyword_table, refusal_numbers};
+pub use word_table::{WordTable, count_words, keyword_table, refusal_numbers, soft_words};

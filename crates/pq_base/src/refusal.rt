@@ -27,6 +27,8 @@ pub enum Refusal {
     Count { word: u8 },
     /// E207: the table has more rows than an index is filled over.
     TooManyRows { table: PText },
+    /// E208: a column of the key is nullable; the first such.
+    NullableKey { name: PText },
     /// E301: the alias is unknown or repeated.
     Alias { name: PText },
     /// E302: the operand of this predicate, counted from 1, is of another kind than its column, a text of

@@ -33,53 +33,56 @@ pub const COUNT: usize = 9;
 /// E207.
 pub const TOO_MANY_ROWS: usize = 10;
 
+/// E208.
+pub const NULLABLE_KEY: usize = 11;
+
 /// E301.
-pub const ALIAS: usize = 11;
+pub const ALIAS: usize = 12;
 
 /// E302.
-pub const OPERAND_KIND: usize = 12;
+pub const OPERAND_KIND: usize = 13;
 
 /// E303.
-pub const PARAMS: usize = 13;
+pub const PARAMS: usize = 14;
 
 /// E304.
-pub const NO_BOUND: usize = 14;
+pub const NO_BOUND: usize = 15;
 
 /// E305.
-pub const BOUND_LARGE: usize = 15;
+pub const BOUND_LARGE: usize = 16;
 
 /// E401.
-pub const NO_QUERY: usize = 16;
+pub const NO_QUERY: usize = 17;
 
 /// E402.
-pub const PARAM_VALUE: usize = 17;
+pub const PARAM_VALUE: usize = 18;
 
 /// E403.
-pub const CURSOR: usize = 18;
+pub const CURSOR: usize = 19;
 
 /// E404.
-pub const NOT_PAGED: usize = 19;
+pub const NOT_PAGED: usize = 20;
 
 /// E501.
-pub const VALUE_KIND: usize = 20;
+pub const VALUE_KIND: usize = 21;
 
 /// E502.
-pub const WRONG_COLUMNS: usize = 21;
+pub const WRONG_COLUMNS: usize = 22;
 
 /// E503.
-pub const DUPLICATE_KEY: usize = 22;
+pub const DUPLICATE_KEY: usize = 23;
 
 /// E504.
-pub const NO_ROW: usize = 23;
+pub const NO_ROW: usize = 24;
 
 /// E505.
-pub const NO_PARENT: usize = 24;
+pub const NO_PARENT: usize = 25;
 
 /// E506.
-pub const REFERENCED: usize = 25;
+pub const REFERENCED: usize = 26;
 
 /// E507.
-pub const CARDINALITY: usize = 26;
+pub const CARDINALITY: usize = 27;
 
 /// E508.
-pub const ROW_LONG: usize = 27;
+pub const ROW_LONG: usize = 28;

@@ -1,6 +1,6 @@
 //! Values, rows and their order.
 ghost use Rattle.std.specs.Prelude.{◌≡◌, ◌↔◌, IfOk, IsTrue, All};
-ghost use Rattle.pq_base.specs.Values.{IsValue, IsType, kind_of, kind_of_type, is_kind, AreAlike, FitsType, AllFit, fits_type, all_fit};
+ghost use Rattle.pq_base.specs.Values.{IsValue, IsType, is_null, has_null, kind_of, kind_of_type, is_nullable, room_of, is_kind, AreAlike, FitsType, AllFit, fits_type, all_fit};
 ghost use Rattle.pq_base.specs.Order.{value_cmp, position_cmp};
 
 use crate::list::{List, NoMem};
@@ -11,6 +11,7 @@ use std::cmp::Ordering;
 /// A value of a column.
 #[derive(Debug, Drop)]
 pub enum Value {
+    Null,
     Int(i64),
     Bool(bool),
     Text(PText),
@@ -26,9 +27,13 @@ pub enum ColType {
     Bool,
     /// Text of at most so many bytes.
     Text(u16),
+    NullInt,
+    NullBool,
+    /// NULL, or text of at most so many bytes.
+    NullText(u16),
 }
 
-/// The kind of a value, or of the values of a type.
+/// The kind of a value, or of the values of a type. NULL has none.
 #[derive(Debug, Clone, Copy, PartialEq, Eq)]
 pub enum DataKind {
     Int,
@@ -57,28 +62,56 @@ impl DataKind {
 }
 
 impl ColType {
-    /// The kind of its values.
+    /// The kind of its values but NULL.
     pub fn kind(self) -> DataKind
         ensures { result ≡ kind_of_type self }
     {
         match self {
-            ColType::Int => DataKind::Int,
-            ColType::Bool => DataKind::Bool,
-            ColType::Text(_) => DataKind::Text,
+            ColType::Int | ColType::NullInt => DataKind::Int,
+            ColType::Bool | ColType::NullBool => DataKind::Bool,
+            ColType::Text(_) | ColType::NullText(_) => DataKind::Text,
+        }
+    }
+
+    /// Whether NULL is of the type.
+    pub fn is_nullable(self) -> bool
+        ensures { result ≡ is_nullable self }
+    {
+        match self {
+            ColType::NullInt | ColType::NullBool | ColType::NullText(_) => true,
+            ColType::Int | ColType::Bool | ColType::Text(_) => false,
+        }
+    }
+
+    /// The most bytes of a text of the type. 0 where it has no texts.
+    pub fn room(self) -> u16
+        ensures { result ≡ room_of self }
+    {
+        match self {
+            ColType::Int | ColType::Bool | ColType::NullInt | ColType::NullBool => 0,
+            ColType::Text(most) | ColType::NullText(most) => most,
         }
     }
 }
 
 impl Value {
-    /// The kind of the value.
-    pub fn kind(&self) -> DataKind
+    /// The kind of the value. None exactly at NULL.
+    pub fn kind(&self) -> Option<DataKind>
         ensures { result ≡ kind_of self.now }
     {
         match self {
-            Value::Int(_) => DataKind::Int,
-            Value::Bool(_) => DataKind::Bool,
-            Value::Text(_) => DataKind::Text,
+            Value::Null => None,
+            Value::Int(_) => Some(DataKind::Int),
+            Value::Bool(_) => Some(DataKind::Bool),
+            Value::Text(_) => Some(DataKind::Text),
         }
+    }
+
+    /// Whether it is NULL.
+    pub fn is_null(&self) -> bool
+        ensures { result ≡ is_null self.now }
+    {
+        matches!(self, Value::Null)
     }
 
     /// Another value equal to this one.
@@ -86,6 +119,7 @@ impl Value {
         ensures { IfOk result (λ copy. copy ≡ self.now) }
     {
         match self {
+            Value::Null => Ok(Value::Null),
             Value::Int(number) => Ok(Value::Int(*number)),
             Value::Bool(truth) => Ok(Value::Bool(*truth)),
             Value::Text(text) => Ok(Value::Text(text.copy(alloc)?)),
@@ -111,19 +145,26 @@ pub fn fits(value: &Value, ty: ColType) -> bool
     ensures exact { IsTrue result ↔ FitsType ty value.now }
     ensures test { result ≡ fits_type ty value.now }
 {
-    match ty {
-        ColType::Int => match value {
-            Value::Int(number) => {
-                let _number = *number;
-                true
-            }
-            Value::Bool(_) | Value::Text(_) => false,
-        },
-        ColType::Bool => matches!(value, Value::Bool(_)),
-        ColType::Text(most) => match value {
-            Value::Text(text) => text.bytes().len() <= most as usize,
-            Value::Int(_) | Value::Bool(_) => false,
-        },
+    match value {
+        Value::Null => ty.is_nullable(),
+        Value::Int(number) => {
+            let _number = *number;
+            ty.kind().is(DataKind::Int)
+        }
+        Value::Bool(_) => ty.kind().is(DataKind::Bool),
+        Value::Text(text) => {
+            ty.kind().is(DataKind::Text) && text.bytes().len() <= ty.room() as usize
+        }
+    }
+}
+
+/// Whether one of the values is NULL.
+pub fn has_null(values: &[Value]) -> bool
+    ensures { result ≡ has_null values.now }
+{
+    match values {
+        [] => false,
+        [first, rest @ ..] => first.is_null() || has_null(rest),
     }
 }
 
@@ -139,11 +180,15 @@ pub fn all_fit(values: &[Value], types: &[ColType]) -> bool
     }
 }
 
-/// The order of two values: numbers by size, before false and then true, before texts by their bytes.
+/// The order of two values: NULL first, then numbers by size, before false and then true, before
+/// texts by their bytes.
 pub fn cmp_values(a: &Value, b: &Value) -> Ordering
     ensures { result ≡ value_cmp a.now b.now }
 {
     match (a, b) {
+        (Value::Null, Value::Null) => Ordering::Equal,
+        (Value::Null, Value::Int(_) | Value::Bool(_) | Value::Text(_)) => Ordering::Less,
+        (Value::Int(_) | Value::Bool(_) | Value::Text(_), Value::Null) => Ordering::Greater,
         (Value::Int(a), Value::Int(b)) => a.cmp(b),
         (Value::Int(_), Value::Bool(_) | Value::Text(_)) => Ordering::Less,
         (Value::Bool(_), Value::Int(_)) => Ordering::Greater,
@@ -191,7 +236,7 @@ pub fn known_value(value: &Value)
         Value::Int(number) => {
             let _number = *number;
         }
-        Value::Bool(_) => {}
+        Value::Null | Value::Bool(_) => {}
         Value::Text(text) => {
             let _bytes = text.bytes();
         }
@@ -211,8 +256,8 @@ fn known_type(ty: &ColType)
     ensures { IsType ty.now }
 {
     match ty {
-        ColType::Int | ColType::Bool => {}
-        ColType::Text(most) => {
+        ColType::Int | ColType::Bool | ColType::NullInt | ColType::NullBool => {}
+        ColType::Text(most) | ColType::NullText(most) => {
             let _most = *most;
         }
     }

@@ -3,7 +3,7 @@
 ghost use Rattle.std.specs.Prelude.{◌≡◌, ◌+◌, ◌-◌, ◌<◌, ◌≤◌, ◌↔◌, IsTrue, ℕ, List, [], length, map, Some, IsSome, IfSome, IfNone, Contains, slice_get, slice_index_or};
 ghost use Rattle.std.specs.Ordering.{nat_cmp};
 ghost use Rattle.std.specs.Cmp.Lexicographic.{slice_cmp};
-ghost use Rattle.pq_base.specs.Words.{uppercase_byte, texts, IsRising, keywords, refusals, counts};
+ghost use Rattle.pq_base.specs.Words.{uppercase_byte, texts, IsRising, keywords, refusals, counts, softs};
 
 use std::cmp::Ordering;
 use std::marker::Model;
@@ -176,14 +176,14 @@ pub fn keyword_table() -> WordTable<35>
     WordTable { words: &KEYWORDS }
 }
 
-const REFUSALS: [&'static str; 28] = [
-    "E101", "E102", "E103", "E104", "E201", "E202", "E203", "E204", "E205", "E206", "E207", "E301",
-    "E302", "E303", "E304", "E305", "E401", "E402", "E403", "E404", "E501", "E502", "E503", "E504",
-    "E505", "E506", "E507", "E508",
+const REFUSALS: [&'static str; 29] = [
+    "E101", "E102", "E103", "E104", "E201", "E202", "E203", "E204", "E205", "E206", "E207", "E208",
+    "E301", "E302", "E303", "E304", "E305", "E401", "E402", "E403", "E404", "E501", "E502", "E503",
+    "E504", "E505", "E506", "E507", "E508",
 ];
 
 /// The table of the numbers of refusals.
-pub fn refusal_numbers() -> WordTable<28>
+pub fn refusal_numbers() -> WordTable<29>
     ensures { result ≡ refusals }
 {
     WordTable { words: &REFUSALS }
@@ -212,4 +212,13 @@ pub fn count_words() -> WordTable<15>
     ensures { result ≡ counts }
 {
     WordTable { words: &COUNTS }
+}
+
+const SOFT: [&'static str; 2] = ["IS", "NULL"];
+
+/// The table of the words that are known where the grammar has them, and are names elsewhere.
+pub fn soft_words() -> WordTable<2>
+    ensures { result ≡ softs }
+{
+    WordTable { words: &SOFT }
 }

@@ -7,7 +7,7 @@ use Rattle.std.specs.Option.{option_to_list}
 use Rattle.std.proofs.lemmas.Bool.{eqb-true, eq-eqb, false≢true}
 use Rattle.std.proofs.lemmas.Option.{none-some, same_Some}
 use Rattle.pq_base.specs.declared.value.Value.{Value}
-use Rattle.pq_base.specs.Values.{AllFit}
+use Rattle.pq_base.specs.Values.{AllFit, has_null}
 use Rattle.pq_schema.specs.declared.table.Foreign.{Foreign}
 use Rattle.pq_schema.specs.declared.table.Limit.{Limit}
 use Rattle.pq_schema.specs.declared.table.Table.{Table}
@@ -119,7 +119,7 @@ found_still tables rows e t key some =
     ]
 
 pub within_still : (rows : Rows) (t u : ℕ) (row : List Value) (limit : Limit) → (t ≡ u → HasRoom t rows row limit) → IsWithinLimit u rows limit → IsWithinLimit u ((t, row) ∷ rows) limit
-within_still rows t u row limit room within values =
+within_still rows t u row limit room within values plain =
     let p = agrees limit.cols values in
     let group = group_of u limit.cols values rows in
     elim (t == u) as (λ b. (t == u) ≡ b → length (filter p (cond b (row ∷ rows_of u rows) (rows_of u rows))) ≤ limit.n) [
@@ -127,12 +127,12 @@ within_still rows t u row limit room within values =
         | true ↦ λ agree.
             let number : t ≡ u = eqb-true t u is in
             let same : cells limit.cols row ≡ values = same_from_test (cells limit.cols row) values agree in
-            let less : length (group_of t limit.cols (cells limit.cols row) rows) < limit.n = room number in
+            let less : length (group_of t limit.cols (cells limit.cols row) rows) < limit.n = room number (ap has_null same ∙ plain) in
             let here : length group < limit.n = subst (λ (v : List Value). length (group_of u limit.cols v rows) < limit.n) same (subst (λ (n : ℕ). length (group_of n limit.cols (cells limit.cols row) rows) < limit.n) number less) in
             omega arith
-        | false ↦ λ _. within values
+        | false ↦ λ _. within values plain
       ] refl
-      | false ↦ λ _. within values
+      | false ↦ λ _. within values plain
     ] refl
 
 -- a row that fits, is short, has a new key, has room in its groups and has its parents
@@ -140,7 +140,7 @@ pub keeps_insert : (tables : List Table) (rows : Rows) (t : ℕ) (row : List Val
 keeps_insert tables rows t row keeps number fits short none room parents =
     let now : Rows = (t, row) ∷ rows in
     let parents_still : (r : List Value) (fs : List Foreign) → AllByRecursion (HasParent tables rows r) fs → AllByRecursion (HasParent tables now r) fs =
-    λ r fs h. each_weaker (HasParent tables rows r) (HasParent tables now r) (λ f there. found_still tables rows (t, row) f.table (cells f.cols r) there) fs h in
+    λ r fs h. each_weaker (HasParent tables rows r) (HasParent tables now r) (λ f there plain. found_still tables rows (t, row) f.table (cells f.cols r) (there plain)) fs h in
     record {
       schema = record {
         known = (number, keeps.known);

@@ -5,7 +5,7 @@ use Rattle.std.specs.List as lists
 use Rattle.std.specs.List.{AllByRecursion}
 use Rattle.std.proofs.lemmas.Bool.{eqb-true, eq-eqb, and_parts}
 use Rattle.pq_base.specs.declared.value.Value.{Value}
-use Rattle.pq_base.specs.Values.{AllFit}
+use Rattle.pq_base.specs.Values.{AllFit, has_null}
 use Rattle.pq_schema.specs.declared.table.Foreign.{Foreign}
 use Rattle.pq_schema.specs.declared.table.Limit.{Limit}
 use Rattle.pq_schema.specs.declared.table.Table.{Table}
@@ -50,9 +50,9 @@ group_without tables rows t u key cols values =
     subst (λ (l : List (List Value)). length (filter (agrees cols values) l) ≤ length (group_of u cols values rows)) (sym (rows_of-without tables rows t u key)) (fewer_kept q (agrees cols values) (rows_of u rows))
 
 within_without : (tables : List Table) (rows : Rows) (t u : ℕ) (key : List Value) (limit : Limit) → IsWithinLimit u rows limit → IsWithinLimit u (rows_without tables t key rows) limit
-within_without tables rows t u key limit within values =
+within_without tables rows t u key limit within values plain =
     let less = group_without tables rows t u key limit.cols values in
-    let most = within values in
+    let most = within values plain in
     omega arith
 
 -- a row with another key is found as before
@@ -97,14 +97,14 @@ pub keeps_delete : (tables : List Table) (rows : Rows) (t : ℕ) (key : List Val
 keeps_delete tables rows t key keeps free =
     let p = λ (e : ℕ × List Value). not (has_key tables t key e) in
     let left : Rows = rows_without tables t key rows in
-    let parent = λ (e : ℕ × List Value) (i : In e rows) (f : Foreign) (j : In f (table_at tables e.0).foreign) (there : HasParent tables rows e.1 f).
+    let parent = λ (e : ℕ × List Value) (i : In e rows) (f : Foreign) (j : In f (table_at tables e.0).foreign) (there : HasParent tables rows e.1 f) (plain : has_null (cells f.cols e.1) ≡ false).
     let k = cells f.cols e.1 in
-    elim ((f.table == t) && same_values k key) as (λ b. ((f.table == t) && same_values k key) ≡ b → HasParent tables left e.1 f) [
+    elim ((f.table == t) && same_values k key) as (λ b. ((f.table == t) && same_values k key) ≡ b → IsSome (row_at tables left f.table k)) [
       | true ↦ λ is.
           let parts = and_parts (f.table == t) (same_values k key) is in
           let none : f.table ≡ t → group_of e.0 f.cols key rows ≡ [] = each_in (λ (g : Foreign). g.table ≡ t → group_of e.0 g.cols key rows ≡ []) (table_at tables e.0).foreign (free e.0 (each_in (λ (x : ℕ × List Value). IsTableNumber tables x.0) rows keeps.known e i)) f j in
           absurd (in_group rows e f.cols i (ap (λ (v : List Value). group_of e.0 f.cols v rows) (same_from_test k key parts.1) ∙ none (eqb-true f.table t parts.0)))
-      | false ↦ λ other. subst (λ (o : Option (List Value)). IsSome o) (sym (row_at-without tables rows t f.table key k other)) there
+      | false ↦ λ other. subst (λ (o : Option (List Value)). IsSome o) (sym (row_at-without tables rows t f.table key k other)) (there plain)
     ] refl in
     record {
       schema = record {
@@ -144,7 +144,7 @@ replaced_found tables rows t u key new k own there =
 
 -- the group of the new row has room where the old row left it
 room_left : (tables : List Table) (rows : Rows) (t : ℕ) (old new : List Value) (limit : Limit) → In old (rows_of t rows) → IsWithinLimit t rows limit → MayChangeRow t rows old new limit → HasRoom t (rows_without tables t (key_of (table_at tables t) old) rows) new limit
-room_left tables rows t old new limit there within (inl same) =
+room_left tables rows t old new limit there within (inl same) plain =
     let key = key_of (table_at tables t) old in
     let p = λ (row : List Value). not ((t == t) && agrees (table_at tables t).key key row) in
     let q = agrees limit.cols (cells limit.cols new) in
@@ -152,10 +152,11 @@ room_left tables rows t old new limit there within (inl same) =
     let drops : p old ≡ false = ap (λ b. not (b && same_values key key)) (eq-eqb t t refl) ∙ ap not (same_values_itself key) in
     let less = one_less_kept p q (rows_of t rows) old there keeps drops in
     let left : length (group_of t limit.cols (cells limit.cols new) (rows_without tables t key rows)) ≡ length (filter q (filter p (rows_of t rows))) = ap (λ (l : List (List Value)). length (filter q l)) (rows_of-without tables rows t t key) in
-    let most = within (cells limit.cols new) in
+    let most = within (cells limit.cols new) plain in
     omega arith
-room_left tables rows t old new limit there within (inr room) =
+room_left tables rows t old new limit there within (inr room) plain =
     let less = group_without tables rows t t (key_of (table_at tables t) old) limit.cols (cells limit.cols new) in
+    let some = room plain in
     omega arith
 
 -- a new row that fits, is short and has the old row's key, and whose changes have room and parents
@@ -169,9 +170,9 @@ keeps_update tables rows t old new keeps found same fits short changes names =
     let in_rows : In (t, old) rows = in_from_contains rows (t, old) of_old.there in
     let in_table : In old (rows_of t rows) = in_from_find (agrees (table_at tables t).key key) (rows_of t rows) old found in
     let parents : (e : ℕ × List Value) → In e rows → AllByRecursion (HasParent tables rows e.1) (table_at tables e.0).foreign = λ e i. each_in (λ (x : ℕ × List Value). AllByRecursion (HasParent tables rows x.1) (table_at tables x.0).foreign) rows keeps.foreign e i in
-    let still = λ (row : List Value) (f : Foreign) (there : HasParent tables rows row f). replaced_found tables rows t f.table key new (cells f.cols row) (sym same) there in
+    let still = λ (row : List Value) (f : Foreign) (there : HasParent tables rows row f) (plain : has_null (cells f.cols row) ≡ false). replaced_found tables rows t f.table key new (cells f.cols row) (sym same) (there plain) in
     let named : (f : Foreign) → HasParent tables rows old f → MayRefer tables rows old new f → HasParent tables now new f = λ f own may. elim may [
-      | inl stays ↦ still new f (subst (λ (v : List Value). IsSome (row_at tables rows f.table v)) stays own)
+      | inl stays ↦ still new f (subst (λ (v : List Value). has_null v ≡ false → IsSome (row_at tables rows f.table v)) stays own)
       | inr there ↦ still new f there
     ] in
     record {

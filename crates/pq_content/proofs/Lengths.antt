@@ -9,7 +9,7 @@ use Rattle.pq_base.specs.declared.value.Dir.{Dir}
 use Rattle.pq_base.specs.declared.value.Value.{Value}
 use Rattle.pq_base.specs.declared.value.Value.TheVariants as value
 use Rattle.pq_key_code.specs.KeyCode.{escaped_text, payload, turned_byte, component, code_of}
-use Rattle.pq_row_code.specs.RowCode.{field, fields}
+use Rattle.pq_row_code.specs.RowCode.{field, fields, null_marks, row_front}
 use Rattle.pq_schema.specs.declared.table.Index.{Index}
 use Rattle.pq_schema.specs.declared.table.KeyPart.{KeyPart}
 use Rattle.pq_schema.specs.declared.table.Table.{Table}
@@ -60,11 +60,13 @@ length-update_changes may_change t table old new stays =
 
 -- a text has at most so many bytes
 abbrev pub IsWithinLength : ℕ → Value → Type 0
+IsWithinLength n value.Null = Unit {0}
 IsWithinLength n (value.Int z) = Unit {0}
 IsWithinLength n (value.Bool b) = Unit {0}
 IsWithinLength n (value.Text t) = length t ≤ n
 
 within_field : (n : ℕ) (x : Value) → length (field x) ≤ n → IsWithinLength n x
+within_field n value.Null h = tt
 within_field n (value.Int z) h = tt
 within_field n (value.Bool b) h = tt
 within_field n (value.Text t) h = let parts = length-append (to_be_bytes w16 (length t)) t in omega arith
@@ -82,7 +84,9 @@ value_within n (x ∷ row) (suc col) h = value_within n row col h.1
 
 -- each value of a short row is short
 pub values_within : (n : ℕ) (table : Table) (row : List Value) (cols : List ℕ) → length (stored_code table row) ≤ n → AllByRecursion (IsWithinLength n) (cells cols row)
-values_within n table row cols h = each cols (within_fields n row (omega arith))
+values_within n table row cols h =
+    let parts = length-append (row_front (length row) (null_marks row)) (fields row) in
+    each cols (within_fields n row (omega arith))
   where
     each : (cols : List ℕ) → AllByRecursion (IsWithinLength n) row → AllByRecursion (IsWithinLength n) (cells cols row)
     each [] short = tt
@@ -94,6 +98,7 @@ length-escaped (zero ∷ t) = let rest = length-escaped t in omega arith
 length-escaped (suc b ∷ t) = let rest = length-escaped t in omega arith
 
 length-payload : (n : ℕ) (x : Value) → IsWithinLength n x → length (payload x) ≤ 2 * n + 8
+length-payload n value.Null h = omega arith
 length-payload n (value.Int z) h = let eight : length (payload (value.Int z)) ≡ 8 = refl in omega arith
 length-payload n (value.Bool b) h = omega arith
 length-payload n (value.Text t) h =

@@ -59,7 +59,7 @@ no_rows tables (e ∷ es) t known above =
 each_within_none : (t : ℕ) (rows : Rows) (limits : List Limit) → rows_of t rows ≡ [] → AllByRecursion (IsWithinLimit t rows) limits
 each_within_none t rows [] none = tt
 each_within_none t rows (limit ∷ limits) none =
-    ((λ values. let is : length (group_of t limit.cols values rows) ≡ 0 = ap (λ (l : List (List Value)). length (filter (agrees limit.cols values) l)) none in omega arith), each_within_none t rows limits none)
+    ((λ values plain. let is : length (group_of t limit.cols values rows) ≡ 0 = ap (λ (l : List (List Value)). length (filter (agrees limit.cols values) l)) none in omega arith), each_within_none t rows limits none)
 
 apart-more : (tables : List Table) (table : Table) (rows : Rows) → EachKnown tables rows → AreApart tables rows → AreApart (tables ++ table ∷ []) rows
 apart-more tables table [] known apart = tt
@@ -81,7 +81,7 @@ keeps-more tables table rows keeps =
           | inr new ↦ each_within_none t rows (table_at more t).limits (no_rows tables rows t keeps.known new)
         ];
         foreign = each_both (λ (e : ℕ × List Value). IsTableNumber tables e.0) (λ (e : ℕ × List Value). AllByRecursion (HasParent tables rows e.1) (table_at tables e.0).foreign) (λ (e : ℕ × List Value). AllByRecursion (HasParent more rows e.1) (table_at more e.0).foreign) (λ e is parents.
-            subst (λ (x : Table). AllByRecursion (HasParent more rows e.1) x.foreign) (sym (table_at-more tables table e.0 is)) (each_weaker (HasParent tables rows e.1) (HasParent more rows e.1) (λ foreign there. let key = cells foreign.cols e.1 in subst (λ (o : Option (List Value)). IsSome o) (sym (row_at-more tables table rows foreign.table key (number_of_found tables rows foreign.table key keeps.known there))) there) (table_at tables e.0).foreign parents)) rows keeps.known keeps.foreign;
+            subst (λ (x : Table). AllByRecursion (HasParent more rows e.1) x.foreign) (sym (table_at-more tables table e.0 is)) (each_weaker (HasParent tables rows e.1) (HasParent more rows e.1) (λ foreign there plain. let key = cells foreign.cols e.1 in subst (λ (o : Option (List Value)). IsSome o) (sym (row_at-more tables table rows foreign.table key (number_of_found tables rows foreign.table key keeps.known (there plain)))) (there plain)) (table_at tables e.0).foreign parents)) rows keeps.known keeps.foreign;
       };
       short = each_both (λ (e : ℕ × List Value). IsTableNumber tables e.0) (λ (e : ℕ × List Value). length (stored_code (table_at tables e.0) e.1) ≤ 4096) (λ (e : ℕ × List Value). length (stored_code (table_at more e.0) e.1) ≤ 4096) (λ e is short. subst (λ (x : Table). length (stored_code x e.1) ≤ 4096) (sym (table_at-more tables table e.0 is)) short) rows keeps.known keeps.short;
     }

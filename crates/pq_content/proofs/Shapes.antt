@@ -46,7 +46,7 @@ module _ (tables tables' : List Table) (same : SameShapes tables tables') where
       apart = apart-shape rows keeps.apart;
       limits = λ t is. subst (AllByRecursion (IsWithinLimit t rows)) (same.each t).limits (keeps.limits t (number-back t is));
       foreign = each_weaker (λ (e : ℕ × List Value). AllByRecursion (HasParent tables rows e.1) (table_at tables e.0).foreign) (λ (e : ℕ × List Value). AllByRecursion (HasParent tables' rows e.1) (table_at tables' e.0).foreign) (λ e parents.
-          subst (AllByRecursion (HasParent tables' rows e.1)) (same.each e.0).foreign (each_weaker (HasParent tables rows e.1) (HasParent tables' rows e.1) (λ f there. subst (λ (o : Option (List Value)). IsSome o) (row_at-shape rows f.table (cells f.cols e.1)) there) (table_at tables e.0).foreign parents)) rows keeps.foreign;
+          subst (AllByRecursion (HasParent tables' rows e.1)) (same.each e.0).foreign (each_weaker (HasParent tables rows e.1) (HasParent tables' rows e.1) (λ f there plain. subst (λ (o : Option (List Value)). IsSome o) (row_at-shape rows f.table (cells f.cols e.1)) (there plain)) (table_at tables e.0).foreign parents)) rows keeps.foreign;
     };
     short = each_weaker (λ (e : ℕ × List Value). length (stored_code (table_at tables e.0) e.1) ≤ 4096) (λ (e : ℕ × List Value). length (stored_code (table_at tables' e.0) e.1) ≤ 4096) (λ e short. subst (λ (code : List ℕ). length code ≤ 4096) (same_columns_code (table_at tables e.0) (table_at tables' e.0) e.1 (same.each e.0).columns) short) rows keeps.short;
   }

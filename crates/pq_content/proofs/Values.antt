@@ -32,6 +32,13 @@ bool_itself true = refl
 bool_itself false = refl
 
 value_from_same : (x y : Value) → same_value x y ≡ true → x ≡ y
+value_from_same value.Null value.Null e = refl
+value_from_same value.Null (value.Int b) e = absurd (false≢true e)
+value_from_same value.Null (value.Bool b) e = absurd (false≢true e)
+value_from_same value.Null (value.Text b) e = absurd (false≢true e)
+value_from_same (value.Int a) value.Null e = absurd (false≢true e)
+value_from_same (value.Bool a) value.Null e = absurd (false≢true e)
+value_from_same (value.Text a) value.Null e = absurd (false≢true e)
 value_from_same (value.Int a) (value.Int b) e = ap value.Int (int_ranked a b Equal (sym ((Equal-is (int_cmp a b)).0 e)))
 value_from_same (value.Int a) (value.Bool b) e = absurd (false≢true e)
 value_from_same (value.Int a) (value.Text b) e = absurd (false≢true e)
@@ -43,6 +50,7 @@ value_from_same (value.Text a) (value.Bool b) e = absurd (false≢true e)
 value_from_same (value.Text a) (value.Text b) e = ap value.Text (exact_bytes a b ((Equal-is (slice_cmp nat_cmp a b)).0 e))
 
 same_value_itself : (x : Value) → same_value x x ≡ true
+same_value_itself value.Null = refl
 same_value_itself (value.Int a) = ap is_eq (tied_itself int_cmp_total a)
 same_value_itself (value.Bool a) = bool_itself a
 same_value_itself (value.Text a) = ap is_eq (tied_itself nat_list_cmp_total a)
@@ -95,7 +103,7 @@ length_from_kinds (t ∷ ts) (x ∷ xs) h = ap suc (length_from_kinds ts xs h.1)
 
 -- at each place the value fits the type, and past the end too
 fits_at : (ts : List ColType) (row : List Value) (col : ℕ) → AllFit ts row → FitsType (slice_index_or ts col type.Bool) (value_of row col)
-fits_at [] [] col h = tt
+fits_at [] [] col h = (tt, tt)
 fits_at [] (x ∷ xs) col h = absurd h
 fits_at (t ∷ ts) [] col h = absurd h
 fits_at (t ∷ ts) (x ∷ xs) zero h = h.0

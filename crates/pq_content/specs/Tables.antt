@@ -1,9 +1,9 @@
 -- Rows of tables: their keys and types, how they are found, and when they keep their definitions.
-use Rattle.std.specs.Prelude.{◌≡◌, ◌⊎◌, ℕ, ◌<◌, ◌≤◌, not, List, [], map, filter, take, length, count_ones, Contains}
+use Rattle.std.specs.Prelude.{◌≡◌, ◌⊎◌, ℕ, ◌<◌, ◌≤◌, false, not, List, [], map, filter, take, length, count_ones, Contains}
 use Rattle.std.specs.List.{AllByRecursion}
 use Rattle.pq_base.specs.Columns.{set_of}
 use Rattle.pq_base.specs.declared.value.Value.{Value}
-use Rattle.pq_base.specs.Values.{AllFit}
+use Rattle.pq_base.specs.Values.{AllFit, has_null}
 use Rattle.pq_schema.specs.declared.table.Foreign.{Foreign}
 use Rattle.pq_schema.specs.declared.table.KeyPart.{KeyPart}
 use Rattle.pq_schema.specs.declared.table.Limit.{Limit}
@@ -45,9 +45,10 @@ pub record IsFound (tables : List Table) (rows : Rows) (t : ℕ) (key row : List
   pub key_is : key_of (table_at tables t) row ≡ key
   pub short : length (stored_code (table_at tables t) row) ≤ 4096
 
--- the group of a limit's columns that a row comes into has room
+-- the group of a limit's columns that a row comes into has room; a row with NULL in them comes into none
 abbrev pub HasRoom : ℕ → Rows → List Value → Limit → Type 0
-HasRoom t rows row limit = length (group_of t limit.cols (cells limit.cols row) rows) < limit.n
+HasRoom t rows row limit = has_null (cells limit.cols row) ≡ false
+    → length (group_of t limit.cols (cells limit.cols row) rows) < limit.n
 
 -- no row names the row of this table with this key
 abbrev pub IsUnreferenced : List Table → Rows → ℕ → List Value → Type 0

@@ -1,12 +1,13 @@
 -- What takes a token at least.
-use Rattle.std.proofs.Common.{ℕ}
+use Rattle.std.proofs.Common.{ℕ, is_some}
 use Rattle.pq_grammar.specs.Reader.{pair_at, skip_at, test_of}
-use Rattle.pq_grammar.specs.Shrinking.{Shrinks, Keeps, token_shrinks, shrinks_keeps, pair_shrinks, close_shrinks, skip_shrinks, map_shrinks, map_keeps, choice_keeps, choice_shrinks, separated_shrinks}
-use Rattle.pq_shape.specs.Front.{is_word_shape, is_mark_shape, word_at, mark_at, name_of, name_at, number_in, number_at}
+use Rattle.pq_grammar.specs.Shrinking.{Shrinks, Keeps, token_shrinks, shrinks_keeps, pair_shrinks, pair_keeps, option_keeps, close_shrinks, skip_shrinks, map_shrinks, map_keeps, choice_keeps, choice_shrinks, separated_shrinks}
+use Rattle.pq_shape.specs.Front.{is_word_shape, is_mark_shape, is_soft_shape, soft_at, word_at, mark_at, name_of, name_at, number_in, number_at}
+use Rattle.pq_shape.specs.declared.soft.Soft.TheVariants as soft_word
 use Rattle.pq_shape.specs.declared.keyword.TheConstants.{BOOL, CARDINALITY, FOREIGN, INT, KEY, LIMIT, REFERENCES, TEXT}
 use Rattle.pq_shape.specs.declared.mark.TheConstants.{CLOSE, COMMA, OPEN}
 use Rattle.pq_def_read.specs.declared.definition.Constraint.TheVariants as constraint
-use Rattle.pq_def_read.specs.Definitions.{text_kind, int_kind, bool_kind, text_kind_at, kind_at, column_at, ended_column_at, names_at, cols_at, limit_clause_at, foreign_at, constraint_at, next_constraint_at}
+use Rattle.pq_def_read.specs.Definitions.{text_kind, int_kind, bool_kind, text_kind_at, kind_at, nullable_at, column_at, ended_column_at, names_at, cols_at, limit_clause_at, foreign_at, constraint_at, next_constraint_at}
 
 word_shrinks : (k : ℕ) → Shrinks (word_at k)
 word_shrinks k = token_shrinks (test_of (is_word_shape k))
@@ -27,9 +28,13 @@ kind_keeps =
     choice_keeps (is_word_shape TEXT) text_kind_at _ text_kind_keeps
     (choice_keeps (is_word_shape INT) _ _ (map_keeps (λ u. int_kind) (word_at INT) (shrinks_keeps _ (word_shrinks INT))) (map_keeps (λ u. bool_kind) (word_at BOOL) (shrinks_keeps _ (word_shrinks BOOL))))
 
+nullable_keeps : Keeps nullable_at
+unfolding nullable_at
+nullable_keeps = map_keeps is_some _ (option_keeps (is_soft_shape soft_word.Null) (soft_at soft_word.Null) (shrinks_keeps _ (token_shrinks (test_of (is_soft_shape soft_word.Null)))))
+
 column_shrinks : Shrinks column_at
 unfolding column_at
-column_shrinks = map_shrinks _ (pair_at name_at kind_at) (pair_shrinks name_at kind_at (token_shrinks name_of) kind_keeps)
+column_shrinks = map_shrinks _ (pair_at name_at (pair_at kind_at nullable_at)) (pair_shrinks name_at (pair_at kind_at nullable_at) (token_shrinks name_of) (pair_keeps kind_at nullable_at kind_keeps nullable_keeps))
 
 pub ended_column_shrinks : Shrinks ended_column_at
 ended_column_shrinks = close_shrinks column_at (mark_at COMMA) column_shrinks (shrinks_keeps _ (mark_shrinks COMMA))

@@ -1,23 +1,25 @@
 -- The readers of the parts of a table's definition read what the grammar says.
-use Rattle.std.proofs.Common.{◌≡◌, ℕ, ℤ, false, List, ◌++◌, inl, inr, refl, sym, subst}
-use Rattle.pq_grammar.specs.Language.{◌⋅◌, each, separated_by, made_from}
-use Rattle.pq_grammar.specs.Reader.{begins, pair_at, skip_at, close_at, map_at, many_at}
-use Rattle.pq_grammar.proofs.Steps.{Reads, never, begins-never}
+use Rattle.std.proofs.Common.{◌≡◌, ℕ, ℤ, Bool, true, false, List, ◌++◌, Option, Some, None, is_some, inl, inr, refl, sym, subst}
+use Rattle.pq_grammar.specs.Language.{◌⋅◌, each, optional, separated_by, made_from}
+use Rattle.pq_grammar.specs.Reader.{begins, pair_at, skip_at, close_at, map_at, option_at, many_at}
+use Rattle.pq_grammar.proofs.Steps.{Reads, never, begins-never, wider_reads}
 use Rattle.pq_grammar.proofs.Readers.{close_reads, map_reads}
 use Rattle.pq_grammar.proofs.Repeats.{many_reads}
+use Rattle.pq_grammar.proofs.Options.{option_reads}
 use Rattle.pq_grammar.proofs.Lists.{one_opens, then_opens, one_shuts, then_shuts, pair_free, skip_free, close_free, same_set, ended_reads}
 use Rattle.pq_grammar.proofs.Choices.{made_reads, choice_reads, one_or_other}
-use Rattle.pq_shape.specs.Front.{is_word_shape, is_mark_shape, is_name_shape, word_at, mark_at, name_at, number_at}
-use Rattle.pq_shape.specs.Parts.{word, mark, comma, name, number}
-use Rattle.pq_shape.proofs.Tokens.{word_reads, mark_reads, name_reads, number_reads, comma_separated}
+use Rattle.pq_shape.specs.Front.{is_word_shape, is_mark_shape, is_name_shape, is_soft_shape, soft_name, soft_at, word_at, mark_at, name_at, number_at}
+use Rattle.pq_shape.specs.Parts.{word, soft, mark, comma, name, number}
+use Rattle.pq_shape.proofs.Tokens.{word_reads, soft_reads, soft_passes, mark_reads, name_reads, number_reads, comma_separated}
+use Rattle.pq_shape.specs.declared.soft.Soft.TheVariants as soft_word
 use Rattle.pq_shape.specs.declared.shape.Shape.{Shape}
 use Rattle.pq_shape.specs.declared.shape.Shape.TheVariants as shape
 use Rattle.pq_shape.specs.declared.keyword.TheConstants.{BOOL, CARDINALITY, FOREIGN, INT, KEY, LIMIT, REFERENCES, TEXT}
 use Rattle.pq_shape.specs.declared.mark.TheConstants.{CLOSE, COMMA, OPEN}
 use Rattle.pq_schema.specs.declared.definition.LimitDef.{LimitDef}
 use Rattle.pq_schema.specs.declared.definition.ForeignDef.{ForeignDef}
-use Rattle.pq_def_read.specs.Definitions.{names_at, cols_at, int_kind, bool_kind, text_kind, text_kind_at, kind_at, column_at, columns_at, limit_clause_at, foreign_at, constraint_at, next_constraint_at, parted_constraints, constraints_at}
-use Rattle.pq_def_read.specs.Grammar.{cols, text_size_tokens, kind, column, limit, foreign, a_constraint, constraints}
+use Rattle.pq_def_read.specs.Definitions.{names_at, cols_at, int_kind, bool_kind, text_kind, text_kind_at, kind_at, nullable_at, column_at, columns_at, limit_clause_at, foreign_at, constraint_at, next_constraint_at, parted_constraints, constraints_at}
+use Rattle.pq_def_read.specs.Grammar.{cols, text_size_tokens, kind, nullable, column, limit, foreign, a_constraint, constraints}
 use Rattle.pq_def_read.specs.declared.definition.Constraint.{Constraint}
 use Rattle.pq_def_read.specs.declared.definition.Constraint.TheVariants as constraint
 use Rattle.pq_def_read.specs.declared.definition.Kind.{Kind}
@@ -72,16 +74,39 @@ kind_reads =
 
 -- ---- columns
 
-pub column_reads : Reads column never column_at
+abbrev is_null : Shape → Bool
+is_null = is_soft_shape soft_word.Null
+
+abbrev null_word : Unit {0} → List Shape → Type 0
+null_word u = soft soft_word.Null
+
+nullable_to : (x : Option (Unit {0})) (w : List Shape) → optional null_word x w → nullable (is_some x) w
+nullable_to None w h = h
+nullable_to (Some u) w h = h
+
+nullable_from : (b : Bool) (w : List Shape) → nullable b w → (x : Option (Unit {0})) × (is_some x ≡ b) × optional null_word x w
+nullable_from true w h = (Some tt, refl, h)
+nullable_from false w h = (None, refl, h)
+
+nullable_reads : Reads nullable is_null nullable_at
+unfolding nullable_at
+nullable_reads =
+    map_reads (optional null_word) nullable is_null is_some (option_at is_null (soft_at soft_word.Null))
+    (option_reads null_word is_null is_null (soft_at soft_word.Null) (wider_reads null_word never is_null (soft_at soft_word.Null) (λ rest e. begins-never rest) (soft_reads soft_word.Null))
+    (λ u w h. one_opens is_null (shape.Name (soft_name soft_word.Null)) (soft_passes soft_word.Null) w h) (λ rest e. e))
+    nullable_to nullable_from
+
+pub column_reads : Reads column is_null column_at
 unfolding column_at
 column_reads =
-    map_reads (λ (x : List ℕ × Kind). name x.0 ⋅ kind x.1) column never (λ x. record { name = x.0; kind = x.1.name; size = x.1.size }) (pair_at name_at kind_at)
-    (pair_free name kind never name_at kind_at name_reads kind_reads) (λ x w h. h) (λ c w h. ((c.name, record { name = c.kind; size = c.size }), refl, h))
+    map_reads (λ (x : List ℕ × (Kind × Bool)). name x.0 ⋅ kind x.1.0 ⋅ nullable x.1.1) column is_null (λ x. record { name = x.0; kind = x.1.0.name; size = x.1.0.size; nullable = x.1.1 }) (pair_at name_at (pair_at kind_at nullable_at))
+    (pair_free name (λ (x : Kind × Bool). kind x.0 ⋅ nullable x.1) is_null name_at (pair_at kind_at nullable_at) name_reads (pair_free kind nullable is_null kind_at nullable_at kind_reads nullable_reads)) (λ x w h. h) (λ c w h. ((c.name, (record { name = c.kind; size = c.size }, c.nullable)), refl, h))
 
 pub columns_reads : Reads (λ cs. separated_by comma column cs ⋅ comma) is_name_shape columns_at
-unfolding columns_at is_name_shape
+unfolding columns_at is_name_shape is_soft_shape
 columns_reads =
-    ended_reads comma column is_name_shape (mark_at COMMA) column_at (mark_reads COMMA) column_reads (λ c w h. then_opens is_name_shape (shape.Name c.name) (kind (record { name = c.kind; size = c.size })) refl w h)
+    ended_reads comma column is_name_shape is_null (mark_at COMMA) column_at (mark_reads COMMA) column_reads (λ c w h. then_opens is_name_shape (shape.Name c.name) (kind (record { name = c.kind; size = c.size }) ⋅ nullable c.nullable) refl w h)
+    (λ v rest h. one_shuts is_null (shape.Mark COMMA) refl v rest h)
 
 -- ---- limits and foreign keys
 

@@ -1,13 +1,14 @@
 -- Reading the parts of a table's definition from left to right.
-use Rattle.std.specs.Prelude.{ℕ, ℤ, pos, List, [], ◌∷◌, ◌++◌, codes}
-use Rattle.pq_grammar.specs.Reader.{Reader, pair_at, skip_at, close_at, map_at, choice_at, many_at, separated_at, ended_at}
+use Rattle.std.specs.Prelude.{ℕ, ℤ, pos, Bool, is_some, List, [], ◌∷◌, ◌++◌, codes}
+use Rattle.pq_grammar.specs.Reader.{Reader, pair_at, skip_at, close_at, map_at, choice_at, option_at, many_at, separated_at, ended_at}
 use Rattle.pq_schema.specs.declared.definition.ColumnDef.{ColumnDef}
 use Rattle.pq_schema.specs.declared.definition.LimitDef.{LimitDef}
 use Rattle.pq_schema.specs.declared.definition.ForeignDef.{ForeignDef}
 use Rattle.pq_schema.specs.declared.definition.TableDef.{TableDef}
-use Rattle.pq_shape.specs.Front.{is_word_shape, is_mark_shape, is_name_shape, word_at, mark_at, name_at, number_at}
+use Rattle.pq_shape.specs.Front.{is_word_shape, is_mark_shape, is_name_shape, is_soft_shape, soft_at, word_at, mark_at, name_at, number_at}
 use Rattle.pq_shape.specs.declared.keyword.TheConstants.{BOOL, CARDINALITY, CREATE, FOREIGN, INT, KEY, LIMIT, PRIMARY, REFERENCES, TABLE, TEXT}
 use Rattle.pq_shape.specs.declared.mark.TheConstants.{CLOSE, COMMA, OPEN, SEMICOLON}
+use Rattle.pq_shape.specs.declared.soft.Soft.TheVariants as soft_word
 use Rattle.pq_shape.specs.declared.shape.Shape.{Shape}
 use Rattle.pq_def_read.specs.declared.definition.Constraint.{Constraint}
 use Rattle.pq_def_read.specs.declared.definition.Constraint.TheVariants as constraint
@@ -36,8 +37,12 @@ unfoldable pub kind_at : Reader Shape Kind
 kind_at = choice_at (is_word_shape TEXT) text_kind_at
     (choice_at (is_word_shape INT) (map_at (λ u. int_kind) (word_at INT)) (map_at (λ u. bool_kind) (word_at BOOL)))
 
+unfoldable pub nullable_at : Reader Shape Bool
+nullable_at = map_at is_some (option_at (is_soft_shape soft_word.Null) (soft_at soft_word.Null))
+
 unfoldable pub column_at : Reader Shape ColumnDef
-column_at = map_at (λ x. record { name = x.0; kind = x.1.name; size = x.1.size }) (pair_at name_at kind_at)
+column_at = map_at (λ x. record { name = x.0; kind = x.1.0.name; size = x.1.0.size; nullable = x.1.1 })
+    (pair_at name_at (pair_at kind_at nullable_at))
 
 abbrev pub ended_column_at : Reader Shape ColumnDef
 ended_column_at = close_at column_at (mark_at COMMA)

@@ -1,14 +1,15 @@
 -- The grammar: how each part of a statement is spelled, and each statement.
-use Rattle.std.specs.Prelude.{◌≡◌, ℕ, ℤ, List, [], Option, ◌⊎◌}
+use Rattle.std.specs.Prelude.{◌≡◌, ℕ, ℤ, Bool, true, false, List, [], Option, ◌⊎◌}
 use Rattle.pq_base.specs.declared.value.Value.{Value}
 use Rattle.pq_grammar.specs.Language.{◌⋅◌, nothing, anything, each, optional, separated_by, listed_by, made_from}
 use Rattle.pq_schema.specs.declared.definition.ColumnDef.{ColumnDef}
 use Rattle.pq_schema.specs.declared.definition.LimitDef.{LimitDef}
 use Rattle.pq_schema.specs.declared.definition.ForeignDef.{ForeignDef}
 use Rattle.pq_schema.specs.declared.definition.TableDef.{TableDef}
-use Rattle.pq_shape.specs.Parts.{word, mark, comma, name, number, text, a_value}
+use Rattle.pq_shape.specs.Parts.{word, soft, mark, comma, name, number, text, a_value}
 use Rattle.pq_shape.specs.declared.keyword.TheConstants.{AFTER, AND, AS, BOOL, CARDINALITY, CREATE, DELETE, EXPLAIN, FOREIGN, FROM, INSERT, INT, INTO, KEY, LIMIT, PREPARE, PRIMARY, REFERENCES, RUN, SET, SHOW, TABLE, TEXT, UPDATE, VALUES, WHERE}
 use Rattle.pq_shape.specs.declared.mark.TheConstants.{CLOSE, EQUAL, OPEN, SEMICOLON}
+use Rattle.pq_shape.specs.declared.soft.Soft.TheVariants as soft_word
 use Rattle.pq_shape.specs.declared.shape.Shape.{Shape}
 use Rattle.pq_def_read.specs.Definitions.{int_kind, bool_kind, text_kind, parted_constraints}
 use Rattle.pq_def_read.specs.declared.definition.Constraint.{Constraint}
@@ -31,9 +32,14 @@ text_size_tokens n = word TEXT ⋅ mark OPEN ⋅ number n ⋅ mark CLOSE
 abbrev pub kind : Kind → List Shape → Type 0
 kind k w = made_from text_kind text_size_tokens k w ⊎ (((k ≡ int_kind) × word INT w) ⊎ ((k ≡ bool_kind) × word BOOL w))
 
--- name kind
+-- [ NULL ]
+abbrev pub nullable : Bool → List Shape → Type 0
+nullable true = soft soft_word.Null
+nullable false = nothing
+
+-- name kind [ NULL ]
 abbrev pub column : ColumnDef → List Shape → Type 0
-column c = name c.name ⋅ kind (record { name = c.kind; size = c.size })
+column c = name c.name ⋅ kind (record { name = c.kind; size = c.size }) ⋅ nullable c.nullable
 
 -- CARDINALITY LIMIT number cols
 abbrev pub limit : LimitDef → List Shape → Type 0

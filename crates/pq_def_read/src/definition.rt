@@ -1,14 +1,14 @@
 //! Reading a table's definition.
 ghost use Rattle.std.specs.Prelude.{◌≡◌, IfOk, OnOk};
 ghost use Rattle.pq_grammar.specs.Answers.{Gives};
-ghost use Rattle.pq_def_read.specs.Definitions.{names_at, cols_at, text_kind_at, kind_at, column_at, ended_column_at, columns_at, limit_clause_at, foreign_at, constraint_at, next_constraint_at, constraints_at, with_constraint, statement_end_at, body_at, create_at};
+ghost use Rattle.pq_def_read.specs.Definitions.{names_at, cols_at, text_kind_at, kind_at, nullable_at, column_at, ended_column_at, columns_at, limit_clause_at, foreign_at, constraint_at, next_constraint_at, constraints_at, with_constraint, statement_end_at, body_at, create_at};
 
 use pq_base::{List, NoMem, PText};
 use pq_grammar::ReadError;
 use pq_schema::{ColumnDef, ForeignDef, LimitDef, TableDef};
 use pq_shape::{
     BOOL, Between, CARDINALITY, CLOSE, COMMA, CREATE, Cursor, FOREIGN, INT, KEY, LIMIT, OPEN,
-    PRIMARY, REFERENCES, SEMICOLON, TABLE, TEXT, separated,
+    PRIMARY, REFERENCES, SEMICOLON, Soft, TABLE, TEXT, separated,
 };
 use std::alloc::Global;
 
@@ -77,16 +77,30 @@ fn any_kind(alloc: Global, c: &mut Cursor) -> Result<Kind, ReadError>
     Ok(Kind { name, size: 0 })
 }
 
+/// Reads NULL, where it is there.
+#[tactic(auto, unfolding(crate::specs::Definitions::nullable_at))]
+fn nullable(c: &mut Cursor) -> Result<bool, ReadError>
+    ensures { Gives (λ x. (x, c.new)) result (nullable_at c.old) }
+{
+    if !c.is_soft(Soft::Null) {
+        return Ok(false);
+    }
+    c.soft(Soft::Null)?;
+    Ok(true)
+}
+
 #[tactic(auto, unfolding(crate::specs::Definitions::column_at))]
 fn column(alloc: Global, c: &mut Cursor) -> Result<ColumnDef, ReadError>
     ensures { Gives (λ x. (x, c.new)) result (column_at c.old) }
 {
     let name = c.name(alloc)?;
     let kind = any_kind(alloc, c)?;
+    let nullable = nullable(c)?;
     Ok(ColumnDef {
         name,
         kind: kind.name,
         size: kind.size,
+        nullable,
     })
 }
 

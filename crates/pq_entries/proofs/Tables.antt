@@ -10,6 +10,7 @@ use Rattle.pq_schema.specs.declared.table.Column.{Column}
 use Rattle.pq_schema.specs.declared.table.Access.{Access}
 use Rattle.pq_schema.specs.Schema.{Schema}
 use Rattle.pq_schema.specs.Rows.{types_of}
+use Rattle.pq_schema.proofs.TypeKinds.{type_sized}
 use Rattle.pq_schema.specs.Sound.{IsTable, IsSized}
 use Rattle.pq_schema.specs.Tables.{table_at}
 use Rattle.pq_schema.specs.Valid.{IsValid}
@@ -27,9 +28,7 @@ sequence_types_known s t access valid is =
     All-from_recursion IsType (types_of table) (each table.columns (recursion_from_All (λ (column : Column). IsSized column.ty) table.columns (valid_made valid t is.number.0 is.number.1).sized))
   where
     one : (ty : ColType) → IsSized ty → IsType ty
-    one type.Int h = tt
-    one type.Bool h = tt
-    one (type.Text n) h = let most = h.1 in omega (arith, most)
+    one = type_sized
 
     each : (columns : List Column) → AllByRecursion (λ (column : Column). IsSized column.ty) columns → AllByRecursion IsType (map (λ (column : Column). column.ty) columns)
     each [] h = tt

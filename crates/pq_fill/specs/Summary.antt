@@ -53,6 +53,7 @@ abbrev pub answer_lines : Report → List Line
 answer_lines report = take (end_count report.end) report.lines
 
 abbrev pub value_number : Value → ℤ
+value_number value.Null = pos 0
 value_number (value.Int n) = n
 value_number (value.Bool b) = pos 0
 value_number (value.Text t) = pos 0

@@ -1,8 +1,8 @@
 -- The row that is read by the tied key is the partner of the input.
-use Rattle.std.proofs.Common.{◌≡◌, ℕ, ◌-◌, List, [], Option, Some, None, refl, sym, ap, ◌∙◌, subst, arith}
+use Rattle.std.proofs.Common.{◌≡◌, ℕ, ◌-◌, Bool, true, false, cond, List, [], Option, Some, None, refl, sym, ap, ◌∙◌, subst, arith}
 use Rattle.std.specs.Prelude.{All, IfSome, option_map, option_to_list}
 use Rattle.std.specs.FinMap.{get}
-use Rattle.pq_base.specs.Values.{IsType}
+use Rattle.pq_base.specs.Values.{IsType, has_null}
 use Rattle.pq_base.specs.declared.value.Value.{Value}
 use Rattle.pq_key_code.specs.KeyCode.{row_key}
 use Rattle.pq_row_code.proofs.Rows.{row_code_injective}
@@ -94,7 +94,14 @@ module _ (s : Schema) (query : Query) (params : List Value) (rel : ℕ) (input :
             (subst (λ (o : Option (List ℕ)). IsRead (types_of table) o found) (get_row s.tables rows others number tied_key holds.keeps.fit kinds holds.beside)
             (subst (λ (o : Option Content). IfSome o (λ content. IsRead (types_of table) (get content (row_key number tied_key)) found)) holds.is read_there))
 
-      pub partner_is : IsPartner told s.tables query params rel input found
-      partner_is rows others holds =
+      pub partner_is : has_null key ≡ false → IsPartner told s.tables query params rel input found
+      partner_is plain rows others holds =
           ap option_to_list (row_is rows others holds)
+          ∙ sym (ap (λ (b : Bool). cond b [] (option_to_list (row_at s.tables rows number tied_key))) (sym (ap has_null tied_is) ∙ plain))
           ∙ sym (matching_row s.tables query rows params asked.resolved asked.params_fit rel input fits holds.keeps.schema (within_tied query rel table.key is.tied))
+
+    -- and with a tied NULL nothing matches
+    pub partner_none : (told : Option Content) → has_null key ≡ true → IsPartner told s.tables query params rel input None
+    partner_none told null rows others holds =
+        sym (matching_row s.tables query rows params asked.resolved asked.params_fit rel input fits holds.keeps.schema (within_tied query rel table.key is.tied)
+        ∙ ap (λ (b : Bool). cond b [] (option_to_list (row_at s.tables rows number tied_key))) (sym (ap has_null tied_is) ∙ null))

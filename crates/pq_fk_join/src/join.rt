@@ -12,7 +12,7 @@ ghost use Rattle.pq_nodes.specs.Inverse.{IsLookup};
 ghost use Rattle.pq_nodes.specs.Operators.{IsAsked, IsReadyNode, AreInputs, AffordsNode, ReadsNode, AreFound, AnswersNode, ShowsRead, StopsReading, IsSoundOverRows};
 ghost use Rattle.pq_fk_join.specs.Joined.{IsPartner, AddsLookedUp};
 
-use pq_base::{List, Row};
+use pq_base::{List, Row, has_null};
 use pq_calls::Calls;
 use pq_operands::tied_cells;
 use pq_plan::Combo;
@@ -22,7 +22,7 @@ use pq_store::{Allowance, Broke, Meter, Store};
 use std::alloc::Global;
 use std::sync::ledger::Ledger;
 
-/// The row whose key equalities tie behind the input, where there is one.
+/// The row whose key equalities tie behind the input, where there is one; a tied NULL finds none.
 fn partner<S: Store<L>, L: Ledger>(
     alloc: Global,
     catalog: &Catalog,
@@ -46,6 +46,9 @@ fn partner<S: Store<L>, L: Ledger>(
     catalog.known();
     let table = table_of(catalog, query, rel);
     let key = tied_cells(alloc, query, params, rel, input, table.key.items())?;
+    if has_null(key.items()) {
+        return Ok(None);
+    }
     match calls.row(alloc, table_number(query, rel), table, &key)? {
         Some(stored) => Ok(Some(stored.row)),
         None => Ok(None),

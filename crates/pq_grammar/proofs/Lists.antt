@@ -150,10 +150,11 @@ ended_from B S (x ∷ xs) w h = ((x, xs), refl, shift_from B S x xs w h)
 pub closed_opens : {T X : Type 0} (p : T → Bool) (S : X → List T → Type 0) (B : List T → Type 0) → ((x : X) (w : List T) → S x w → begins p w ≡ true) → (x : X) (w : List T) → (S x ⋅ B) w → begins p w ≡ true
 closed_opens p S B opens x w h = ap (begins p) h.parts ∙ begins-append p h.front h.back (opens x h.front h.fits_front)
 
-pub ended_reads : {T X : Type 0} (B : List T → Type 0) (S : X → List T → Type 0) (p : T → Bool) (s : Reader T (Unit {0})) (r : Reader T X) → Reads (λ _. B) never s → Reads S never r
-    → ((x : X) (w : List T) → S x w → begins p w ≡ true) → Reads (λ xs. separated_by B S xs ⋅ B) p (ended_at p s r)
-ended_reads {T} {X} B S p s r q h opens =
+pub ended_reads : {T X : Type 0} (B : List T → Type 0) (S : X → List T → Type 0) (p m : T → Bool) (s : Reader T (Unit {0})) (r : Reader T X) → Reads (λ _. B) never s → Reads S m r
+    → ((x : X) (w : List T) → S x w → begins p w ≡ true) → ((v rest : List T) → B v → begins m (v ++ rest) ≡ false) → Reads (λ xs. separated_by B S xs ⋅ B) p (ended_at p s r)
+ended_reads {T} {X} B S p m s r q h opens shuts =
+    let closed : Reads (λ y. S y ⋅ B) never (close_at r s) = close_reads S B m never r s h q (λ v rest b _. shuts v rest b) in
     map_reads (λ (x : X × List X). (S x.0 ⋅ B) ⋅ each (λ y. S y ⋅ B) x.1) (λ xs. separated_by B S xs ⋅ B) p (λ x. x.0 ∷ x.1) (pair_at (close_at r s) (many_at p (close_at r s)))
-    (pair_free (λ y. S y ⋅ B) (each (λ y. S y ⋅ B)) p (close_at r s) (many_at p (close_at r s)) (close_free S (B) never r s h q)
-    (many_reads (λ y. S y ⋅ B) p never p (close_at r s) (close_free S (B) never r s h q) (closed_opens p S (B) opens) (λ u e. refl) (λ rest e. begins-never rest) (λ rest e. e)))
+    (pair_free (λ y. S y ⋅ B) (each (λ y. S y ⋅ B)) p (close_at r s) (many_at p (close_at r s)) closed
+    (many_reads (λ y. S y ⋅ B) p never p (close_at r s) closed (closed_opens p S (B) opens) (λ u e. refl) (λ rest e. begins-never rest) (λ rest e. e)))
     (λ x w h. shift_to B S x.0 x.1 w h) (ended_from B S)

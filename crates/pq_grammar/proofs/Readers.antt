@@ -59,6 +59,56 @@ one_reads {T} {X} f make some back forth =
       stuck = one_reads_stuck f make some;
     }
 
+-- ---- one token of some values alone
+
+part_is : {T X : Type 0} (f : T → Option X) (P : X → Type 0) → ((t : T) (x : X) → f t ≡ Some x → P x) → (o : Option X) (t : T) (ts : List T) (x : X) (rest : List T) → f t ≡ o → picked_token o ts ≡ Ok (x, rest) → P x
+part_is f P has None t ts x rest is e = absurd cc
+part_is {T} {X} f P has (Some y) t ts x rest is e =
+    let h : y ≡ x = ap (λ (q : X × List T). q.0) (ok_is (y, ts) (x, rest) e) in
+    has t x (is ∙ ap (λ (v : X). Some v) h)
+
+part_found : {T X : Type 0} (f : T → Option X) (make : X → T) (P : X → Type 0) → ((t : T) (x : X) → f t ≡ Some x → P x) → ((t : T) (x : X) → f t ≡ Some x → t ≡ make x) → (ts : List T) (x : X) (rest : List T) → token_at f ts ≡ Ok (x, rest) → Found (λ y w. P y × one (make y) w) (token_at f) ts x rest
+part_found f make P has back [] x rest e = absurd cc
+part_found f make P has back (t ∷ ts) x rest e =
+    let one = one_found f make back (f t) t ts x rest refl e in
+    record { front = one.front; spells = (part_is f P has (f t) t ts x rest refl e, one.spells); parts = one.parts; kept = one.kept }
+
+part_stuck : {T X : Type 0} (f : T → Option X) (make : X → T) (P : X → Type 0) (some : X) → P some
+    → (o : Option X) (t : T) (ts : List T) (n : ℕ) → f t ≡ o → picked_token o ts ≡ Err n → Stuck (λ y w. P y × one (make y) w) (token_at f) (t ∷ ts) n
+part_stuck f make P some has (Some y) t ts n is e = absurd cc
+part_stuck {T} {X} f make P some has None t ts n is e =
+    record {
+      front = [];
+      rest = t ∷ ts;
+      parts = refl;
+      left = sym (err_is {A = X × List T} (suc (length ts)) n e);
+      value = some;
+      completion = make some ∷ [];
+      spells = (has, refl);
+      kept = stays f t ts is;
+    }
+  where
+    stays : {T X : Type 0} (f : T → Option X) (t : T) (ts : List T) → f t ≡ None → (b : List T) → first_of_list b ≡ first_of_list (t ∷ ts) → token_at f b ≡ Err (length b)
+    stays f t ts is [] same = absurd cc
+    stays {T} {X} f t ts is (u ∷ b) same = let h : u ≡ t = cc in ap (λ (o : Option X). picked_token o b) (ap f h ∙ is)
+
+part_all_stuck : {T X : Type 0} (f : T → Option X) (make : X → T) (P : X → Type 0) (some : X) → P some → (ts : List T) (n : ℕ) → token_at f ts ≡ Err n → Stuck (λ y w. P y × one (make y) w) (token_at f) ts n
+part_all_stuck {T} {X} f make P some has [] n e = record { front = []; rest = []; parts = refl; left = sym (err_is {A = X × List T} 0 n e); value = some; completion = make some ∷ []; spells = (has, refl); kept = λ b same. one_at_end f b same }
+part_all_stuck f make P some has (t ∷ ts) n e = part_stuck f make P some has (f t) t ts n refl e
+
+-- the values that are read are those of which P holds
+pub part_reads : {T X : Type 0} (f : T → Option X) (make : X → T) (P : X → Type 0) (some : X) → P some → ((t : T) (x : X) → f t ≡ Some x → P x) → ((t : T) (x : X) → f t ≡ Some x → t ≡ make x) → ((x : X) → P x → f (make x) ≡ Some x)
+    → Reads (λ y w. P y × one (make y) w) never (token_at f)
+part_reads {T} {X} f make P some p has back forth =
+    record {
+      value = some;
+      sample = make some ∷ [];
+      sampled = (p, refl);
+      found = part_found f make P has back;
+      only = λ x w rest s e. ap (λ (v : List T). token_at f (v ++ rest)) s.1 ∙ ap (λ (o : Option X). picked_token o rest) (forth x s.0);
+      stuck = part_all_stuck f make P some p;
+    }
+
 -- ---- two parts
 
 pair_found : {T A B : Type 0} (S : A → List T → Type 0) (U : B → List T → Type 0) (m k : T → Bool) (r : Reader T A) (s : Reader T B)

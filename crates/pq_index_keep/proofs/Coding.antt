@@ -1,5 +1,5 @@
 -- How many changes a write has, and that an intent can hold them.
-use Rattle.std.proofs.Common.{◌≡◌, ℕ, suc, ◌+◌, ◌*◌, ◌≤◌, ◌<◌, ◌^◌, true, false, cond, not, List, [], ◌∷◌, ◌++◌, length, map, get_or, replicate, zero, Some, None, refl, sym, ap, subst, ◌∙◌, arith}
+use Rattle.std.proofs.Common.{◌≡◌, ℕ, suc, ◌+◌, ◌*◌, ◌≤◌, ◌<◌, ◌^◌, true, false, cond, not, ◌==◌, List, [], ◌∷◌, ◌++◌, length, map, get_or, replicate, zero, Some, None, refl, sym, ap, subst, ◌∙◌, arith}
 use Rattle.std.specs.Prelude.{All, IfSome, filter}
 use Rattle.std.specs.List.{AllByRecursion, count_by}
 use Rattle.std.proofs.lemmas.List.Sums.{count_by-le-length, length-filter}
@@ -14,12 +14,13 @@ use Rattle.pq_base.specs.declared.value.ColType.TheVariants as type
 use Rattle.pq_base.specs.declared.value.Dir.TheVariants.{Asc}
 use Rattle.pq_base.specs.declared.value.Value.{Value}
 use Rattle.pq_base.specs.declared.value.Value.TheVariants as value
-use Rattle.pq_base.specs.Values.{AllFit, FitsType}
+use Rattle.pq_base.specs.Values.{AllFit, FitsType, room_of}
 use Rattle.pq_base.proofs.TypeFits.{length_from_fits}
 use Rattle.pq_key_code.specs.KeyCode.{row_key}
 use Rattle.pq_row_code.specs.declared.changes.Change.{Change as Coded}
 use Rattle.pq_row_code.specs.Changes.{IsChange}
-use Rattle.pq_row_code.specs.RowCode.{field, fields, IsShort}
+use Rattle.pq_row_code.specs.RowCode.{field, fields, null_marks, mark_bytes, row_front, IsShort}
+use Rattle.pq_schema.proofs.TypeKinds.{room_sized}
 use Rattle.pq_schema.specs.Sound.{IsSized}
 use Rattle.pq_schema.specs.declared.table.Column.{Column}
 use Rattle.pq_schema.specs.declared.table.Index.{Index}
@@ -38,15 +39,10 @@ use Rattle.pq_index_keep.proofs.Inserting.{each_is, each_by}
 -- ---- a row that fits
 
 one_short : (t : ColType) (x : Value) → IsSized t → FitsType t x → IsShort x
-one_short type.Int (value.Int n) sized fits = tt
-one_short type.Int (value.Bool b) sized fits = tt
-one_short type.Int (value.Text t) sized fits = absurd fits
-one_short type.Bool (value.Int n) sized fits = tt
-one_short type.Bool (value.Bool b) sized fits = tt
-one_short type.Bool (value.Text t) sized fits = absurd fits
-one_short (type.Text n) (value.Int m) sized fits = tt
-one_short (type.Text n) (value.Bool b) sized fits = tt
-one_short (type.Text n) (value.Text t) sized fits = let le = fits.1 in let most = sized.1 in omega arith
+one_short t value.Null sized fits = tt
+one_short t (value.Int n) sized fits = tt
+one_short t (value.Bool b) sized fits = tt
+one_short t (value.Text s) sized fits = let le = fits.1 in let most = room_sized t sized in omega (arith, le, most)
 
 all_short : (columns : List Column) (row : List Value) → AllByRecursion (λ (column : Column). IsSized column.ty) columns → AllFit (map (λ (column : Column). column.ty) columns) row → AllByRecursion IsShort row
 all_short [] [] sized fits = tt
@@ -65,12 +61,16 @@ module _ (tables : List Table) (table : Table) (w : IsWritable tables table) (ro
   fit_columns = omega (arith, length_from_fits (types_of table) row fits, length-map table.columns (λ (column : Column). column.ty), w.made.few_columns)
 
 field_short : (x : Value) → IsShort x → length (field x) ≤ 1002
+field_short value.Null h = omega arith
 field_short (value.Int z) h = let eight : length (field (value.Int z)) ≡ 8 = refl in omega arith
 field_short (value.Bool b) h = omega arith
 field_short (value.Text t) h =
     let parts = length-append (to_be_bytes w16 (length t)) t in
     let two : length (to_be_bytes w16 (length t)) ≡ 2 = refl in
     omega arith
+
+length-row_front : (n marks : ℕ) → length (row_front n marks) ≤ 5
+length-row_front n marks = elim (marks == 0) as (λ b. length (cond b (n ∷ []) ((n + 64) ∷ mark_bytes marks)) ≤ 5) [ true ↦ omega arith | false ↦ omega arith ]
 
 fields_short : (xs : List Value) → AllByRecursion IsShort xs → length (fields xs) ≤ length xs * 1002
 fields_short [] h = omega arith
@@ -84,7 +84,9 @@ pub code_short : (tables : List Table) (table : Table) → IsWritable tables tab
 code_short tables table w row fits =
     let most = fields_short row (shorts tables table w row fits) in
     let few = fit_columns tables table w row fits in
-    omega arith
+    let parts = length-append (row_front (length row) (null_marks row)) (fields row) in
+    let front = length-row_front (length row) (null_marks row) in
+    omega (arith, most, few, parts, front)
 
 -- ---- a key that fits
 
@@ -94,6 +96,7 @@ type_sized (c ∷ cs) zero sized = sized.0
 type_sized (c ∷ cs) (suc col) sized = type_sized cs col sized.1
 
 within_short : (x : Value) → IsShort x → IsWithinLength 1000 x
+within_short value.Null h = tt
 within_short (value.Int n) h = tt
 within_short (value.Bool b) h = tt
 within_short (value.Text t) h = h

@@ -44,14 +44,13 @@ use Rattle.pq_index_keep.specs.declared.plan.Planned.TheVariants as planned
 use Rattle.pq_index_keep.specs.declared.write.Write.TheVariants as write
 use Rattle.pq_index_keep.proofs.Changing.{own_removals}
 use Rattle.pq_index_keep.proofs.Inserting.{mapped_none, none_passes, each_weaker, each_is, each_by, writable_at}
+use Rattle.pq_schema.proofs.TypeKinds.{type_sized}
 use Rattle.pq_index_keep.proofs.Tests.{settled_get}
 
 -- ---- the row that is read
 
 is_type : (ty : ColType) → IsSized ty → IsType ty
-is_type type.Int h = tt
-is_type type.Bool h = tt
-is_type (type.Text n) h = let most = h.1 in omega arith
+is_type = type_sized
 
 are_types : (columns : List Column) → AllByRecursion (λ (column : Column). IsSized column.ty) columns → AllByRecursion IsType (map (λ (column : Column). column.ty) columns)
 are_types [] h = tt

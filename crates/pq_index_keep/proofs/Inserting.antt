@@ -1,12 +1,12 @@
 -- What an INSERT makes of settled pairs, and what its tests need.
-use Rattle.std.proofs.Common.{◌≡◌, ℕ, zero, suc, ◌+◌, ◌-◌, ◌≤◌, Bool, true, false, cond, not, ltb, List, [], ◌∷◌, length, map, get_or, Option, Some, None, refl, sym, ap, subst, ◌∙◌, arith}
+use Rattle.std.proofs.Common.{◌≡◌, ℕ, zero, suc, ◌+◌, ◌-◌, ◌≤◌, Bool, true, false, cond, not, ◌&&◌, ltb, List, [], ◌∷◌, length, map, get_or, Option, Some, None, refl, sym, ap, subst, ◌∙◌, arith}
 use Rattle.std.specs.Prelude.{All, IsSome, MatchResult, is_some, is_none, option_map}
 use Rattle.std.specs.List.{AllByRecursion, position, prefix_len}
 use Rattle.std.proofs.lemmas.Bool.{leb-false, ltb-false}
 use Rattle.pq_base.specs.Answers.{or_else}
 use Rattle.pq_base.specs.declared.refusal.Refusal.{Refusal}
 use Rattle.pq_base.specs.declared.value.Value.{Value}
-use Rattle.pq_base.specs.Values.{AllFit}
+use Rattle.pq_base.specs.Values.{AllFit, has_null}
 use Rattle.pq_row_code.specs.declared.changes.Change.{Change as Coded}
 use Rattle.pq_schema.specs.Definitions.{refused_if, or_ok}
 use Rattle.pq_schema.specs.Tables.{no_table, table_at}
@@ -21,7 +21,7 @@ use Rattle.pq_schema.proofs.TypeKinds.{kinds_as, kinds_flip, kinds_from_fit}
 use Rattle.pq_content.proofs.Values.{fit_at}
 use Rattle.pq_content.proofs.Writes.{insert_row}
 use Rattle.pq_store.specs.Content.{Content}
-use Rattle.pq_index_keep.specs.Effects.{effect, changes_of, insert_refusal, lacks_parent, lacks_room, no_parent, no_room, is_full}
+use Rattle.pq_index_keep.specs.Effects.{effect, changes_of, insert_refusal, lacks_parent, lacks_room, no_parent, no_room, is_missing, is_full}
 use Rattle.pq_index_keep.specs.Promises.{HoldsRows, IsTested, MakesRows, Plans}
 use Rattle.pq_index_keep.specs.Sound.{AreWritable, IsWritable, IsInsert}
 use Rattle.pq_index_keep.specs.declared.plan.Planned.TheVariants as planned
@@ -78,8 +78,16 @@ pub nothing : (o : Option (List Value)) → is_some o ≡ false → o ≡ None
 nothing None h = refl
 nothing (Some row) h = absurd (cc)
 
-pub has_room : (rows : Rows) (t : ℕ) (row : List Value) (limit : Limit) → is_full rows t row limit ≡ false → HasRoom t rows row limit
-has_room rows t row limit h = let most = leb-false limit.n (length (group_of t limit.cols (cells limit.cols row) rows)) h in omega arith
+-- what is asked of values without NULL
+pub unless_null : (null b : Bool) → (not null && b) ≡ false → null ≡ false → b ≡ false
+unless_null true b h plain = absurd cc
+unless_null false b h plain = h
+
+pub has_room : (rows : Rows) (t : ℕ) (row : List Value) (limit : Limit) → (not (has_null (cells limit.cols row)) && is_full rows t row limit) ≡ false → HasRoom t rows row limit
+has_room rows t row limit h plain =
+    let full = unless_null (has_null (cells limit.cols row)) (is_full rows t row limit) h plain in
+    let most = leb-false limit.n (length (group_of t limit.cols (cells limit.cols row) rows)) full in
+    omega arith
 
 -- ---- tables over which writes are planned
 
@@ -116,7 +124,7 @@ module _ (tables : List Table) (rows : Rows) (others : List Pair) (t : ℕ) (row
       let tests = or_none _ _ parts.1 in
       let absent : row_at tables rows t (key_of table row) ≡ None = nothing _ (not_refused _ _ parts.0) in
       let parents : AllByRecursion (HasParent tables rows row) table.foreign =
-      each_weaker (λ (f : Foreign). lacks_parent tables rows scope.All row f ≡ false) (HasParent tables rows row) (λ f h. there_is (row_at tables rows f.table (cells f.cols row)) h) table.foreign
+      each_weaker (λ (f : Foreign). lacks_parent tables rows scope.All row f ≡ false) (HasParent tables rows row) (λ f h plain. there_is (row_at tables rows f.table (cells f.cols row)) (unless_null (has_null (cells f.cols row)) (is_missing tables rows row f) h plain)) table.foreign
       (none_passes (lacks_parent tables rows scope.All row) table.foreign (mapped_none (no_parent table) _ tests.0)) in
       let rooms : AllByRecursion (HasRoom t rows row) table.limits =
       each_weaker (λ (l : Limit). lacks_room rows scope.All None t row l ≡ false) (HasRoom t rows row) (λ l h. has_room rows t row l h) table.limits

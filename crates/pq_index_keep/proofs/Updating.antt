@@ -12,7 +12,7 @@ use Rattle.pq_base.specs.declared.value.ColType.{ColType}
 use Rattle.pq_base.specs.declared.value.ColType.TheVariants as type
 use Rattle.pq_base.specs.declared.value.Value.{Value}
 use Rattle.pq_base.specs.declared.value.Value.TheVariants as value
-use Rattle.pq_base.specs.Values.{AllFit, FitsType}
+use Rattle.pq_base.specs.Values.{AllFit, FitsType, has_null}
 use Rattle.pq_key_code.specs.KeyCode.{row_key}
 use Rattle.pq_row_code.specs.declared.changes.Change.{Change as Coded}
 use Rattle.pq_schema.specs.Definitions.{refused_if, or_ok}
@@ -42,7 +42,7 @@ use Rattle.pq_index_keep.specs.declared.write.SetCol.{SetCol}
 use Rattle.pq_index_keep.specs.declared.write.Write.TheVariants as write
 use Rattle.pq_index_keep.proofs.Changing.{own_updates}
 use Rattle.pq_base.proofs.TypeFits.{length_from_fits}
-use Rattle.pq_index_keep.proofs.Inserting.{each_is, or_none, mapped_none, not_refused, none_passes, each_weaker, there_is, has_room}
+use Rattle.pq_index_keep.proofs.Inserting.{each_is, or_none, mapped_none, not_refused, none_passes, each_weaker, there_is, has_room, unless_null}
 use Rattle.pq_base.proofs.Sets.{members_set}
 
 -- ---- the row that an UPDATE makes
@@ -95,9 +95,9 @@ kept_key table sets row each = all_untouched sets row table.key (λ c i j. other
 -- ---- the tests
 
 may_change : (rows : Rows) (t : ℕ) (sets : List SetCol) (old : List Value) (limit : Limit) → lacks_room rows (scope_of sets) (Some old) t (with_sets sets old) limit ≡ false → MayChangeRow t rows old (with_sets sets old) limit
-may_change rows t sets old limit h = by (touches (scope_of sets) limit.cols) refl (same_values (cells limit.cols old) (cells limit.cols (with_sets sets old))) refl (is_full rows t (with_sets sets old) limit) refl h
+may_change rows t sets old limit h = by (touches (scope_of sets) limit.cols) refl (same_values (cells limit.cols old) (cells limit.cols (with_sets sets old))) refl (not (has_null (cells limit.cols (with_sets sets old))) && is_full rows t (with_sets sets old) limit) refl h
   where
-    by : (a : Bool) → touches (scope_of sets) limit.cols ≡ a → (b : Bool) → same_values (cells limit.cols old) (cells limit.cols (with_sets sets old)) ≡ b → (c : Bool) → is_full rows t (with_sets sets old) limit ≡ c
+    by : (a : Bool) → touches (scope_of sets) limit.cols ≡ a → (b : Bool) → same_values (cells limit.cols old) (cells limit.cols (with_sets sets old)) ≡ b → (c : Bool) → (not (has_null (cells limit.cols (with_sets sets old))) && is_full rows t (with_sets sets old) limit) ≡ c
         → (a && not b && c) ≡ false → MayChangeRow t rows old (with_sets sets old) limit
     by false untouched b same c full h = inl (sym (kept_values sets old limit.cols untouched))
     by true touched true same c full h = inl (same_from_test (cells limit.cols old) (cells limit.cols (with_sets sets old)) same)
@@ -105,11 +105,11 @@ may_change rows t sets old limit h = by (touches (scope_of sets) limit.cols) ref
     by true touched false same true full h = absurd (cc)
 
 may_refer : (tables : List Table) (rows : Rows) (sets : List SetCol) (old : List Value) (foreign : Foreign) → lacks_parent tables rows (scope_of sets) (with_sets sets old) foreign ≡ false → MayRefer tables rows old (with_sets sets old) foreign
-may_refer tables rows sets old foreign h = by (touches (scope_of sets) foreign.cols) refl (is_missing tables rows (with_sets sets old) foreign) refl h
+may_refer tables rows sets old foreign h = by (touches (scope_of sets) foreign.cols) refl (not (has_null (cells foreign.cols (with_sets sets old))) && is_missing tables rows (with_sets sets old) foreign) refl h
   where
-    by : (a : Bool) → touches (scope_of sets) foreign.cols ≡ a → (b : Bool) → is_missing tables rows (with_sets sets old) foreign ≡ b → (a && b) ≡ false → MayRefer tables rows old (with_sets sets old) foreign
+    by : (a : Bool) → touches (scope_of sets) foreign.cols ≡ a → (b : Bool) → (not (has_null (cells foreign.cols (with_sets sets old))) && is_missing tables rows (with_sets sets old) foreign) ≡ b → (a && b) ≡ false → MayRefer tables rows old (with_sets sets old) foreign
     by false untouched b missing h = inl (sym (kept_values sets old foreign.cols untouched))
-    by true touched false missing h = inr (there_is (row_at tables rows foreign.table (cells foreign.cols (with_sets sets old))) missing)
+    by true touched false missing h = inr (λ plain. there_is (row_at tables rows foreign.table (cells foreign.cols (with_sets sets old))) (unless_null (has_null (cells foreign.cols (with_sets sets old))) (is_missing tables rows (with_sets sets old) foreign) missing plain))
     by true touched true missing h = absurd (cc)
 
 -- ---- the effect

@@ -4,6 +4,7 @@ use Rattle.pq_base.specs.Answers.{or_else}
 use Rattle.pq_base.specs.declared.refusal.Refusal.{Refusal}
 use Rattle.pq_base.specs.declared.refusal.Refusal.TheVariants as refusal
 use Rattle.pq_base.specs.declared.value.Value.{Value}
+use Rattle.pq_base.specs.Values.{has_null}
 use Rattle.pq_schema.specs.Definitions.{refused_if, or_ok}
 use Rattle.pq_schema.specs.declared.table.Foreign.{Foreign}
 use Rattle.pq_schema.specs.declared.table.Limit.{Limit}
@@ -26,12 +27,13 @@ abbrev pub is_missing : List Table → Rows → List Value → Foreign → Bool
 is_missing tables rows row foreign = is_none (row_at tables rows foreign.table (cells foreign.cols row))
 
 abbrev pub lacks_parent : List Table → Rows → Scope → List Value → Foreign → Bool
-lacks_parent tables rows of row foreign = touches of foreign.cols && is_missing tables rows row foreign
+lacks_parent tables rows of row foreign =
+    touches of foreign.cols && (not (has_null (cells foreign.cols row)) && is_missing tables rows row foreign)
 
 abbrev pub no_parent : Table → ℕ → Refusal
 no_parent table place = refusal.NoParent table.name (place + 1)
 
--- the first foreign key that is touched and whose row is not there
+-- the first foreign key that is touched, has no NULL in the row, and whose row is not there
 abbrev pub parent_refusal : List Table → Rows → Scope → Table → List Value → Option Refusal
 parent_refusal tables rows of table row =
     option_map (no_parent table) (position (lacks_parent tables rows of row) table.foreign)
@@ -48,7 +50,9 @@ abbrev pub is_full : Rows → ℕ → List Value → Limit → Bool
 is_full rows t row limit = nat_le limit.n (length (group_of t limit.cols (cells limit.cols row) rows))
 
 abbrev pub lacks_room : Rows → Scope → Option (List Value) → ℕ → List Value → Limit → Bool
-lacks_room rows of old t row limit = touches of limit.cols && not (stays old row limit.cols) && is_full rows t row limit
+lacks_room rows of old t row limit =
+    touches of limit.cols && not (stays old row limit.cols)
+    && (not (has_null (cells limit.cols row)) && is_full rows t row limit)
 
 abbrev pub limit_at : Table → ℕ → Limit
 limit_at table place = slice_index_or table.limits place no_limit
@@ -56,7 +60,8 @@ limit_at table place = slice_index_or table.limits place no_limit
 abbrev pub no_room : Table → ℕ → Refusal
 no_room table place = refusal.Cardinality table.name (place + 1) (limit_at table place).n
 
--- the first limit that is touched, at whose columns the values change, and whose group has n rows already
+-- the first limit that is touched, at whose columns the values change and none is NULL, and whose group has n rows
+-- already
 abbrev pub room_refusal : Rows → Scope → Option (List Value) → ℕ → Table → List Value → Option Refusal
 room_refusal rows of old t table row = option_map (no_room table) (position (lacks_room rows of old t row) table.limits)
 

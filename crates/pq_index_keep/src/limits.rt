@@ -17,7 +17,7 @@ ghost use Rattle.pq_index_keep.specs.Promises.{HoldsRows};
 ghost use Rattle.pq_index_keep.specs.Tested.{touches};
 
 use crate::groups::count_group;
-use crate::rows::{same_cells, values_at};
+use crate::rows::{null_at, same_cells, values_at};
 use crate::write::Scope;
 use pq_base::Row;
 use pq_calls::Calls;
@@ -27,7 +27,7 @@ use std::alloc::Global;
 use std::sync::ledger::Ledger;
 
 /// Whether the row before had the same values at the columns.
-fn stays(old: &Option<Row>, row: &Row, cols: &[u8]) -> bool
+pub fn stays(old: &Option<Row>, row: &Row, cols: &[u8]) -> bool
     ensures { result ≡ stays old.now row.now cols.now }
 {
     match old {
@@ -68,7 +68,8 @@ fn is_full<S: Store<L>, L: Ledger>(
     Ok(count == limit.n)
 }
 
-/// The same of a limit that is tested and at whose columns the values change, and false of another.
+/// The same of a limit that is tested and at whose columns the values change and none is NULL, and
+/// false of another.
 fn lacks_room<S: Store<L>, L: Ledger>(
     alloc: Global,
     scope: &Scope,
@@ -95,6 +96,9 @@ fn lacks_room<S: Store<L>, L: Ledger>(
         return Ok(false);
     }
     if stays(old, row, limit.cols.items()) {
+        return Ok(false);
+    }
+    if null_at(limit.cols.items(), row.items()) {
         return Ok(false);
     }
     is_full(alloc, number, table, limit, row, calls)

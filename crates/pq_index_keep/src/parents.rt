@@ -13,6 +13,7 @@ ghost use Rattle.pq_index_keep.specs.Promises.{HoldsRows};
 ghost use Rattle.pq_index_keep.specs.Tested.{touches};
 
 use crate::keys::key_at;
+use crate::rows::null_at;
 use crate::write::Scope;
 use pq_base::Row;
 use pq_calls::Calls;
@@ -42,7 +43,7 @@ fn is_missing<S: Store<L>, L: Ledger>(
     Ok(!there)
 }
 
-/// The same of a foreign key that is tested, and false of another.
+/// The same of a foreign key that is tested and has no NULL in the row, and false of another.
 fn lacks_parent<S: Store<L>, L: Ledger>(
     alloc: Global,
     scope: &Scope,
@@ -61,11 +62,13 @@ fn lacks_parent<S: Store<L>, L: Ledger>(
         AllOfKinds (key_types (table_at tables foreign.now.table)) (cells foreign.now.cols row.now)
         → lacks ≡ lacks_parent tables rows scope.now row.now foreign.now) }
 {
-    if scope.touches(foreign.cols.items()) {
-        is_missing(alloc, foreign, row, calls)
-    } else {
-        Ok(false)
+    if !scope.touches(foreign.cols.items()) {
+        return Ok(false);
     }
+    if null_at(foreign.cols.items(), row.items()) {
+        return Ok(false);
+    }
+    is_missing(alloc, foreign, row, calls)
 }
 
 /// The place of the first foreign key that is tested and whose row is not there.

@@ -1,5 +1,6 @@
 //! Values of rows at columns.
 ghost use Rattle.std.specs.Prelude.{◌≡◌, [], map, IfOk};
+ghost use Rattle.pq_base.specs.Values.{is_null, has_null};
 ghost use Rattle.pq_schema.specs.Sound.{AreColumns, AreParts};
 ghost use Rattle.pq_schema.specs.Sequences.{then_key, index_sequence};
 ghost use Rattle.pq_content.specs.Tables.{value_of, cells, values_of, same_value, same_values};
@@ -19,7 +20,7 @@ fn value_of(alloc: Global, row: &[Value], col: u8) -> Result<Value, NoMem>
 }
 
 /// The values at some columns.
-pub(crate) fn values_at(alloc: Global, row: &[Value], cols: &[u8]) -> Result<Row, NoMem>
+pub fn values_at(alloc: Global, row: &[Value], cols: &[u8]) -> Result<Row, NoMem>
     ensures { IfOk result (λ values. values ≡ cells cols.now row.now) }
 {
     let mut values = List::with_room(alloc, cols.len())?;
@@ -59,6 +60,25 @@ pub(crate) fn all_given(
         row.push(alloc, given(alloc, cols, values, *col)?)?;
     }
     Ok(row)
+}
+
+fn is_null_at(row: &[Value], col: u8) -> bool
+    ensures { result ≡ is_null (value_of row.now col) }
+{
+    match row.get(col as usize) {
+        Some(value) => value.is_null(),
+        None => false,
+    }
+}
+
+/// Whether the row has NULL at one of the columns.
+pub fn null_at(cols: &[u8], row: &[Value]) -> bool
+    ensures { result ≡ has_null (cells cols.now row.now) }
+{
+    match cols.split_first() {
+        None => false,
+        Some((col, cols)) => is_null_at(row, *col) || null_at(cols, row),
+    }
 }
 
 /// Whether two rows have equal values at a column.

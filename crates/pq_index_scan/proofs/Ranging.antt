@@ -1,14 +1,15 @@
 -- What one range gives behind an input.
-use Rattle.std.proofs.Common.{◌≡◌, ℕ, suc, ◌-◌, ◌≤◌, inl, inr, List, [], ◌∷◌, ◌++◌, length, map, take, count_ones, Option, IsPermutation, refl, sym, ap, ◌∙◌, subst, arith}
+use Rattle.std.proofs.Common.{◌≡◌, ℕ, suc, ◌-◌, ◌≤◌, Bool, true, false, cond, inl, inr, List, [], ◌∷◌, ◌++◌, length, map, take, count_ones, Option, IsPermutation, refl, sym, ap, ◌∙◌, subst, arith}
 use Rattle.std.specs.Prelude.{Result, Ok, Err, IfOk}
 use Rattle.std.specs.List.{AllByRecursion}
 use Rattle.std.proofs.lemmas.Bool.{cases_lt}
 use Rattle.std.proofs.lemmas.List.{length-map, length-take, length_push, take_all}
+use Rattle.std.proofs.lemmas.List.Sorted.{IsPermutation-refl}
 use Rattle.pq_base.specs.Columns.{set_of}
 use Rattle.pq_base.specs.Members.{In}
 use Rattle.pq_base.specs.Order.{position_cmp}
 use Rattle.pq_base.specs.Sorting.{sort_by}
-use Rattle.pq_base.specs.Values.{AllFit}
+use Rattle.pq_base.specs.Values.{AllFit, has_null}
 use Rattle.pq_base.specs.declared.value.Value.{Value}
 use Rattle.pq_base.proofs.Members.{at_in, each_in, each_by_in, get_at, in_filter}
 use Rattle.pq_base.proofs.Sorts.{each-sort_by, length-sort_by, IsPermutation-sort_by}
@@ -39,7 +40,7 @@ use Rattle.pq_nodes.specs.Combos.{FitsTables}
 use Rattle.pq_nodes.specs.Inverse.{IsRelationOf}
 use Rattle.pq_nodes.specs.Operators.{IsAsked}
 use Rattle.pq_nodes.specs.Tied.{tied_cells, range_prefix, HasRange}
-use Rattle.pq_nodes.proofs.Ranges.{has_range}
+use Rattle.pq_nodes.proofs.Ranges.{has_range, same_nulls}
 use Rattle.pq_nodes.proofs.Tied.{matching_group, within_tied}
 use Rattle.pq_operands.specs.Ties.{cells_tied}
 use Rattle.pq_entries.specs.Entries.{AreEnds, pair_of}
@@ -131,24 +132,38 @@ module _ (tables : List Table) (query : Query) (params : List Value) (given : Is
   abbrev found_rows : List (List Value)
   found_rows = rows_by tables rows others keeps beside t range.access prefix
 
-  -- there are at most n of them
-  matching_short : length (matching q range.rel own.cols input) ≤ own.n
-  matching_short =
-      let number = relation_number tables query given.resolved range.rel is.ready.is.relation in
-      let table = table_of tables query range.rel in
-      let low = is.ready.is.from_one in
-      let high = is.ready.is.there in
-      let few = each_in (IsWithinLimit t rows) table.limits (keeps.limits t number) own (at_in table.limits (range.limit - 1) no_limit (omega arith)) (tied_cells q range.rel own.cols input) in
-      let same = ap (λ (l : List (List Value)). length l) (matching_group tables query rows params given.resolved given.params_fit range.rel input fits keeps.schema own.cols (within_tied query range.rel own.cols is.ready.is.tied)) in
-      omega (arith, few, same)
+  -- no tied value is NULL
+  module _ (plain : has_null prefix ≡ false) where
+    cells_plain : has_null (tied_cells q range.rel own.cols input) ≡ false
+    cells_plain = sym (same_nulls tables query rows params given.resolved given.params_fit range.rel input fits keeps.schema own.cols is.ready.is.tied range.access is.ready.indexed.1) ∙ plain
 
-  found_short : length found_rows ≤ own.n
-  found_short =
-      let sequence = sequence_of (table_at tables t) range.access in
-      let sorted = length-sort_by (position_cmp (dirs_of sequence)) (values_of sequence) (group_of t (take (length prefix) (columns_of sequence)) prefix rows) in
-      let same = ap (λ (l : List (List Value)). length l) under.found in
-      let few = matching_short in
-      omega (arith, sorted, same, few)
+    -- there are at most n of them
+    matching_short : length (matching q range.rel own.cols input) ≤ own.n
+    matching_short =
+        let number = relation_number tables query given.resolved range.rel is.ready.is.relation in
+        let table = table_of tables query range.rel in
+        let low = is.ready.is.from_one in
+        let high = is.ready.is.there in
+        let values = tied_cells q range.rel own.cols input in
+        let few = each_in (IsWithinLimit t rows) table.limits (keeps.limits t number) own (at_in table.limits (range.limit - 1) no_limit (omega arith)) values cells_plain in
+        let same = ap (λ (l : List (List Value)). length l)
+        (matching_group tables query rows params given.resolved given.params_fit range.rel input fits keeps.schema own.cols (within_tied query range.rel own.cols is.ready.is.tied)
+        ∙ ap (λ (b : Bool). cond b [] (group_of t own.cols values rows)) cells_plain) in
+        omega (arith, few, same)
+
+    -- and they are those of the range
+    range_found : group_of t (take (length prefix) (columns_of (sequence_of (table_at tables t) range.access))) prefix rows ≡ matching q range.rel own.cols input
+    range_found =
+        sym (ap (λ (b : Bool). cond b [] (group_of t (take (length prefix) (columns_of (sequence_of (table_at tables t) range.access))) prefix rows)) plain)
+        ∙ under.found
+
+    found_short : length found_rows ≤ own.n
+    found_short =
+        let sequence = sequence_of (table_at tables t) range.access in
+        let sorted = length-sort_by (position_cmp (dirs_of sequence)) (values_of sequence) (group_of t (take (length prefix) (columns_of sequence)) prefix rows) in
+        let same = ap (λ (l : List (List Value)). length l) range_found in
+        let few = matching_short in
+        omega (arith, sorted, same, few)
 
   found_there : AllByRecursion (λ row. In row (rows_of t rows)) found_rows
   found_there =
@@ -157,25 +172,46 @@ module _ (tables : List Table) (query : Query) (params : List Value) (given : Is
       each-sort_by (position_cmp (dirs_of sequence)) (values_of sequence) (λ row. In row (rows_of t rows)) (group_of t cols prefix rows)
       (each_by_in (λ row. In row (rows_of t rows)) (group_of t cols prefix rows) (λ row here. (in_filter (agrees cols prefix) row (rows_of t rows) here).0))
 
-  found_permuted : IsPermutation (matching q range.rel own.cols input) found_rows
-  found_permuted =
-      let sequence = sequence_of (table_at tables t) range.access in
-      let cols = take (length prefix) (columns_of sequence) in
-      subst (λ (l : List (List Value)). IsPermutation l found_rows) under.found
-      (IsPermutation-sort_by (position_cmp (dirs_of sequence)) (values_of sequence) (group_of t cols prefix rows))
+  module _ (plain : has_null prefix ≡ false) where
+    found_permuted : IsPermutation (matching q range.rel own.cols input) found_rows
+    found_permuted =
+        let sequence = sequence_of (table_at tables t) range.access in
+        let cols = take (length prefix) (columns_of sequence) in
+        subst (λ (l : List (List Value)). IsPermutation l found_rows) (range_found plain)
+        (IsPermutation-sort_by (position_cmp (dirs_of sequence)) (values_of sequence) (group_of t cols prefix rows))
 
-  pub first_are_matching : (limit : ℕ) (found : List (List Value)) → limit ≡ own.n → ((within : List (List Value)) → AllByRecursion (λ row. In row (rows_of t rows)) within → pairs_within (content_pairs tables rows others) (sequence_key t (table_at tables t) range.access prefix) (past_code (sequence_key t (table_at tables t) range.access prefix)) ≡ map (pair_of t (table_at tables t) range.access) within → found ≡ take limit within) → IsPermutation (matching q range.rel own.cols input) found
-  first_are_matching limit found size first =
-      let few = found_short in
-      subst (IsPermutation (matching q range.rel own.cols input))
-      (sym (first found_rows found_there (pairs_under tables rows others keeps beside t range.access is.ready.indexed.0 prefix under.kinds under.short) ∙ take_all limit found_rows (omega (arith, few, size))))
-      found_permuted
+    pub first_are_matching : (limit : ℕ) (found : List (List Value)) → limit ≡ own.n → ((within : List (List Value)) → AllByRecursion (λ row. In row (rows_of t rows)) within → pairs_within (content_pairs tables rows others) (sequence_key t (table_at tables t) range.access prefix) (past_code (sequence_key t (table_at tables t) range.access prefix)) ≡ map (pair_of t (table_at tables t) range.access) within → found ≡ take limit within) → IsPermutation (matching q range.rel own.cols input) found
+    first_are_matching limit found size first =
+        let few = found_short plain in
+        subst (IsPermutation (matching q range.rel own.cols input))
+        (sym (first found_rows found_there (pairs_under tables rows others keeps beside t range.access is.ready.indexed.0 prefix under.kinds under.short) ∙ take_all limit found_rows (omega (arith, few, size))))
+        (found_permuted)
+
+  -- and where one is NULL, nothing matches
+  pub none_matching : has_null prefix ≡ true → matching q range.rel own.cols input ≡ []
+  none_matching null =
+      sym under.found
+      ∙ ap (λ (b : Bool). cond b [] (group_of t (take (length prefix) (columns_of (sequence_of (table_at tables t) range.access))) prefix rows)) null
+
+-- the tied values of the range's first columns are its prefix
+pub prefix_is : (tables : List Table) (query : Query) (params : List Value) (range : LimitRange) (input : List (List Value)) → IsRangeOf tables query range → (values : List Value) → values ≡ cells_tied query params range.rel input range.first
+    → values ≡ tied_cells (question tables query [] params) range.rel (first_columns (sequence_of (table_of tables query range.rel) range.access) (own_limit tables query range.rel range.limit).cols) input
+prefix_is tables query params range input is values from =
+    from ∙ ap (λ (cols : List ℕ). tied_cells (question tables query [] params) range.rel cols input) is.first
+
+-- the range behind an input with a tied NULL has no rows
+pub none_matches : (tables : List Table) (query : Query) (params : List Value) (range : LimitRange) (input : List (List Value)) (told : Option Content) (values : List Value) → IsAsked tables query params → IsRangeOf tables query range → FitsTables tables query (range.rel - 1) input → values ≡ cells_tied query params range.rel input range.first → has_null values ≡ true → AreMatching told tables query params range.rel range.limit input []
+none_matches tables query params range input told values given is fits from null rows others holds =
+    subst (λ (l : List (List Value)). IsPermutation l [])
+    (sym (none_matching tables query params given range is input fits rows others holds.keeps holds.beside (sym (ap has_null (prefix_is tables query params range input is values from)) ∙ null)))
+    (IsPermutation-refl [])
 
 -- the rows of the range behind an input match
-pub range_matches : (tables : List Table) (query : Query) (params : List Value) (range : LimitRange) (input : List (List Value)) (told : Option Content) (low high : List ℕ) → IsAsked tables query params → IsRangeOf tables query range → FitsTables tables query (range.rel - 1) input → low ≡ first_of_range tables query params range input → high ≡ past_code low → (result : Result (List (List Value)) Broke) → IfOk result (FindsFirst tables range.number range.access low high range.n told) → IfOk result (AreMatching told tables query params range.rel range.limit input)
-range_matches tables query params range input told low high given is fits from upto (Err error) h = tt
-range_matches tables query params range input told low high given is fits from upto (Ok found) h = λ rows others holds.
-    first_are_matching tables query params given range is input fits rows others holds.keeps holds.beside range.n found is.n (λ within there pairs.
+pub range_matches : (tables : List Table) (query : Query) (params : List Value) (range : LimitRange) (input : List (List Value)) (told : Option Content) (low high : List ℕ) → has_null (cells_tied query params range.rel input range.first) ≡ false → IsAsked tables query params → IsRangeOf tables query range → FitsTables tables query (range.rel - 1) input → low ≡ first_of_range tables query params range input → high ≡ past_code low → (result : Result (List (List Value)) Broke) → IfOk result (FindsFirst tables range.number range.access low high range.n told) → IfOk result (AreMatching told tables query params range.rel range.limit input)
+range_matches tables query params range input told low high plain given is fits from upto (Err error) h = tt
+range_matches tables query params range input told low high plain given is fits from upto (Ok found) h = λ rows others holds.
+    first_are_matching tables query params given range is input fits rows others holds.keeps holds.beside
+    (sym (ap has_null (prefix_is tables query params range input is (cells_tied query params range.rel input range.first) refl)) ∙ plain) range.n found is.n (λ within there pairs.
     h rows others within holds (subst (λ (t : ℕ). AllByRecursion (λ row. In row (rows_of t rows)) within) (sym is.number) there)
     (subst (λ (l : List ℕ). pairs_within (content_pairs tables rows others) l high ≡ map (pair_of range.number (table_at tables range.number) range.access) within) (sym low_is)
     (subst (λ (hi : List ℕ). pairs_within (content_pairs tables rows others) start hi ≡ map (pair_of range.number (table_at tables range.number) range.access) within) (sym (upto ∙ ap past_code low_is))

@@ -14,9 +14,10 @@ ghost use Rattle.pq_plan.specs.Cost.{is_primary_access};
 ghost use Rattle.pq_nodes.specs.Combos.{FitsTables};
 ghost use Rattle.pq_nodes.specs.Operators.{IsAsked, IsReadyNode, AreInputs, AffordsNode, ReadsNode, AreFound, AnswersNode, ShowsRead, StopsReading, IsSoundOverRows};
 ghost use Rattle.pq_nodes.specs.Paid.{node_cost};
+ghost use Rattle.pq_operands.specs.Ties.{cells_tied};
 ghost use Rattle.pq_index_scan.specs.Ranged.{limit_node, first_of_range, IsRangeOf, AreMatching, AddsRanged};
 
-use pq_base::{Bytes, ColSet, List, NoMem, Row};
+use pq_base::{Bytes, ColSet, List, NoMem, Row, has_null};
 use pq_calls::Calls;
 use pq_entries::{sequence_key, sequence_rows};
 use pq_key_code::past;
@@ -86,7 +87,7 @@ fn range_of(
     })
 }
 
-/// The beginning of the keys of the range behind an input.
+/// The beginning of the keys of the range behind an input, by the tied values of its first columns.
 fn range_start(
     alloc: Global,
     catalog: &Catalog,
@@ -94,18 +95,19 @@ fn range_start(
     params: &Row,
     range: &LimitRange,
     input: &Combo,
+    values: &Row,
 ) -> Result<Bytes, NoMem>
     requires asked { IsAsked catalog.now.tables query.now params.now }
     requires range { IsRangeOf catalog.now.tables query.now range.now }
+    requires values { values.now ≡ cells_tied query.now params.now range.now.rel input.now range.now.first }
     ensures { IfOk result (λ low. low ≡ first_of_range catalog.now.tables query.now params.now range.now input.now) }
 {
     catalog.known();
     let table = table_of(catalog, query, range.rel);
-    let values = tied_cells(alloc, query, params, range.rel, input, range.first.items())?;
-    sequence_key(alloc, range.number, table, range.access, &values)
+    sequence_key(alloc, range.number, table, range.access, values)
 }
 
-/// The rows that have the tied values at the limit's columns, behind an input.
+/// The rows that have the tied values at the limit's columns, behind an input; a tied NULL finds none.
 fn matching_rows<S: Store<L>, L: Ledger>(
     alloc: Global,
     catalog: &Catalog,
@@ -132,7 +134,11 @@ fn matching_rows<S: Store<L>, L: Ledger>(
     ensures answer { IfOk result (AreMatching (S.content calls.old.store.now) catalog.now.tables query.now
         params.now range.now.rel range.now.limit input.now) }
 {
-    let low = range_start(alloc, catalog, query, params, range, input)?;
+    let values = tied_cells(alloc, query, params, range.rel, input, range.first.items())?;
+    if has_null(values.items()) {
+        return Ok(List::new(alloc));
+    }
+    let low = range_start(alloc, catalog, query, params, range, input, &values)?;
     let high = past(alloc, Bytes::of_bytes(alloc, low.items())?)?;
     sequence_rows(
         alloc,

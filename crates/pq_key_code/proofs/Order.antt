@@ -1,5 +1,5 @@
 -- The order of the key code's bytes is the order of the values.
-use Rattle.std.specs.Prelude.{◌&&◌}
+use Rattle.std.specs.Prelude.{◌&&◌, ◌⊎◌}
 use Rattle.std.proofs.Common.{◌≡◌, ℕ, zero, suc, ◌^◌, ◌<◌, ◌≤◌, Bool, true, false, cond, ltb, List, [], ◌∷◌, ◌++◌, length, map, take, refl, sym, ap, subst, ◌∙◌, append_assoc, arith, inl, inr}
 use Rattle.std.specs.Prelude.{ℤ, pos, negsuc, IsUtf8, FitsSigned}
 use Rattle.std.specs.Int.{w64, to_be_bytes}
@@ -18,10 +18,10 @@ use Rattle.pq_base.specs.declared.value.Dir.{Dir}
 use Rattle.pq_base.specs.declared.value.Dir.TheVariants.{Asc, Desc}
 use Rattle.pq_base.specs.declared.value.Value.{Value}
 use Rattle.pq_base.specs.declared.value.Value.TheVariants as values
-use Rattle.pq_base.specs.Values.{IsValue, AreValues, SameKind, SameKinds}
+use Rattle.pq_base.specs.Values.{IsValue, AreValues, SameKind, SameKinds, is_null}
 use Rattle.pq_base.specs.Order.{value_cmp, directed_order, position_cmp}
 use Rattle.pq_key_code.specs.KeyOrder.{common_cmp}
-use Rattle.pq_key_code.specs.KeyCode.{IsBytes, above_least, truth_byte, escaped_text, payload, turned_byte, component, code_of, past_code}
+use Rattle.pq_key_code.specs.KeyCode.{IsBytes, above_least, truth_byte, escaped_text, payload, turned_byte, null_marker, marker, component, code_of, past_code}
 use Rattle.pq_key_code.proofs.Bytes.{Apart, then_assoc, cmp_apart, Apart_from_length, Apart_prefix, complement_apart, complement_reverse, worth, worth_cmp, worth_be, IsBytes-to_be}
 
 -- ---- bytes
@@ -62,6 +62,7 @@ escaped_bytes (zero ∷ t) f = (omega arith, (omega arith, escaped_bytes t f.1))
 escaped_bytes (suc b ∷ t) f = (f.0, escaped_bytes t f.1)
 
 pub payload_bytes : (x : Value) → IsValue x → IsBytes (payload x)
+payload_bytes values.Null v = tt
 payload_bytes (values.Int z) v = IsBytes-to_be (above_least z)
 payload_bytes (values.Bool false) v = (omega arith, tt)
 payload_bytes (values.Bool true) v = (omega arith, tt)
@@ -127,17 +128,29 @@ truth_cmp false true = refl
 truth_cmp true false = refl
 truth_cmp true true = refl
 
-payload_apart : (x y : Value) → SameKind x y → Apart (payload x) (payload y)
-payload_apart (values.Int a) (values.Int b) k = Apart_from_length (to_be_bytes w64 (above_least a)) (to_be_bytes w64 (above_least b)) refl
-payload_apart (values.Bool a) (values.Bool b) k = λ _. tt
-payload_apart (values.Text s) (values.Text t) k = written_apart s t
-payload_apart _ _ k = absurd k
+-- neither is NULL
+abbrev IsPlain : Value → Value → Type 0
+IsPlain x y = (is_null x ≡ false) × (is_null y ≡ false)
 
-payload_cmp : (x y : Value) → IsValue x → IsValue y → SameKind x y → slice_cmp nat_cmp (payload x) (payload y) ≡ value_cmp x y
-payload_cmp (values.Int a) (values.Int b) f g k = number_cmp a b f g
-payload_cmp (values.Bool a) (values.Bool b) f g k = truth_cmp a b
-payload_cmp (values.Text s) (values.Text t) f g k = written_cmp s t
-payload_cmp _ _ f g k = absurd k
+payload_apart : (x y : Value) → IsPlain x y → SameKind x y → Apart (payload x) (payload y)
+payload_apart values.Null y p k = absurd cc
+payload_apart (values.Int a) values.Null p k = absurd cc
+payload_apart (values.Bool a) values.Null p k = absurd cc
+payload_apart (values.Text a) values.Null p k = absurd cc
+payload_apart (values.Int a) (values.Int b) p k = Apart_from_length (to_be_bytes w64 (above_least a)) (to_be_bytes w64 (above_least b)) refl
+payload_apart (values.Bool a) (values.Bool b) p k = λ _. tt
+payload_apart (values.Text s) (values.Text t) p k = written_apart s t
+payload_apart _ _ p k = absurd k
+
+payload_cmp : (x y : Value) → IsPlain x y → IsValue x → IsValue y → SameKind x y → slice_cmp nat_cmp (payload x) (payload y) ≡ value_cmp x y
+payload_cmp values.Null y p f g k = absurd cc
+payload_cmp (values.Int a) values.Null p f g k = absurd cc
+payload_cmp (values.Bool a) values.Null p f g k = absurd cc
+payload_cmp (values.Text a) values.Null p f g k = absurd cc
+payload_cmp (values.Int a) (values.Int b) p f g k = number_cmp a b f g
+payload_cmp (values.Bool a) (values.Bool b) p f g k = truth_cmp a b
+payload_cmp (values.Text s) (values.Text t) p f g k = written_cmp s t
+payload_cmp _ _ p f g k = absurd k
 
 turned_apart : (d : Dir) (p q : List ℕ) → IsBytes p → IsBytes q → Apart p q → Apart (map (turned_byte d) p) (map (turned_byte d) q)
 turned_apart Asc p q f g a = rw (map-id p, map-id q) a
@@ -147,14 +160,102 @@ turned_cmp : (d : Dir) (p q : List ℕ) → IsBytes p → IsBytes q → Apart p 
 turned_cmp Asc p q f g a = rw (map-id p, map-id q) refl
 turned_cmp Desc p q f g a = complement_reverse p q f g a
 
+-- a value is NULL, or has the marker of all others
+marked : (d : Dir) (x : Value) → (x ≡ values.Null) ⊎ ((is_null x ≡ false) × (marker d x ≡ 16))
+marked d values.Null = inl refl
+marked d (values.Int a) = inr (refl, refl)
+marked d (values.Bool a) = inr (refl, refl)
+marked d (values.Text a) = inr (refl, refl)
+
+null_apart : (d : Dir) → null_marker d ≡ 16 → ⊥
+null_apart Asc e = absurd (omega arith)
+null_apart Desc e = absurd (omega arith)
+
+null_below : (d : Dir) (x : Value) → is_null x ≡ false → (nat_cmp (null_marker d) 16 ≡ directed_order d (value_cmp values.Null x)) × (nat_cmp 16 (null_marker d) ≡ directed_order d (value_cmp x values.Null))
+null_below d values.Null p = absurd cc
+null_below Asc (values.Int a) p = (refl, refl)
+null_below Asc (values.Bool a) p = (refl, refl)
+null_below Asc (values.Text a) p = (refl, refl)
+null_below Desc (values.Int a) p = (refl, refl)
+null_below Desc (values.Bool a) p = (refl, refl)
+null_below Desc (values.Text a) p = (refl, refl)
+
+-- a component by its marker
+abbrev behind : Dir → Value → List ℕ
+behind d x = map (turned_byte d) (payload x)
+
 pub component_apart : (d : Dir) (x y : Value) → IsValue x → IsValue y → SameKind x y → Apart (component d x) (component d y)
-component_apart d x y f g k = λ _. turned_apart d (payload x) (payload y) (payload_bytes x f) (payload_bytes y g) (payload_apart x y k)
+component_apart d x y f g k = elim (marked d x) [
+  | inl n ↦ subst (λ (v : Value). Apart (component d v) (component d y)) (sym n) (from_null y)
+  | inr p ↦ elim (marked d y) [
+    | inl n ↦ λ e. absurd (null_apart d (ap (marker d) (sym n) ∙ sym e ∙ p.1))
+    | inr q ↦ λ _. turned_apart d (payload x) (payload y) (payload_bytes x f) (payload_bytes y g) (payload_apart x y (p.0, q.0) k)
+  ]
+]
+  where
+    from_null : (v : Value) → Apart (component d values.Null) (component d v)
+    from_null v = elim (marked d v) [
+      | inl n ↦ subst (λ (v : Value). Apart (component d values.Null) (component d v)) (sym n) (λ _. tt)
+      | inr q ↦ λ e. absurd (null_apart d (e ∙ q.1))
+    ]
+
+then_other : (o r : Ordering) → (o ≡ Equal → ⊥) → ordering_then o r ≡ o
+then_other Less r n = refl
+then_other Equal r n = absurd (n refl)
+then_other Greater r n = refl
+
+unequal : (d : Dir) → (nat_cmp (null_marker d) 16 ≡ Equal → ⊥) × (nat_cmp 16 (null_marker d) ≡ Equal → ⊥)
+unequal Asc = ((λ e. absurd cc), (λ e. absurd cc))
+unequal Desc = ((λ e. absurd cc), (λ e. absurd cc))
+
+null_itself : (d : Dir) → nat_cmp (null_marker d) (null_marker d) ≡ directed_order d Equal
+null_itself Asc = refl
+null_itself Desc = refl
+
+then_done : (o : Ordering) → ordering_then o Equal ≡ o
+then_done Less = refl
+then_done Equal = refl
+then_done Greater = refl
+
+-- the bytes of two components are ordered as the values
+one_cmp : (d : Dir) (x y : Value) → IsValue x → IsValue y → SameKind x y → slice_cmp nat_cmp (component d x) (component d y) ≡ directed_order d (value_cmp x y)
+one_cmp d x y f g k = elim (marked d x) [
+  | inl n ↦ subst (λ (v : Value). slice_cmp nat_cmp (component d v) (component d y) ≡ directed_order d (value_cmp v y)) (sym n) (from_null y)
+  | inr p ↦ elim (marked d y) [
+    | inl n ↦ subst (λ (v : Value). slice_cmp nat_cmp (component d x) (component d v) ≡ directed_order d (value_cmp x v)) (sym n) (
+        ap (λ (m : ℕ). ordering_then (nat_cmp m (null_marker d)) (slice_cmp nat_cmp (behind d x) [])) p.1
+        ∙ then_other (nat_cmp 16 (null_marker d)) (slice_cmp nat_cmp (behind d x) []) (unequal d).1
+        ∙ (null_below d x p.0).1)
+    | inr q ↦
+        ap (λ (m : ℕ). ordering_then (nat_cmp m (marker d y)) (slice_cmp nat_cmp (behind d x) (behind d y))) p.1
+        ∙ ap (λ (m : ℕ). ordering_then (nat_cmp 16 m) (slice_cmp nat_cmp (behind d x) (behind d y))) q.1
+        ∙ turned_cmp d (payload x) (payload y) (payload_bytes x f) (payload_bytes y g) (payload_apart x y (p.0, q.0) k)
+        ∙ ap (directed_order d) (payload_cmp x y (p.0, q.0) f g k)
+  ]
+]
+  where
+    from_null : (v : Value) → slice_cmp nat_cmp (component d values.Null) (component d v) ≡ directed_order d (value_cmp values.Null v)
+    from_null v = elim (marked d v) [
+      | inl n ↦ subst (λ (v : Value). slice_cmp nat_cmp (component d values.Null) (component d v) ≡ directed_order d (value_cmp values.Null v)) (sym n) (then_done (nat_cmp (null_marker d) (null_marker d)) ∙ null_itself d)
+      | inr q ↦
+          ap (λ (m : ℕ). ordering_then (nat_cmp (null_marker d) m) (slice_cmp nat_cmp [] (behind d v))) q.1
+          ∙ then_other (nat_cmp (null_marker d) 16) (slice_cmp nat_cmp [] (behind d v)) (unequal d).0
+          ∙ (null_below d v q.0).0
+    ]
 
 -- the bytes after two components decide only where the values are equal
 pub component_cmp : (d : Dir) (x y : Value) (r s : List ℕ) → IsValue x → IsValue y → SameKind x y → slice_cmp nat_cmp (component d x ++ r) (component d y ++ s) ≡ ordering_then (directed_order d (value_cmp x y)) (slice_cmp nat_cmp r s)
 component_cmp d x y r s f g k =
     cmp_apart (component d x) (component d y) r s (component_apart d x y f g k)
-    ∙ ap (λ (o : Ordering). ordering_then o (slice_cmp nat_cmp r s)) (turned_cmp d (payload x) (payload y) (payload_bytes x f) (payload_bytes y g) (payload_apart x y k) ∙ ap (directed_order d) (payload_cmp x y f g k))
+    ∙ ap (λ (o : Ordering). ordering_then o (slice_cmp nat_cmp r s)) (one_cmp d x y f g k)
+
+-- 20 is above each marker
+past_first : (d : Dir) (x : Value) (r : List ℕ) → slice_cmp nat_cmp (32 ∷ []) (component d x ++ r) ≡ Greater
+past_first Asc values.Null r = refl
+past_first Desc values.Null r = refl
+past_first d (values.Int a) r = refl
+past_first d (values.Bool a) r = refl
+past_first d (values.Text a) r = refl
 
 -- ---- lists
 
@@ -165,7 +266,7 @@ prefix_free_lem d x y rest f g k e = Apart_prefix (component d x) rest (subst (A
 pub past_cmp : (ds : List Dir) (ps xs : List Value) → AreValues ps → AreValues xs → SameKinds ps xs → slice_cmp nat_cmp (past_code (code_of ds ps)) (code_of ds xs) ≡ ordering_then (common_cmp ds ps xs) Greater
 past_cmp [] ps xs f g k = refl
 past_cmp (d ∷ ds) [] [] f g k = refl
-past_cmp (d ∷ ds) [] (x ∷ xs) f g k = refl
+past_cmp (d ∷ ds) [] (x ∷ xs) f g k = past_first d x (code_of ds xs)
 past_cmp (d ∷ ds) (p ∷ ps) [] f g k = refl
 past_cmp (d ∷ ds) (p ∷ ps) (x ∷ xs) f g k =
     ap (λ (c : List ℕ). slice_cmp nat_cmp c (component d x ++ code_of ds xs)) (append_assoc (component d p) (code_of ds ps) (32 ∷ []))
@@ -188,6 +289,13 @@ pub data_equal : (x y : Value) → SameKind x y → value_cmp x y ≡ Equal → 
 data_equal (values.Int a) (values.Int b) k e = ap values.Int (int_ranked a b Equal (sym e))
 data_equal (values.Bool a) (values.Bool b) k e = ap values.Bool (bool_equal a b e)
 data_equal (values.Text s) (values.Text t) k e = ap values.Text (exact_bytes s t e)
+data_equal values.Null values.Null k e = refl
+data_equal values.Null (values.Int b) k e = absurd cc
+data_equal values.Null (values.Bool b) k e = absurd cc
+data_equal values.Null (values.Text b) k e = absurd cc
+data_equal (values.Int a) values.Null k e = absurd cc
+data_equal (values.Bool a) values.Null k e = absurd cc
+data_equal (values.Text a) values.Null k e = absurd cc
 data_equal _ _ k e = absurd k
 
 pub then_equal : (a b : Ordering) → ordering_then a b ≡ Equal → (a ≡ Equal) × (b ≡ Equal)

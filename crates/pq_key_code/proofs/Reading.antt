@@ -1,9 +1,9 @@
 -- What is read has the code that was read, and a code is read again.
 use Rattle.std.proofs.Common.{◌≡◌, ◌≢◌, ℕ, zero, suc, ◌-◌, ◌+◌, ◌^◌, ◌≤◌, ◌<◌, Bool, true, false, cond, eqb, ltb, List, [], ◌∷◌, ◌++◌, length, map, take, drop, get_or, Option, Some, None, refl, sym, ap, subst, ◌∙◌, append_assoc, arith, inl, inr}
-use Rattle.std.specs.Prelude.{ℤ, pos, negsuc, ◌⊎◌, IsUtf8, FitsSigned, Result, Ok, Err, IfOk, IfSome, IfNone}
+use Rattle.std.specs.Prelude.{T, ◌==◌, ◌&&◌, ℤ, pos, negsuc, ◌⊎◌, IsUtf8, FitsSigned, Result, Ok, Err, IfOk, IfSome, IfNone}
 use Rattle.std.specs.Str.{is_utf8}
 use Rattle.std.specs.Int.{w64, to_be_bytes, from_be_bytes}
-use Rattle.std.proofs.lemmas.Bool.{ne_eqb, eqb-true, eqb-false, ltb-true, ltb-false, le-ltb, lt-ltb}
+use Rattle.std.proofs.lemmas.Bool.{false≢true, and_parts, ne_eqb, eqb-true, eqb-false, ltb-true, ltb-false, le-ltb, lt-ltb}
 use Rattle.std.proofs.lemmas.Int.{ints}
 use Rattle.std.proofs.lemmas.List.{append-nil, length-take, length-map, length-append, take-append-drop, take_at, drop_at, nil_from_length}
 use Rattle.std.proofs.lemmas.Nat.{be_bytes_8, from_be_bytes-to_be_bytes_8}
@@ -12,11 +12,12 @@ use Rattle.std.proofs.lemmas.Option.{same_Some}
 use Rattle.pq_base.specs.declared.value.Dir.{Dir}
 use Rattle.pq_base.specs.declared.value.Dir.TheVariants.{Asc, Desc}
 use Rattle.pq_base.specs.declared.value.ColType.{ColType}
-use Rattle.pq_base.specs.declared.value.ColType.TheVariants as types
+use Rattle.pq_base.specs.declared.value.DataKind.{DataKind}
+use Rattle.pq_base.specs.declared.value.DataKind.TheVariants as kinds
 use Rattle.pq_base.specs.declared.value.Value.{Value}
 use Rattle.pq_base.specs.declared.value.Value.TheVariants as values
-use Rattle.pq_base.specs.Values.{FitsType, AllFit}
-use Rattle.pq_key_code.specs.KeyCode.{IsBytes, above_least, escaped_text, payload, turned_byte, component, code_of}
+use Rattle.pq_base.specs.Values.{FitsType, AllFit, IsOfDataKind, is_null, kind_of_type, room_of, is_nullable}
+use Rattle.pq_key_code.specs.KeyCode.{IsBytes, above_least, escaped_text, payload, turned_byte, null_marker, marker, component, code_of}
 use Rattle.pq_key_code.specs.KeyReading.{◌>>=◌, from_least, number_at, truth_at, value_behind, text_value_at, text_within, payload_at, component_at, row_key_at, key_at}
 use Rattle.pq_key_code.proofs.Bytes.{IsBytes-to_be}
 use Rattle.pq_key_code.proofs.Order.{utf8_bytes, above_least_below}
@@ -222,48 +223,89 @@ checked_is n t s e =
 pub checked_again : (n : ℕ) (t : List ℕ) → IsUtf8 t → length t ≤ n → text_within n t ≡ Some t
 checked_again n t u le = rw (le-ltb n (length t) le, is_utf8-from_IsUtf8 t u) refl
 
-payload_takes : (ty : ColType) (d : Dir) (bs : List ℕ) (x : Value) (rest : List ℕ) → IsBytes bs → payload_at ty d bs ≡ Some (x, rest) → FitsType ty x × Takes bs (map (turned_byte d) (payload x)) rest
+-- a text has at most n bytes
+abbrev IsWithin : ℕ → Value → Type 0
+IsWithin n values.Null = Unit {0}
+IsWithin n (values.Int z) = Unit {0}
+IsWithin n (values.Bool b) = Unit {0}
+IsWithin n (values.Text t) = length t ≤ n
+
+-- a value of a kind that isn't NULL
+abbrev IsPlain : DataKind → ℕ → Value → Type 0
+IsPlain k n x = (is_null x ≡ false) × IsOfDataKind k x × IsWithin n x
+
+payload_takes : (k : DataKind) (n : ℕ) (d : Dir) (bs : List ℕ) (x : Value) (rest : List ℕ) → IsBytes bs → payload_at k n d bs ≡ Some (x, rest) → IsPlain k n x × Takes bs (map (turned_byte d) (payload x)) rest
 unfolding payload_at
-payload_takes types.Int d bs x rest f e =
+payload_takes kinds.Int n d bs x rest f e =
     let y = bind_some (number_at d bs) (λ x. Some (values.Int x.0, x.1)) (x, rest) e in
     let t = number_takes d bs y.0.0 y.0.1 f y.1 in
-    subst (λ (x : Value × List ℕ). FitsType types.Int x.0 × Takes bs (map (turned_byte d) (payload x.0)) x.1) (same_Some _ _ y.2) t
-payload_takes types.Bool d bs x rest f e =
+    let at : IsPlain kinds.Int n (values.Int y.0.0) × Takes bs (map (turned_byte d) (payload (values.Int y.0.0))) y.0.1 = ((refl, t.0, tt), t.1) in
+    subst (λ (x : Value × List ℕ). IsPlain kinds.Int n x.0 × Takes bs (map (turned_byte d) (payload x.0)) x.1) (same_Some _ _ y.2) at
+payload_takes kinds.Bool n d bs x rest f e =
     let y = bind_some (truth_at d bs) (λ x. Some (values.Bool x.0, x.1)) (x, rest) e in
     let t = truth_takes d bs y.0.0 y.0.1 f y.1 in
-    subst (λ (x : Value × List ℕ). FitsType types.Bool x.0 × Takes bs (map (turned_byte d) (payload x.0)) x.1) (same_Some _ _ y.2) (tt, t)
-payload_takes (types.Text n) d bs x rest f e =
+    let at : IsPlain kinds.Bool n (values.Bool y.0.0) × Takes bs (map (turned_byte d) (payload (values.Bool y.0.0))) y.0.1 = ((refl, tt, tt), t) in
+    subst (λ (x : Value × List ℕ). IsPlain kinds.Bool n x.0 × Takes bs (map (turned_byte d) (payload x.0)) x.1) (same_Some _ _ y.2) at
+payload_takes kinds.Text n d bs x rest f e =
     let y = bind_some (text_value_at d bs) (λ x. text_within n x.0 >>= λ t. Some (values.Text t, x.1)) (x, rest) e in
     let z = bind_some (text_within n y.0.0) (λ t. Some (values.Text t, y.0.1)) (x, rest) y.2 in
     let t = text_takes d bs y.0.0 y.0.1 f y.1 in
     let c = checked_is n y.0.0 z.0 z.1 in
-    let at : FitsType (types.Text n) (values.Text y.0.0) × Takes bs (map (turned_byte d) (payload (values.Text y.0.0))) y.0.1 = (c.0, t) in
+    let at : IsPlain kinds.Text n (values.Text y.0.0) × Takes bs (map (turned_byte d) (payload (values.Text y.0.0))) y.0.1 = ((refl, c.0.0, c.0.1), t) in
     let pair : List ℕ → Value × List ℕ = λ s. (values.Text s, y.0.1) in
-    subst (λ (x : Value × List ℕ). FitsType (types.Text n) x.0 × Takes bs (map (turned_byte d) (payload x.0)) x.1) (ap pair c.1 ∙ same_Some _ _ z.2) at
+    subst (λ (x : Value × List ℕ). IsPlain kinds.Text n x.0 × Takes bs (map (turned_byte d) (payload x.0)) x.1) (ap pair c.1 ∙ same_Some _ _ z.2) at
 
-payload_again : (ty : ColType) (d : Dir) (x : Value) (rest : List ℕ) → FitsType ty x → payload_at ty d (map (turned_byte d) (payload x) ++ rest) ≡ Some (x, rest)
+payload_again : (k : DataKind) (n : ℕ) (d : Dir) (x : Value) (rest : List ℕ) → IsPlain k n x → payload_at k n d (map (turned_byte d) (payload x) ++ rest) ≡ Some (x, rest)
 unfolding payload_at
-payload_again types.Int d (values.Int z) rest fits = ap (λ (o : Option (ℤ × List ℕ)). o >>= λ x. Some (values.Int x.0, x.1)) (number_again d z rest fits)
-payload_again types.Bool d (values.Bool b) rest fits = ap (λ (o : Option (Bool × List ℕ)). o >>= λ x. Some (values.Bool x.0, x.1)) (truth_again d b rest)
-payload_again (types.Text n) d (values.Text t) rest fits =
-    ap (λ (o : Option (List ℕ × List ℕ)). o >>= λ x. text_within n x.0 >>= λ t. Some (values.Text t, x.1)) (text_again d t rest (utf8_bytes t fits.0))
-    ∙ ap (λ (o : Option (List ℕ)). o >>= λ t. Some (values.Text t, rest)) (checked_again n t fits.0 fits.1)
-payload_again _ d _ rest fits = absurd fits
+payload_again k n d values.Null rest p = absurd cc
+payload_again kinds.Int n d (values.Int z) rest p = ap (λ (o : Option (ℤ × List ℕ)). o >>= λ x. Some (values.Int x.0, x.1)) (number_again d z rest p.1)
+payload_again kinds.Bool n d (values.Bool b) rest p = ap (λ (o : Option (Bool × List ℕ)). o >>= λ x. Some (values.Bool x.0, x.1)) (truth_again d b rest)
+payload_again kinds.Text n d (values.Text t) rest p =
+    ap (λ (o : Option (List ℕ × List ℕ)). o >>= λ x. text_within n x.0 >>= λ t. Some (values.Text t, x.1)) (text_again d t rest (utf8_bytes t p.1))
+    ∙ ap (λ (o : Option (List ℕ)). o >>= λ t. Some (values.Text t, rest)) (checked_again n t p.1 p.2)
+payload_again _ n d _ rest p = absurd p.1
+
+-- a plain value of a type's kind and room fits the type
+plain_fits : (ty : ColType) (d : Dir) (x : Value) → IsPlain (kind_of_type ty) (room_of ty) x → FitsType ty x × (marker d x ≡ 16)
+plain_fits ty d values.Null p = absurd cc
+plain_fits ty d (values.Int z) p = ((p.1, tt), refl)
+plain_fits ty d (values.Bool b) p = ((p.1, tt), refl)
+plain_fits ty d (values.Text t) p = ((p.1, p.2), refl)
+
+from_truth : (b : Bool) → T b → b ≡ true
+from_truth true t = refl
+from_truth false t = absurd t
+
+to_truth : (b : Bool) → b ≡ true → T b
+to_truth true e = tt
+to_truth false e = absurd (false≢true e)
 
 component_takes : (ty : ColType) (d : Dir) (bs : List ℕ) (x : Value) (rest : List ℕ) → IsBytes bs → component_at ty d bs ≡ Some (x, rest) → FitsType ty x × Takes bs (component d x) rest
 unfolding component_at
 component_takes ty d [] x rest f e = none_some _ e
 component_takes ty d (m ∷ bs) x rest f e =
-    elim (chosen (eqb m 16) (payload_at ty d bs) None (Some (x, rest)) e) [
+    let null = m == null_marker d && is_nullable ty in
+    elim (chosen (eqb m 16) (payload_at (kind_of_type ty) (room_of ty) d bs) (cond null (Some (values.Null, bs)) None) (Some (x, rest)) e) [
       | inl h ↦
-          let t = payload_takes ty d bs x rest f.1 h.1 in
-          (t.0, record { parts = ap (λ (k : ℕ). k ∷ bs) (eqb-true _ _ h.0) ∙ ap (λ (r : List ℕ). 16 ∷ r) t.1.parts; rest_fits = t.1.rest_fits })
-      | inr h ↦ none_some _ h.1
+          let t = payload_takes (kind_of_type ty) (room_of ty) d bs x rest f.1 h.1 in
+          let p = plain_fits ty d x t.0 in
+          (p.0, record { parts = ap (λ (k : ℕ). k ∷ bs) (eqb-true _ _ h.0 ∙ sym p.1) ∙ ap (λ (r : List ℕ). marker d x ∷ r) t.1.parts; rest_fits = t.1.rest_fits })
+      | inr h ↦ elim (chosen null (Some (values.Null, bs)) None (Some (x, rest)) h.1) [
+        | inl k ↦
+            let both = and_parts (m == null_marker d) (is_nullable ty) k.0 in
+            let at : FitsType ty values.Null × Takes (m ∷ bs) (component d values.Null) bs = ((tt, to_truth (is_nullable ty) both.1), record { parts = ap (λ (k : ℕ). k ∷ bs) (eqb-true _ _ both.0); rest_fits = f.1 }) in
+            subst (λ (x : Value × List ℕ). FitsType ty x.0 × Takes (m ∷ bs) (component d x.0) x.1) (same_Some _ _ k.1) at
+        | inr k ↦ none_some _ k.1
+      ]
     ]
 
 component_again : (ty : ColType) (d : Dir) (x : Value) (rest : List ℕ) → FitsType ty x → component_at ty d (component d x ++ rest) ≡ Some (x, rest)
 unfolding component_at
-component_again ty d x rest fits = payload_again ty d x rest fits
+component_again ty Asc values.Null rest fits = rw (from_truth (is_nullable ty) fits.1) refl
+component_again ty Desc values.Null rest fits = rw (from_truth (is_nullable ty) fits.1) refl
+component_again ty d (values.Int z) rest fits = payload_again (kind_of_type ty) (room_of ty) d (values.Int z) rest (refl, fits.0, tt)
+component_again ty d (values.Bool b) rest fits = payload_again (kind_of_type ty) (room_of ty) d (values.Bool b) rest (refl, fits.0, tt)
+component_again ty d (values.Text t) rest fits = payload_again (kind_of_type ty) (room_of ty) d (values.Text t) rest (refl, fits.0, fits.1)
 
 -- ---- rows
 

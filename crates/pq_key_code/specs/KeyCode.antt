@@ -26,8 +26,9 @@ escaped_text [] = []
 escaped_text (zero ∷ bs) = 0 ∷ 255 ∷ escaped_text bs
 escaped_text (suc b ∷ bs) = suc b ∷ escaped_text bs
 
--- eight bytes, one byte, or the escaped bytes and 00 01
+-- no byte, eight bytes, one byte, or the escaped bytes and 00 01
 abbrev pub payload : Value → List ℕ
+payload values.Null = []
 payload (values.Int z) = to_be_bytes w64 (above_least z)
 payload (values.Bool b) = truth_byte b ∷ []
 payload (values.Text t) = escaped_text t ++ 0 ∷ 1 ∷ []
@@ -37,9 +38,17 @@ abbrev pub turned_byte : Dir → ℕ → ℕ
 turned_byte Asc b = b
 turned_byte Desc b = 255 - b
 
--- each kind of value has the marker 10
+-- NULL comes first where values ascend, and last where they descend
+abbrev pub null_marker : Dir → ℕ
+null_marker Asc = 8
+null_marker Desc = 24
+
+-- the marker of NULL, and 10 of each other value
 abbrev pub marker : Dir → Value → ℕ
-marker d x = 16
+marker d values.Null = null_marker d
+marker d (values.Int z) = 16
+marker d (values.Bool b) = 16
+marker d (values.Text t) = 16
 
 abbrev pub component : Dir → Value → List ℕ
 component d x = marker d x ∷ map (turned_byte d) (payload x)

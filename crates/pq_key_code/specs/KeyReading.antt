@@ -1,13 +1,15 @@
 -- Reading a key code from left to right: what is read and the bytes after it, or None.
-use Rattle.std.specs.Prelude.{ℕ, suc, ℤ, pos, negsuc, ◌-◌, ◌^◌, Bool, true, false, List, [], ◌∷◌, length, map, take, drop, Option, Some, None, nat_lt, ◌==◌, if◌then◌else◌}
+use Rattle.std.specs.Prelude.{ℕ, suc, ℤ, pos, negsuc, ◌-◌, ◌^◌, Bool, true, false, List, [], ◌∷◌, length, map, take, drop, Option, Some, None, nat_lt, ◌==◌, ◌&&◌, if◌then◌else◌}
 use Rattle.std.specs.Int.{w64, from_be_bytes}
 use Rattle.std.specs.Str.{is_utf8}
 use Rattle.pq_base.specs.declared.value.ColType.{ColType}
-use Rattle.pq_base.specs.declared.value.ColType.TheVariants as types
+use Rattle.pq_base.specs.declared.value.DataKind.{DataKind}
+use Rattle.pq_base.specs.declared.value.DataKind.TheVariants as kinds
 use Rattle.pq_base.specs.declared.value.Dir.{Dir}
 use Rattle.pq_base.specs.declared.value.Value.{Value}
 use Rattle.pq_base.specs.declared.value.Value.TheVariants as values
-use Rattle.pq_key_code.specs.KeyCode.{turned_byte}
+use Rattle.pq_base.specs.Values.{kind_of_type, is_nullable, room_of}
+use Rattle.pq_key_code.specs.KeyCode.{turned_byte, null_marker}
 
 infixl 10 ◌>>=◌
 abbrev pub ◌>>=◌ : {A B : Type 0} → Option A → (A → Option B) → Option B
@@ -43,14 +45,16 @@ text_value_at d (b ∷ c ∷ rest) =
 abbrev pub text_within : ℕ → List ℕ → Option (List ℕ)
 text_within n t = if nat_lt n (length t) then None else if is_utf8 t then Some t else None
 
-unfoldable pub payload_at : ColType → Dir → List ℕ → Option (Value × List ℕ)
-payload_at types.Int d bytes = number_at d bytes >>= λ x. Some (values.Int x.0, x.1)
-payload_at types.Bool d bytes = truth_at d bytes >>= λ x. Some (values.Bool x.0, x.1)
-payload_at (types.Text n) d bytes = text_value_at d bytes >>= λ x. text_within n x.0 >>= λ t. Some (values.Text t, x.1)
+-- a value of a kind, a text of at most n bytes
+unfoldable pub payload_at : DataKind → ℕ → Dir → List ℕ → Option (Value × List ℕ)
+payload_at kinds.Int n d bytes = number_at d bytes >>= λ x. Some (values.Int x.0, x.1)
+payload_at kinds.Bool n d bytes = truth_at d bytes >>= λ x. Some (values.Bool x.0, x.1)
+payload_at kinds.Text n d bytes = text_value_at d bytes >>= λ x. text_within n x.0 >>= λ t. Some (values.Text t, x.1)
 
 unfoldable pub component_at : ColType → Dir → List ℕ → Option (Value × List ℕ)
 component_at t d [] = None
-component_at t d (m ∷ bytes) = if m == 16 then payload_at t d bytes else None
+component_at t d (m ∷ bytes) = if m == 16 then payload_at (kind_of_type t) (room_of t) d bytes
+    else if m == null_marker d && is_nullable t then Some (values.Null, bytes) else None
 
 unfoldable pub row_key_at : List ColType → List Dir → List ℕ → Option (List Value × List ℕ)
 row_key_at [] ds bytes = Some ([], bytes)

@@ -6,8 +6,8 @@ ghost use Rattle.pq_base.specs.Values.{AllFit};
 ghost use Rattle.pq_key_code.specs.KeyCode.{code_of};
 ghost use Rattle.pq_key_code.specs.KeyReading.{from_least, number_at, truth_at, text_value_at, text_within, payload_at, component_at, row_key_at, key_at};
 
-use crate::encode::turn;
-use pq_base::{Bytes, ColType, Dir, NoMem, PText, Row, Value};
+use crate::encode::{null_marker, turn};
+use pq_base::{Bytes, ColType, DataKind, Dir, NoMem, PText, Row, Value};
 use std::alloc::Global;
 
 fn from_least_of(bits: u64) -> i64
@@ -97,22 +97,23 @@ fn gathered_text(bytes: Bytes, most: u16) -> Option<PText>
 #[tactic(auto, unfolding(crate::specs::KeyReading::payload_at))]
 fn payload_of(
     alloc: Global,
-    ty: ColType,
+    kind: DataKind,
+    most: u16,
     dir: Dir,
     bytes: &[u8],
 ) -> Result<Option<(Value, &[u8])>, NoMem>
-    ensures { IfOk result (λ read. option_map (λ x. (x.0, x.1.now)) read ≡ payload_at ty dir bytes.now) }
+    ensures { IfOk result (λ read. option_map (λ x. (x.0, x.1.now)) read ≡ payload_at kind most dir bytes.now) }
 {
-    match ty {
-        ColType::Int => match number_of(dir, bytes) {
+    match kind {
+        DataKind::Int => match number_of(dir, bytes) {
             Some((number, rest)) => Ok(Some((Value::Int(number), rest))),
             None => Ok(None),
         },
-        ColType::Bool => match truth_of(dir, bytes) {
+        DataKind::Bool => match truth_of(dir, bytes) {
             Some((truth, rest)) => Ok(Some((Value::Bool(truth), rest))),
             None => Ok(None),
         },
-        ColType::Text(most) => {
+        DataKind::Text => {
             let Some((text, rest)) = text_of(alloc, dir, bytes)? else {
                 return Ok(None);
             };
@@ -133,9 +134,16 @@ fn component_of(
 ) -> Result<Option<(Value, &[u8])>, NoMem>
     ensures { IfOk result (λ read. option_map (λ x. (x.0, x.1.now)) read ≡ component_at ty dir bytes.now) }
 {
-    match bytes {
-        [0x10, rest @ ..] => payload_of(alloc, ty, dir, rest),
-        _ => Ok(None),
+    let [marker, rest @ ..] = bytes else {
+        return Ok(None);
+    };
+    if *marker == 0x10 {
+        return payload_of(alloc, ty.kind(), ty.room(), dir, rest);
+    }
+    if *marker == null_marker(dir) && ty.is_nullable() {
+        Ok(Some((Value::Null, rest)))
+    } else {
+        Ok(None)
     }
 }
 

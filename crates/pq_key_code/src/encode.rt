@@ -1,7 +1,7 @@
 //! From values to key codes.
 ghost use Rattle.std.specs.Prelude.{◌≡◌, ◌++◌, ◌∷◌, [], length, map, OnOk, IfOk};
 ghost use Rattle.pq_base.specs.declared.value.Value.TheVariants as values;
-ghost use Rattle.pq_key_code.specs.KeyCode.{above_least, payload, turned_byte, escaped_text, component, code_of};
+ghost use Rattle.pq_key_code.specs.KeyCode.{above_least, payload, turned_byte, escaped_text, null_marker, marker, component, code_of};
 
 use pq_base::{Bytes, Dir, NoMem, Row, Value};
 use std::alloc::Global;
@@ -82,12 +82,32 @@ fn put_text(alloc: Global, out: &mut Bytes, dir: Dir, bytes: &[u8]) -> Result<()
     out.push(alloc, turn(dir, 1))
 }
 
+/// The marker of NULL in this direction.
+pub(crate) fn null_marker(dir: Dir) -> u8
+    ensures { result ≡ null_marker dir }
+{
+    match dir {
+        Dir::Asc => 0x08,
+        Dir::Desc => 0x18,
+    }
+}
+
+fn marker(dir: Dir, value: &Value) -> u8
+    ensures { result ≡ marker dir value.now }
+{
+    match value {
+        Value::Null => null_marker(dir),
+        Value::Int(_) | Value::Bool(_) | Value::Text(_) => 0x10,
+    }
+}
+
 /// Puts a value's component behind what is there: the marker, and the payload in its direction.
 pub fn put_component(alloc: Global, out: &mut Bytes, dir: Dir, value: &Value) -> Result<(), NoMem>
     ensures { OnOk result (out.new ≡ out.old ++ component dir value.now) }
 {
-    out.push(alloc, 0x10)?;
+    out.push(alloc, marker(dir, value))?;
     match value {
+        Value::Null => Ok(()),
         Value::Int(number) => {
             put_turned(alloc, out, dir, &above_least_of(*number).to_be_bytes())
         }

@@ -10,8 +10,8 @@ ghost use Rattle.pq_base.specs.Values.{AreValues, IsValue, SameKind, SameKinds};
 ghost use Rattle.pq_key_code.specs.KeyCode.{component, code_of, past_code};
 ghost use Rattle.pq_key_code.specs.KeyOrder.{common_cmp};
 
-/// The laws of the key code, over values in their ranges whose kinds are equal at each place that
-/// two lists have.
+/// The laws of the key code, over values in their ranges that are of one kind, or NULL, at each
+/// place that two lists have.
 pub fn key_code_laws()
     // The order of the bytes is the order of the lists.
     ensures order { (ds : List Dir) (xs ys : List Value) → AreValues xs → AreValues ys → SameKinds xs ys

@@ -1,13 +1,14 @@
 -- Over tables that keep the schema, a node gives no more than its size.
-use Rattle.std.proofs.Common.{◌≡◌, Option, Some, None, ℕ, suc, ◌+◌, ◌-◌, ◌*◌, ◌≤◌, Bool, true, false, cond, List, [], ◌∷◌, ◌++◌, length, get_or, map, filter, flat_map, take, slice_get, refl, sym, ap, ◌∙◌, subst, arith, length-append}
+use Rattle.std.proofs.Common.{◌≡◌, Option, Some, None, ℕ, suc, ◌+◌, ◌-◌, ◌*◌, ◌≤◌, Bool, true, false, cond, ◌||◌, List, [], ◌∷◌, ◌++◌, length, get_or, map, filter, flat_map, take, slice_get, refl, sym, ap, ◌∙◌, subst, arith, length-append}
 use Rattle.std.specs.Prelude.{unwrap_or}
 use Rattle.std.specs.Ordering.{eq_by_cmp, is_lt}
-use Rattle.std.proofs.lemmas.Bool.{and_parts}
+use Rattle.std.proofs.lemmas.Bool.{and_parts, false≢true}
 use Rattle.std.proofs.lemmas.List.{length-map, length-take}
 use Rattle.std.proofs.lemmas.List.Sorted.{length_permutation}
 use Rattle.std.proofs.lemmas.Option.{get_or_from_slice_get}
 use Rattle.pq_base.specs.Members.{In}
 use Rattle.pq_base.specs.declared.value.Value.{Value}
+use Rattle.pq_base.specs.Values.{is_null, has_null}
 use Rattle.pq_base.proofs.Sorts.{length-sort_by}
 use Rattle.pq_schema.specs.declared.query.Op.TheVariants as op
 use Rattle.pq_schema.specs.declared.table.Table.{Table}
@@ -81,12 +82,31 @@ module _ (q : Question) where
       let rest = match_cells rel cols combo row parts.1 in
       λ i. first i ∷ rest i
 
-  matching_few : (rel n : ℕ) (cols : List ℕ) (combo : List (List Value)) → ((values : List Value) → length (filter (λ row. eq_by_cmp row_cmp (cells cols row) values) (rows_at q rel)) ≤ n) → length (matching q rel cols combo) ≤ n
+  -- and none of them is NULL
+  match_plain : (rel : ℕ) (cols : List ℕ) (combo : List (List Value)) (row : List Value) → is_match q rel cols combo row ≡ true → has_null (tied_cells rel cols combo) ≡ false
+  match_plain rel [] combo row h = refl
+  match_plain rel (col ∷ cols) combo row h =
+      let parts = and_parts (compares op.Eq (slice_get row col) (tied_value q rel combo col)) (is_match q rel cols combo row) h in
+      let both = both_are (slice_get row col) (tied_value q rel combo col) parts.0 in
+      ap (λ (o : Option Value). is_null (unwrap_or o no_value) || has_null (tied_cells rel cols combo)) both.2
+      ∙ ap (λ b. b || has_null (tied_cells rel cols combo)) both.3 ∙ match_plain rel cols combo row parts.1
+
+  none_match : (n : ℕ) (p : List Value → Bool) (xs : List (List Value)) → ((x : List Value) → p x ≡ true → ⊥) → length (filter p xs) ≤ n
+  none_match n p [] h = omega arith
+  none_match n p (x ∷ xs) h =
+      elim (p x) as (λ b. p x ≡ b → length (cond b (x ∷ filter p xs) (filter p xs)) ≤ n) [
+        | true ↦ λ is. absurd (h x is)
+        | false ↦ λ _. none_match n p xs h
+      ] refl
+
+  matching_few : (rel n : ℕ) (cols : List ℕ) (combo : List (List Value)) → ((values : List Value) → has_null values ≡ false → length (filter (λ row. eq_by_cmp row_cmp (cells cols row) values) (rows_at q rel)) ≤ n) → length (matching q rel cols combo) ≤ n
   matching_few rel n cols combo few =
       let values = tied_cells rel cols combo in
       let fewer = fewer_pass (is_match q rel cols combo) (λ row. eq_by_cmp row_cmp (cells cols row) values) (rows_at q rel) (λ row h. same_test row_cmp row_total (cells cols row) values (match_cells rel cols combo row h)) in
-      let most = few values in
-      omega (arith, fewer, most)
+      elim (has_null values) as (λ b. has_null values ≡ b → length (matching q rel cols combo) ≤ n) [
+        | true ↦ λ some. none_match n (is_match q rel cols combo) (rows_at q rel) (λ row h. false≢true (sym (match_plain rel cols combo row h) ∙ some))
+        | false ↦ λ none. let most = few values none in omega (arith, fewer, most)
+      ] refl
 
   looked_up_few : (rel : ℕ) (inputs : Combinations) → length (looked_up q rel inputs) ≤ length inputs * 1
   looked_up_few rel inputs =
@@ -94,7 +114,7 @@ module _ (q : Question) where
       (λ combo. let long = length-map (take 1 (matching q rel (key_of q rel) combo)) (λ row. combo ++ row ∷ []) in let few = few_taken 1 (matching q rel (key_of q rel) combo) in omega (arith, long, few))
       inputs
 
-  ranged_few : (rel n : ℕ) (cols : List ℕ) → ((values : List Value) → length (filter (λ row. eq_by_cmp row_cmp (cells cols row) values) (rows_at q rel)) ≤ n) → (inputs : Combinations) → length (ranged q rel cols inputs) ≤ length inputs * n
+  ranged_few : (rel n : ℕ) (cols : List ℕ) → ((values : List Value) → has_null values ≡ false → length (filter (λ row. eq_by_cmp row_cmp (cells cols row) values) (rows_at q rel)) ≤ n) → (inputs : Combinations) → length (ranged q rel cols inputs) ≤ length inputs * n
   ranged_few rel n cols few inputs =
       each_few (λ combo. map (λ row. combo ++ row ∷ []) (matching q rel cols combo)) n
       (λ combo. let long = length-map (matching q rel cols combo) (λ row. combo ++ row ∷ []) in let most = matching_few rel n cols combo few in omega (arith, long, most))
@@ -109,12 +129,12 @@ module _ (tables : List Table) (query : Query) (rows : List (ℕ × List Value))
   q = asked tables query rows params sound kept
 
   -- at most n rows of the relation agree on the limit's columns
-  limit_few : (rel limit n : ℕ) → 1 ≤ rel → rel ≤ length query.relations → 1 ≤ limit → limit ≤ length (table_of tables query rel).limits → n ≡ (node_limit_at (table_of tables query rel) limit).n → (values : List Value) → length (filter (λ row. eq_by_cmp row_cmp (cells (node_limit_at (table_of tables query rel) limit).cols row) values) (rows_at q rel)) ≤ n
-  limit_few rel limit n low high one there size values =
+  limit_few : (rel limit n : ℕ) → 1 ≤ rel → rel ≤ length query.relations → 1 ≤ limit → limit ≤ length (table_of tables query rel).limits → n ≡ (node_limit_at (table_of tables query rel) limit).n → (values : List Value) → has_null values ≡ false → length (filter (λ row. eq_by_cmp row_cmp (cells (node_limit_at (table_of tables query rel) limit).cols row) values) (rows_at q rel)) ≤ n
+  limit_few rel limit n low high one there size values plain =
       let table = table_of tables query rel in
       let number = number_at tables query rows params sound kept rel low high in
       let here : In (node_limit_at table limit) table.limits = at_in table.limits (limit - 1) no_limit (omega arith) in
-      let few = limit_kept tables rows kept (relation_at query rel).table number (node_limit_at table limit) here values in
+      let few = limit_kept tables rows kept (relation_at query rel).table number (node_limit_at table limit) here values plain in
       omega (arith, few, size)
 
   pub apply_few : (after : Option (List Value)) (node : Node) (inputs : List (List (List Value))) → IsNodeOf tables query node → length (apply q after inputs node) ≤ node_size (length inputs) node

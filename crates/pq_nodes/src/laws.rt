@@ -1,8 +1,8 @@
 //! What the definitions promise by themselves.
-ghost use Rattle.std.specs.Prelude.{◌≡◌, ℕ, ◌-◌, ◌≤◌, true, List, [], ◌∷◌, ◌++◌, length, map, flat_map, take, option_to_list, Option, IsPermutation};
+ghost use Rattle.std.specs.Prelude.{◌≡◌, ℕ, ◌-◌, ◌≤◌, true, cond, List, [], ◌∷◌, ◌++◌, length, map, flat_map, take, option_to_list, Option, IsPermutation};
 ghost use Rattle.std.specs.List.{AllByRecursion, range_with_len};
 ghost use Rattle.pq_base.specs.Columns.{is_column_within, set_of};
-ghost use Rattle.pq_base.specs.Values.{AllFit};
+ghost use Rattle.pq_base.specs.Values.{AllFit, has_null};
 ghost use Rattle.pq_base.specs.declared.number.Bound.{Bound};
 ghost use Rattle.pq_base.specs.declared.number.Choice.{Choice};
 ghost use Rattle.pq_base.specs.declared.number.Choice.TheVariants.{Stop};
@@ -10,7 +10,7 @@ ghost use Rattle.pq_base.specs.declared.value.Value.{Value};
 ghost use Rattle.pq_schema.specs.Costs.{ReachedCost, plus};
 ghost use Rattle.pq_schema.specs.Relations.{relation_at, table_of, tied_set};
 ghost use Rattle.pq_schema.specs.Resolved.{IsResolved};
-ghost use Rattle.pq_schema.specs.Rows.{Rows, row_at, group_of, KeepsSchema};
+ghost use Rattle.pq_schema.specs.Rows.{Rows, row_at, KeepsSchema};
 ghost use Rattle.pq_schema.specs.Sequences.{begins_with, sequence_of};
 ghost use Rattle.pq_schema.specs.Sound.{IsQuery};
 ghost use Rattle.pq_schema.specs.Tables.{is_lookup};
@@ -30,7 +30,7 @@ ghost use Rattle.pq_nodes.specs.Inverse.{IsNodeOf};
 ghost use Rattle.pq_nodes.specs.Operators.{StopsReading, IsSoundOverRows};
 ghost use Rattle.pq_nodes.specs.Ordered.{relation_read, node_relations, after_node, after_nodes, StandsAt, StandInOrder};
 ghost use Rattle.pq_nodes.specs.Paid.{node_cost, node_size, IsAtMost, IsUpTo};
-ghost use Rattle.pq_nodes.specs.Tied.{tied_cells, HasRange};
+ghost use Rattle.pq_nodes.specs.Tied.{tied_group, tied_cells, HasRange};
 
 /// What a node of a plan for a query says of the query.
 pub fn node_laws()
@@ -136,26 +136,27 @@ pub fn tied_laws()
         → AllOfKinds (types_at (table_of tables query rel).columns cols)
         (tied_cells (record { tables = tables; query = query; rows = rows; params = params }) rel cols combo) }
 
-    // The rows that match are those of the group with these values.
+    // The rows that match are those of the group with these values, and none where one is NULL.
     ensures group { (tables : List Table) (query : Query) (rows : Rows) (params : List Value) (rel : ℕ)
         (combo : List (List Value)) (cols : List ℕ) → IsResolved tables query → AllFit query.params params
         → FitsTables tables query (rel - 1) combo → KeepsSchema tables rows
         → is_column_within (set_of cols) (tied_set query rel) ≡ true
         → matching (record { tables = tables; query = query; rows = rows; params = params }) rel cols combo
-        ≡ group_of (relation_at query rel).table cols
+        ≡ tied_group (relation_at query rel).table cols
         (tied_cells (record { tables = tables; query = query; rows = rows; params = params }) rel cols combo)
         rows }
 
-    // Where the key is tied, it is the row with this key.
+    // Where the key is tied, it is the row with this key, and none where the key has NULL.
     ensures row { (tables : List Table) (query : Query) (rows : Rows) (params : List Value) (rel : ℕ)
         (combo : List (List Value)) → IsResolved tables query → AllFit query.params params
         → FitsTables tables query (rel - 1) combo → KeepsSchema tables rows
         → is_lookup (table_of tables query rel) (tied_set query rel) ≡ true
         → take 1 (matching (record { tables = tables; query = query; rows = rows; params = params }) rel
         (table_of tables query rel).key combo)
-        ≡ option_to_list (row_at tables rows (relation_at query rel).table
+        ≡ cond (has_null (tied_cells (record { tables = tables; query = query; rows = rows; params = params }) rel
+        (table_of tables query rel).key combo)) [] (option_to_list (row_at tables rows (relation_at query rel).table
         (tied_cells (record { tables = tables; query = query; rows = rows; params = params }) rel
-        (table_of tables query rel).key combo)) }
+        (table_of tables query rel).key combo))) }
 
     // The range of a sequence that begins with the columns, under the tied values of its first columns, has the rows
     // that match.

@@ -1,6 +1,6 @@
 //! Operands and comparisons.
 ghost use Rattle.std.specs.Prelude.{◌≡◌, option_copied};
-ghost use Rattle.pq_plan.specs.Answer.{side, cell, meets, compares};
+ghost use Rattle.pq_plan.specs.Answer.{side, cell, may_hold, meets, compares};
 
 use pq_base::{Row, Value, cmp_values};
 use pq_plan::Combo;
@@ -39,15 +39,25 @@ pub fn meets(op: Op, order: Ordering) -> bool
         Op::Le => order.is_le(),
         Op::Gt => order.is_gt(),
         Op::Ge => order.is_ge(),
+        Op::IsNull => order.is_eq(),
     }
 }
 
-/// Whether both values are there, and their order meets the operator.
+/// Whether neither value is NULL, or it is asked whether one is.
+fn may_hold(op: Op, left: &Value, right: &Value) -> bool
+    ensures { result ≡ may_hold op left.now right.now }
+{
+    matches!(op, Op::IsNull) || !(left.is_null() || right.is_null())
+}
+
+/// Whether both values are there, neither is NULL but behind IS NULL, and their order meets the operator.
 pub fn compares(op: Op, left: Option<&Value>, right: Option<&Value>) -> bool
     ensures { result ≡ compares op (option_copied left.entry) (option_copied right.entry) }
 {
     match (left, right) {
-        (Some(left), Some(right)) => meets(op, cmp_values(left, right)),
+        (Some(left), Some(right)) => {
+            may_hold(op, left, right) && meets(op, cmp_values(left, right))
+        }
         _ => false,
     }
 }

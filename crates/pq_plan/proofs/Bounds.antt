@@ -4,6 +4,7 @@ use Rattle.std.specs.Option.{option_map_or}
 use Rattle.std.specs.Ordering.{eq_by_cmp}
 use Rattle.std.proofs.lemmas.Bool.{ne_eqb, cases_lt}
 use Rattle.pq_base.specs.declared.value.Value.{Value}
+use Rattle.pq_base.specs.Values.{has_null}
 use Rattle.pq_schema.specs.declared.table.Table.{Table}
 use Rattle.pq_schema.specs.declared.table.Limit.{Limit}
 use Rattle.pq_schema.specs.declared.query.Operand.{Operand}
@@ -131,7 +132,7 @@ module _ (tables : List Table) (query : Query) (rows : List (ℕ × List Value))
             record {
               columns = table.key;
               tied = tied asked named i table.key (within_members table.key (fixed_columns i) is);
-              few = λ v. subst (λ (m : ℕ). length (filter (λ r. eq_by_cmp row_cmp (cells table.key r) v) (rows_at asked i)) ≤ m) one (few_of_key table.key v (rows_at asked i) (keys i));
+              few = λ v _. subst (λ (m : ℕ). length (filter (λ r. eq_by_cmp row_cmp (cells table.key r) v) (rows_at asked i)) ≤ m) one (few_of_key table.key v (rows_at asked i) (keys i));
             }
         | false ↦ λ _ e.
             let l = least_is n (filter (applies (tied_set query i)) table.limits) e in
@@ -139,13 +140,13 @@ module _ (tables : List Table) (query : Query) (rows : List (ℕ × List Value))
             record {
               columns = l.0.cols;
               tied = tied asked named i l.0.cols (within_members l.0.cols (fixed_columns i) f.1);
-              few = λ v. subst (λ (m : ℕ). length (filter (λ r. eq_by_cmp row_cmp (cells l.0.cols r) v) (rows_at asked i)) ≤ m) l.2 (few_of_limit i l.0 f.0 v);
+              few = λ v plain. subst (λ (m : ℕ). length (filter (λ r. eq_by_cmp row_cmp (cells l.0.cols r) v) (rows_at asked i)) ≤ m) l.2 (few_of_limit i l.0 f.0 v plain);
             }
       ] refl h
     where
-      few_of_limit : (i : ℕ) (l : Limit) → In l (table_of tables query i).limits → (v : List Value) → length (filter (λ r. eq_by_cmp row_cmp (cells l.cols r) v) (rows_at asked i)) ≤ l.n
-      few_of_limit i l here v = elim (outside i) [
-        | inl number ↦ limit_kept tables rows kept (relation_at query i).table number l here v
+      few_of_limit : (i : ℕ) (l : Limit) → In l (table_of tables query i).limits → (v : List Value) → has_null v ≡ false → length (filter (λ r. eq_by_cmp row_cmp (cells l.cols r) v) (rows_at asked i)) ≤ l.n
+      few_of_limit i l here v plain = elim (outside i) [
+        | inl number ↦ limit_kept tables rows kept (relation_at query i).table number l here v plain
         | inr none ↦ subst (λ (rs : List (List Value)). length (filter (λ r. eq_by_cmp row_cmp (cells l.cols r) v) rs) ≤ l.n) (sym none) (omega arith)
       ]
 

@@ -1,5 +1,5 @@
 -- Fixed columns are tied, and a data bound holds.
-use Rattle.std.proofs.Common.{◌≡◌, Option, Some, None, ℕ, suc, ◌-◌, ◌<◌, ◌≤◌, true, ◌&&◌, ◌==◌, inl, inr, List, [], ◌∷◌, ◌++◌, length, get_or, map, filter, slice_get, refl, sym, ap, ◌∙◌, arith}
+use Rattle.std.proofs.Common.{◌≡◌, Option, Some, None, ℕ, suc, ◌-◌, ◌<◌, ◌≤◌, Bool, true, false, not, ◌||◌, ◌&&◌, ◌==◌, inl, inr, List, [], ◌∷◌, ◌++◌, length, get_or, map, filter, slice_get, refl, sym, ap, ◌∙◌, arith}
 use Rattle.std.specs.Prelude.{unwrap_or, option_and_then}
 use Rattle.std.specs.Ordering.{is_eq}
 use Rattle.std.proofs.lemmas.Bool.{and_parts, and_from, eqb-true, eq-eqb, ltb-true, false≢true}
@@ -7,6 +7,7 @@ use Rattle.std.proofs.lemmas.List.{get_or_append_left}
 use Rattle.std.proofs.lemmas.Option.{get_or_from_slice_get}
 use Rattle.pq_base.specs.declared.value.Value.{Value}
 use Rattle.pq_base.specs.Order.{value_cmp}
+use Rattle.pq_base.specs.Values.{is_null, has_null}
 use Rattle.pq_schema.specs.declared.query.Op.{Op}
 use Rattle.pq_schema.specs.declared.query.Op.TheVariants as op
 use Rattle.pq_schema.specs.declared.query.Operand.{Operand}
@@ -15,7 +16,7 @@ use Rattle.pq_schema.specs.declared.query.Pred.{Pred}
 use Rattle.pq_schema.specs.Sound.{IsNamedSide, IsNamedPred}
 use Rattle.pq_schema.specs.Relations.{later, belongs_to, is_equality, is_before, ties}
 use Rattle.pq_base.specs.Members.{In}
-use Rattle.pq_plan.specs.Answer.{Question, row_of, cell, side, compares, holds, no_value}
+use Rattle.pq_plan.specs.Answer.{Question, row_of, cell, side, may_hold, compares, holds, no_value}
 use Rattle.pq_plan.specs.Kept.{cells}
 use Rattle.pq_plan.specs.Meaning.{keeps}
 use Rattle.pq_plan.specs.Running.{tied_value, is_match}
@@ -24,11 +25,21 @@ use Rattle.pq_plan.proofs.ValueOrder.{value_cmp_total, value_cmp_only}
 use Rattle.pq_plan.proofs.Apart.{equal, same_test}
 use Rattle.pq_plan.proofs.Laws.{Tied}
 
--- where an equality holds both sides are there, and are one value
-pub both_are : (a b : Option Value) → compares op.Eq a b ≡ true → (x : Value) × (a ≡ Some x) × (b ≡ Some x)
+neither_null : (a b : Bool) → not (a || b) ≡ true → a ≡ false
+neither_null true b h = absurd (false≢true h)
+neither_null false b h = refl
+
+-- an equality of one value holds unless it is NULL
+pub equal_holds : (x y : Value) → is_null y ≡ false → is_eq (value_cmp x y) ≡ true → x ≡ y → compares op.Eq (Some x) (Some y) ≡ true
+equal_holds x y plain same e = rw (ap is_null e ∙ plain, plain, same) refl
+
+-- where an equality holds both sides are there, and are one value, which isn't NULL
+pub both_are : (a b : Option Value) → compares op.Eq a b ≡ true → (x : Value) × (a ≡ Some x) × (b ≡ Some x) × (is_null x ≡ false)
 both_are None b h = absurd (false≢true h)
 both_are (Some x) None h = absurd (false≢true h)
-both_are (Some x) (Some y) h = (x, refl, ap (λ (v : Value). Some v) (sym (equal value_cmp value_cmp_total value_cmp_only x y h)))
+both_are (Some x) (Some y) h =
+    let parts = and_parts (may_hold op.Eq x y) (is_eq (value_cmp x y)) h in
+    (x, refl, ap (λ (v : Value). Some v) (sym (equal value_cmp value_cmp_total value_cmp_only x y parts.1)), neither_null (is_null x) (is_null y) parts.0)
 
 pub equality : (o : Op) → is_equality o ≡ true → o ≡ op.Eq
 equality op.Eq h = refl
@@ -37,6 +48,7 @@ equality op.Lt h = absurd (false≢true h)
 equality op.Le h = absurd (false≢true h)
 equality op.Gt h = absurd (false≢true h)
 equality op.Ge h = absurd (false≢true h)
+equality op.IsNull h = absurd (false≢true h)
 
 pub last : (c : List (List Value)) (r : List Value) (i : ℕ) → suc (length c) ≡ i → row_of i (c ++ r ∷ []) ≡ r
 last c r i l = ap (λ (k : ℕ). get_or (c ++ r ∷ []) k []) (omega arith) ∙ at c r
@@ -83,7 +95,7 @@ module _ (q : Question) (named : (p : Pred) → In p q.query.preds → IsNamedPr
           ap (λ (row : List Value). slice_get row col.col) (earlier_row c (r ∷ []) col.rel low (omega arith))
 
   -- the row of a fixed column has what the first equality in the text ties it to
-  pub tied_one : (i k : ℕ) → In k (map (λ (p : Pred). p.left.col) (filter (ties i) q.query.preds)) → (c : List (List Value)) (r : List Value) → suc (length c) ≡ i → keeps q i (c ++ r ∷ []) ≡ true → (x : Value) × (slice_get r k ≡ Some x) × (tied_value q i c k ≡ Some x)
+  pub tied_one : (i k : ℕ) → In k (map (λ (p : Pred). p.left.col) (filter (ties i) q.query.preds)) → (c : List (List Value)) (r : List Value) → suc (length c) ≡ i → keeps q i (c ++ r ∷ []) ≡ true → (x : Value) × (slice_get r k ≡ Some x) × (tied_value q i c k ≡ Some x) × (is_null x ≡ false)
   tied_one i k here c r l keep =
       let m = in_map (λ (p : Pred). p.left.col) k (filter (ties i) q.query.preds) here in
       let at = in_filter (ties i) m.0 q.query.preds m.1 in
@@ -99,7 +111,7 @@ module _ (q : Question) (named : (p : Pred) → In p q.query.preds → IsNamedPr
       let right : side q.params (c ++ r ∷ []) p.right ≡ side q.params c p.right = earlier_side i c r p f.2 l outer.1 in
       let equal : compares op.Eq (slice_get r k) (side q.params c p.right) ≡ true = sym (λ x. compares (equality p.op inner.0 x) (left x) (right x)) ∙ held in
       let e = both_are (slice_get r k) (side q.params c p.right) equal in
-      (e.0, e.1, ap (option_and_then (λ (p : Pred). side q.params c p.right)) f.1 ∙ e.2)
+      (e.0, e.1, ap (option_and_then (λ (p : Pred). side q.params c p.right)) f.1 ∙ e.2, e.3)
 
   -- the tied values at some columns
   abbrev pub tied_values : ℕ → List ℕ → List (List Value) → List Value
@@ -112,14 +124,21 @@ module _ (q : Question) (named : (p : Pred) → In p q.query.preds → IsNamedPr
       let one : get_or r k no_value ≡ unwrap_or (tied_value q i c k) no_value = get_or_from_slice_get r k e.0 no_value e.1 ∙ sym (ap (λ (o : Option Value). unwrap_or o no_value) e.2) in
       λ x. one x ∷ tied_are i ks (λ n there. h n (inr there)) c r l keep x
 
+  tied_plain : (i : ℕ) (columns : List ℕ) → ((k : ℕ) → In k columns → In k (map (λ (p : Pred). p.left.col) (filter (ties i) q.query.preds))) → (c : List (List Value)) (r : List Value) → suc (length c) ≡ i → keeps q i (c ++ r ∷ []) ≡ true → has_null (tied_values i columns c) ≡ false
+  tied_plain i [] h c r l keep = refl
+  tied_plain i (k ∷ ks) h c r l keep =
+      let e = tied_one i k (h k (inl refl)) c r l keep in
+      let one : is_null (unwrap_or (tied_value q i c k) no_value) ≡ false = ap (λ (o : Option Value). is_null (unwrap_or o no_value)) e.2 ∙ e.3 in
+      ap (λ b. b || has_null (tied_values i ks c)) one ∙ tied_plain i ks (λ n there. h n (inr there)) c r l keep
+
   pub tied : (i : ℕ) (columns : List ℕ) → ((k : ℕ) → In k columns → In k (map (λ (p : Pred). p.left.col) (filter (ties i) q.query.preds))) → Tied q i columns
-  tied i columns h = record { values = tied_values i columns; are = tied_are i columns h }
+  tied i columns h = record { values = tied_values i columns; are = tied_are i columns h; plain = tied_plain i columns h }
 
   -- a row that passes matches at fixed columns
   pub passes_match : (i : ℕ) (columns : List ℕ) → ((k : ℕ) → In k columns → In k (map (λ (p : Pred). p.left.col) (filter (ties i) q.query.preds))) → (c : List (List Value)) (r : List Value) → suc (length c) ≡ i → keeps q i (c ++ r ∷ []) ≡ true → is_match q i columns c r ≡ true
   passes_match i columns h c r l keep = all_from (λ k. compares op.Eq (slice_get r k) (tied_value q i c k)) columns (λ k here.
       let e = tied_one i k (h k here) c r l keep in
-      (λ x. compares op.Eq (e.1 x) (e.2 x)) ∙ same_value e.0)
+      (λ x. compares op.Eq (e.1 x) (e.2 x)) ∙ equal_holds e.0 e.0 e.3 (same_value e.0) refl)
     where
       same_value : (x : Value) → is_eq (value_cmp x x) ≡ true
       same_value x = same_test value_cmp value_cmp_total x x refl

@@ -8,7 +8,7 @@ use Rattle.std.proofs.lemmas.Bool.{eqb-true, false≢true, false_from_ne_true}
 use Rattle.std.proofs.lemmas.Option.{none-some, same_Some}
 use Rattle.pq_base.specs.Members.{In, Apart}
 use Rattle.pq_base.specs.Order.{value_cmp}
-use Rattle.pq_base.specs.Values.{AllFit}
+use Rattle.pq_base.specs.Values.{AllFit, has_null}
 use Rattle.pq_base.specs.declared.value.Value.{Value}
 use Rattle.pq_schema.specs.declared.table.Foreign.{Foreign}
 use Rattle.pq_schema.specs.declared.table.Limit.{Limit}
@@ -97,17 +97,17 @@ module _ (tables : List Table) (rows : Rows) (kept : KeepsSchema tables rows) wh
   rows_apart t = keys_apart tables rows kept.apart t
 
   -- at most n rows agree on the columns of a limit
-  pub limit_kept : (t : ℕ) → IsTableNumber tables t → (limit : Limit) → In limit (table_at tables t).limits → (values : List Value) → length (filter (λ row. eq_by_cmp row_cmp (cells limit.cols row) values) (rows_of t rows)) ≤ limit.n
-  limit_kept t number limit here values =
+  pub limit_kept : (t : ℕ) → IsTableNumber tables t → (limit : Limit) → In limit (table_at tables t).limits → (values : List Value) → has_null values ≡ false → length (filter (λ row. eq_by_cmp row_cmp (cells limit.cols row) values) (rows_of t rows)) ≤ limit.n
+  limit_kept t number limit here values plain =
       let same : filter (λ row. eq_by_cmp row_cmp (cells limit.cols row) values) (rows_of t rows) ≡ group_of t limit.cols values rows =
       filter_same (λ row. eq_by_cmp row_cmp (cells limit.cols row) values) (agrees limit.cols values) (rows_of t rows) (each_by_in _ (rows_of t rows) (λ row _. tests_alike (cells limit.cols row) values)) in
-      subst (λ (l : List (List Value)). length l ≤ limit.n) (sym same) (each_in (IsWithinLimit t rows) (table_at tables t).limits (kept.limits t number) limit here values)
+      subst (λ (l : List (List Value)). length l ≤ limit.n) (sym same) (each_in (IsWithinLimit t rows) (table_at tables t).limits (kept.limits t number) limit here values plain)
 
-  -- each foreign key of a row names the key of a row
-  pub parent_kept : (t : ℕ) (foreign : Foreign) → In foreign (table_at tables t).foreign → (row : List Value) → In row (rows_of t rows) → (parent : List Value) × In parent (rows_of foreign.table rows) × (cells (table_at tables foreign.table).key parent ≡ cells foreign.cols row)
-  parent_kept t foreign there row here =
+  -- each foreign key of a row without NULL in its columns names the key of a row
+  pub parent_kept : (t : ℕ) (foreign : Foreign) → In foreign (table_at tables t).foreign → (row : List Value) → In row (rows_of t rows) → has_null (cells foreign.cols row) ≡ false → (parent : List Value) × In parent (rows_of foreign.table rows) × (cells (table_at tables foreign.table).key parent ≡ cells foreign.cols row)
+  parent_kept t foreign there row here plain =
       let all = each_row (λ n r. AllByRecursion (HasParent tables rows r) (table_at tables n).foreign) rows kept.foreign t row here in
-      let has = each_in (HasParent tables rows row) (table_at tables t).foreign all foreign there in
+      let has = each_in (HasParent tables rows row) (table_at tables t).foreign all foreign there plain in
       let found = some_there (row_at tables rows foreign.table (cells foreign.cols row)) has in
       let is = find_passes (agrees (table_at tables foreign.table).key (cells foreign.cols row)) (rows_of foreign.table rows) found.0 found.1 in
       (found.0, is.0, (values_decide (cells (table_at tables foreign.table).key found.0) (cells foreign.cols row)).0 is.1)

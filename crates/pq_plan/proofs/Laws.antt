@@ -1,8 +1,9 @@
 -- What is known of a query over tables that keep the schema, and of a total relation.
-use Rattle.std.proofs.Common.{◌≡◌, ℕ, suc, ◌<◌, ◌≤◌, true, List, [], ◌∷◌, ◌++◌, length, filter, Option, Some}
+use Rattle.std.proofs.Common.{◌≡◌, ℕ, suc, ◌<◌, ◌≤◌, true, false, List, [], ◌∷◌, ◌++◌, length, filter, Option, Some}
 use Rattle.std.specs.List.{AllByRecursion}
 use Rattle.std.specs.Ordering.{eq_by_cmp}
 use Rattle.pq_base.specs.declared.value.Value.{Value}
+use Rattle.pq_base.specs.Values.{has_null}
 use Rattle.pq_schema.specs.declared.query.Pred.{Pred}
 use Rattle.pq_schema.specs.declared.query.OrderItem.{OrderItem}
 use Rattle.pq_schema.specs.Relations.{belongs_to}
@@ -21,12 +22,13 @@ pub record IsOf (q : Question) (p : Pred) : Type 0 where
 pub record Tied (q : Question) (i : ℕ) (columns : List ℕ) : Type 0 where
   pub values : List (List Value) → List Value
   pub are : (c : List (List Value)) (r : List Value) → suc (length c) ≡ i → keeps q i (c ++ r ∷ []) ≡ true → cells columns r ≡ values c
+  pub plain : (c : List (List Value)) (r : List Value) → suc (length c) ≡ i → keeps q i (c ++ r ∷ []) ≡ true → has_null (values c) ≡ false
 
--- at most n rows of relation i agree on columns that are tied
+-- at most n rows of relation i agree on columns that are tied, where none is NULL
 pub record Limited (q : Question) (i n : ℕ) : Type 0 where
   pub columns : List ℕ
   pub tied : Tied q i columns
-  pub few : (v : List Value) → length (filter (λ r. eq_by_cmp row_cmp (cells columns r) v) (rows_at q i)) ≤ n
+  pub few : (v : List Value) → has_null v ≡ false → length (filter (λ r. eq_by_cmp row_cmp (cells columns r) v) (rows_at q i)) ≤ n
 
 -- relation i is a lookup, and each row of an earlier relation names a row that passes
 pub record Total (q : Question) (i : ℕ) : Type 0 where

@@ -33,7 +33,7 @@ use Rattle.pq_plan.proofs.PlanMeaning.{range_push, range_more}
 -- no rows keep every schema
 none_within : (t : ℕ) (limits : List Limit) → AllByRecursion (IsWithinLimit t []) limits
 none_within t [] = tt
-none_within t (limit ∷ limits) = ((λ values. omega arith), none_within t limits)
+none_within t (limit ∷ limits) = ((λ values plain. omega arith), none_within t limits)
 
 pub no_rows_keep : (tables : List Table) → KeepsSchema tables []
 no_rows_keep tables = record { known = tt; fit = tt; apart = tt; limits = λ t number. none_within t (table_at tables t).limits; foreign = tt }

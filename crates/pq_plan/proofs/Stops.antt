@@ -1,12 +1,13 @@
 -- On tables that keep the limits, a DataStop drops nothing.
-use Rattle.std.proofs.Common.{◌≡◌, ℕ, zero, suc, ◌-◌, ◌<◌, ◌≤◌, Bool, true, false, cond, ◌&&◌, List, [], ◌∷◌, ◌++◌, length, map, filter, take, refl, sym, ap, ◌∙◌, subst, arith}
+use Rattle.std.proofs.Common.{◌≡◌, ℕ, zero, suc, ◌-◌, ◌<◌, ◌≤◌, Bool, true, false, cond, ◌&&◌, ◌⊎◌, inl, inr, List, [], ◌∷◌, ◌++◌, length, map, filter, take, refl, sym, ap, ◌∙◌, subst, arith}
 use Rattle.std.specs.Ordering.{is_lt, eq_by_cmp}
 use Rattle.std.specs.List.{AllByRecursion}
 use Rattle.std.specs.Cmp.{tied_itself}
-use Rattle.std.proofs.lemmas.Bool.{lt-ltb, and_parts}
+use Rattle.std.proofs.lemmas.Bool.{lt-ltb, and_parts, false≢true}
 use Rattle.std.proofs.lemmas.List.{take_at, same_from_push}
 use Rattle.std.proofs.lemmas.List.Sums.{length-filter}
 use Rattle.pq_base.specs.declared.value.Value.{Value}
+use Rattle.pq_base.specs.Values.{has_null}
 use Rattle.pq_base.specs.Members.{Apart}
 use Rattle.pq_plan.specs.Answer.{Question, rows_at}
 use Rattle.pq_plan.specs.Kept.{row_cmp, cells}
@@ -106,10 +107,24 @@ module _ (q : Question) where
   limited i n l c long =
       let t = l.tied in
       let v = t.values c in
-      let few = l.few v in
       let more = fewer_of (λ r. keeps q (suc i) (c ++ r ∷ [])) (λ r. eq_by_cmp row_cmp (cells l.columns r) v) (rows_at q (suc i)) (λ r k. same_test row_cmp row_total _ _ (t.are c r (ap suc long) k)) in
-      omega arith
+      elim (cases (has_null v)) [
+        | inl some ↦ none_of (λ r. keeps q (suc i) (c ++ r ∷ [])) (rows_at q (suc i)) (λ r k. false≢true (sym (t.plain c r (ap suc long) k) ∙ some))
+        | inr none ↦ let few = l.few v none in omega (arith, few, more)
+      ]
     where
+      cases : (b : Bool) → (b ≡ true) ⊎ (b ≡ false)
+      cases true = inl refl
+      cases false = inr refl
+
+      none_of : (p : List Value → Bool) (xs : List (List Value)) → ((x : List Value) → p x ≡ true → ⊥) → length (filter p xs) ≤ n
+      none_of p [] h = omega arith
+      none_of p (x ∷ xs) h =
+          elim (p x) as (λ b. p x ≡ b → length (cond b (x ∷ filter p xs) (filter p xs)) ≤ n) [
+            | true ↦ λ is. absurd (h x is)
+            | false ↦ λ _. none_of p xs h
+          ] refl
+
       fewer_of : (p r : List Value → Bool) (xs : List (List Value)) → ((x : List Value) → p x ≡ true → r x ≡ true) → length (filter p xs) ≤ length (filter r xs)
       fewer_of p r [] h = omega arith
       fewer_of p r (x ∷ xs) h =

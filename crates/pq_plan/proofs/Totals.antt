@@ -1,10 +1,15 @@
 -- A relation that the test of columns finds total is total, and so the trees of a query mean its answer.
-use Rattle.std.proofs.Common.{◌≡◌, Option, Some, ℕ, suc, ◌+◌, ◌-◌, ◌<◌, ◌≤◌, Bool, true, false, not, ◌&&◌, ◌||◌, ◌==◌, nat_le, inl, inr, List, [], ◌∷◌, ◌++◌, length, get_or, filter, zip, slice_get, refl, sym, ap, ◌∙◌, subst, arith}
+use Rattle.std.proofs.Common.{◌≡◌, T, Option, Some, ℕ, zero, suc, ◌+◌, ◌-◌, ◌<◌, ◌≤◌, Bool, true, false, not, ◌&&◌, ◌||◌, ◌==◌, nat_le, inl, inr, List, [], ◌∷◌, ◌++◌, length, get_or, filter, zip, slice_get, refl, sym, ap, ◌∙◌, subst, arith}
 use Rattle.std.specs.List.{list_all, range_with_len}
 use Rattle.std.proofs.lemmas.Bool.{and_parts, and_from, eqb-true, lt-ltb, leb-true, false≢true}
 use Rattle.std.proofs.lemmas.List.{length-map}
 use Rattle.pq_base.specs.declared.value.Value.{Value}
 use Rattle.pq_base.specs.Order.{value_cmp}
+use Rattle.pq_base.specs.declared.value.ColType.{ColType}
+use Rattle.pq_base.specs.declared.value.ColType.TheVariants as type
+use Rattle.pq_base.specs.declared.value.Value.TheVariants as value
+use Rattle.pq_base.specs.Values.{FitsType, AllFit, is_null, has_null, is_nullable}
+use Rattle.pq_schema.specs.Rows.{types_of}
 use Rattle.pq_schema.specs.declared.table.Table.{Table}
 use Rattle.pq_schema.specs.declared.table.Column.{Column}
 use Rattle.pq_schema.specs.declared.table.Foreign.{Foreign}
@@ -15,7 +20,7 @@ use Rattle.pq_schema.specs.declared.query.Pred.{Pred}
 use Rattle.pq_schema.specs.declared.query.OrderItem.{OrderItem}
 use Rattle.pq_schema.specs.declared.query.Query.{Query}
 use Rattle.pq_schema.specs.Sound.{IsQuery, IsForeign}
-use Rattle.pq_schema.specs.Tables.{table_at}
+use Rattle.pq_schema.specs.Tables.{table_at, type_at, have_no_null}
 use Rattle.pq_schema.specs.Relations.{relation_at, table_of, belongs_to, is_column, is_before, ties, spells, is_spelt, spells_one, is_whole, is_tied, is_total}
 use Rattle.pq_schema.specs.Candidates.{bound_at, can_stop_at, stop_size}
 use Rattle.pq_base.specs.Members.{In}
@@ -30,7 +35,7 @@ use Rattle.pq_plan.proofs.ValueOrder.{value_cmp_total}
 use Rattle.pq_plan.proofs.Apart.{same_test}
 use Rattle.pq_plan.proofs.Kept.{row_fits, parent_kept}
 use Rattle.pq_plan.proofs.Laws.{Total, Pushable}
-use Rattle.pq_plan.proofs.Fixed.{equality, last, earlier_row}
+use Rattle.pq_plan.proofs.Fixed.{equality, equal_holds, last, earlier_row}
 use Rattle.pq_plan.proofs.Bounds.{asked, number_at, linked, fixed_columns, keeps_over}
 use Rattle.pq_plan.proofs.Pushing.{build_keeps, place_keeps, push_keeps}
 
@@ -59,6 +64,24 @@ column_is (operand.Const v) rel col h = absurd (false≢true h)
 column_is (operand.Param n) rel col h = absurd (false≢true h)
 column_is (operand.Col at) rel col h = let both = and_parts _ _ h in (at, refl, eqb-true _ _ both.0, eqb-true _ _ both.1)
 
+not_true : (b : Bool) → not b ≡ true → b ≡ false
+not_true true h = absurd (false≢true h)
+not_true false h = refl
+
+-- a value that fits a type that isn't nullable isn't NULL
+admitted : (t : ColType) (x : Value) → FitsType t x → is_nullable t ≡ false → is_null x ≡ false
+admitted t value.Null h plain = absurd (subst T plain h.1)
+admitted t (value.Int n) h plain = refl
+admitted t (value.Bool b) h plain = refl
+admitted t (value.Text s) h plain = refl
+
+not_null : (ts : List ColType) (row : List Value) (k : ℕ) → AllFit ts row → is_nullable (get_or ts k type.Bool) ≡ false → is_null (get_or row k no_value) ≡ false
+not_null [] [] k h plain = refl
+not_null [] (x ∷ xs) k h plain = absurd h
+not_null (t ∷ ts) [] k h plain = absurd h
+not_null (t ∷ ts) (x ∷ xs) zero h plain = admitted t x h.0 plain
+not_null (t ∷ ts) (x ∷ xs) (suc k) h plain = not_null ts xs k h.1 plain
+
 one_of_two : (a b : Bool) → a ≡ true → (not a || b) ≡ true → b ≡ true
 one_of_two true b e h = h
 one_of_two false b e h = absurd (false≢true e)
@@ -71,7 +94,7 @@ module _ (tables : List Table) (query : Query) (rows : List (ℕ × List Value))
   number = number_at tables query rows params sound kept
 
   -- the foreign key of relation j is spelt whole at relation i, and nothing else belongs to i
-  module _ (i j : ℕ) (low : 1 ≤ j) (before : j < i) (within : i ≤ length query.relations) (f : Foreign) (here : In f (table_of tables query j).foreign) (same_table : f.table ≡ (relation_at query i).table) (whole : is_whole query i j (zip f.cols (table_of tables query i).key) ≡ true) where
+  module _ (i j : ℕ) (low : 1 ≤ j) (before : j < i) (within : i ≤ length query.relations) (f : Foreign) (here : In f (table_of tables query j).foreign) (same_table : f.table ≡ (relation_at query i).table) (plain : have_no_null (table_of tables query j).columns f.cols ≡ true) (whole : is_whole query i j (zip f.cols (table_of tables query i).key) ≡ true) where
     abbrev pairs : List (ℕ × ℕ)
     pairs = zip f.cols (table_of tables query i).key
 
@@ -107,6 +130,16 @@ module _ (tables : List Table) (query : Query) (rows : List (ℕ × List Value))
         subst (λ (n : ℕ). In n (fixed_columns tables query rows params sound kept i)) (eqb-true _ _ b.1)
         (map_in (λ (p : Pred). p.left.col) p (filter (ties i) query.preds) (filter_in (ties i) p query.preds any.1 (and_from _ _ b.0 tied)))
 
+    -- a row of relation j has no NULL in the foreign key
+    plain_at : (c : List (List Value)) → In (row_of j c) (rows_at q j) → (k : ℕ) → In k f.cols → is_null (get_or (row_of j c) k no_value) ≡ false
+    plain_at c inside k among =
+        not_null (types_of (table_of tables query j)) (row_of j c) k (row_fits tables rows kept (relation_at query j).table (row_of j c) inside)
+        (not_true (is_nullable (type_at (table_of tables query j).columns k)) (all_at (λ col. not (is_nullable (type_at (table_of tables query j).columns col))) f.cols plain k among))
+
+    no_null : (c : List (List Value)) → In (row_of j c) (rows_at q j) → (cols : List ℕ) → ((k : ℕ) → In k cols → In k f.cols) → has_null (cells cols (row_of j c)) ≡ false
+    no_null c inside [] h = refl
+    no_null c inside (k ∷ ks) h = ap (λ b. b || has_null (cells ks (row_of j c))) (plain_at c inside k (h k (inl refl))) ∙ no_null c inside ks (λ n there. h n (inr there))
+
     -- a row that has the values at the key passes
     passes : (c : List (List Value)) → suc (length c) ≡ i → In (row_of j c) (rows_at q j) → (r : List Value) → In r (rows_at q i) → cells (table_of tables query i).key r ≡ cells f.cols (row_of j c) → keeps q i (c ++ r ∷ []) ≡ true
     passes c l inside r at same = all_from (holds params (c ++ r ∷ [])) (filter (λ p. belongs_to p == i) query.preds) (λ p member.
@@ -129,8 +162,9 @@ module _ (tables : List Table) (query : Query) (rows : List (ℕ × List Value))
         ap (side params (c ++ r ∷ [])) right.1
         ∙ (λ x. slice_get (row_of (right.2 x) (c ++ r ∷ [])) (right.3 x))
         ∙ ap (λ (row : List Value). slice_get row e.0) (earlier_row c (r ∷ []) j low (omega arith)) ∙ get_at (row_of j c) e.0 no_value (omega arith) in
+        let equal = same_each f.cols (table_of tables query i).key r (row_of j c) same e any.1 in
         (λ x. compares (equality p.op a.0 x) (left_is x) (right_is x))
-        ∙ same_test value_cmp value_cmp_total (get_or r e.1 no_value) (get_or (row_of j c) e.0 no_value) (same_each f.cols (table_of tables query i).key r (row_of j c) same e any.1))
+        ∙ equal_holds (get_or r e.1 no_value) (get_or (row_of j c) e.0 no_value) (plain_at c inside e.0 among.0) (same_test value_cmp value_cmp_total (get_or r e.1 no_value) (get_or (row_of j c) e.0 no_value) equal) equal)
 
     spelt_total : Total q i
     spelt_total = record {
@@ -139,7 +173,7 @@ module _ (tables : List Table) (query : Query) (rows : List (ℕ × List Value))
       from_one = low;
       before = before;
       partner = λ c l inside.
-          let found = parent_kept tables rows kept (relation_at query j).table f here (row_of j c) inside in
+          let found = parent_kept tables rows kept (relation_at query j).table f here (row_of j c) inside (no_null c inside f.cols (λ k there. there)) in
           let at : In found.0 (rows_at q i) = subst (λ (n : ℕ). In found.0 (rows_of n rows)) same_table found.1 in
           let same : cells (table_of tables query i).key found.0 ≡ cells f.cols (row_of j c) = ap (λ (n : ℕ). cells (table_at tables n).key found.0) (sym same_table) ∙ found.2 in
           (found.0, at, passes c l inside found.0 at same);
@@ -149,9 +183,10 @@ module _ (tables : List Table) (query : Query) (rows : List (ℕ × List Value))
   total i within h =
       let a = any_at (is_tied tables query i) (range_with_len 1 (i - 1)) h in
       let between = in_range a.0 1 (i - 1) a.1 in
-      let b = any_at (λ (foreign : Foreign). (foreign.table == (relation_at query i).table) && is_whole query i a.0 (zip foreign.cols (table_of tables query i).key)) (table_of tables query a.0).foreign a.2 in
+      let b = any_at (λ (foreign : Foreign). ((foreign.table == (relation_at query i).table) && have_no_null (table_of tables query a.0).columns foreign.cols) && is_whole query i a.0 (zip foreign.cols (table_of tables query i).key)) (table_of tables query a.0).foreign a.2 in
       let both = and_parts _ _ b.2 in
-      spelt_total i a.0 between.0 (omega (arith, between.0, between.1)) within b.0 b.1 (eqb-true _ _ both.0) both.1
+      let front = and_parts _ _ both.0 in
+      spelt_total i a.0 between.0 (omega (arith, between.0, between.1)) within b.0 b.1 (eqb-true _ _ front.0) front.1 both.1
 
   -- ---- the trees
   pub built_answers : (after : Option (List Value)) → mean q after (tree_of_reads (length query.relations) (stop_size query.stop)) ≡ answered q after

@@ -13,6 +13,13 @@ use Rattle.pq_plan.specs.Kept.{row_cmp}
 use Rattle.pq_plan.specs.Meaning.{combo_cmp}
 
 antisymm : (x y : Value) → value_cmp x y ≡ ordering_reverse (value_cmp y x)
+antisymm value.Null value.Null = refl
+antisymm value.Null (value.Int b) = refl
+antisymm value.Null (value.Bool b) = refl
+antisymm value.Null (value.Text b) = refl
+antisymm (value.Int a) value.Null = refl
+antisymm (value.Bool a) value.Null = refl
+antisymm (value.Text a) value.Null = refl
 antisymm (value.Int a) (value.Int b) = int_cmp_total.antisymm a b
 antisymm (value.Bool a) (value.Bool b) = bool_cmp_total.antisymm a b
 antisymm (value.Text a) (value.Text b) = nat_list_cmp_total.antisymm a b
@@ -24,6 +31,22 @@ antisymm (value.Text a) (value.Int b) = refl
 antisymm (value.Text a) (value.Bool b) = refl
 
 trans : (x y z : Value) → value_cmp x y ≡ Less → value_cmp y z ≡ Less → value_cmp x z ≡ Less
+trans value.Null y (value.Int c) p r = refl
+trans value.Null y (value.Bool c) p r = refl
+trans value.Null y (value.Text c) p r = refl
+trans value.Null value.Null value.Null p r = cc
+trans value.Null (value.Int b) value.Null p r = cc
+trans value.Null (value.Bool b) value.Null p r = cc
+trans value.Null (value.Text b) value.Null p r = cc
+trans (value.Int a) value.Null z p r = cc
+trans (value.Bool a) value.Null z p r = cc
+trans (value.Text a) value.Null z p r = cc
+trans (value.Int a) (value.Int b) value.Null p r = cc
+trans (value.Int a) (value.Bool b) value.Null p r = cc
+trans (value.Int a) (value.Text b) value.Null p r = cc
+trans (value.Bool a) (value.Bool b) value.Null p r = cc
+trans (value.Bool a) (value.Text b) value.Null p r = cc
+trans (value.Text a) (value.Text b) value.Null p r = cc
 trans (value.Int a) (value.Int b) (value.Int c) p r = int_cmp_total.trans a b c p r
 trans (value.Bool a) (value.Bool b) (value.Bool c) p r = bool_cmp_total.trans a b c p r
 trans (value.Text a) (value.Text b) (value.Text c) p r = nat_list_cmp_total.trans a b c p r
@@ -42,6 +65,16 @@ trans (value.Text a) (value.Text b) (value.Int c) p r = cc
 trans (value.Text a) (value.Text b) (value.Bool c) p r = cc
 
 congr : (x y z : Value) → value_cmp x y ≡ Equal → value_cmp x z ≡ value_cmp y z
+congr value.Null value.Null z p = refl
+congr value.Null (value.Int b) z p = cc
+congr value.Null (value.Bool b) z p = cc
+congr value.Null (value.Text b) z p = cc
+congr (value.Int a) value.Null z p = cc
+congr (value.Bool a) value.Null z p = cc
+congr (value.Text a) value.Null z p = cc
+congr (value.Int a) (value.Int b) value.Null p = refl
+congr (value.Bool a) (value.Bool b) value.Null p = refl
+congr (value.Text a) (value.Text b) value.Null p = refl
 congr (value.Int a) (value.Int b) (value.Int c) p = int_cmp_total.congr a b c p
 congr (value.Bool a) (value.Bool b) (value.Bool c) p = bool_cmp_total.congr a b c p
 congr (value.Text a) (value.Text b) (value.Text c) p = nat_list_cmp_total.congr a b c p
@@ -68,6 +101,13 @@ bool_only true false h = cc
 bool_only false true h = cc
 
 pub value_cmp_only : IsAntisymmetric value_cmp
+value_cmp_only value.Null value.Null p = refl
+value_cmp_only value.Null (value.Int b) p = cc
+value_cmp_only value.Null (value.Bool b) p = cc
+value_cmp_only value.Null (value.Text b) p = cc
+value_cmp_only (value.Int a) value.Null p = cc
+value_cmp_only (value.Bool a) value.Null p = cc
+value_cmp_only (value.Text a) value.Null p = cc
 value_cmp_only (value.Int a) (value.Int b) p = ap value.Int (int_cmp-IsAntisymmetric a b p)
 value_cmp_only (value.Bool a) (value.Bool b) p = ap value.Bool (bool_only a b p)
 value_cmp_only (value.Text a) (value.Text b) p = ap value.Text (slice_cmp-IsAntisymmetric nat_cmp-IsAntisymmetric a b p)

@@ -3,12 +3,13 @@
 -- Tables are one list of rows, each with the number of its table. The combinations of a query are the
 -- product of its relations' rows in FROM order, kept where all predicates hold. They come in the order of
 -- their positions. With LIMIT k or PAGINATE k the answer has the first k strictly after the cursor.
-use Rattle.std.specs.Prelude.{ℕ, zero, suc, ◌-◌, Bool, false, not, List, [], ◌∷◌, ◌++◌, map, filter, flat_map, take, length, slice_get, slice_index_or, Option, Some, None}
+use Rattle.std.specs.Prelude.{ℕ, zero, suc, ◌-◌, Bool, false, not, ◌&&◌, ◌||◌, List, [], ◌∷◌, ◌++◌, map, filter, flat_map, take, length, slice_get, slice_index_or, Option, Some, None}
 use Rattle.std.specs.List.{list_all}
 use Rattle.std.specs.declared.cmp.Ordering.{Ordering}
 use Rattle.std.specs.Ordering.{is_eq, is_lt, is_gt}
 use Rattle.pq_base.specs.declared.value.Value.{Value}
 use Rattle.pq_base.specs.Order.{value_cmp, position_cmp}
+use Rattle.pq_base.specs.Values.{is_null}
 use Rattle.pq_schema.specs.declared.table.Table.{Table}
 use Rattle.pq_schema.specs.declared.query.ColRef.{ColRef}
 use Rattle.pq_schema.specs.declared.query.Op.{Op}
@@ -17,7 +18,7 @@ use Rattle.pq_schema.specs.declared.query.Operand.{Operand}
 use Rattle.pq_schema.specs.declared.query.Operand.TheVariants as operand
 use Rattle.pq_schema.specs.declared.query.Pred.{Pred}
 use Rattle.pq_schema.specs.declared.query.Query.{Query}
-use Rattle.pq_schema.specs.Relations.{relation_at, position_columns}
+use Rattle.pq_schema.specs.Relations.{relation_at, position_columns, is_null_test}
 pub use Rattle.pq_schema.specs.Rows.{rows_of, no_value}
 use Rattle.pq_schema.specs.Candidates.{stop_size}
 use Rattle.pq_base.specs.Sorting.{sort_by}
@@ -45,10 +46,15 @@ meets op.Lt order = is_lt order
 meets op.Le order = not (is_gt order)
 meets op.Gt order = is_gt order
 meets op.Ge order = not (is_lt order)
+meets op.IsNull order = is_eq order
 
--- both values are there, and their order meets the operator
+-- neither value is NULL, or it is asked whether one is
+abbrev pub may_hold : Op → Value → Value → Bool
+may_hold op left right = is_null_test op || not (is_null left || is_null right)
+
+-- both values are there, neither is NULL but behind IS NULL, and their order meets the operator
 abbrev pub compares : Op → Option Value → Option Value → Bool
-compares op (Some left) (Some right) = meets op (value_cmp left right)
+compares op (Some left) (Some right) = may_hold op left right && meets op (value_cmp left right)
 compares op (Some left) None = false
 compares op None right = false
 

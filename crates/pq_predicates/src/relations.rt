@@ -87,7 +87,7 @@ fn is_range(op: Op) -> bool
     ensures { result ≡ is_range op }
 {
     match op {
-        Op::Eq | Op::Ne => false,
+        Op::Eq | Op::Ne | Op::IsNull => false,
         Op::Lt | Op::Le | Op::Gt | Op::Ge => true,
     }
 }

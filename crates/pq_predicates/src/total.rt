@@ -3,11 +3,12 @@
 ghost use Rattle.std.specs.Prelude.{◌≡◌, ◌==◌, ◌&&◌, ◌≤◌, length, zip};
 ghost use Rattle.std.specs.List.{list_any, list_all};
 ghost use Rattle.pq_schema.specs.Sound.{IsQuery};
+ghost use Rattle.pq_schema.specs.Tables.{have_no_null};
 ghost use Rattle.pq_schema.specs.Relations.{relation_at, table_of, is_column, spells, is_spelt, spells_one, is_whole, is_tied, is_total};
 
 use crate::relations::belongs_to;
 use crate::tables::{table_number, table_of};
-use pq_schema::{Catalog, Foreign, Op, Operand, Pred, Query};
+use pq_schema::{Catalog, Column, Foreign, Op, Operand, Pred, Query, type_at};
 
 fn is_column(operand: &Operand, rel: u8, col: u8) -> bool
     ensures { result ≡ is_column operand.now rel col }
@@ -75,26 +76,43 @@ fn is_whole(query: &Query, rel: u8, earlier: u8, cols: &[u8], key: &[u8]) -> boo
     all_spelt(query, rel, earlier, cols, key) && all_spell_one(query, rel, earlier, cols, key)
 }
 
-fn ties_by(foreign: &Foreign, query: &Query, rel: u8, earlier: u8, number: u8, key: &[u8]) -> bool
-    ensures { result ≡ (foreign.now.table == number && is_whole query.now rel earlier (zip foreign.now.cols key.now)) }
+fn have_no_null(columns: &[Column], cols: &[u8]) -> bool
+    ensures { result ≡ have_no_null columns.now cols.now }
 {
-    foreign.table == number && is_whole(query, rel, earlier, foreign.cols.items(), key)
+    cols.iter().all(|col| !type_at(columns, *col).is_nullable())
 }
 
-fn some_ties(
-    foreign: &[Foreign],
+fn ties_by(
+    foreign: &Foreign,
+    columns: &[Column],
     query: &Query,
     rel: u8,
     earlier: u8,
     number: u8,
     key: &[u8],
 ) -> bool
-    ensures { result ≡ list_any (λ one. one.table == number
+    ensures { result ≡ (foreign.now.table == number && have_no_null columns.now foreign.now.cols
+        && is_whole query.now rel earlier (zip foreign.now.cols key.now)) }
+{
+    let cols = foreign.cols.items();
+    foreign.table == number
+        && have_no_null(columns, cols)
+        && is_whole(query, rel, earlier, cols, key)
+}
+
+fn some_ties(
+    foreign: &[Foreign],
+    columns: &[Column],
+    query: &Query,
+    rel: u8,
+    earlier: u8,
+    number: u8,
+    key: &[u8],
+) -> bool
+    ensures { result ≡ list_any (λ one. one.table == number && have_no_null columns.now one.cols
         && is_whole query.now rel earlier (zip one.cols key.now)) foreign.now }
 {
-    foreign
-        .iter()
-        .any(|one| ties_by(one, query, rel, earlier, number, key))
+    foreign.iter().any(|one| ties_by(one, columns, query, rel, earlier, number, key))
 }
 
 fn is_tied(catalog: &Catalog, query: &Query, rel: u8, earlier: u8) -> bool
@@ -109,6 +127,7 @@ fn is_tied(catalog: &Catalog, query: &Query, rel: u8, earlier: u8) -> bool
     let other = table_of(catalog, query, earlier);
     some_ties(
         other.foreign.items(),
+        other.columns.items(),
         query,
         rel,
         earlier,

@@ -40,6 +40,9 @@ abbrev pub type_text : ColType → List ℕ
 type_text type.Int = codes "INT"
 type_text type.Bool = codes "BOOL"
 type_text (type.Text most) = codes "TEXT(" ++ decimal most ++ codes ")"
+type_text type.NullInt = codes "INT NULL"
+type_text type.NullBool = codes "BOOL NULL"
+type_text (type.NullText most) = codes "TEXT(" ++ decimal most ++ codes ") NULL"
 
 unfoldable pub column_text : Column → List ℕ
 column_text column = column.name ++ codes " " ++ type_text column.ty
@@ -82,6 +85,7 @@ op_text op.Lt = codes "<"
 op_text op.Le = codes "<="
 op_text op.Gt = codes ">"
 op_text op.Ge = codes ">="
+op_text op.IsNull = codes "IS"
 
 abbrev pub operand_text : List Table → Query → Operand → List ℕ
 operand_text tables query (operand.Const value) = value_text value

@@ -18,6 +18,7 @@ abbrev pub quoted_text : List ℕ → List ℕ
 quoted_text text = codes "'" ++ flat_map doubled_quotes text ++ codes "'"
 
 abbrev pub value_text : Value → List ℕ
+value_text value.Null = codes "NULL"
 value_text (value.Int number) = signed_decimal number
 value_text (value.Bool truth) = truth_text truth
 value_text (value.Text text) = quoted_text text

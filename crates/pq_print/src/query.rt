@@ -63,6 +63,7 @@ fn op_word(op: Op) -> &'static str
         Op::Le => "<=",
         Op::Gt => ">",
         Op::Ge => ">=",
+        Op::IsNull => "IS",
     }
 }
 

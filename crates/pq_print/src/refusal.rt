@@ -41,6 +41,7 @@ fn number_of(refusal: &Refusal) -> &'static str
         Refusal::ForeignShape { .. } => number_at(refusal_place::FOREIGN_SHAPE),
         Refusal::Count { .. } => number_at(refusal_place::COUNT),
         Refusal::TooManyRows { .. } => number_at(refusal_place::TOO_MANY_ROWS),
+        Refusal::NullableKey { .. } => number_at(refusal_place::NULLABLE_KEY),
         Refusal::Alias { .. } => number_at(refusal_place::ALIAS),
         Refusal::OperandKind { .. } => number_at(refusal_place::OPERAND_KIND),
         Refusal::Params => number_at(refusal_place::PARAMS),
@@ -99,6 +100,7 @@ fn put_fields(refusal: &Refusal, out: &mut String) -> Result<(), AllocError>
         | Refusal::NoColumn { name }
         | Refusal::Repeated { name }
         | Refusal::Alias { name }
+        | Refusal::NullableKey { name }
         | Refusal::NoQuery { name } => put_name(name, out),
         Refusal::NoBound { alias } => put_name(alias, out),
         Refusal::TooManyRows { table }

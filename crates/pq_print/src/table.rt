@@ -20,6 +20,13 @@ fn put_type(ty: ColType, out: &mut String) -> Result<(), AllocError>
             put_number(out, most)?;
             out.push_str(")")
         }
+        ColType::NullInt => out.push_str("INT NULL"),
+        ColType::NullBool => out.push_str("BOOL NULL"),
+        ColType::NullText(most) => {
+            out.push_str("TEXT(")?;
+            put_number(out, most)?;
+            out.push_str(") NULL")
+        }
     }
 }
 

@@ -35,6 +35,7 @@ impl Part<()> for Value {
 
     fn put(&self, _scope: &(), out: &mut String) -> Result<(), AllocError> {
         match self {
+            Value::Null => out.push_str("NULL"),
             Value::Int(number) => put_number(out, *number),
             Value::Bool(true) => out.push_str("true"),
             Value::Bool(false) => out.push_str("false"),

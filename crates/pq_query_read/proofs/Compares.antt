@@ -1,17 +1,18 @@
 -- The predicates, the order and the stop of a query that is resolved.
-use Rattle.std.proofs.Common.{◌≡◌, ℕ, ℤ, pos, negsuc, ◌+◌, ◌<◌, ◌≤◌, true, false, not, ◌&&◌, inl, inr, List, [], ◌∷◌, ◌++◌, length, map, Some, None, Result, Ok, refl, ◌∙◌, sym, subst, arith}
+use Rattle.std.proofs.Common.{◌≡◌, ℕ, ℤ, pos, negsuc, ◌+◌, ◌<◌, ◌≤◌, Bool, true, false, not, ◌&&◌, ◌||◌, inl, inr, List, [], ◌∷◌, ◌++◌, length, map, Some, None, Result, Ok, refl, ◌∙◌, sym, subst, arith}
 use Rattle.std.specs.Prelude.{nat_le, nat_lt, ◌==◌, if◌then◌else◌, IfSome}
 use Rattle.std.specs.List.{AllByRecursion, IsDistinct, list_any}
-use Rattle.std.proofs.lemmas.Bool.{and_parts, not-false, not-true, ltb-true, ltb-false, leb-true, eqb-false, cases_eq}
+use Rattle.std.proofs.lemmas.Bool.{and_parts, not-false, not-true, ltb-true, ltb-false, leb-true, eqb-false, cases_eq, false≢true}
 use Rattle.std.proofs.lemmas.Option.{none-some, same_Some}
-use Rattle.pq_base.specs.Values.{FitsType}
+use Rattle.pq_base.specs.Values.{fits_type}
+use Rattle.pq_schema.specs.Relations.{is_null_test}
 use Rattle.pq_base.specs.declared.count_word.TheConstants as count_word
 use Rattle.pq_base.specs.declared.refusal.Refusal.{Refusal}
 use Rattle.pq_base.specs.declared.refusal.Refusal.TheVariants as refusal
 use Rattle.pq_schema.specs.Candidates.{stop_size as size_of}
 use Rattle.pq_schema.specs.ColumnNames.{repeated_name}
 use Rattle.pq_schema.specs.Definitions.{refused_if}
-use Rattle.pq_schema.specs.Resolved.{same_ref, param_type}
+use Rattle.pq_schema.specs.Resolved.{same_ref, param_type, IsConstant}
 use Rattle.pq_base.specs.Values.{same_kind}
 use Rattle.pq_base.proofs.TypeFits.{fits_exact}
 use Rattle.pq_schema.proofs.TypeKinds.{kind_flip}
@@ -40,6 +41,10 @@ use Rattle.pq_query_read.specs.Resolving.{operand_of, is_comparable, pred_with, 
 use Rattle.pq_query_read.specs.Parameters.{param_number}
 use Rattle.pq_query_read.proofs.Refs.{push_each, distinct_push, nothing_distinct, ref_found}
 
+other_holds : (a b : Bool) → a ≡ false → (a || b) ≡ true → b ≡ true
+other_holds true b is h = absurd (false≢true (sym is))
+other_holds false b is h = h
+
 module _ (tables : List Table) (relations : List Relation) where
   -- ---- WHERE
 
@@ -50,8 +55,8 @@ module _ (tables : List Table) (relations : List Relation) where
     pub kind : same_kind (type_of tables relations left) (type_of tables relations right) ≡ true
 
   abbrev pub IsSide : Op → ColRef → Operand → Type 0
-  IsSide o left (operand.Const v) = FitsType (param_type (type_of tables relations left)) v
-  IsSide o left (operand.Param number) = Unit {0}
+  IsSide o left (operand.Const v) = IsConstant o (param_type (type_of tables relations left)) v
+  IsSide o left (operand.Param number) = is_null_test o ≡ false
   IsSide o left (operand.Col right) = IsJoin o left right
 
   pub record IsCompared (pred : Pred) : Type 0 where
@@ -77,24 +82,27 @@ module _ (tables : List Table) (relations : List Relation) where
       below : right.rel ≤ left.rel → right.rel < left.rel
       below le = let other = eqb-false right.rel left.rel (not-true (right.rel == left.rel) parts.0) in elim (cases_eq right.rel left.rel) [ inl same ↦ absurd (other same) | inr apart ↦ omega (arith, le, apart) ]
 
-  compared : (left : ColRef) (o : Op) (def : OperandDef) (right : Operand) → IsIn tables relations left → IsOperandDef o def → operand_of tables relations def ≡ Ok right → is_comparable tables relations left right ≡ true → IsCompared (pred_with left o right)
+  compared : (left : ColRef) (o : Op) (def : OperandDef) (right : Operand) → IsIn tables relations left → IsOperandDef o def → operand_of tables relations def ≡ Ok right → is_comparable tables relations o left right ≡ true → IsCompared (pred_with left o right)
   compared left o (operand_def.Const v) right at known is fits =
       let same = same_answer (operand.Const v) right is in
-      subst (λ r. IsCompared (pred_with left o r)) same (record { left = at; right = fits_exact (param_type (type_of tables relations left)) v known (subst (λ r. is_comparable tables relations left r ≡ true) (sym same) fits) })
+      subst (λ r. IsCompared (pred_with left o r)) same (record {
+        left = at;
+        right = (λ test. fits_exact (param_type (type_of tables relations left)) v known.0 (other_holds (is_null_test o) (fits_type (param_type (type_of tables relations left)) v) test (subst (λ r. is_comparable tables relations o left r ≡ true) (sym same) fits)), known.1);
+      })
   compared left o (operand_def.Param number) right at known is fits =
-      subst (λ r. IsCompared (pred_with left o r)) (same_answer (operand.Param (param_number number)) right is) (record { left = at; right = tt })
+      subst (λ r. IsCompared (pred_with left o r)) (same_answer (operand.Param (param_number number)) right is) (record { left = at; right = known })
   compared left o (operand_def.Ref def) right at equal is fits =
       let parts = both (ref_of tables relations def) (λ ref. Ok (operand.Col ref)) right is in
       let same = same_answer (operand.Col parts.0) right parts.2 in
-      subst (λ r. IsCompared (pred_with left o r)) same (joined left parts.0 o equal at (ref_found tables relations def parts.0 parts.1) (subst (λ r. is_comparable tables relations left r ≡ true) (sym same) fits))
+      subst (λ r. IsCompared (pred_with left o r)) same (joined left parts.0 o equal at (ref_found tables relations def parts.0 parts.1) (subst (λ r. is_comparable tables relations o left r ≡ true) (sym same) fits))
 
   pred_kept : (before : List Pred) (def : PredDef) (pred : Pred) → IsPredDef def → AllByRecursion IsCompared before → pred_of tables relations before def ≡ Ok pred → AllByRecursion IsCompared (before ++ pred ∷ [])
   pred_kept before def pred known all is =
       push_each IsCompared before pred all (subst IsCompared (same_answer (pred_with first.0 def.op second.0) pred third.2)
-      (compared first.0 def.op def.right second.0 (ref_found tables relations def.left first.0 first.1) known second.1 (not-false (is_comparable tables relations first.0 second.0) (not_so (not (is_comparable tables relations first.0 second.0)) (refusal.OperandKind (length before + 1)) third.0 third.1))))
+      (compared first.0 def.op def.right second.0 (ref_found tables relations def.left first.0 first.1) known second.1 (not-false (is_comparable tables relations def.op first.0 second.0) (not_so (not (is_comparable tables relations def.op first.0 second.0)) (refusal.OperandKind (length before + 1)) third.0 third.1))))
     where
       tested : ColRef → Operand → Result Pred Refusal
-      tested left right = passed_unless (refused_if (not (is_comparable tables relations left right)) (refusal.OperandKind (length before + 1))) >>= λ comparable. Ok (pred_with left def.op right)
+      tested left right = passed_unless (refused_if (not (is_comparable tables relations def.op left right)) (refusal.OperandKind (length before + 1))) >>= λ comparable. Ok (pred_with left def.op right)
 
       first : (left : ColRef) × (ref_of tables relations def.left ≡ Ok left) × ((operand_of tables relations def.right >>= tested left) ≡ Ok pred)
       first = both (ref_of tables relations def.left) (λ left. operand_of tables relations def.right >>= tested left) pred is
@@ -102,8 +110,8 @@ module _ (tables : List Table) (relations : List Relation) where
       second : (right : Operand) × (operand_of tables relations def.right ≡ Ok right) × (tested first.0 right ≡ Ok pred)
       second = both (operand_of tables relations def.right) (tested first.0) pred first.2
 
-      third : (u : Unit {0}) × (passed_unless (refused_if (not (is_comparable tables relations first.0 second.0)) (refusal.OperandKind (length before + 1))) ≡ Ok u) × SameOk (pred_with first.0 def.op second.0) pred
-      third = both (passed_unless (refused_if (not (is_comparable tables relations first.0 second.0)) (refusal.OperandKind (length before + 1)))) (λ comparable. Ok (pred_with first.0 def.op second.0)) pred second.2
+      third : (u : Unit {0}) × (passed_unless (refused_if (not (is_comparable tables relations def.op first.0 second.0)) (refusal.OperandKind (length before + 1))) ≡ Ok u) × SameOk (pred_with first.0 def.op second.0) pred
+      third = both (passed_unless (refused_if (not (is_comparable tables relations def.op first.0 second.0)) (refusal.OperandKind (length before + 1)))) (λ comparable. Ok (pred_with first.0 def.op second.0)) pred second.2
 
   pub preds_compared : (defs : List PredDef) (preds : List Pred) → AllByRecursion IsPredDef defs → each_after (pred_of tables relations) [] defs ≡ Ok preds → AllByRecursion IsCompared preds
   preds_compared defs preds known is = each_keeps (pred_of tables relations) IsPredDef (AllByRecursion IsCompared) pred_kept defs [] preds known tt is

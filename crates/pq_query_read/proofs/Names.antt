@@ -116,7 +116,7 @@ all_ascii [] all i = omega arith
 all_ascii (b ∷ bs) all zero = name_ascii b (and_parts (is_name_byte b) (list_all is_name_byte bs) all).0
 all_ascii (b ∷ bs) all (suc i) = all_ascii bs (and_parts (is_name_byte b) (list_all is_name_byte bs) all).1 i
 
-checked_name : (bs : List ℕ) → list_all is_name_byte bs ≡ true → utf8_text bs ≡ Some bs
+pub checked_name : (bs : List ℕ) → list_all is_name_byte bs ≡ true → utf8_text bs ≡ Some bs
 unfolding utf8_text
 checked_name bs all = rw (is_utf8-from_IsUtf8 bs (IsUtf8-from_ascii bs (all_ascii bs all))) refl
 

@@ -8,6 +8,7 @@ use Rattle.std.proofs.lemmas.Option.{none-some}
 use Rattle.pq_base.specs.declared.refusal.Refusal.TheVariants as refusal
 use Rattle.pq_base.specs.declared.value.ColType.{ColType}
 use Rattle.pq_base.specs.declared.value.ColType.TheVariants as type
+use Rattle.pq_schema.proofs.TypeKinds.{params_alike}
 use Rattle.pq_schema.specs.Definitions.{refused_if}
 use Rattle.pq_schema.specs.Resolved.{IsParam, param_type, is_param, is_used}
 use Rattle.pq_base.specs.Values.{same_kind}
@@ -68,15 +69,7 @@ pub IsParamType : ColType → Type 0
 IsParamType t = (c : ColType) × (t ≡ param_type c)
 
 param_types : (a b : ColType) → same_kind (param_type a) (param_type b) ≡ true → param_type a ≡ param_type b
-param_types type.Int type.Int is = refl
-param_types type.Int type.Bool is = absurd (false≢true is)
-param_types type.Int (type.Text n) is = absurd (false≢true is)
-param_types type.Bool type.Int is = absurd (false≢true is)
-param_types type.Bool type.Bool is = refl
-param_types type.Bool (type.Text n) is = absurd (false≢true is)
-param_types (type.Text m) type.Int is = absurd (false≢true is)
-param_types (type.Text m) type.Bool is = absurd (false≢true is)
-param_types (type.Text m) (type.Text n) is = refl
+param_types = params_alike
 
 -- ---- the uses of parameters
 

@@ -1,7 +1,9 @@
 -- Queries as texts spell them: their aliases are names, and their constants are in their kinds' ranges.
-use Rattle.std.specs.Prelude.{◌≡◌}
+use Rattle.std.specs.Prelude.{◌≡◌, true, false}
 use Rattle.std.specs.List.{AllByRecursion}
 use Rattle.pq_base.specs.Values.{IsValue}
+use Rattle.pq_base.specs.declared.value.Value.TheVariants as value
+use Rattle.pq_schema.specs.Relations.{is_null_test}
 use Rattle.pq_schema.specs.Names.{IsName}
 use Rattle.pq_schema.specs.declared.query.Op.{Op}
 use Rattle.pq_schema.specs.declared.query.Op.TheVariants as op
@@ -15,10 +17,10 @@ use Rattle.pq_query_read.specs.declared.select.SelectDef.{SelectDef}
 abbrev pub IsRelationDef : RelationDef → Type 0
 IsRelationDef def = IsName (alias_of def)
 
--- a constant in its kind's range; only equalities have a column on the right
+-- a constant in its kind's range, NULL behind IS NULL; only equalities have a column on the right
 abbrev pub IsOperandDef : Op → OperandDef → Type 0
-IsOperandDef o (operand_def.Const value) = IsValue value
-IsOperandDef o (operand_def.Param number) = Unit {0}
+IsOperandDef o (operand_def.Const constant) = IsValue constant × (is_null_test o ≡ true → constant ≡ value.Null)
+IsOperandDef o (operand_def.Param number) = is_null_test o ≡ false
 IsOperandDef o (operand_def.Ref ref) = o ≡ op.Eq
 
 abbrev pub IsPredDef : PredDef → Type 0

@@ -1,10 +1,10 @@
 -- A query that reading gives is as texts spell it: names are names, and constants are in their kinds' ranges.
-use Rattle.std.proofs.Common.{◌≡◌, ℕ, ℤ, pos, negsuc, ◌^◌, Bool, true, false, cond, List, [], ◌∷◌, drop, Option, Some, None, Ok, refl, sym, subst, inl, inr}
+use Rattle.std.proofs.Common.{◌≡◌, ℕ, ℤ, pos, negsuc, ◌^◌, Bool, true, false, cond, List, [], ◌∷◌, drop, Option, Some, None, Ok, refl, sym, subst, ◌∙◌, inl, inr}
 use Rattle.std.specs.Prelude.{FitsSigned, ◌==◌, zero, suc, length, map, nat_le, unwrap_or}
 use Rattle.std.specs.Int.{w64}
 use Rattle.std.specs.List.{AllByRecursion}
 use Rattle.std.specs.Str.{is_utf8}
-use Rattle.std.proofs.lemmas.Bool.{ltb-true}
+use Rattle.std.proofs.lemmas.Bool.{ltb-true, false≢true}
 use Rattle.std.proofs.lemmas.Option.{none-some, same_Some}
 use Rattle.std.proofs.lemmas.Str.{IsUtf8-from_is_utf8}
 use Rattle.pq_base.specs.Values.{IsValue}
@@ -18,20 +18,21 @@ use Rattle.pq_text.proofs.Spans.{tokens_have_forms}
 use Rattle.pq_grammar.specs.Language.{◌⋅◌, optional}
 use Rattle.pq_grammar.proofs.Steps.{never}
 use Rattle.pq_grammar.proofs.Whole.{whole_found}
-use Rattle.pq_shape.specs.Front.{truth_of, value_in}
+use Rattle.pq_shape.specs.Front.{truth_of, constant_in}
 use Rattle.pq_shape.specs.Numbers.{has_64_bits, fitting_number, signed_number}
-use Rattle.pq_shape.specs.Parts.{word, name as a_name, a_value}
+use Rattle.pq_shape.specs.Parts.{word, name as a_name, a_constant}
 use Rattle.pq_base.specs.Words.{keywords, uppercase_byte}
 use Rattle.pq_shape.specs.Shapes.{shape_of, shapes_of, kind_shape, utf8_text, between_quotes, text_shape, number_or_other, keyword_or, named_shape, name_shape, word_place, lowercase_bytes, mark_code}
 use Rattle.pq_shape.specs.declared.keyword.TheConstants.{AND, FALSE, TRUE}
 use Rattle.pq_shape.specs.declared.shape.Shape.{Shape}
 use Rattle.pq_shape.specs.declared.shape.Shape.TheVariants as shape
 use Rattle.pq_schema.specs.Names.{IsName}
+use Rattle.pq_schema.specs.Relations.{is_null_test}
 use Rattle.pq_schema.specs.declared.query.Op.{Op}
 use Rattle.pq_schema.specs.declared.query.Op.TheVariants as op
 use Rattle.pq_query_read.proofs.Named.{IsNamed, AreNamed, named_tokens}
 use Rattle.pq_query_read.proofs.Within.{GivesWithin, both_within, separated_gives}
-use Rattle.pq_query_read.specs.Grammar.{alias, relation, comma_or_join, compare, pred, conditions, SpellsSelect}
+use Rattle.pq_query_read.specs.Grammar.{alias, relation, comma_or_join, compare, comparison, pred, conditions, SpellsSelect}
 use Rattle.pq_query_read.specs.Reading.{select_at, select_read_at, select_of}
 use Rattle.pq_query_read.specs.declared.select.OperandDef.{OperandDef}
 use Rattle.pq_query_read.specs.declared.select.OperandDef.TheVariants as operand
@@ -43,7 +44,7 @@ use Rattle.pq_query_read.proofs.Spelled.{IsRelationDef, IsOperandDef, IsPredDef,
 
 -- the value that the shape stands for is in its kind's range
 IsValued : Shape → Type 0
-IsValued s = (v : Value) → value_in s ≡ Some v → IsValue v
+IsValued s = (v : Value) → constant_in s ≡ Some v → IsValue v
 
 abbrev IsKnown : Shape → Type 0
 IsKnown s = IsNamed s × IsValued s
@@ -61,17 +62,17 @@ is_int : (z : ℤ) (v : Value) → ◌≡◌ {A = Option Value} (Some (value.Int
 is_int z v e fits = subst IsValue (same_Some (value.Int z) v e) fits
 
 number_valued : (z : ℤ) → IsValued (number_or_other (fitting_number z))
-unfolding IsValued value_in fitting_number
+unfolding IsValued constant_in fitting_number
 number_valued z =
-    elim (has_64_bits z) as (λ b. has_64_bits z ≡ b → (v : Value) → value_in (number_or_other (cond b (Some z) None)) ≡ Some v → IsValue v) [
+    elim (has_64_bits z) as (λ b. has_64_bits z ≡ b → (v : Value) → constant_in (number_or_other (cond b (Some z) None)) ≡ Some v → IsValue v) [
       | true ↦ λ is v e. is_int z v e (number_fits z is)
       | false ↦ λ _ v e. absurd (none-some v e)
     ] refl
 
 text_valued : (bs : List ℕ) → IsValued (text_shape (utf8_text bs))
-unfolding IsValued value_in utf8_text
+unfolding IsValued constant_in utf8_text
 text_valued bs =
-    elim (is_utf8 bs) as (λ b. is_utf8 bs ≡ b → (v : Value) → value_in (text_shape (cond b (Some bs) None)) ≡ Some v → IsValue v) [
+    elim (is_utf8 bs) as (λ b. is_utf8 bs ≡ b → (v : Value) → constant_in (text_shape (cond b (Some bs) None)) ≡ Some v → IsValue v) [
       | true ↦ λ is v e. subst IsValue (same_Some (value.Text bs) v e) (IsUtf8-from_is_utf8 bs is)
       | false ↦ λ _ v e. absurd (none-some v e)
     ] refl
@@ -84,21 +85,21 @@ truth_valued false false v e = absurd (none-some v e)
 -- a word is a keyword or a name or nothing
 module _ where
   keyword_or_valued : (s : Shape) (o : Option ℕ) → IsValued s → IsValued (keyword_or s o)
-  unfolding IsValued value_in truth_of
+  unfolding IsValued constant_in truth_of
   keyword_or_valued s None h v e = h v e
   keyword_or_valued s (Some k) h v e = truth_valued (k == TRUE) (k == FALSE) v e
 
   named_valued : (o : Option (List ℕ)) → IsValued (named_shape o)
-  unfolding IsValued value_in
+  unfolding IsValued constant_in
   named_valued None v e = absurd (none-some v e)
   named_valued (Some n) v e = absurd (none-some v e)
 
   other_valued : IsValued shape.Other
-  unfolding IsValued value_in
+  unfolding IsValued constant_in
   other_valued v e = absurd (none-some v e)
 
   mark_valued : (c : ℕ) → IsValued (shape.Mark c)
-  unfolding IsValued value_in
+  unfolding IsValued constant_in
   mark_valued c v e = absurd (none-some v e)
 
   name_valued : (b : Bool) (o : Option (List ℕ)) → IsValued (cond b (named_shape o) shape.Other)
@@ -135,8 +136,9 @@ both_known = both_within IsKnown
 name_gives : Gives a_name IsName
 name_gives n w h known = (subst AreKnown h known).0.0 n refl
 
-value_gives : Gives a_value IsValue
-unfolding IsValued value_in
+value_gives : Gives a_constant IsValue
+unfolding IsValued constant_in
+value_gives value.Null w h known = tt
 value_gives (value.Int z) w h known = (subst AreKnown h known).0.1 (value.Int z) refl
 value_gives (value.Text t) w h known = (subst AreKnown h known).0.1 (value.Text t) refl
 value_gives (value.Bool b) w h known = tt
@@ -152,18 +154,23 @@ relation_gives r w h known = by r.alias h.back h.fits_back (both_known _ _ w h k
     by (Some a) back (inl spelt) known = name_gives a spelt.back spelt.fits_back (both_known _ _ back spelt known).1
     by (Some a) back (inr spelt) known = name_gives a back spelt known
 
-compare_gives : (o : Op) (right : OperandDef) (w : List Shape) → compare o right w → AreKnown w → IsOperandDef o right
-compare_gives o (operand.Const v) w h known = value_gives v h.back h.fits_back (both_known _ _ w h known).1
-compare_gives o (operand.Param z) w h known = tt
-compare_gives op.Eq (operand.Ref r) w h known = refl
-compare_gives op.Ne (operand.Ref r) w h known = absurd h
-compare_gives op.Lt (operand.Ref r) w h known = absurd h
-compare_gives op.Le (operand.Ref r) w h known = absurd h
-compare_gives op.Gt (operand.Ref r) w h known = absurd h
-compare_gives op.Ge (operand.Ref r) w h known = absurd h
+compare_gives : (o : Op) (right : OperandDef) (w : List Shape) → is_null_test o ≡ false → compare o right w → AreKnown w → IsOperandDef o right
+compare_gives o (operand.Const v) w test h known = (value_gives v h.back h.fits_back (both_known _ _ w h known).1, λ is. absurd (false≢true (sym test ∙ is)))
+compare_gives o (operand.Param z) w test h known = test
+compare_gives op.Eq (operand.Ref r) w test h known = refl
+compare_gives op.Ne (operand.Ref r) w test h known = absurd h
+compare_gives op.Lt (operand.Ref r) w test h known = absurd h
+compare_gives op.Le (operand.Ref r) w test h known = absurd h
+compare_gives op.Gt (operand.Ref r) w test h known = absurd h
+compare_gives op.Ge (operand.Ref r) w test h known = absurd h
+compare_gives op.IsNull (operand.Ref r) w test h known = absurd h
+
+comparison_gives : (o : Op) (right : OperandDef) (w : List Shape) → comparison (o, right) w → AreKnown w → IsOperandDef o right
+comparison_gives o right w (inl m) known = compare_gives o right w m.0 m.1 known
+comparison_gives o right w (inr n) known = subst (λ (y : Op × OperandDef). IsOperandDef y.0 y.1) n.1 (tt, λ is. refl)
 
 pred_gives : Gives pred IsPredDef
-pred_gives p w h known = compare_gives p.op p.right h.back h.fits_back (both_known _ _ w h known).1
+pred_gives p w h known = comparison_gives p.op p.right h.back h.fits_back (both_known _ _ w h known).1
 
 conditions_give : Gives conditions (AllByRecursion IsPredDef)
 conditions_give ps w (inl none) known = subst (AllByRecursion IsPredDef) (sym none.0) tt

@@ -1,13 +1,16 @@
 -- The grammar: how each part of a query is spelled, and the query.
-use Rattle.std.specs.Prelude.{◌≡◌, ℕ, ℤ, List, [], Option, ◌⊎◌}
+use Rattle.std.specs.Prelude.{◌≡◌, ℕ, ℤ, false, List, [], Option, ◌⊎◌}
+use Rattle.pq_base.specs.declared.value.Value.TheVariants as value
 use Rattle.pq_base.specs.declared.value.Dir.{Dir}
 use Rattle.pq_base.specs.declared.value.Dir.TheVariants as dir
-use Rattle.pq_grammar.specs.Language.{◌⋅◌, nothing, optional, separated_by}
+use Rattle.pq_grammar.specs.Language.{◌⋅◌, nothing, optional, separated_by, made_from}
+use Rattle.pq_schema.specs.Relations.{is_null_test}
 use Rattle.pq_schema.specs.declared.query.Op.{Op}
 use Rattle.pq_schema.specs.declared.query.Op.TheVariants as op
-use Rattle.pq_shape.specs.Parts.{word, mark, comma, name, number, a_value}
+use Rattle.pq_shape.specs.Parts.{word, mark, comma, name, number, soft, a_constant}
 use Rattle.pq_shape.specs.declared.keyword.TheConstants.{AND, AS, ASC, BY, DESC, FROM, JOIN, LIMIT, ORDER, PAGINATE, SELECT, WHERE}
 use Rattle.pq_shape.specs.declared.mark.TheConstants.{CLOSE_SQUARE, COLON, EQUAL, GREATER, GREATER_EQUAL, LESS, LESS_EQUAL, OPEN_SQUARE, POINT, SEMICOLON, STAR, UNEQUAL}
+use Rattle.pq_shape.specs.declared.soft.Soft.TheVariants as soft_word
 use Rattle.pq_shape.specs.declared.shape.Shape.{Shape}
 use Rattle.pq_query_read.specs.declared.select.ItemDef.{ItemDef}
 use Rattle.pq_query_read.specs.declared.select.OperandDef.{OperandDef}
@@ -37,6 +40,7 @@ relation r = name r.table ⋅ optional alias r.alias
 abbrev pub comma_or_join : List Shape → Type 0
 comma_or_join w = comma w ⊎ word JOIN w
 
+-- the mark of a comparison; IS NULL has none, and no mark is 0
 abbrev pub operator : Op → ℕ
 operator op.Eq = EQUAL
 operator op.Ne = UNEQUAL
@@ -44,15 +48,16 @@ operator op.Lt = LESS
 operator op.Le = LESS_EQUAL
 operator op.Gt = GREATER
 operator op.Ge = GREATER_EQUAL
+operator op.IsNull = 0
 
 -- "[" number [ ":" name ] "]": the name is for the reader alone
 abbrev pub param : ℤ → List Shape → Type 0
 param z w = (label : Option (List ℕ))
     × (mark OPEN_SQUARE ⋅ (number z ⋅ optional (λ n. mark COLON ⋅ name n) label) ⋅ mark CLOSE_SQUARE) w
 
--- op ( value | param ) | "=" ref
+-- op ( const | param ) | "=" ref
 abbrev pub compare : Op → OperandDef → List Shape → Type 0
-compare o (operand.Const v) = mark (operator o) ⋅ a_value v
+compare o (operand.Const v) = mark (operator o) ⋅ a_constant v
 compare o (operand.Param z) = mark (operator o) ⋅ param z
 compare op.Eq (operand.Ref r) = mark EQUAL ⋅ ref r
 compare op.Ne (operand.Ref r) = λ w. ⊥
@@ -60,10 +65,20 @@ compare op.Lt (operand.Ref r) = λ w. ⊥
 compare op.Le (operand.Ref r) = λ w. ⊥
 compare op.Gt (operand.Ref r) = λ w. ⊥
 compare op.Ge (operand.Ref r) = λ w. ⊥
+compare op.IsNull (operand.Ref r) = λ w. ⊥
 
--- ref op ( value | param ) | ref "=" ref
+-- IS NULL
+abbrev pub null_test : Op × OperandDef → List Shape → Type 0
+null_test = made_from (λ (u : Unit {0}). (op.IsNull, operand.Const value.Null))
+    (λ u. soft soft_word.Is ⋅ soft soft_word.Null)
+
+-- a comparison by an operator with a mark, or IS NULL
+abbrev pub comparison : Op × OperandDef → List Shape → Type 0
+comparison y w = ((is_null_test y.0 ≡ false) × compare y.0 y.1 w) ⊎ null_test y w
+
+-- ref op ( const | param ) | ref "=" ref | ref IS NULL
 abbrev pub pred : PredDef → List Shape → Type 0
-pred p = ref p.left ⋅ compare p.op p.right
+pred p = ref p.left ⋅ comparison (p.op, p.right)
 
 -- [ ASC | DESC ]
 abbrev pub direction : Dir → List Shape → Type 0

@@ -6,11 +6,13 @@ use Rattle.pq_grammar.specs.Reader.{Reader, pair_at, skip_at, close_at, map_at, 
 use Rattle.pq_schema.specs.declared.query.Op.{Op}
 use Rattle.pq_schema.specs.declared.query.Op.TheVariants as op
 use Rattle.pq_text.specs.declared.token.Token.{Token}
-use Rattle.pq_shape.specs.Front.{is_word_shape, is_mark_shape, is_name_shape, is_between, word_at, mark_at, between_at, name_at, number_at, value_shape_at}
+use Rattle.pq_shape.specs.Front.{is_word_shape, is_mark_shape, is_name_shape, is_soft_shape, soft_at, is_between, word_at, mark_at, between_at, name_at, number_at, constant_shape_at}
 use Rattle.pq_shape.specs.Shapes.{shapes_of}
 use Rattle.pq_shape.specs.declared.between.Between.TheVariants as between
 use Rattle.pq_shape.specs.declared.keyword.TheConstants.{AND, AS, ASC, BY, DESC, FROM, LIMIT, ORDER, PAGINATE, SELECT, WHERE}
 use Rattle.pq_shape.specs.declared.mark.TheConstants.{CLOSE_SQUARE, COLON, COMMA, EQUAL, GREATER, GREATER_EQUAL, LESS, LESS_EQUAL, OPEN_SQUARE, POINT, SEMICOLON, STAR, UNEQUAL}
+use Rattle.pq_base.specs.declared.value.Value.TheVariants as value
+use Rattle.pq_shape.specs.declared.soft.Soft.TheVariants as soft_word
 use Rattle.pq_shape.specs.declared.shape.Shape.{Shape}
 use Rattle.pq_query_read.specs.declared.select.ItemDef.{ItemDef}
 use Rattle.pq_query_read.specs.declared.select.OperandDef.{OperandDef}
@@ -62,11 +64,11 @@ unfoldable pub param_at : Reader Shape OperandDef
 param_at = map_at (λ x. operand.Param x.0) (skip_at (mark_at OPEN_SQUARE)
     (close_at (pair_at number_at label_at) (mark_at CLOSE_SQUARE)))
 
--- a value or a parameter
+-- a constant or a parameter
 unfoldable pub plain_at : Reader Shape OperandDef
-plain_at = choice_at (is_mark_shape OPEN_SQUARE) param_at (map_at (λ v. operand.Const v) value_shape_at)
+plain_at = choice_at (is_mark_shape OPEN_SQUARE) param_at (map_at (λ v. operand.Const v) constant_shape_at)
 
--- a value, a parameter or a column
+-- a constant, a parameter or a column
 unfoldable pub operand_at : Reader Shape OperandDef
 operand_at = choice_at is_name_shape (map_at (λ r. operand.Ref r) ref_at) plain_at
 
@@ -76,8 +78,16 @@ equality_at = map_at (λ o. (op.Eq, o)) (skip_at (mark_at EQUAL) operand_at)
 unfoldable pub compare_at : Reader Shape (Op × OperandDef)
 compare_at = choice_at (is_mark_shape EQUAL) equality_at (pair_at op_at plain_at)
 
+unfoldable pub null_test_at : Reader Shape (Op × OperandDef)
+null_test_at = map_at (λ u. (op.IsNull, operand.Const value.Null))
+    (skip_at (soft_at soft_word.Is) (soft_at soft_word.Null))
+
+-- a comparison, or IS NULL
+unfoldable pub comparison_at : Reader Shape (Op × OperandDef)
+comparison_at = choice_at (is_soft_shape soft_word.Is) null_test_at compare_at
+
 unfoldable pub pred_at : Reader Shape PredDef
-pred_at = map_at (λ x. record { left = x.0; op = x.1.0; right = x.1.1 }) (pair_at ref_at compare_at)
+pred_at = map_at (λ x. record { left = x.0; op = x.1.0; right = x.1.1 }) (pair_at ref_at comparison_at)
 
 -- ---- the order and the stop
 

@@ -1,5 +1,5 @@
 -- What a query's text stands for over a schema, or the first refusal in the written order.
-use Rattle.std.specs.Prelude.{ℕ, ℤ, pos, negsuc, ◌+◌, Bool, true, false, not, nat_le, nat_lt, ◌==◌, ◌&&◌, if◌then◌else◌, List, [], length, unwrap_or, Option, Some, None, Result, Ok}
+use Rattle.std.specs.Prelude.{ℕ, ℤ, pos, negsuc, ◌+◌, Bool, true, false, not, nat_le, nat_lt, ◌==◌, ◌&&◌, ◌||◌, if◌then◌else◌, List, [], length, unwrap_or, Option, Some, None, Result, Ok}
 use Rattle.std.specs.List.{list_any}
 use Rattle.std.specs.Str.{bytes_eq}
 use Rattle.pq_base.specs.Answers.{or_else}
@@ -22,6 +22,7 @@ use Rattle.pq_schema.specs.ColumnNames.{repeated_name}
 use Rattle.pq_schema.specs.Definitions.{is_outside, refused_if}
 use Rattle.pq_schema.specs.Resolved.{same_ref, param_type}
 use Rattle.pq_schema.specs.Schema.{Schema, find_table}
+use Rattle.pq_schema.specs.Relations.{is_null_test}
 use Rattle.pq_base.specs.Values.{same_kind}
 use Rattle.pq_query_read.specs.Columns.{has_alias, ref_of, type_of, selected_of}
 use Rattle.pq_query_read.specs.Parameters.{param_number, uses, params_of}
@@ -84,18 +85,19 @@ module _ (tables : List Table) (relations : List Relation) where
   operand_of (operand_def.Param number) = Ok (operand.Param (param_number number))
   operand_of (operand_def.Ref def) = ref_of tables relations def >>= λ ref. Ok (operand.Col ref)
 
-  -- a constant of the column's kind, a text of at most 1,000 bytes; any parameter; a column of its kind and of
-  -- another relation
-  abbrev pub is_comparable : ColRef → Operand → Bool
-  is_comparable left (operand.Const value) = fits_type (param_type (type_of tables relations left)) value
-  is_comparable left (operand.Param number) = true
-  is_comparable left (operand.Col right) =
+  -- NULL behind IS NULL; a constant of the column's kind, a text of at most 1,000 bytes; any parameter; a column of
+  -- its kind and of another relation
+  abbrev pub is_comparable : Op → ColRef → Operand → Bool
+  is_comparable op left (operand.Const value) =
+      is_null_test op || fits_type (param_type (type_of tables relations left)) value
+  is_comparable op left (operand.Param number) = true
+  is_comparable op left (operand.Col right) =
       not (right.rel == left.rel) && same_kind (type_of tables relations left) (type_of tables relations right)
 
   -- the predicate of this number, where its sides may be compared
   abbrev pub pred_between : ℕ → ColRef → Op → Operand → Result Pred Refusal
   pred_between number left op right =
-      passed_unless (refused_if (not (is_comparable left right)) (refusal.OperandKind number)) >>= λ comparable.
+      passed_unless (refused_if (not (is_comparable op left right)) (refusal.OperandKind number)) >>= λ comparable.
       Ok (pred_with left op right)
 
   -- the predicate behind these; predicates are numbered from 1

@@ -5,10 +5,13 @@ use Rattle.pq_grammar.specs.Reader.{pair_at, skip_at, close_at, map_at, nothing_
 use Rattle.pq_grammar.specs.Shrinking.{Shrinks, Keeps, token_shrinks, shrinks_keeps, nothing_keeps, pair_shrinks, pair_keeps, close_shrinks, skip_shrinks, map_shrinks, map_keeps, option_keeps, choice_keeps}
 use Rattle.pq_schema.specs.declared.query.Op.{Op}
 use Rattle.pq_schema.specs.declared.query.Op.TheVariants as op
-use Rattle.pq_shape.specs.Front.{is_word_shape, is_mark_shape, is_name_shape, word_at, mark_at, name_of, name_at, number_in, number_at, value_in, value_shape_at}
+use Rattle.pq_shape.specs.Front.{is_word_shape, is_mark_shape, is_name_shape, is_soft_shape, soft_at, word_at, mark_at, name_of, name_at, number_in, number_at, constant_in, constant_shape_at}
+use Rattle.pq_base.specs.declared.value.Value.TheVariants as value
+use Rattle.pq_shape.specs.declared.soft.Soft.{Soft}
+use Rattle.pq_shape.specs.declared.soft.Soft.TheVariants as soft_word
 use Rattle.pq_shape.specs.declared.keyword.TheConstants.{AS, ASC, DESC}
 use Rattle.pq_shape.specs.declared.mark.TheConstants.{CLOSE_SQUARE, COLON, EQUAL, GREATER, GREATER_EQUAL, LESS, LESS_EQUAL, OPEN_SQUARE, POINT, UNEQUAL}
-use Rattle.pq_query_read.specs.Reading.{part_at, ref_at, is_alias, alias_at, relation_clause_at, op_at, label_at, param_at, plain_at, operand_at, equality_at, compare_at, pred_at, dir_at, item_at}
+use Rattle.pq_query_read.specs.Reading.{part_at, ref_at, is_alias, alias_at, relation_clause_at, op_at, label_at, param_at, plain_at, operand_at, equality_at, compare_at, null_test_at, comparison_at, pred_at, dir_at, item_at}
 use Rattle.pq_query_read.specs.declared.select.OperandDef.TheVariants as operand
 
 word_shrinks : (k : ℕ) → Shrinks (word_at k)
@@ -51,7 +54,7 @@ param_keeps =
 plain_keeps : Keeps plain_at
 unfolding plain_at
 plain_keeps = choice_keeps (is_mark_shape OPEN_SQUARE) param_at _ param_keeps (map_keeps
-    (λ v. operand.Const v) value_shape_at (shrinks_keeps value_shape_at (token_shrinks value_in)))
+    (λ v. operand.Const v) constant_shape_at (shrinks_keeps constant_shape_at (token_shrinks constant_in)))
 
 operand_keeps : Keeps operand_at
 unfolding operand_at
@@ -77,9 +80,21 @@ compare_keeps =
     (shrinks_keeps _ (skip_shrinks (mark_at EQUAL) operand_at (mark_shrinks EQUAL) operand_keeps)))
     (pair_keeps op_at plain_at op_keeps plain_keeps)
 
+soft_shrinks : (s : Soft) → Shrinks (soft_at s)
+soft_shrinks s = token_shrinks (test_of (is_soft_shape s))
+
+comparison_keeps : Keeps comparison_at
+unfolding comparison_at null_test_at
+comparison_keeps =
+    choice_keeps (is_soft_shape soft_word.Is) null_test_at compare_at
+    (map_keeps (λ u. (op.IsNull, operand.Const value.Null)) (skip_at (soft_at soft_word.Is) (soft_at soft_word.Null))
+    (shrinks_keeps _ (skip_shrinks (soft_at soft_word.Is) (soft_at soft_word.Null) (soft_shrinks soft_word.Is)
+    (shrinks_keeps _ (soft_shrinks soft_word.Null))))) compare_keeps
+
 pub pred_shrinks : Shrinks pred_at
 unfolding pred_at
-pred_shrinks = map_shrinks _ (pair_at ref_at compare_at) (pair_shrinks ref_at compare_at ref_shrinks compare_keeps)
+pred_shrinks = map_shrinks _ (pair_at ref_at comparison_at)
+    (pair_shrinks ref_at comparison_at ref_shrinks comparison_keeps)
 
 dir_keeps : Keeps dir_at
 unfolding dir_at

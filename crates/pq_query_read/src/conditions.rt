@@ -9,7 +9,7 @@ ghost use Rattle.pq_query_read.specs.Resolving.{operand_of, is_comparable, pred_
 
 use crate::columns::{column, type_of};
 use crate::select::{OperandDef, PredDef};
-use pq_base::{ColType, List, Refusal, Stopped, fits};
+use pq_base::{ColType, DataKind, List, Refusal, Stopped, fits};
 use pq_schema::{Catalog, ColRef, Op, Operand, Pred, Relation, same_kind};
 use std::alloc::Global;
 
@@ -34,10 +34,10 @@ fn param_number(number: i64) -> u8
 pub fn param_type(ty: ColType) -> ColType
     ensures { result ≡ param_type ty }
 {
-    match ty {
-        ColType::Int => ColType::Int,
-        ColType::Bool => ColType::Bool,
-        ColType::Text(_) => ColType::Text(TEXT_BYTES),
+    match ty.kind() {
+        DataKind::Int => ColType::Int,
+        DataKind::Bool => ColType::Bool,
+        DataKind::Text => ColType::Text(TEXT_BYTES),
     }
 }
 
@@ -64,16 +64,24 @@ fn operand(
     }
 }
 
-/// Whether the column may be compared with the operand: a constant of its kind, any parameter, or a column of
-/// its kind and of another relation.
-fn is_comparable(catalog: &Catalog, relations: &[Relation], left: ColRef, right: &Operand) -> bool
+/// Whether the column may be compared with the operand: NULL behind IS NULL, a constant of its kind, any
+/// parameter, or a column of its kind and of another relation.
+fn is_comparable(
+    catalog: &Catalog,
+    relations: &[Relation],
+    op: Op,
+    left: ColRef,
+    right: &Operand,
+) -> bool
     requires relations { AreRelations catalog.now.tables relations.now }
     requires left { IsIn catalog.now.tables relations.now left }
     requires right { IsSideIn catalog.now.tables relations.now right.now }
-    ensures { result ≡ is_comparable catalog.now.tables relations.now left right.now }
+    ensures { result ≡ is_comparable catalog.now.tables relations.now op left right.now }
 {
     match right {
-        Operand::Const(value) => fits(value, param_type(type_of(catalog, relations, left))),
+        Operand::Const(value) => {
+            matches!(op, Op::IsNull) || fits(value, param_type(type_of(catalog, relations, left)))
+        }
         Operand::Param(_) => true,
         Operand::Col(right) => {
             let kind = type_of(catalog, relations, left);
@@ -111,7 +119,7 @@ fn pred_between(
     ensures answer { Answers result (pred_between catalog.now.tables relations.now number left op right) }
     ensures there { IfOk result (IsLeftIn catalog.now.tables relations.now) }
 {
-    if !is_comparable(catalog, relations, left, &right) {
+    if !is_comparable(catalog, relations, op, left, &right) {
         return Err(Stopped::Refused(Refusal::OperandKind { pred: number }));
     }
     Ok(pred_with(left, op, right))

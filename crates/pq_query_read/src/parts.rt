@@ -1,15 +1,15 @@
 //! Reading the parts of a query.
 ghost use Rattle.std.specs.Prelude.{◌≡◌, Ok};
 ghost use Rattle.pq_grammar.specs.Answers.{Gives};
-ghost use Rattle.pq_query_read.specs.Reading.{part_at, ref_at, alias_at, relation_clause_at, op_at, label_at, param_at, plain_at, operand_at, equality_at, compare_at, pred_at, dir_at, item_at, stop_clause_at};
+ghost use Rattle.pq_query_read.specs.Reading.{part_at, ref_at, alias_at, relation_clause_at, op_at, label_at, param_at, plain_at, operand_at, equality_at, compare_at, null_test_at, comparison_at, pred_at, dir_at, item_at, stop_clause_at};
 
 use crate::select::{ItemDef, OperandDef, PredDef, RefDef, RelationDef, StopDef};
-use pq_base::{Dir, PText};
+use pq_base::{Dir, PText, Value};
 use pq_grammar::ReadError;
 use pq_schema::Op;
 use pq_shape::{
     AS, ASC, CLOSE_SQUARE, COLON, Cursor, DESC, EQUAL, GREATER, GREATER_EQUAL, LESS, LESS_EQUAL,
-    LIMIT, OPEN_SQUARE, PAGINATE, POINT, Part, UNEQUAL,
+    LIMIT, OPEN_SQUARE, PAGINATE, POINT, Part, Soft, UNEQUAL,
 };
 use std::alloc::Global;
 
@@ -140,7 +140,7 @@ fn plain(alloc: Global, c: &mut Cursor) -> Result<OperandDef, ReadError>
     if c.is_mark(OPEN_SQUARE) {
         return param(alloc, c);
     }
-    let value = c.value(alloc)?;
+    let value = c.constant(alloc)?;
     Ok(OperandDef::Const(value))
 }
 
@@ -176,12 +176,32 @@ fn comparison(alloc: Global, c: &mut Cursor) -> Result<(Op, OperandDef), ReadErr
     Ok((op, right))
 }
 
+#[tactic(auto, unfolding(crate::specs::Reading::null_test_at))]
+fn null_test(c: &mut Cursor) -> Result<(Op, OperandDef), ReadError>
+    ensures { Gives (λ x. ((x.0, x.1), c.new)) result (null_test_at c.old) }
+{
+    c.soft(Soft::Is)?;
+    c.soft(Soft::Null)?;
+    Ok((Op::IsNull, OperandDef::Const(Value::Null)))
+}
+
+/// Reads a comparison, or IS NULL.
+#[tactic(auto, unfolding(crate::specs::Reading::comparison_at))]
+fn condition(alloc: Global, c: &mut Cursor) -> Result<(Op, OperandDef), ReadError>
+    ensures { Gives (λ x. ((x.0, x.1), c.new)) result (comparison_at c.old) }
+{
+    if c.is_soft(Soft::Is) {
+        return null_test(c);
+    }
+    comparison(alloc, c)
+}
+
 #[tactic(auto, unfolding(crate::specs::Reading::pred_at))]
 fn pred(alloc: Global, c: &mut Cursor) -> Result<PredDef, ReadError>
     ensures { Gives (λ x. (x, c.new)) result (pred_at c.old) }
 {
     let left = reference(alloc, c)?;
-    let (op, right) = comparison(alloc, c)?;
+    let (op, right) = condition(alloc, c)?;
     Ok(PredDef { left, op, right })
 }
 

@@ -15,7 +15,7 @@ use Rattle.pq_schema.specs.declared.definition.TableDef.{TableDef}
 use Rattle.pq_schema.specs.declared.table.Column.{Column}
 use Rattle.pq_schema.specs.declared.table.Table.{Table}
 use Rattle.pq_schema.specs.ColumnNames.{is_unknown, place_of, places_of, no_column, unknown_refusal, names_refusal}
-use Rattle.pq_schema.specs.Definitions.{has_type, column_of, refused_if, is_outside, cardinality, or_ok, name_refusal, counts_refusal, columns_refusal, key_refusal, limit_refusal, limits_refusal, has_shape, reference_refusal, foreign_refusal, foreigns_refusal, groups_refusal, table_refusal, limit_of_def, foreign_of_def, bare_table, table_of_def, new_table}
+use Rattle.pq_schema.specs.Definitions.{has_type, column_of, refused_if, is_outside, cardinality, or_ok, name_refusal, counts_refusal, columns_refusal, nullable_refusal, key_refusal, limit_refusal, limits_refusal, has_shape, reference_refusal, foreign_refusal, foreigns_refusal, groups_refusal, table_refusal, limit_of_def, foreign_of_def, bare_table, table_of_def, new_table}
 use Rattle.pq_schema.specs.Sequences.{ascending_part, group_access, with_group}
 use Rattle.pq_schema.proofs.Counts.{name_there}
 use Rattle.pq_schema.proofs.TypeKinds.{same_length}
@@ -180,12 +180,13 @@ bare_says schema def table keys e =
     let groups = neither_refuses (key_refusal made def.key) _ columns.1 in
     let more = neither_refuses (limits_refusal made def.limits) (foreigns_refusal schema made 1 def.foreign) groups.1 in
     let key = neither_refuses (names_refusal made def.key) _ groups.0 in
+    let counted = neither_refuses (nullable_refusal made def.key) _ key.1 in
     let known = (neither_refuses (unknown_refusal made def.key) _ key.0).0 in
     record {
       name = refl;
       some = inside_some (length def.columns) 32 (not_refused _ _ count);
       columns = columns_say def.columns (not_false (list_all has_type def.columns) (not_refused _ _ typed));
-      key = record { some = inside_some (length def.key) 4 (not_refused _ _ key.1); names = names_there made def.key (none_mapped no_column _ known) };
+      key = record { some = inside_some (length def.key) 4 (not_refused _ _ counted.1); names = names_there made def.key (none_mapped no_column _ known) };
       limits = limits_say made def.limits more.0;
       foreign = foreigns_say schema table made 1 def.foreign keys more.1;
     }

@@ -7,10 +7,12 @@ use Rattle.pq_base.specs.Words.{keywords, uppercase_byte}
 use Rattle.pq_base.proofs.Members.{all_at, range_in}
 use Rattle.pq_text.specs.Bytes.{is_word_byte}
 use Rattle.pq_text.specs.Forms.{is_word_form, is_at}
-use Rattle.pq_shape.specs.Parts.{word}
-use Rattle.pq_shape.specs.Shapes.{word_place, word_shape, keyword_or, name_shape}
+use Rattle.pq_shape.specs.Parts.{word, soft}
+use Rattle.pq_shape.specs.Shapes.{word_place, word_shape, keyword_or, name_shape, named_shape}
 use Rattle.pq_shape.specs.declared.keyword.TheConstants.{FALSE, TRUE}
+use Rattle.pq_shape.specs.declared.soft.Soft.TheVariants as soft_word
 use Rattle.pq_shape.specs.declared.shape.Shape.TheVariants as shape
+use Rattle.pq_query_read.proofs.Names.{checked_name}
 use Rattle.pq_reread.specs.Printed.{joins_none}
 use Rattle.pq_reread.proofs.Prints.{Prints, word_prints}
 
@@ -35,6 +37,21 @@ keyword_prints k below =
     let w : List ℕ = keyword_text k in
     let parts = and_parts (is_word_form w) (is_at (word_place keywords (map uppercase_byte w)) k) (all_at is_placed (range_with_len 0 35) all_placed k (range_in k 0 35 (omega arith) (omega (arith, ltb-true k 35 below)))) in
     word_prints w (shape.Keyword k) parts.0 (ap (keyword_or (name_shape w)) (placed_at (word_place keywords (map uppercase_byte w)) k parts.1))
+
+-- a soft word in capitals is the name that has its letters
+null_word : word_shape (codes "NULL") ≡ shape.Name (codes "null")
+unfolding word_place
+null_word = ap named_shape (checked_name (codes "null") refl)
+
+is_word : word_shape (codes "IS") ≡ shape.Name (codes "is")
+unfolding word_place
+is_word = ap named_shape (checked_name (codes "is") refl)
+
+pub null_prints : Prints (soft soft_word.Null) joins_none (codes "NULL") is_word_byte
+null_prints = word_prints (codes "NULL") (shape.Name (codes "null")) refl null_word
+
+pub is_prints : Prints (soft soft_word.Is) joins_none (codes "IS") is_word_byte
+is_prints = word_prints (codes "IS") (shape.Name (codes "is")) refl is_word
 
 true_word : word_shape (codes "true") ≡ shape.Keyword TRUE
 unfolding word_place

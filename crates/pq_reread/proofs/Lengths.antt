@@ -1,5 +1,5 @@
 -- Canonical texts have at most a mebibyte.
-use Rattle.std.proofs.Common.{◌≡◌, ℕ, ℤ, suc, ◌+◌, ◌*◌, ◌^◌, ◌<◌, ◌≤◌, true, false, List, [], ◌∷◌, ◌++◌, length, map, Option, Some, None, Ok, refl, sym, ap, subst, arith, length-append, inl, inr}
+use Rattle.std.proofs.Common.{◌≡◌, ℕ, ℤ, suc, ◌+◌, ◌*◌, ◌^◌, ◌<◌, ◌≤◌, Bool, true, false, List, [], ◌∷◌, ◌++◌, length, map, Option, Some, None, Ok, refl, sym, ap, subst, arith, length-append, inl, inr}
 use Rattle.std.specs.Prelude.{codes, nat_lt, All, unwrap_or}
 use Rattle.std.specs.Fmt.{decimal}
 use Rattle.std.specs.Option.{option_map}
@@ -17,7 +17,7 @@ use Rattle.pq_schema.specs.declared.table.Foreign.{Foreign}
 use Rattle.pq_schema.specs.declared.table.Limit.{Limit}
 use Rattle.pq_schema.specs.declared.table.Table.{Table}
 use Rattle.pq_schema.specs.ColumnNames.{names_refusal}
-use Rattle.pq_schema.specs.Definitions.{column_type, has_type, column_of, refused_if, is_outside, name_refusal, counts_refusal, columns_refusal, key_refusal, limit_refusal, limits_refusal, reference_refusal, foreign_refusal, foreigns_refusal, groups_refusal, table_refusal, table_of_def, new_table}
+use Rattle.pq_schema.specs.Definitions.{text_size, with_null, column_type, has_type, column_of, refused_if, is_outside, name_refusal, counts_refusal, columns_refusal, nullable_refusal, key_refusal, limit_refusal, limits_refusal, reference_refusal, foreign_refusal, foreigns_refusal, groups_refusal, table_refusal, table_of_def, new_table}
 use Rattle.pq_schema.specs.Names.{IsName, IsKind, IsColumnDef, IsLimitDef, IsForeignDef, IsTableDef}
 use Rattle.pq_schema.specs.Schema.{Schema, find_table}
 use Rattle.pq_schema.specs.Tables.{table_at}
@@ -27,7 +27,7 @@ use Rattle.pq_reread.specs.Said.{Pairwise, SaysColumn, SaysColumns, SaysLimit, S
 use Rattle.pq_reread.specs.Orderly.{IsOrderly, AreOrderly}
 use Rattle.pq_reread.proofs.Alls.{one_by_one}
 use Rattle.pq_query_read.proofs.Names.{name_short}
-use Rattle.pq_reread.proofs.Tables.{size_is, kind_column}
+use Rattle.pq_reread.proofs.Tables.{size_is, some_before, kind_column}
 use Rattle.pq_reread.proofs.Defined.{ok_is, neither_refuses, not_refused, found_has, reference_length, defined_says}
 use Rattle.pq_reread.proofs.Orders.{keys_of}
 
@@ -55,31 +55,43 @@ number_short n small = length-decimal-le 20 n (omega arith) (omega arith) (omega
 
 -- ---- columns
 
-abbrev KindShort : List ℕ → ℤ → Type 0
-KindShort kind size = has_type (kind_column kind size) ≡ true → length (type_text (unwrap_or (column_type (kind_column kind size)) type.Int)) ≤ 26
+abbrev KindShort : List ℕ → ℤ → Bool → Type 0
+KindShort kind size null = has_type (kind_column kind size null) ≡ true → length (type_text (unwrap_or (column_type (kind_column kind size null)) type.Int)) ≤ 31
 
 sized_short : (n : ℕ) → n < 2 ^ 63 → length (codes "TEXT(" ++ decimal n ++ codes ")") ≤ 26
 sized_short n small = omega (arith, length-append (codes "TEXT(" ++ decimal n) (codes ")"), length-append (codes "TEXT(") (decimal n), number_short n small)
 
-kind_short : (kind : List ℕ) (size : ℤ) → IsKind kind size → KindShort kind size
-kind_short kind size (inl h) = subst (λ (k : List ℕ). KindShort k size) (sym h.0) (λ typed. omega arith)
-kind_short kind size (inr (inl h)) = subst (λ (k : List ℕ). KindShort k size) (sym h.0) (λ typed. omega arith)
-kind_short kind size (inr (inr h)) = subst (λ (k : List ℕ). KindShort k size) (sym h) text_short
-  where
-    text_short : KindShort (codes "TEXT") size
-    text_short typed =
-        let n = size_is size typed in
-        subst (λ (o : Option ℕ). length (type_text (unwrap_or (option_map type.Text o) type.Int)) ≤ 26) (sym n.3) (sized_short n.0 n.2)
+sized_null_short : (null : Bool) (n : ℕ) → n < 2 ^ 63 → length (type_text (with_null null (type.Text n))) ≤ 31
+sized_null_short false n small = let short = sized_short n small in omega (arith, short)
+sized_null_short true n small = omega (arith, length-append (codes "TEXT(" ++ decimal n) (codes ") NULL"), length-append (codes "TEXT(") (decimal n), number_short n small)
 
-column_short : (c : ColumnDef) (printed : Column) → IsColumnDef c → SaysColumn c printed → 2 + length (column_text printed) ≤ 61
+int_short : (null : Bool) (size : ℤ) → KindShort (codes "INT") size null
+int_short true size typed = omega arith
+int_short false size typed = omega arith
+
+bool_short : (null : Bool) (size : ℤ) → KindShort (codes "BOOL") size null
+bool_short true size typed = omega arith
+bool_short false size typed = omega arith
+
+kind_short : (kind : List ℕ) (size : ℤ) (null : Bool) → IsKind kind size → KindShort kind size null
+kind_short kind size null (inl h) = subst (λ (k : List ℕ). KindShort k size null) (sym h.0) (int_short null size)
+kind_short kind size null (inr (inl h)) = subst (λ (k : List ℕ). KindShort k size null) (sym h.0) (bool_short null size)
+kind_short kind size null (inr (inr h)) = subst (λ (k : List ℕ). KindShort k size null) (sym h) text_short
+  where
+    text_short : KindShort (codes "TEXT") size null
+    text_short typed =
+        let n = size_is size (some_before type.Text (with_null null) (text_size size) typed) in
+        subst (λ (o : Option ℕ). length (type_text (unwrap_or (option_map (with_null null) (option_map type.Text o)) type.Int)) ≤ 31) (sym n.3) (sized_null_short null n.0 n.2)
+
+column_short : (c : ColumnDef) (printed : Column) → IsColumnDef c → SaysColumn c printed → 2 + length (column_text printed) ≤ 66
 unfolding column_text
 column_short c printed is says =
     let name = name_short c.name is.name in
     let ty : List ℕ = type_text (column_of c).ty in
-    subst (λ (x : Column). 2 + length (column_text x) ≤ 61) (sym says.column)
-    (omega (arith, name, kind_short c.kind c.size is.kind says.typed, length-append (c.name ++ codes " ") ty, length-append c.name (codes " ")))
+    subst (λ (x : Column). 2 + length (column_text x) ≤ 66) (sym says.column)
+    (omega (arith, name, kind_short c.kind c.size c.nullable is.kind says.typed, length-append (c.name ++ codes " ") ty, length-append c.name (codes " ")))
 
-columns_short : (cs : List ColumnDef) (printed : List Column) → AllByRecursion IsColumnDef cs → Pairwise SaysColumn cs printed → AllByRecursion (λ p. 2 + length (column_text p) ≤ 61) printed
+columns_short : (cs : List ColumnDef) (printed : List Column) → AllByRecursion IsColumnDef cs → Pairwise SaysColumn cs printed → AllByRecursion (λ p. 2 + length (column_text p) ≤ 66) printed
 columns_short [] [] are says = tt
 columns_short [] (p ∷ ps) are says = absurd says
 columns_short (c ∷ cs) [] are says = absurd says
@@ -163,12 +175,12 @@ text_short tables def table few is says =
     let limits = each_after (codes ", ") (limit_text table.columns) table.limits in
     let foreign = each_after (codes ", ") (foreign_text tables table.columns) table.foreign in
     let name : length table.name ≤ 32 = omega (arith, ap length says.name, name_short def.name is.name) in
-    let some : length columns ≤ 1952 =
+    let some : length columns ≤ 2112 =
     omega (
       arith,
       few.columns,
       same_length SaysColumn def.columns table.columns says.columns,
-      separated_short (codes ", ") column_text 61 table.columns (columns_short def.columns table.columns (one_by_one IsColumnDef def.columns is.columns) says.columns),
+      separated_short (codes ", ") column_text 66 table.columns (columns_short def.columns table.columns (one_by_one IsColumnDef def.columns is.columns) says.columns),
     ) in
     let keys : length key ≤ 138 = cols_short table def.key table.key few.key is.key says.key in
     let more : length limits ≤ 800 =
@@ -239,7 +251,7 @@ few_of schema def are e =
     let made = map column_of def.columns in
     let groups = neither_refuses (key_refusal made def.key) _ (neither_refuses (columns_refusal def.columns) (groups_refusal schema made def) counts.1).1 in
     let more = neither_refuses (limits_refusal made def.limits) (foreigns_refusal schema made 1 def.foreign) groups.1 in
-    let key = (neither_refuses (names_refusal made def.key) _ groups.0).1 in
+    let key = (neither_refuses (nullable_refusal made def.key) _ (neither_refuses (names_refusal made def.key) _ groups.0).1).1 in
     record {
       columns = inside_most (length def.columns) 32 (not_refused _ _ count.0);
       key = inside_most (length def.key) 4 (not_refused _ _ key);

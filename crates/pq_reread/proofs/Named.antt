@@ -46,7 +46,7 @@ kind_gives k w (inr (inr h)) = inr (inl (ap (λ (x : ColumnKind). x.name) h.0, a
 column_gives : Gives column IsColumnDef
 column_gives c w h named = record {
   name = name_gives c.name h.front h.fits_front (both_named _ _ w h named).0;
-  kind = kind_gives (record { name = c.kind; size = c.size }) h.back h.fits_back;
+  kind = kind_gives (record { name = c.kind; size = c.size }) h.fits_back.front h.fits_back.fits_front;
 }
 
 limit_gives : Gives limit IsLimitDef

@@ -19,7 +19,7 @@ use Rattle.pq_schema.specs.declared.definition.TableDef.{TableDef}
 use Rattle.pq_schema.specs.declared.table.Column.{Column}
 use Rattle.pq_schema.specs.declared.table.Table.{Table}
 use Rattle.pq_schema.specs.ColumnNames.{names_of, is_unknown, place_of, places_of, no_column, repeated_name, repeated_after, unknown_refusal, repeated_refusal, names_refusal}
-use Rattle.pq_schema.specs.Definitions.{column_of, refused_if, is_outside, definition_refusal, name_refusal, counts_refusal, columns_refusal, key_refusal, groups_refusal, table_refusal, bare_table, table_of_def, new_table}
+use Rattle.pq_schema.specs.Definitions.{column_of, refused_if, is_outside, definition_refusal, name_refusal, counts_refusal, columns_refusal, nullable_refusal, key_refusal, groups_refusal, table_refusal, bare_table, table_of_def, new_table}
 use Rattle.pq_schema.specs.Names.{IsName, IsColumnDef, IsTableDef}
 use Rattle.pq_schema.specs.declared.table.NewIndex.{NewIndex}
 use Rattle.pq_schema.specs.Schema.{Schema, is_table, is_taken, number_of, find_query, with_wanted, with_new_index}
@@ -125,7 +125,7 @@ bare_orderly schema def is e =
     let groups = neither_refuses (key_refusal made def.key) _ columns.1 in
     let key = neither_refuses (names_refusal made def.key) _ groups.0 in
     let known = (neither_refuses (unknown_refusal made def.key) _ key.0).0 in
-    let count = not_refused (is_outside (length def.key) 4) _ key.1 in
+    let count = not_refused (is_outside (length def.key) 4) _ (neither_refuses (nullable_refusal made def.key) _ key.1).1 in
     record {
       name = is.name;
       columns = named_columns def.columns (one_by_one IsColumnDef def.columns is.columns);

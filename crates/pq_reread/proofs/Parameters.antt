@@ -13,6 +13,7 @@ use Rattle.pq_base.specs.Values.{same_kind}
 use Rattle.pq_base.specs.declared.refusal.Refusal.TheVariants as refusal
 use Rattle.pq_base.specs.declared.value.ColType.{ColType}
 use Rattle.pq_base.specs.declared.value.ColType.TheVariants as type
+use Rattle.pq_schema.proofs.TypeKinds.{same_kind_itself}
 use Rattle.pq_schema.specs.Definitions.{refused_if}
 use Rattle.pq_schema.specs.Resolved.{IsParam, IsOperand, IsPredicate, IsResolved, is_param, param_type}
 use Rattle.pq_schema.specs.declared.query.Operand.{Operand}
@@ -27,9 +28,7 @@ use Rattle.pq_query_read.specs.declared.params.ParamUse.{ParamUse}
 use Rattle.pq_query_read.proofs.Parameters.{in_found, made_in, within, all_used, typed, use_typed}
 
 same_kind_self : (t : ColType) → same_kind t t ≡ true
-same_kind_self type.Int = refl
-same_kind_self type.Bool = refl
-same_kind_self (type.Text n) = refl
+same_kind_self = same_kind_itself
 
 module _ (tables : List Table) (query : Query) (is : IsResolved tables query) where
   abbrev used : List ParamUse
@@ -43,7 +42,7 @@ module _ (tables : List Table) (query : Query) (is : IsResolved tables query) wh
     where
       by : (pred : Pred) (right : Operand) → IsOperand tables query pred right → use_in tables query.relations pred.left right ≡ Some u → IsParam query.params u.number u.ty
       by pred (operand.Const v) known e = absurd (none-some u e)
-      by pred (operand.Param n) known e = subst (λ (v : ParamUse). IsParam query.params v.number v.ty) (same_Some (record { number = n; ty = param_type (type_of tables query.relations pred.left) }) u e) known
+      by pred (operand.Param n) known e = subst (λ (v : ParamUse). IsParam query.params v.number v.ty) (same_Some (record { number = n; ty = param_type (type_of tables query.relations pred.left) }) u e) known.1
       by pred (operand.Col ref) known e = absurd (none-some u e)
 
   -- each of its numbers is used

@@ -1,10 +1,14 @@
 -- The canonical text of a query has at most a mebibyte.
-use Rattle.std.proofs.Common.{ℕ, ℤ, pos, negsuc, suc, ◌+◌, ◌*◌, ◌^◌, ◌<◌, ◌≤◌, Bool, true, false, cond, eqb, List, [], ◌∷◌, ◌++◌, length, flat_map, arith, length-append}
-use Rattle.std.specs.Prelude.{codes, IfSome, slice_index_or}
+use Rattle.std.proofs.Common.{ℕ, ℤ, pos, negsuc, suc, ◌+◌, ◌*◌, ◌^◌, ◌<◌, ◌≤◌, ◌≡◌, refl, sym, subst, Bool, true, false, cond, eqb, List, [], ◌∷◌, ◌++◌, length, flat_map, arith, length-append}
+use Rattle.std.specs.Prelude.{codes, IfSome, slice_index_or, FitsSigned}
+use Rattle.std.specs.Int.{w64}
 use Rattle.std.specs.Fmt.{decimal, signed_decimal}
 use Rattle.std.specs.List.{AllByRecursion}
 use Rattle.std.proofs.lemmas.Fmt.{length-decimal-le}
-use Rattle.pq_base.specs.Values.{FitsType}
+use Rattle.pq_base.specs.Values.{FitsType, room_of, kind_of_type}
+use Rattle.pq_base.proofs.TypeFits.{value_from_fit}
+use Rattle.pq_base.specs.declared.value.DataKind.{DataKind}
+use Rattle.pq_base.specs.declared.value.DataKind.TheVariants as kind
 use Rattle.pq_base.specs.declared.value.ColType.{ColType}
 use Rattle.pq_base.specs.declared.value.ColType.TheVariants as type
 use Rattle.pq_base.specs.declared.value.Dir.{Dir}
@@ -13,8 +17,8 @@ use Rattle.pq_base.specs.declared.value.Value.{Value}
 use Rattle.pq_base.specs.declared.value.Value.TheVariants as value
 use Rattle.pq_schema.specs.Candidates.{stop_size}
 use Rattle.pq_schema.specs.Names.{IsName}
-use Rattle.pq_schema.specs.Relations.{relation_at, table_of}
-use Rattle.pq_schema.specs.Resolved.{IsRelation, IsColumnOf, IsOperand, IsPredicate, IsResolved, ref_type, param_type}
+use Rattle.pq_schema.specs.Relations.{relation_at, table_of, is_null_test}
+use Rattle.pq_schema.specs.Resolved.{IsRelation, IsColumnOf, IsOperand, IsConstant, IsPredicate, IsResolved, ref_type, param_of, param_type}
 use Rattle.pq_schema.specs.Tables.{table_at}
 use Rattle.pq_schema.specs.declared.query.ColRef.{ColRef}
 use Rattle.pq_schema.specs.declared.query.Op.{Op}
@@ -49,7 +53,7 @@ doubled_short : (t : List ℕ) → length (flat_map doubled_quotes t) ≤ 2 * le
 doubled_short [] = omega arith
 doubled_short (b ∷ t) = doubled_step b t (eqb b 39) (doubled_short t)
 
-signed_short : (z : ℤ) → FitsType type.Int (value.Int z) → length (signed_decimal z) ≤ 21
+signed_short : (z : ℤ) → FitsSigned w64 z → length (signed_decimal z) ≤ 21
 signed_short (pos n) fits = let small : n < 2 ^ 63 = fits.sfits in omega (arith, number_short n small)
 signed_short (negsuc n) fits =
     let small : n < 2 ^ 63 = fits.sfits in
@@ -59,17 +63,24 @@ signed_short (negsuc n) fits =
 text_short : (t : List ℕ) → length t ≤ 1000 → length (value_text (value.Text t)) ≤ 2002
 text_short t short = omega (arith, short, doubled_short t, length-append (codes "'" ++ flat_map doubled_quotes t) (codes "'"))
 
+param_room : (k : DataKind) → room_of (param_of k) ≤ 1000
+param_room kind.Int = omega arith
+param_room kind.Bool = omega arith
+param_room kind.Text = omega arith
+
 value_short : (t : ColType) (v : Value) → FitsType (param_type t) v → length (value_text v) ≤ 2002
-value_short type.Int (value.Int z) fits = omega (arith, signed_short z fits)
-value_short type.Bool (value.Bool true) fits = omega arith
-value_short type.Bool (value.Bool false) fits = omega arith
-value_short (type.Text n) (value.Text t) fits = text_short t fits.1
-value_short type.Int (value.Bool b) fits = absurd fits
-value_short type.Int (value.Text t) fits = absurd fits
-value_short type.Bool (value.Int n) fits = absurd fits
-value_short type.Bool (value.Text t) fits = absurd fits
-value_short (type.Text n) (value.Int z) fits = absurd fits
-value_short (type.Text n) (value.Bool b) fits = absurd fits
+value_short t value.Null fits = omega arith
+value_short t (value.Int z) fits = omega (arith, signed_short z (value_from_fit (param_type t) (value.Int z) fits))
+value_short t (value.Bool true) fits = omega arith
+value_short t (value.Bool false) fits = omega arith
+value_short t (value.Text s) fits = text_short s (let most = param_room (kind_of_type t) in let short = fits.1 in omega (arith, most, short))
+
+constant_short : (o : Op) (t : ColType) (v : Value) → IsConstant o (param_type t) v → length (value_text v) ≤ 2002
+constant_short o t v is = by (is_null_test o) refl
+  where
+    by : (b : Bool) → is_null_test o ≡ b → length (value_text v) ≤ 2002
+    by true test = subst (λ (x : Value). length (value_text x) ≤ 2002) (sym (is.1 test)) (omega arith)
+    by false test = value_short t v (is.0 test)
 
 -- ---- words
 
@@ -80,6 +91,7 @@ op_short op.Lt = omega arith
 op_short op.Le = omega arith
 op_short op.Gt = omega arith
 op_short op.Ge = omega arith
+op_short op.IsNull = omega arith
 
 dir_short : (d : Dir) → length (dir_text d) ≤ 5
 dir_short dir.Asc = omega arith
@@ -117,9 +129,9 @@ module _ (tables : List Table) (query : Query) (are : AreOrderly tables) (is : I
       omega (arith, length-append (table ++ codes " AS ") relation.alias, length-append table (codes " AS "), name_short relation.alias known.alias, name_short table (table_known tables query are is relation known).name)
 
   operand_short : (pred : Pred) (right : Operand) → IsOperand tables query pred right → length (operand_text tables query right) ≤ 2002
-  operand_short pred (operand.Const v) fits = value_short (ref_type tables query pred.left) v fits
+  operand_short pred (operand.Const v) fits = constant_short pred.op (ref_type tables query pred.left) v fits
   operand_short pred (operand.Param n) known =
-      let high = known.there in
+      let high = known.1.there in
       let few = few_params tables query is in
       omega (arith, number_short n (omega (arith, high, few)), length-append (codes "[" ++ decimal n) (codes "]"))
   operand_short pred (operand.Col ref) joined = omega (arith, ref_short ref joined.column)

@@ -3,10 +3,14 @@ use Rattle.std.proofs.Common.{◌≡◌, ℕ, pos, zero, suc, ◌+◌, ◌-◌, 
 use Rattle.std.specs.Prelude.{nat_lt, nat_le, IfSome, option_map, position, slice_index_or}
 use Rattle.std.specs.List.{AllByRecursion, IsDistinct, list_any, position_or_len}
 use Rattle.std.specs.Str.{bytes_eq}
+use Rattle.std.specs.Prelude.{T}
+use Rattle.std.proofs.lemmas.Bool.{and_from}
 use Rattle.std.proofs.lemmas.Bool.Decides.{nat_tests}
 use Rattle.std.proofs.lemmas.List.{length-map}
 use Rattle.std.proofs.lemmas.Slice.Eq.{bytes_eq-Decides}
-use Rattle.pq_base.specs.Values.{FitsType, fits_type}
+use Rattle.pq_base.specs.Values.{FitsType, fits_type, IsOfDataKind, is_beside, kind_of, kind_of_type, Admits, admits, is_nullable}
+use Rattle.pq_base.specs.declared.value.DataKind.{DataKind}
+use Rattle.pq_base.specs.declared.value.DataKind.TheVariants as kind
 use Rattle.pq_base.specs.declared.refusal.Refusal.{Refusal}
 use Rattle.pq_base.specs.declared.refusal.Refusal.TheVariants as refusal
 use Rattle.pq_base.specs.declared.value.ColType.{ColType}
@@ -18,9 +22,10 @@ use Rattle.pq_schema.specs.Candidates.{stop_size}
 use Rattle.pq_schema.specs.ColumnNames.{repeated_name}
 use Rattle.pq_schema.specs.Definitions.{is_outside, refused_if}
 use Rattle.pq_schema.specs.ColumnNames.{no_column as unknown}
-use Rattle.pq_schema.specs.Relations.{no_relation, table_of}
+use Rattle.pq_schema.specs.declared.query.Op.{Op}
+use Rattle.pq_schema.specs.Relations.{no_relation, table_of, is_null_test}
 use Rattle.pq_schema.specs.Relations.{relation_at as relation_of_query}
-use Rattle.pq_schema.specs.Resolved.{IsRelation, IsColumnOf, IsOperand, IsPredicate, IsResolved, same_ref, ref_type, param_type}
+use Rattle.pq_schema.specs.Resolved.{IsRelation, IsColumnOf, IsOperand, IsConstant, IsPredicate, IsResolved, same_ref, ref_type, param_type}
 use Rattle.pq_schema.specs.Schema.{Schema, find_table, find_column, number_of}
 use Rattle.pq_schema.specs.Tables.{no_table, table_at}
 use Rattle.pq_schema.specs.declared.query.ColRef.{ColRef}
@@ -116,16 +121,37 @@ stop_again (stop.Paginate k) fits = rw (size_again k fits.0 fits.1) refl
 
 -- ---- values
 
+kinds_again : (k : DataKind) (v : Value) → IsOfDataKind k v → is_beside (Some k) (kind_of v) ≡ true
+kinds_again k value.Null h = refl
+kinds_again kind.Int (value.Int n) h = refl
+kinds_again kind.Bool (value.Bool b) h = refl
+kinds_again kind.Text (value.Text t) h = refl
+kinds_again kind.Int (value.Bool b) h = absurd h
+kinds_again kind.Int (value.Text t) h = absurd h
+kinds_again kind.Bool (value.Int n) h = absurd h
+kinds_again kind.Bool (value.Text t) h = absurd h
+kinds_again kind.Text (value.Int n) h = absurd h
+kinds_again kind.Text (value.Bool b) h = absurd h
+
+truth : (b : Bool) → T b → b ≡ true
+truth true h = refl
+truth false h = absurd h
+
+admits_again : (t : ColType) (v : Value) → Admits t v → admits t v ≡ true
+admits_again t value.Null h = truth (is_nullable t) h
+admits_again t (value.Int n) h = refl
+admits_again t (value.Bool b) h = refl
+admits_again t (value.Text s) h = grind (arith, nat_tests)
+
 fits_again : (t : ColType) (v : Value) → FitsType t v → fits_type t v ≡ true
-fits_again type.Int (value.Int n) fits = refl
-fits_again type.Bool (value.Bool b) fits = refl
-fits_again (type.Text n) (value.Text t) fits = let short = fits.1 in grind (arith, nat_tests)
-fits_again type.Int (value.Bool b) fits = absurd fits
-fits_again type.Int (value.Text t) fits = absurd fits
-fits_again type.Bool (value.Int n) fits = absurd fits
-fits_again type.Bool (value.Text t) fits = absurd fits
-fits_again (type.Text n) (value.Int z) fits = absurd fits
-fits_again (type.Text n) (value.Bool b) fits = absurd fits
+fits_again t v fits = and_from _ _ (kinds_again (kind_of_type t) v fits.0) (admits_again t v fits.1)
+
+constant_again : (o : Op) (t : ColType) (v : Value) → IsConstant o t v → (is_null_test o || fits_type t v) ≡ true
+constant_again o t v is = by (is_null_test o) refl
+  where
+    by : (b : Bool) → is_null_test o ≡ b → (is_null_test o || fits_type t v) ≡ true
+    by true test = ap (λ b. b || fits_type t v) test
+    by false test = ap (λ b. b || fits_type t v) test ∙ fits_again t v (is.0 test)
 
 number_again : (n : ℕ) → n ≤ 16 → param_number (pos n) ≡ n
 number_again n few =
@@ -174,12 +200,12 @@ module _ (schema : Schema) (query : Query) (are : AreOrderly schema.tables) (is 
   -- WHERE
   operand_again : (pred : Pred) (right : Operand) → IsOperand schema.tables query pred right → operand_of schema.tables query.relations (said_operand schema.tables query right) ≡ Ok right
   operand_again pred (operand.Const v) known = refl
-  operand_again pred (operand.Param n) known = ap (λ (m : ℕ). Ok (operand.Param m)) (number_again n (let high = known.there in let few = few_params schema.tables query is in omega (arith, high, few)))
+  operand_again pred (operand.Param n) known = ap (λ (m : ℕ). Ok (operand.Param m)) (number_again n (let high = known.1.there in let few = few_params schema.tables query is in omega (arith, high, few)))
   operand_again pred (operand.Col ref) joined = ap (λ (r : Result ColRef Refusal). r >>= λ c. Ok (operand.Col c)) (ref_again ref joined.column)
 
   -- the sides may be compared, and the later relation stands left
-  comparable : (pred : Pred) (right : Operand) → IsOperand schema.tables query pred right → is_comparable schema.tables query.relations pred.left right ≡ true
-  comparable pred (operand.Const v) fits = fits_again (param_type (ref_type schema.tables query pred.left)) v fits
+  comparable : (pred : Pred) (right : Operand) → IsOperand schema.tables query pred right → is_comparable schema.tables query.relations pred.op pred.left right ≡ true
+  comparable pred (operand.Const v) fits = constant_again pred.op (param_type (ref_type schema.tables query pred.left)) v fits
   comparable pred (operand.Param n) known = refl
   comparable pred (operand.Col ref) joined =
       let other : eqb ref.rel pred.left.rel ≡ false = (let lt = joined.earlier in grind arith) in

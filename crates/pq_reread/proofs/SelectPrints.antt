@@ -1,10 +1,13 @@
 -- The canonical text of a query is cut into what spells the definition that the query says.
 use Rattle.std.proofs.Common.{◌≡◌, ℕ, pos, ◌-◌, ◌^◌, ◌<◌, ◌≤◌, Bool, true, false, ◌||◌, List, [], ◌∷◌, ◌++◌, length, map, None, refl, sym, subst, arith, append_assoc, append-nil, inl, inr, ◌⊎◌}
-use Rattle.std.specs.Prelude.{codes, IfSome}
+use Rattle.std.specs.Prelude.{T, codes, IfSome}
 use Rattle.std.specs.Fmt.{decimal}
 use Rattle.std.proofs.lemmas.Bool.{or_parts}
 use Rattle.std.specs.Char.{is_ascii_digit}
-use Rattle.pq_base.specs.Values.{IsValue}
+use Rattle.pq_base.specs.Values.{IsValue, FitsType, is_null, is_nullable, kind_of_type}
+use Rattle.pq_base.specs.declared.value.ColType.{ColType}
+use Rattle.pq_base.specs.declared.value.DataKind.{DataKind}
+use Rattle.pq_base.specs.declared.value.DataKind.TheVariants as kind
 use Rattle.pq_base.specs.declared.value.Dir.{Dir}
 use Rattle.pq_base.specs.declared.value.Dir.TheVariants as dir
 use Rattle.pq_base.specs.declared.value.Value.{Value}
@@ -12,8 +15,8 @@ use Rattle.pq_base.specs.declared.value.Value.TheVariants as value
 use Rattle.pq_base.proofs.TypeFits.{value_from_fit}
 use Rattle.pq_schema.specs.Candidates.{stop_size}
 use Rattle.pq_schema.specs.Names.{IsName}
-use Rattle.pq_schema.specs.Relations.{no_relation, relation_at, table_of}
-use Rattle.pq_schema.specs.Resolved.{IsRelation, IsColumnOf, IsOperand, IsPredicate, IsResolved, ref_type, param_type}
+use Rattle.pq_schema.specs.Relations.{no_relation, relation_at, table_of, is_null_test}
+use Rattle.pq_schema.specs.Resolved.{IsRelation, IsColumnOf, IsOperand, IsPredicate, IsResolved, ref_type, param_of, param_type}
 use Rattle.pq_schema.specs.Tables.{no_table, table_at}
 use Rattle.pq_schema.specs.declared.query.ColRef.{ColRef}
 use Rattle.pq_schema.specs.declared.query.Op.{Op}
@@ -31,21 +34,21 @@ use Rattle.pq_schema.specs.declared.table.Table.{Table}
 use Rattle.pq_grammar.specs.Language.{◌⋅◌, nothing, separated_by}
 use Rattle.pq_grammar.proofs.Lists.{regroup}
 use Rattle.pq_text.specs.Bytes.{is_letter, is_word_byte, is_double_mark}
-use Rattle.pq_shape.specs.Parts.{word, mark, comma, name as a_name, number, a_value}
+use Rattle.pq_shape.specs.Parts.{word, mark, comma, name as a_name, number, a_constant}
 use Rattle.pq_shape.specs.declared.keyword.TheConstants.{AND, AS, BY, DESC, FROM, LIMIT, ORDER, PAGINATE, PREPARE, SELECT, WHERE}
 use Rattle.pq_shape.specs.declared.shape.Shape.{Shape}
 use Rattle.pq_print.specs.Canonical.{absent_column, column_name, ref_text, relation_text, op_text, operand_text, pred_text, order_text, stop_text, select_text, query_text}
 use Rattle.pq_print.specs.Lists.{separate_texts as separated_texts, clause}
 use Rattle.pq_print.specs.Report.{dir_text}
 use Rattle.pq_print.specs.Values.{value_text}
-use Rattle.pq_query_read.specs.Grammar.{ref as a_ref, relation as a_relation, comma_or_join, operator, param, compare, pred as a_pred, direction, item as an_item, stop_tokens, conditions, order_tokens, SpellsSelect}
+use Rattle.pq_query_read.specs.Grammar.{ref as a_ref, relation as a_relation, comma_or_join, operator, param, comparison, pred as a_pred, direction, item as an_item, stop_tokens, conditions, order_tokens, SpellsSelect}
 use Rattle.pq_query_read.specs.declared.select.OperandDef.TheVariants as operand_def
 use Rattle.pq_reread.specs.Orderly.{IsOrderly, AreOrderly}
 use Rattle.pq_reread.specs.Printed.{joins_none, is_quote}
 use Rattle.pq_reread.specs.Said.{Pairwise}
 use Rattle.pq_reread.proofs.SaidQuery.{said_relation, said_stop, said_ref, said_operand, said_pred, said_item, said_query}
 use Rattle.pq_reread.proofs.Alls.{each_place, one_by_one}
-use Rattle.pq_reread.proofs.Keywords.{false_prints, keyword_prints, true_prints}
+use Rattle.pq_reread.proofs.Keywords.{false_prints, is_prints, keyword_prints, null_prints, true_prints}
 use Rattle.pq_reread.proofs.Pairs.{pairs_of}
 use Rattle.pq_schema.proofs.FewParams.{few_params}
 use Rattle.pq_reread.proofs.Prints.{Prints, join, respelled, nothing_prints, space, spaced, looser, mark_prints, two_marks_print, number_prints, signed_prints, text_prints, separated_prints}
@@ -66,11 +69,12 @@ text_end p = looser joins_value (λ b e. (or_parts (is_word_byte b) (is_quote b)
 
 -- ---- values
 
-value_prints : (v : Value) → IsValue v → Prints (a_value v) joins_none (value_text v) joins_value
-value_prints (value.Int z) is = number_end (signed_prints z is)
-value_prints (value.Bool true) is = word_end (true_prints)
-value_prints (value.Bool false) is = word_end (false_prints)
-value_prints (value.Text t) is = text_end (text_prints t is)
+value_prints : (v : Value) → IsValue v → is_null v ≡ false → Prints (a_constant v) joins_none (value_text v) joins_value
+value_prints value.Null is plain = absurd cc
+value_prints (value.Int z) is plain = number_end (signed_prints z is)
+value_prints (value.Bool true) is plain = word_end (true_prints)
+value_prints (value.Bool false) is plain = word_end (false_prints)
+value_prints (value.Text t) is plain = text_end (text_prints t is)
 
 param_prints : (n : ℕ) → n < 2 ^ 63 → Prints (param (pos n)) joins_none (codes "[" ++ decimal n ++ codes "]") joins_value
 param_prints n small =
@@ -79,13 +83,35 @@ param_prints n small =
     respelled (λ w h. (None, h)) (join (mark_prints 91 joins_none refl refl) (join alone (looser joins_value (λ b may. refl) (mark_prints 93 is_ascii_digit refl refl))))
 
 -- an operator, a space and an operand
-op_then : (o : Op) {S : List Shape → Type 0} {a : List ℕ} → Prints S joins_none a joins_value → Prints (mark (operator o) ⋅ S) joins_none (op_text o ++ (32 ∷ a)) joins_value
-op_then op.Eq p = join (mark_prints 61 joins_none refl refl) (space joins_none refl p)
-op_then op.Ne p = join (two_marks_print 60 62 joins_none refl refl refl) (space joins_none refl p)
-op_then op.Lt p = join (mark_prints 60 joins_none refl refl) (space (is_double_mark 60) refl p)
-op_then op.Le p = join (two_marks_print 60 61 joins_none refl refl refl) (space joins_none refl p)
-op_then op.Gt p = join (mark_prints 62 joins_none refl refl) (space (is_double_mark 62) refl p)
-op_then op.Ge p = join (two_marks_print 62 61 joins_none refl refl refl) (space joins_none refl p)
+op_then : (o : Op) → is_null_test o ≡ false → {S : List Shape → Type 0} {a : List ℕ} → Prints S joins_none a joins_value → Prints (mark (operator o) ⋅ S) joins_none (op_text o ++ (32 ∷ a)) joins_value
+op_then op.Eq test p = join (mark_prints 61 joins_none refl refl) (space joins_none refl p)
+op_then op.Ne test p = join (two_marks_print 60 62 joins_none refl refl refl) (space joins_none refl p)
+op_then op.Lt test p = join (mark_prints 60 joins_none refl refl) (space (is_double_mark 60) refl p)
+op_then op.Le test p = join (two_marks_print 60 61 joins_none refl refl refl) (space joins_none refl p)
+op_then op.Gt test p = join (mark_prints 62 joins_none refl refl) (space (is_double_mark 62) refl p)
+op_then op.Ge test p = join (two_marks_print 62 61 joins_none refl refl refl) (space joins_none refl p)
+op_then op.IsNull test p = absurd cc
+
+null_op : (o : Op) → is_null_test o ≡ true → o ≡ op.IsNull
+null_op op.Eq h = absurd cc
+null_op op.Ne h = absurd cc
+null_op op.Lt h = absurd cc
+null_op op.Le h = absurd cc
+null_op op.Gt h = absurd cc
+null_op op.Ge h = absurd cc
+null_op op.IsNull h = refl
+
+never_nullable : (k : DataKind) → is_nullable (param_of k) ≡ false
+never_nullable kind.Int = refl
+never_nullable kind.Bool = refl
+never_nullable kind.Text = refl
+
+-- what fits a parameter's type isn't NULL
+param_plain : (t : ColType) (v : Value) → FitsType (param_type t) v → is_null v ≡ false
+param_plain t value.Null fits = absurd (subst T (never_nullable (kind_of_type t)) fits.1)
+param_plain t (value.Int n) fits = refl
+param_plain t (value.Bool b) fits = refl
+param_plain t (value.Text s) fits = refl
 
 -- ---- clauses
 
@@ -158,13 +184,22 @@ module _ (tables : List Table) (query : Query) (are : AreOrderly tables) (is : I
       (join (name_prints table (table_known relation known).name)
       (respelled (λ w h. inl h) (space is_word_byte refl (join (keyword_prints AS refl) (space is_word_byte refl (name_prints relation.alias known.alias))))))
 
-  compare_prints : (pred : Pred) (right : Operand) → IsOperand tables query pred right → Prints (compare pred.op (said_operand tables query right)) joins_none (op_text pred.op ++ (32 ∷ operand_text tables query right)) joins_value
-  compare_prints pred (operand.Const v) fits = op_then pred.op (value_prints v (value_from_fit (param_type (ref_type tables query pred.left)) v fits))
+  compare_prints : (pred : Pred) (right : Operand) → IsOperand tables query pred right → Prints (comparison (pred.op, said_operand tables query right)) joins_none (op_text pred.op ++ (32 ∷ operand_text tables query right)) joins_value
+  compare_prints pred (operand.Const v) fits = by (is_null_test pred.op) refl
+    where
+      by : (b : Bool) → is_null_test pred.op ≡ b → Prints (comparison (pred.op, operand_def.Const v)) joins_none (op_text pred.op ++ (32 ∷ value_text v)) joins_value
+      by true test =
+          subst (λ (o : Op). Prints (comparison (o, operand_def.Const v)) joins_none (op_text o ++ (32 ∷ value_text v)) joins_value) (sym (null_op pred.op test))
+          (subst (λ (x : Value). Prints (comparison (op.IsNull, operand_def.Const x)) joins_none (codes "IS" ++ (32 ∷ value_text x)) joins_value) (sym (fits.1 test))
+          (respelled (λ w h. inr (tt, refl, h)) (word_end (join is_prints (space is_word_byte refl null_prints)))))
+      by false test =
+          let ty : ColType = param_type (ref_type tables query pred.left) in
+          respelled (λ w h. inl (test, h)) (op_then pred.op test (value_prints v (value_from_fit ty v (fits.0 test)) (param_plain (ref_type tables query pred.left) v (fits.0 test))))
   compare_prints pred (operand.Param number) known =
-      op_then pred.op (param_prints number (let high = known.there in let few = few_params tables query is in omega (arith, high, few)))
+      respelled (λ w h. inl (known.0, h)) (op_then pred.op known.0 (param_prints number (let high = known.1.there in let few = few_params tables query is in omega (arith, high, few))))
   compare_prints pred (operand.Col ref) joined =
-      subst (λ (o : Op). Prints (compare o (operand_def.Ref (said_ref tables query ref))) joins_none (op_text o ++ (32 ∷ ref_text tables query ref)) joins_value) (sym joined.equal)
-      (op_then op.Eq (word_end (ref_prints ref joined.column)))
+      subst (λ (o : Op). Prints (comparison (o, operand_def.Ref (said_ref tables query ref))) joins_none (op_text o ++ (32 ∷ ref_text tables query ref)) joins_value) (sym joined.equal)
+      (respelled (λ w h. inl (refl, h)) (op_then op.Eq refl (word_end (ref_prints ref joined.column))))
 
   pred_prints : (pred : Pred) → IsPredicate tables query pred → Prints (a_pred (said_pred tables query pred)) joins_none (pred_text tables query pred) joins_value
   unfolding pred_text

@@ -1,5 +1,5 @@
 -- The canonical text of a table is cut into what spells its definition.
-use Rattle.std.proofs.Common.{◌≡◌, ℕ, ℤ, pos, negsuc, ◌^◌, ◌<◌, Bool, true, false, cond, ◌&&◌, List, [], ◌∷◌, ◌++◌, Option, Some, None, Ok, refl, sym, ap, subst, ◌∙◌, arith, append_assoc, inl, inr, map}
+use Rattle.std.proofs.Common.{◌≡◌, ℕ, ℤ, pos, negsuc, ◌^◌, ◌<◌, Bool, true, false, cond, ◌&&◌, List, [], ◌∷◌, ◌++◌, Option, Some, None, Ok, refl, sym, ap, subst, ◌∙◌, arith, append_assoc, append-nil, inl, inr, map}
 use Rattle.std.specs.Prelude.{codes, nat_le}
 use Rattle.std.specs.Fmt.{decimal}
 use Rattle.std.specs.Str.{is_utf8}
@@ -8,7 +8,7 @@ use Rattle.std.specs.List.{All, AllByRecursion}
 use Rattle.std.proofs.lemmas.Bool.Decides.{nat_tests}
 use Rattle.std.specs.Char.{is_ascii_digit}
 use Rattle.pq_base.specs.declared.value.ColType.TheVariants as type
-use Rattle.pq_schema.specs.Definitions.{text_size, column_type, has_type, column_of}
+use Rattle.pq_schema.specs.Definitions.{text_size, with_null, column_type, has_type, column_of}
 use Rattle.pq_schema.specs.Names.{IsName, IsKind, IsColumnDef, IsLimitDef, IsForeignDef, IsTableDef}
 use Rattle.pq_schema.specs.Tables.{table_at}
 use Rattle.pq_schema.specs.declared.definition.ColumnDef.{ColumnDef}
@@ -28,7 +28,7 @@ use Rattle.pq_shape.specs.declared.keyword.TheConstants.{BOOL, CARDINALITY, CREA
 use Rattle.pq_shape.specs.declared.shape.Shape.{Shape}
 use Rattle.pq_shape.specs.declared.shape.Shape.TheVariants as shape
 use Rattle.pq_def_read.specs.Definitions.{int_kind, bool_kind, text_kind, limits_of, foreign_of}
-use Rattle.pq_def_read.specs.Grammar.{cols, kind as a_kind, text_size_tokens as sized_text, column, limit, foreign, a_constraint, constraints, create}
+use Rattle.pq_def_read.specs.Grammar.{cols, kind as a_kind, nullable, text_size_tokens as sized_text, column, limit, foreign, a_constraint, constraints, create}
 use Rattle.pq_def_read.specs.Reading.{statement_of}
 use Rattle.pq_def_read.specs.declared.definition.Constraint.{Constraint}
 use Rattle.pq_def_read.specs.declared.definition.Constraint.TheVariants as constraint
@@ -39,7 +39,7 @@ use Rattle.pq_print.specs.Canonical.{column_name, type_text, column_text, column
 use Rattle.pq_reread.specs.Said.{Pairwise, SaysColumn, SaysColumns, SaysLimit, SaysForeign, Says}
 use Rattle.pq_reread.specs.Printed.{joins_none}
 use Rattle.pq_reread.proofs.Alls.{one_by_one}
-use Rattle.pq_reread.proofs.Keywords.{keyword_prints}
+use Rattle.pq_reread.proofs.Keywords.{keyword_prints, null_prints}
 use Rattle.pq_reread.proofs.Prints.{Prints, join, respelled, space, spaced, looser, mark_prints, word_prints, number_prints, each_prints, separated_prints, whole, whole_utf8}
 use Rattle.pq_query_read.proofs.Names.{name_is_word, word_is_name}
 use Rattle.pq_reread.proofs.Named.{statement_spelled}
@@ -70,30 +70,59 @@ size_is (pos n) e = by_test (nat_le 1 n) (nat_le n 1000) refl e
     by_test true false is e = absurd cc
     by_test false high is e = absurd cc
 
-abbrev pub kind_column : List ℕ → ℤ → ColumnDef
-kind_column kind size = record { name = []; kind = kind; size = size }
+abbrev pub kind_column : List ℕ → ℤ → Bool → ColumnDef
+kind_column kind size nullable = record { name = []; kind = kind; size = size; nullable = nullable }
+
+-- what stands behind the name of a column
+abbrev said_kind : List ℕ → ℤ → Bool → List Shape → Type 0
+said_kind kind size null = a_kind (record { name = kind; size = size }) ⋅ nullable null
 
 -- how a kind prints, where it has a type
-abbrev KindPrints : List ℕ → ℤ → Type 0
-KindPrints kind size = has_type (kind_column kind size) ≡ true → Prints (a_kind (record { name = kind; size = size })) joins_none (type_text (unwrap_or (column_type (kind_column kind size)) type.Int)) is_word_byte
+abbrev KindPrints : List ℕ → ℤ → Bool → Type 0
+KindPrints kind size null = has_type (kind_column kind size null) ≡ true → Prints (said_kind kind size null) joins_none (type_text (unwrap_or (column_type (kind_column kind size null)) type.Int)) is_word_byte
 
-text_kind_prints : (size : ℤ) → KindPrints (codes "TEXT") size
-text_kind_prints size typed =
-    let n = size_is size typed in
-    subst (λ (z : ℤ). Prints (a_kind (record { name = codes "TEXT"; size = z })) joins_none (type_text (unwrap_or (option_map type.Text (text_size size)) type.Int)) is_word_byte) (sym n.1)
-    (subst (λ (o : Option ℕ). Prints (a_kind (text_kind (pos n.0))) joins_none (type_text (unwrap_or (option_map type.Text o) type.Int)) is_word_byte) (sym n.3) (text_prints n.0 n.2))
+alone : {S : List Shape → Type 0} {t u : ℕ → Bool} {a : List ℕ} → Prints S t a u → Prints (S ⋅ nullable false) t a u
+alone p = respelled (λ w h. record { front = w; back = []; fits_front = h; fits_back = refl; parts = sym (append-nil w) }) p
 
-kind_prints : (kind : List ℕ) (size : ℤ) → IsKind kind size → KindPrints kind size
-kind_prints kind size (inl h) = subst (λ (k : List ℕ). KindPrints k size) (sym h.0) (subst (λ (z : ℤ). KindPrints (codes "INT") z) (sym h.1) (λ typed. int_prints))
-kind_prints kind size (inr (inl h)) = subst (λ (k : List ℕ). KindPrints k size) (sym h.0) (subst (λ (z : ℤ). KindPrints (codes "BOOL") z) (sym h.1) (λ typed. bool_prints))
-kind_prints kind size (inr (inr h)) = subst (λ (k : List ℕ). KindPrints k size) (sym h) (text_kind_prints size)
+with_null_word : {S : List Shape → Type 0} {t : ℕ → Bool} {a : List ℕ} → Prints S t a is_word_byte → Prints (S ⋅ nullable true) t (a ++ (32 ∷ codes "NULL")) is_word_byte
+with_null_word p = join p (space is_word_byte refl null_prints)
+
+int_kind_prints : (null : Bool) → KindPrints (codes "INT") (pos 0) null
+int_kind_prints true typed = with_null_word int_prints
+int_kind_prints false typed = alone int_prints
+
+bool_kind_prints : (null : Bool) → KindPrints (codes "BOOL") (pos 0) null
+bool_kind_prints true typed = with_null_word bool_prints
+bool_kind_prints false typed = alone bool_prints
+
+pub some_before : {X Y Z : Type 0} (f : X → Y) (g : Y → Z) (o : Option X) → is_some (option_map g (option_map f o)) ≡ true → is_some (option_map f o) ≡ true
+some_before f g None h = h
+some_before f g (Some x) h = refl
+
+text_null_prints : (null : Bool) (n : ℕ) → n < 2 ^ 63 → Prints (said_kind (codes "TEXT") (pos n) null) joins_none (type_text (with_null null (type.Text n))) is_word_byte
+text_null_prints false n small = alone (text_prints n small)
+text_null_prints true n small =
+    subst (λ (v : List ℕ). Prints (said_kind (codes "TEXT") (pos n) true) joins_none v is_word_byte)
+    (append_assoc (codes "TEXT(" ++ decimal n) (codes ")") (32 ∷ codes "NULL"))
+    (with_null_word (text_prints n small))
+
+text_kind_prints : (size : ℤ) (null : Bool) → KindPrints (codes "TEXT") size null
+text_kind_prints size null typed =
+    let n = size_is size (some_before type.Text (with_null null) (text_size size) typed) in
+    subst (λ (z : ℤ). Prints (said_kind (codes "TEXT") z null) joins_none (type_text (unwrap_or (option_map (with_null null) (option_map type.Text (text_size size))) type.Int)) is_word_byte) (sym n.1)
+    (subst (λ (o : Option ℕ). Prints (said_kind (codes "TEXT") (pos n.0) null) joins_none (type_text (unwrap_or (option_map (with_null null) (option_map type.Text o)) type.Int)) is_word_byte) (sym n.3) (text_null_prints null n.0 n.2))
+
+kind_prints : (kind : List ℕ) (size : ℤ) (null : Bool) → IsKind kind size → KindPrints kind size null
+kind_prints kind size null (inl h) = subst (λ (k : List ℕ). KindPrints k size null) (sym h.0) (subst (λ (z : ℤ). KindPrints (codes "INT") z null) (sym h.1) (int_kind_prints null))
+kind_prints kind size null (inr (inl h)) = subst (λ (k : List ℕ). KindPrints k size null) (sym h.0) (subst (λ (z : ℤ). KindPrints (codes "BOOL") z null) (sym h.1) (bool_kind_prints null))
+kind_prints kind size null (inr (inr h)) = subst (λ (k : List ℕ). KindPrints k size null) (sym h) (text_kind_prints size null)
 
 column_prints : (c : ColumnDef) (printed : Column) → IsColumnDef c → SaysColumn c printed → Prints (column c) joins_none (column_text printed) is_word_byte
 unfolding column_text
 column_prints c printed is says =
     subst (λ (x : Column). Prints (column c) joins_none (column_text x) is_word_byte) (sym says.column)
     (subst (λ (v : List ℕ). Prints (column c) joins_none v is_word_byte) (sym (append_assoc c.name (codes " ") (type_text (column_of c).ty)))
-    (join (name_prints c.name is.name) (space is_word_byte refl (kind_prints c.kind c.size is.kind says.typed))))
+    (join (name_prints c.name is.name) (space is_word_byte refl (kind_prints c.kind c.size c.nullable is.kind says.typed))))
 
 columns_print : (cs : List ColumnDef) (printed : List Column) → AllByRecursion IsColumnDef cs → Pairwise SaysColumn cs printed → Pairwise (λ c p. Prints (column c) joins_none (column_text p) is_word_byte) cs printed
 columns_print [] [] are says = tt

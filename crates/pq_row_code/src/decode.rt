@@ -1,13 +1,13 @@
 //! From row codes to rows.
-ghost use Rattle.std.specs.Prelude.{◌≡◌, List, IfOk, IfSome, IfNone};
+ghost use Rattle.std.specs.Prelude.{◌≡◌, List, length, IfOk, IfSome, IfNone};
 ghost use Rattle.std.specs.Option.{option_map};
 ghost use Rattle.std.specs.Int.{w16, w64};
 ghost use Rattle.pq_base.specs.declared.value.Value.{Value};
 ghost use Rattle.pq_base.specs.Values.{AllFit};
 ghost use Rattle.pq_row_code.specs.RowCode.{row_code};
-ghost use Rattle.pq_row_code.specs.RowReading.{bits_at, flag_at, string_at, field_at, fields_at, row_decoded};
+ghost use Rattle.pq_row_code.specs.RowReading.{bits_at, flag_at, string_at, field_at, cell_at, fields_at, marks_at, front_at, row_decoded};
 
-use pq_base::{ColType, NoMem, PText, Row, Value, known_types};
+use pq_base::{ColType, DataKind, NoMem, PText, Row, Value, known_types};
 use pq_key_code::checked_text;
 use std::alloc::Global;
 
@@ -66,42 +66,98 @@ fn string_of(alloc: Global, most: u16, bytes: &[u8]) -> Result<Option<(PText, &[
 }
 
 #[tactic(auto, unfolding(crate::specs::RowReading::field_at))]
-fn field_of(alloc: Global, ty: ColType, bytes: &[u8]) -> Result<Option<(Value, &[u8])>, NoMem>
-    ensures { IfOk result (λ read. option_map (λ x. (x.0, x.1.now)) read ≡ field_at ty bytes.now) }
+fn field_of(
+    alloc: Global,
+    kind: DataKind,
+    most: u16,
+    bytes: &[u8],
+) -> Result<Option<(Value, &[u8])>, NoMem>
+    ensures { IfOk result (λ read. option_map (λ x. (x.0, x.1.now)) read ≡ field_at kind most bytes.now) }
 {
-    match ty {
-        ColType::Int => match u64_of(bytes) {
+    match kind {
+        DataKind::Int => match u64_of(bytes) {
             Some((bits, rest)) => Ok(Some((Value::Int(bits.cast_signed()), rest))),
             None => Ok(None),
         },
-        ColType::Bool => match flag_of(bytes) {
+        DataKind::Bool => match flag_of(bytes) {
             Some((truth, rest)) => Ok(Some((Value::Bool(truth), rest))),
             None => Ok(None),
         },
-        ColType::Text(most) => match string_of(alloc, most, bytes)? {
+        DataKind::Text => match string_of(alloc, most, bytes)? {
             Some((text, rest)) => Ok(Some((Value::Text(text), rest))),
             None => Ok(None),
         },
     }
 }
 
+#[tactic(auto, unfolding(crate::specs::RowReading::cell_at))]
+fn cell_of(
+    alloc: Global,
+    ty: ColType,
+    mark: u32,
+    bytes: &[u8],
+) -> Result<Option<(Value, &[u8])>, NoMem>
+    ensures { IfOk result (λ read. option_map (λ x. (x.0, x.1.now)) read ≡ cell_at ty mark bytes.now) }
+{
+    if mark != 1 {
+        return field_of(alloc, ty.kind(), ty.room(), bytes);
+    }
+    if ty.is_nullable() {
+        Ok(Some((Value::Null, bytes)))
+    } else {
+        Ok(None)
+    }
+}
+
 fn fields_of<'a>(
     alloc: Global,
     types: &[ColType],
+    marks: u32,
     bytes: &'a [u8],
 ) -> Result<Option<(Row, &'a [u8])>, NoMem>
-    ensures { IfOk result (λ read. option_map (λ x. (x.0, x.1.now)) read ≡ fields_at types.now bytes.now) }
+    ensures { IfOk result (λ read. option_map (λ x. (x.0, x.1.now)) read ≡ fields_at types.now marks bytes.now) }
 {
     let mut row = Row::with_room(alloc, types.len())?;
     let mut rest = bytes;
+    let mut left = marks;
     for ty in types {
-        let Some((value, after)) = field_of(alloc, *ty, rest)? else {
+        let Some((value, after)) = cell_of(alloc, *ty, left % 2, rest)? else {
             return Ok(None);
         };
         row.push(alloc, value)?;
         rest = after;
+        left /= 2;
     }
-    Ok(Some((row, rest)))
+    if left == 0 {
+        Ok(Some((row, rest)))
+    } else {
+        Ok(None)
+    }
+}
+
+fn marks_of(bytes: &[u8]) -> Option<(u32, &[u8])>
+    ensures { option_map (λ x. (x.0, x.1.now)) result ≡ marks_at bytes.now }
+{
+    let [a, b, c, d, rest @ ..] = bytes else {
+        return None;
+    };
+    Some((u32::from_be_bytes([*a, *b, *c, *d]), rest))
+}
+
+#[tactic(auto, unfolding(crate::specs::RowReading::front_at))]
+fn front_of<'a>(types: &[ColType], count: u8, bytes: &'a [u8]) -> Option<(u32, &'a [u8])>
+    ensures { option_map (λ x. (x.0, x.1.now)) result ≡ front_at (length types.now) count bytes.now }
+{
+    if count as usize == types.len() {
+        return Some((0, bytes));
+    }
+    if count as usize != types.len() + 0x40 {
+        return None;
+    }
+    match marks_of(bytes) {
+        Some((0, _)) | None => None,
+        Some((marks, rest)) => Some((marks, rest)),
+    }
 }
 
 #[tactic(auto, unfolding(crate::specs::RowReading::row_decoded))]
@@ -111,10 +167,10 @@ fn row_read(alloc: Global, bytes: &[u8], types: &[ColType]) -> Result<Option<Row
     let [count, rest @ ..] = bytes else {
         return Ok(None);
     };
-    if *count as usize != types.len() {
+    let Some((marks, rest)) = front_of(types, *count, rest) else {
         return Ok(None);
-    }
-    let Some((row, rest)) = fields_of(alloc, types, rest)? else {
+    };
+    let Some((row, rest)) = fields_of(alloc, types, marks, rest)? else {
         return Ok(None);
     };
     if rest.is_empty() {

@@ -18,7 +18,7 @@ use Rattle.pq_schema.specs.declared.table.Index.{Index}
 use Rattle.pq_schema.specs.declared.table.NewIndex.{NewIndex}
 use Rattle.pq_schema.specs.declared.table.Table.{Table}
 use Rattle.pq_schema.specs.Relations.{relation_at, no_relation, table_of}
-use Rattle.pq_schema.specs.Resolved.{IsRelation, IsColumnOf, IsParam, IsOperand, IsPredicate, IsResolved, ref_type, param_type}
+use Rattle.pq_schema.specs.Resolved.{IsConstant, IsRelation, IsColumnOf, IsParam, IsOperand, IsPredicate, IsResolved, ref_type, param_type}
 use Rattle.pq_schema.specs.Schema.{with_wanted, with_new_index}
 use Rattle.pq_schema.specs.Tables.{no_table, table_at, type_at}
 use Rattle.pq_runnable.specs.Grown.{with_indexes, HasGrown, HaveGrown}
@@ -124,8 +124,8 @@ module _ (before now : List Table) (query : Query) (grown : HaveGrown before now
   same_type col = sym (ap (λ columns. type_at columns col.col) (same_columns col.rel))
 
   operand_stays : (pred : Pred) (side : Operand) → IsOperand before query pred side → IsOperand now query pred side
-  operand_stays pred (operand.Const value) is = subst (λ (t : ColType). FitsType (param_type t) value) (same_type pred.left) is
-  operand_stays pred (operand.Param number) is = subst (λ (t : ColType). IsParam query.params number (param_type t)) (same_type pred.left) is
+  operand_stays pred (operand.Const value) is = subst (λ (t : ColType). IsConstant pred.op (param_type t) value) (same_type pred.left) is
+  operand_stays pred (operand.Param number) is = (is.0, subst (λ (t : ColType). IsParam query.params number (param_type t)) (same_type pred.left) is.1)
   operand_stays pred (operand.Col col) is = record {
     equal = is.equal;
     column = column_stays col is.column;

@@ -12,7 +12,7 @@ use Rattle.pq_schema.specs.Costs.{ReachedCost, start, bound, plus, read_each, re
 use Rattle.pq_schema.specs.Relations.{relation_at, table_of, tied_set, order_rest, range_on, is_whole}
 use Rattle.pq_schema.specs.Resolved.{IsResolved}
 use Rattle.pq_schema.specs.Sequences.{primary_sequence, serves}
-use Rattle.pq_schema.specs.Tables.{is_lookup, data_bound}
+use Rattle.pq_schema.specs.Tables.{have_no_null, is_lookup, data_bound}
 use Rattle.pq_runnable.specs.Grown.{HaveGrown}
 use Rattle.pq_runnable.proofs.Growing.{relation_grown}
 
@@ -35,7 +35,7 @@ module _ (table : ℕ → Table) (query : Query) where
 
   abbrev tied_on : ℕ → ℕ → Bool
   tied_on rel earlier =
-      list_any (λ foreign. foreign.table == (relation_at query rel).table && is_whole query rel earlier (zip foreign.cols (table rel).key))
+      list_any (λ foreign. foreign.table == (relation_at query rel).table && have_no_null (table earlier).columns foreign.cols && is_whole query rel earlier (zip foreign.cols (table rel).key))
       (table earlier).foreign
 
   abbrev total_on : ℕ → Bool

@@ -2,6 +2,7 @@
 use Rattle.std.specs.Prelude.{ℕ, Bool, true, false, cond, not, ◌==◌, ◌||◌, List, [], ◌∷◌, flat_map, map, filter, Option, Some, None}
 use Rattle.pq_base.specs.declared.value.Dir.{Dir}
 use Rattle.pq_base.specs.declared.value.Value.{Value}
+use Rattle.pq_base.specs.declared.value.Value.TheVariants as value
 use Rattle.pq_schema.specs.declared.query.Op.{Op}
 use Rattle.pq_schema.specs.declared.query.Pred.{Pred}
 use Rattle.pq_schema.specs.Relations.{belongs_to}
@@ -14,7 +15,7 @@ use Rattle.pq_schema.specs.declared.table.KeyPart.{KeyPart}
 use Rattle.pq_scan.specs.declared.prepared.Scan.{Scan}
 use Rattle.pq_scan.specs.Prepared.{asked_over}
 use Rattle.pq_scan.specs.declared.keys.Edge.{Edge}
-use Rattle.pq_scan.specs.declared.keys.Edge.TheVariants.{At, Past}
+use Rattle.pq_scan.specs.declared.keys.Edge.TheVariants.{At, Past, AtNull, PastNull}
 use Rattle.pq_scan.specs.declared.keys.End.{End}
 use Rattle.pq_scan.specs.declared.keys.End.TheVariants.{Low, High}
 use Rattle.pq_scan.specs.declared.starts.Start.{Start}
@@ -29,12 +30,23 @@ bound_of start = record { past = start.past; values = start.values }
 abbrev pub is_past : Edge → Bool
 is_past At = false
 is_past Past = true
+is_past AtNull = false
+is_past PastNull = true
+
+-- the value of a bound at an edge
+abbrev pub edge_value : Edge → Value → Value
+edge_value At w = w
+edge_value Past w = w
+edge_value AtNull w = value.Null
+edge_value PastNull w = value.Null
 
 -- the bound at an edge of a value
 abbrev pub edge_bounds : Option Edge → Value → List Bound
 edge_bounds None w = []
 edge_bounds (Some At) w = at_value w ∷ []
 edge_bounds (Some Past) w = past_value w ∷ []
+edge_bounds (Some AtNull) w = at_value value.Null ∷ []
+edge_bounds (Some PastNull) w = past_value value.Null ∷ []
 
 -- the bounds that a range predicate makes at an end
 abbrev pub bounds_by : End → Dir → Op → Value → List Bound

@@ -8,7 +8,7 @@ ghost use Rattle.pq_schema.specs.Relations.{belongs_to};
 ghost use Rattle.pq_serving.specs.Keys.{bound_key, higher, lesser_key};
 ghost use Rattle.pq_serving.specs.Scanning.{first_direction, rest};
 ghost use Rattle.pq_serving.specs.Starts.{under, lower, upper, filled_values};
-ghost use Rattle.pq_scan.specs.Ends.{is_past, edge_bounds, bounds_by, pred_bounds, own_bounds, farther, farthest, with_key, bound_of, direction_of, started_key, end_code};
+ghost use Rattle.pq_scan.specs.Ends.{is_past, edge_value, edge_bounds, bounds_by, pred_bounds, own_bounds, farther, farthest, with_key, bound_of, direction_of, started_key, end_code};
 ghost use Rattle.pq_scan.specs.Inputs.{IsInputAt, low_code, high_code};
 ghost use Rattle.pq_entries.specs.Entries.{key_front};
 ghost use Rattle.pq_scan.specs.Prepared.{asked_over, IsPrepared};
@@ -33,11 +33,14 @@ pub(crate) enum End {
     High,
 }
 
-/// Whether a bound is at its values, or past them.
+/// Whether a bound is at its values, or past them; the value behind the tied ones may be NULL in place of an
+/// operand.
 #[derive(Clone, Copy)]
 pub(crate) enum Edge {
     At,
     Past,
+    AtNull,
+    PastNull,
 }
 
 fn lower_edge(dir: Dir, op: Op) -> Option<Edge>
@@ -46,8 +49,9 @@ fn lower_edge(dir: Dir, op: Op) -> Option<Edge>
     match (dir, op) {
         (Dir::Asc, Op::Gt) | (Dir::Desc, Op::Lt) => Some(Edge::Past),
         (Dir::Asc, Op::Ge) | (Dir::Desc, Op::Le) => Some(Edge::At),
-        (Dir::Asc, Op::Eq | Op::Ne | Op::Lt | Op::Le) => None,
-        (Dir::Desc, Op::Eq | Op::Ne | Op::Gt | Op::Ge) => None,
+        (Dir::Asc, Op::Lt | Op::Le) => Some(Edge::PastNull),
+        (Dir::Asc, Op::Eq | Op::Ne | Op::IsNull) => None,
+        (Dir::Desc, Op::Eq | Op::Ne | Op::Gt | Op::Ge | Op::IsNull) => None,
     }
 }
 
@@ -57,8 +61,9 @@ fn upper_edge(dir: Dir, op: Op) -> Option<Edge>
     match (dir, op) {
         (Dir::Asc, Op::Lt) | (Dir::Desc, Op::Gt) => Some(Edge::At),
         (Dir::Asc, Op::Le) | (Dir::Desc, Op::Ge) => Some(Edge::Past),
-        (Dir::Asc, Op::Eq | Op::Ne | Op::Gt | Op::Ge) => None,
-        (Dir::Desc, Op::Eq | Op::Ne | Op::Lt | Op::Le) => None,
+        (Dir::Desc, Op::Lt | Op::Le) => Some(Edge::AtNull),
+        (Dir::Asc, Op::Eq | Op::Ne | Op::Gt | Op::Ge | Op::IsNull) => None,
+        (Dir::Desc, Op::Eq | Op::Ne | Op::IsNull) => None,
     }
 }
 
@@ -89,8 +94,8 @@ fn prefix_key(alloc: Global, values: Row, dirs: &[Dir], edge: Edge) -> Result<By
 {
     let code = front_code(alloc, values, dirs)?;
     match edge {
-        Edge::At => Ok(code),
-        Edge::Past => past(alloc, code),
+        Edge::At | Edge::AtNull => Ok(code),
+        Edge::Past | Edge::PastNull => past(alloc, code),
     }
 }
 
@@ -99,6 +104,23 @@ fn tied_key(alloc: Global, dirs: &[Dir], ties: &Row, edge: Edge) -> Result<Bytes
     ensures { IfOk result (λ key. key ≡ bound_key dirs.now (record { past = is_past edge; values = ties.now })) }
 {
     prefix_key(alloc, ties.copy(alloc)?, dirs, edge)
+}
+
+/// The key of an edge of an operand behind the tied values.
+fn edge_key(
+    alloc: Global,
+    dirs: &[Dir],
+    ties: &Row,
+    operand: &Value,
+    edge: Edge,
+) -> Result<Bytes, NoMem>
+    ensures { IfOk result (λ key. key ≡ bound_key dirs.now (under ties.now
+        (record { past = is_past edge; values = edge_value edge operand.now ∷ [] }))) }
+{
+    match edge {
+        Edge::At | Edge::Past => value_key(alloc, dirs, ties, operand, edge),
+        Edge::AtNull | Edge::PastNull => value_key(alloc, dirs, ties, &Value::Null, edge),
+    }
 }
 
 /// The key of one value behind the tied ones.
@@ -202,7 +224,7 @@ fn pred_key(
     };
     match edge_of(end, dir, pred.op) {
         None => Ok(None),
-        Some(edge) => Ok(Some(value_key(alloc, scan.dirs.items(), ties, operand, edge)?)),
+        Some(edge) => Ok(Some(edge_key(alloc, scan.dirs.items(), ties, operand, edge)?)),
     }
 }
 

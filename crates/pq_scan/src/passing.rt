@@ -12,11 +12,14 @@ use pq_plan::Combo;
 use pq_predicates::belongs_to;
 use pq_schema::Pred;
 
-/// Whether there is something to compare with.
+/// Whether there is something to compare with, and it isn't NULL.
 fn is_operand(operand: Option<&Value>) -> bool
     ensures { result ≡ is_operand (option_copied operand.entry) }
 {
-    operand.is_some()
+    match operand {
+        Some(operand) => !operand.is_null(),
+        None => false,
+    }
 }
 
 /// Whether an equality ties the column of the predicate.

@@ -25,11 +25,12 @@ use Rattle.pq_schema.specs.declared.table.Foreign.{Foreign}
 use Rattle.pq_schema.specs.declared.table.Index.{Index}
 use Rattle.pq_schema.specs.declared.table.Table.{Table}
 use Rattle.pq_schema.specs.ColumnNames.{names_of, is_unknown, place_of, places_of, no_column, repeated_name, first_repeated, unknown_refusal, repeated_refusal, names_refusal}
-use Rattle.pq_schema.specs.Definitions.{text_size, cardinality, has_type, column_of, refused_if, is_outside, definition_refusal, name_refusal, counts_refusal, columns_refusal, key_refusal, limit_refusal, limits_refusal, has_shape, reference_refusal, foreign_refusal, foreigns_refusal, groups_refusal, table_refusal, limit_of_def, foreign_of_def, bare_table, table_of_def, or_ok, new_table}
+use Rattle.pq_schema.specs.Definitions.{text_size, cardinality, with_null, plain_column_type, is_nullable_name, nullable_key, nullable_refusal, has_type, column_of, refused_if, is_outside, definition_refusal, name_refusal, counts_refusal, columns_refusal, key_refusal, limit_refusal, limits_refusal, has_shape, reference_refusal, foreign_refusal, foreigns_refusal, groups_refusal, table_refusal, limit_of_def, foreign_of_def, bare_table, table_of_def, or_ok, new_table}
 use Rattle.pq_schema.specs.Schema.{Schema, find_table, is_table, is_taken, number_of}
 use Rattle.pq_schema.specs.Sequences.{groups, group_access, with_group}
 use Rattle.pq_schema.specs.Sound.{IsTable, IsBare, AreColumns, IsSized, AreKeyColumns, IsMadeLimit, IsMadeForeign, IsMade}
-use Rattle.pq_schema.specs.Tables.{table_at}
+use Rattle.pq_base.specs.Values.{is_nullable}
+use Rattle.pq_schema.specs.Tables.{table_at, type_at}
 use Rattle.pq_schema.proofs.Counts.{AreKnown, places_within, different_places}
 use Rattle.pq_schema.proofs.Groups.{IsDifferent, IsAsBefore, AreInside, groups_have, groups_as_before, groups_inside, sound_groups}
 
@@ -75,6 +76,20 @@ sized_text (pos n) some =
     ] refl some
 sized_text (negsuc n) some = absurd (false≢true some)
 
+-- a nullable type has the size of its plain one
+with_null_sized : (b : Bool) (t : ColType) → IsSized t → IsSized (with_null b t)
+with_null_sized false t h = h
+with_null_sized true type.Int h = h
+with_null_sized true type.Bool h = h
+with_null_sized true (type.Text n) h = h
+with_null_sized true type.NullInt h = h
+with_null_sized true type.NullBool h = h
+with_null_sized true (type.NullText n) h = h
+
+null_sized : (b : Bool) (o : Option ColType) → (is_some o ≡ true → IsSized (unwrap_or o type.Int)) → is_some (option_map (with_null b) o) ≡ true → IsSized (unwrap_or (option_map (with_null b) o) type.Int)
+null_sized b (Some t) h some = with_null_sized b t (h refl)
+null_sized b None h some = absurd (false≢true some)
+
 abbrev type_as : Bool → Bool → ℤ → Option ColType
 type_as int bool size = if int then Some type.Int else if bool then Some type.Bool else option_map type.Text (text_size size)
 
@@ -84,7 +99,7 @@ sized_as false true size some = tt
 sized_as false false size some = sized_text size some
 
 sized_column : (column : ColumnDef) → has_type column ≡ true → IsSized (column_of column).ty
-sized_column column some = sized_as (bytes_eq column.kind (codes "INT")) (bytes_eq column.kind (codes "BOOL")) column.size some
+sized_column column some = null_sized column.nullable (plain_column_type column) (sized_as (bytes_eq column.kind (codes "INT")) (bytes_eq column.kind (codes "BOOL")) column.size) some
 
 sized_columns : (columns : List ColumnDef) → list_all has_type columns ≡ true → All (λ (column : Column). IsSized column.ty) (map column_of columns)
 sized_columns [] all = All-nil (λ (column : Column). IsSized column.ty)
@@ -119,8 +134,25 @@ module _ (columns : List Column) where
 
   key_made : (key : List (List ℕ)) → key_refusal columns key ≡ None → AreKeyColumns (length columns) (places_of columns key)
   key_made key none =
-      let parts = neither (names_refusal columns key) (refused_if (is_outside (length key) 4) (refusal.Count count_word.KEY)) none in
-      key_columns key parts.0 (not_refused (is_outside (length key) 4) (refusal.Count count_word.KEY) parts.1)
+      let count = refused_if (is_outside (length key) 4) (refusal.Count count_word.KEY) in
+      let parts = neither (names_refusal columns key) (or_else (nullable_refusal columns key) count) none in
+      let others = neither (nullable_refusal columns key) count parts.1 in
+      key_columns key parts.0 (not_refused (is_outside (length key) 4) (refusal.Count count_word.KEY) others.1)
+
+  plain_names : (names : List (List ℕ)) → find (is_nullable_name columns) names ≡ None → All (λ col. is_nullable (type_at columns col) ≡ false) (places_of columns names)
+  plain_names [] none = All-nil (λ col. is_nullable (type_at columns col) ≡ false)
+  plain_names (name ∷ names) none =
+      elim (is_nullable_name columns name) as (λ b. is_nullable_name columns name ≡ b → cond b (Some name) (find (is_nullable_name columns) names) ≡ None → All (λ col. is_nullable (type_at columns col) ≡ false) (places_of columns (name ∷ names))) [
+        | true ↦ λ _ none. absurd (none-some name (sym none))
+        | false ↦ λ plain none. All-cons (λ col. is_nullable (type_at columns col) ≡ false) (place_of columns name) (places_of columns names) plain (plain_names names none)
+      ] refl none
+
+  key_plain : (key : List (List ℕ)) → key_refusal columns key ≡ None → All (λ col. is_nullable (type_at columns col) ≡ false) (places_of columns key)
+  key_plain key none =
+      let count = refused_if (is_outside (length key) 4) (refusal.Count count_word.KEY) in
+      let parts = neither (names_refusal columns key) (or_else (nullable_refusal columns key) count) none in
+      let others = neither (nullable_refusal columns key) count parts.1 in
+      plain_names key (none_mapped nullable_key (find (is_nullable_name columns) key) others.0)
 
   -- ---- limits
 
@@ -369,6 +401,7 @@ module _ (schema : Schema) (def : TableDef) (none : table_refusal schema def ≡
     few_columns = made_sound.few_columns;
     sized = subst (λ (cs : List Column). All (λ (column : Column). IsSized column.ty) cs) (sym same.columns) (sized_columns def.columns types);
     key = subst (AreKeyColumns (length (table_of_def schema def).columns)) (sym same.key) (subst (λ n. AreKeyColumns n (bare_table schema def).key) (sym columns_same) bare_key);
+    plain = subst (λ (ks : List ℕ). All (λ col. is_nullable (type_at (table_of_def schema def).columns col) ≡ false) ks) (sym same.key) (subst (λ (cs : List Column). All (λ col. is_nullable (type_at cs col) ≡ false) (bare_table schema def).key) (sym same.columns) (key_plain (map column_of def.columns) def.key groups_parts.0));
     few_limits = made_sound.few;
     limits = subst (λ (ls : List Limit). All (IsMadeLimit (length (table_of_def schema def).columns)) ls) (sym same.limits) (subst (λ n. All (IsMadeLimit n) (bare_table schema def).limits) (sym columns_same) bare_limits);
     few_foreign = subst (λ (fs : List Foreign). length fs ≤ 4) (sym same.foreign) foreign_count;

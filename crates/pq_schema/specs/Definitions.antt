@@ -1,11 +1,12 @@
 -- What a CREATE TABLE defines, or the first refusal in the written order.
-use Rattle.std.specs.Prelude.{◌≡◌, ℕ, ℤ, pos, negsuc, ◌+◌, Bool, true, false, not, ◌||◌, ◌&&◌, nat_lt, nat_le, List, [], ◌∷◌, length, map, codes, unwrap_or, is_some, option_map, Option, Some, None, Result, Ok, Err, if◌then◌else◌}
+use Rattle.std.specs.Prelude.{◌≡◌, ℕ, ℤ, pos, negsuc, ◌+◌, Bool, true, false, not, ◌||◌, ◌&&◌, nat_lt, nat_le, List, [], ◌∷◌, length, map, codes, unwrap_or, is_some, find, option_map, Option, Some, None, Result, Ok, Err, if◌then◌else◌}
 use Rattle.std.specs.Str.{bytes_eq}
 use Rattle.std.specs.List.{list_all}
 use Rattle.pq_base.specs.Answers.{or_else}
 use Rattle.pq_base.specs.declared.count_word.TheConstants as count_word
 use Rattle.pq_base.specs.declared.refusal.Refusal.{Refusal}
 use Rattle.pq_base.specs.declared.refusal.Refusal.TheVariants as refusal
+use Rattle.pq_base.specs.Values.{is_nullable}
 use Rattle.pq_base.specs.declared.value.ColType.{ColType}
 use Rattle.pq_base.specs.declared.value.ColType.TheVariants as type
 use Rattle.pq_schema.specs.declared.definition.ColumnDef.{ColumnDef}
@@ -18,9 +19,9 @@ use Rattle.pq_schema.specs.declared.table.Limit.{Limit}
 use Rattle.pq_schema.specs.declared.table.Foreign.{Foreign}
 use Rattle.pq_schema.specs.declared.table.NewIndex.{NewIndex}
 use Rattle.pq_schema.specs.declared.table.Table.{Table}
-use Rattle.pq_schema.specs.ColumnNames.{names_of, places_of, repeated_refusal, names_refusal}
+use Rattle.pq_schema.specs.ColumnNames.{names_of, place_of, places_of, repeated_refusal, names_refusal}
 use Rattle.pq_schema.specs.Sequences.{with_groups}
-use Rattle.pq_schema.specs.Tables.{table_at, same_kinds, types_at}
+use Rattle.pq_schema.specs.Tables.{table_at, same_kinds, type_at, types_at}
 use Rattle.pq_schema.specs.Schema.{Schema, find_table, is_taken, with_table, with_query}
 
 -- n of TEXT(n), from 1 to 1,000
@@ -33,12 +34,25 @@ abbrev pub cardinality : ℤ → Option ℕ
 cardinality (pos n) = if nat_le 1 n && nat_le n 10000 then Some n else None
 cardinality (negsuc n) = None
 
--- the type of a column, unless its length is outside the limit
-abbrev pub column_type : ColumnDef → Option ColType
-column_type column =
+-- the type, with NULL where the column is nullable
+abbrev pub with_null : Bool → ColType → ColType
+with_null false t = t
+with_null true type.Int = type.NullInt
+with_null true type.Bool = type.NullBool
+with_null true (type.Text n) = type.NullText n
+with_null true type.NullInt = type.NullInt
+with_null true type.NullBool = type.NullBool
+with_null true (type.NullText n) = type.NullText n
+
+-- the type of a column but for NULL, unless its length is outside the limit
+abbrev pub plain_column_type : ColumnDef → Option ColType
+plain_column_type column =
     if bytes_eq column.kind (codes "INT") then Some type.Int
     else if bytes_eq column.kind (codes "BOOL") then Some type.Bool
     else option_map type.Text (text_size column.size)
+
+abbrev pub column_type : ColumnDef → Option ColType
+column_type column = option_map (with_null column.nullable) (plain_column_type column)
 
 abbrev pub has_type : ColumnDef → Bool
 has_type column = is_some (column_type column)
@@ -80,10 +94,21 @@ columns_refusal columns =
     or_else (refused_if (not (list_all has_type columns)) (refusal.Count count_word.TEXT))
     (repeated_refusal (names_of (map column_of columns)))
 
--- the key's names, and their number
+abbrev pub is_nullable_name : List Column → List ℕ → Bool
+is_nullable_name columns name = is_nullable (type_at columns (place_of columns name))
+
+abbrev pub nullable_key : List ℕ → Refusal
+nullable_key name = refusal.NullableKey name
+
+-- the first name of a nullable column
+abbrev pub nullable_refusal : List Column → List (List ℕ) → Option Refusal
+nullable_refusal columns names = option_map nullable_key (find (is_nullable_name columns) names)
+
+-- the key's names, a nullable column among them, and their number
 abbrev pub key_refusal : List Column → List (List ℕ) → Option Refusal
 key_refusal columns key = or_else (names_refusal columns key)
-    (refused_if (is_outside (length key) 4) (refusal.Count count_word.KEY))
+    (or_else (nullable_refusal columns key)
+    (refused_if (is_outside (length key) 4) (refusal.Count count_word.KEY)))
 
 -- the names of a limit, their number, and its n
 abbrev pub limit_refusal : List Column → LimitDef → Option Refusal

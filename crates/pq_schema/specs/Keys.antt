@@ -1,27 +1,17 @@
 -- What keys of rows and of entries are made of.
-use Rattle.std.specs.Prelude.{ℕ, false, ◌==◌, if◌then◌else◌, List, [], ◌∷◌, map, FitsSigned, IsUtf8}
-use Rattle.std.specs.Int.{w64}
+use Rattle.std.specs.Prelude.{ℕ, ◌==◌, if◌then◌else◌, List, [], ◌∷◌, map}
 use Rattle.pq_base.specs.declared.value.ColType.{ColType}
-use Rattle.pq_base.specs.declared.value.ColType.TheVariants as type
+use Rattle.pq_base.specs.Values.{IsOfDataKind, kind_of_type}
 use Rattle.pq_base.specs.declared.value.Dir.{Dir}
 use Rattle.pq_base.specs.declared.value.Value.{Value}
-use Rattle.pq_base.specs.declared.value.Value.TheVariants as value
 use Rattle.pq_schema.specs.declared.table.KeyPart.{KeyPart}
 use Rattle.pq_schema.specs.declared.table.Table.{Table}
 use Rattle.pq_schema.specs.Rows.{no_value}
 use Rattle.pq_schema.specs.Tables.{types_at}
 
--- a value of the type's kind, a text of any length
+-- a value of the type's kind, a text of any length; NULL is of each kind
 abbrev pub IsOfKind : ColType → Value → Type 0
-IsOfKind type.Int (value.Int n) = FitsSigned w64 n
-IsOfKind type.Bool (value.Bool b) = Unit {0}
-IsOfKind (type.Text n) (value.Text t) = IsUtf8 t
-IsOfKind type.Int (value.Bool b) = ⊥
-IsOfKind type.Int (value.Text t) = ⊥
-IsOfKind type.Bool (value.Int n) = ⊥
-IsOfKind type.Bool (value.Text t) = ⊥
-IsOfKind (type.Text n) (value.Int z) = ⊥
-IsOfKind (type.Text n) (value.Bool b) = ⊥
+IsOfKind t x = IsOfDataKind (kind_of_type t) x
 
 -- as many values as types, and each is of the type's kind
 abbrev pub AllOfKinds : List ColType → List Value → Type 0

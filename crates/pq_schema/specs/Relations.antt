@@ -13,7 +13,7 @@ use Rattle.pq_schema.specs.declared.query.Pred.{Pred}
 use Rattle.pq_schema.specs.declared.query.OrderItem.{OrderItem}
 use Rattle.pq_schema.specs.declared.query.Relation.{Relation}
 use Rattle.pq_schema.specs.declared.query.Query.{Query}
-use Rattle.pq_schema.specs.Tables.{table_at, is_lookup}
+use Rattle.pq_schema.specs.Tables.{table_at, is_lookup, have_no_null}
 
 -- what stands at a number that no relation has
 abbrev pub no_relation : Relation
@@ -43,6 +43,17 @@ is_equality op.Lt = false
 is_equality op.Le = false
 is_equality op.Gt = false
 is_equality op.Ge = false
+is_equality op.IsNull = false
+
+-- IS NULL, whose operand is the constant NULL
+abbrev pub is_null_test : Op → Bool
+is_null_test op.Eq = false
+is_null_test op.Ne = false
+is_null_test op.Lt = false
+is_null_test op.Le = false
+is_null_test op.Gt = false
+is_null_test op.Ge = false
+is_null_test op.IsNull = true
 
 abbrev pub is_range : Op → Bool
 is_range op.Eq = false
@@ -51,6 +62,7 @@ is_range op.Lt = true
 is_range op.Le = true
 is_range op.Gt = true
 is_range op.Ge = true
+is_range op.IsNull = false
 
 -- a constant, a parameter or a column of an earlier relation
 abbrev pub is_before : ℕ → Operand → Bool
@@ -90,10 +102,11 @@ abbrev pub is_whole : Query → ℕ → ℕ → List (ℕ × ℕ) → Bool
 is_whole query rel earlier pairs =
     list_all (is_spelt query rel earlier) pairs && list_all (spells_one rel earlier pairs) query.preds
 
--- a foreign key declared from the table of the earlier relation ties the relation
+-- a foreign key declared from the table of the earlier relation, without nullable columns, ties the relation
 abbrev pub is_tied : List Table → Query → ℕ → ℕ → Bool
 is_tied tables query rel earlier =
     list_any (λ foreign. foreign.table == (relation_at query rel).table
+    && have_no_null (table_of tables query earlier).columns foreign.cols
     && is_whole query rel earlier (zip foreign.cols (table_of tables query rel).key))
     (table_of tables query earlier).foreign
 

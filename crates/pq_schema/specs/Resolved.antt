@@ -2,11 +2,16 @@
 use Rattle.std.specs.Prelude.{◌≡◌, ℕ, ◌-◌, ◌<◌, ◌≤◌, Bool, true, false, ◌==◌, ◌&&◌, All, IfSome, List, map, length, slice_index_or}
 use Rattle.std.specs.Str.{bytes_eq}
 use Rattle.std.specs.List.{IsDistinct, list_any}
-use Rattle.pq_base.specs.Values.{FitsType}
+use Rattle.pq_base.specs.Values.{FitsType, kind_of_type}
+use Rattle.pq_base.specs.declared.value.DataKind.{DataKind}
+use Rattle.pq_base.specs.declared.value.DataKind.TheVariants as kind
+use Rattle.pq_base.specs.declared.value.Value.{Value}
+use Rattle.pq_base.specs.declared.value.Value.TheVariants as value
 use Rattle.pq_base.specs.declared.value.ColType.{ColType}
 use Rattle.pq_base.specs.declared.value.ColType.TheVariants as type
 use Rattle.pq_schema.specs.declared.table.Table.{Table}
 use Rattle.pq_schema.specs.declared.query.ColRef.{ColRef}
+use Rattle.pq_schema.specs.declared.query.Op.{Op}
 use Rattle.pq_schema.specs.declared.query.Op.TheVariants as op
 use Rattle.pq_schema.specs.declared.query.Operand.{Operand}
 use Rattle.pq_schema.specs.declared.query.Operand.TheVariants as operand
@@ -16,7 +21,7 @@ use Rattle.pq_schema.specs.declared.query.Query.{Query}
 use Rattle.pq_schema.specs.Names.{IsName}
 use Rattle.pq_base.specs.Values.{same_kind}
 use Rattle.pq_schema.specs.Tables.{type_at}
-use Rattle.pq_schema.specs.Relations.{table_of}
+use Rattle.pq_schema.specs.Relations.{table_of, is_null_test}
 use Rattle.pq_schema.specs.Candidates.{stop_size}
 
 -- a table that is there, under a name
@@ -38,11 +43,15 @@ same_ref a b = a.rel == b.rel && a.col == b.col
 abbrev pub ref_type : List Table → Query → ColRef → ColType
 ref_type tables query col = type_at (table_of tables query col.rel).columns col.col
 
--- the type of what is compared with a column of this type: texts have at most 1,000 bytes
+-- the type of what is compared with values of this kind: texts have at most 1,000 bytes
+abbrev pub param_of : DataKind → ColType
+param_of kind.Int = type.Int
+param_of kind.Bool = type.Bool
+param_of kind.Text = type.Text 1000
+
+-- and with a column of this type, nullable or not
 abbrev pub param_type : ColType → ColType
-param_type type.Int = type.Int
-param_type type.Bool = type.Bool
-param_type (type.Text n) = type.Text 1000
+param_type t = param_of (kind_of_type t)
 
 -- a parameter, by its number from 1, of this type
 pub record IsParam (types : List ColType) (number : ℕ) (ty : ColType) : Type 0 where
@@ -57,11 +66,17 @@ pub record IsJoined (tables : List Table) (query : Query) (pred : Pred) (col : C
   pub earlier : col.rel < pred.left.rel
   pub kind : same_kind (ref_type tables query pred.left) (ref_type tables query col) ≡ true
 
+-- NULL exactly behind IS NULL
+abbrev pub IsConstant : Op → ColType → Value → Type 0
+IsConstant op ty constant = (is_null_test op ≡ false → FitsType ty constant)
+    × (is_null_test op ≡ true → constant ≡ value.Null)
+
 -- a constant or a parameter of the column's kind, or a column of an earlier relation
 abbrev pub IsOperand : List Table → Query → Pred → Operand → Type 0
-IsOperand tables query pred (operand.Const value) = FitsType (param_type (ref_type tables query pred.left)) value
+IsOperand tables query pred (operand.Const value) =
+    IsConstant pred.op (param_type (ref_type tables query pred.left)) value
 IsOperand tables query pred (operand.Param number) =
-    IsParam query.params number (param_type (ref_type tables query pred.left))
+    (is_null_test pred.op ≡ false) × IsParam query.params number (param_type (ref_type tables query pred.left))
 IsOperand tables query pred (operand.Col col) = IsJoined tables query pred col
 
 pub record IsPredicate (tables : List Table) (query : Query) (pred : Pred) : Type 0 where

@@ -8,7 +8,7 @@ use Rattle.pq_base.specs.declared.value.Value.{Value}
 use Rattle.pq_base.specs.declared.value.Value.TheVariants as value
 use Rattle.pq_base.specs.declared.value.ColType.{ColType}
 use Rattle.pq_base.specs.Order.{value_cmp}
-use Rattle.pq_base.specs.Values.{AllFit}
+use Rattle.pq_base.specs.Values.{AllFit, has_null}
 use Rattle.pq_schema.specs.declared.table.Foreign.{Foreign}
 use Rattle.pq_schema.specs.declared.table.Limit.{Limit}
 use Rattle.pq_schema.specs.declared.table.Table.{Table}
@@ -74,13 +74,15 @@ AreApart tables [] = Unit {0}
 AreApart tables (e ∷ es) =
     AllByRecursion (λ f. has_key tables e.0 (key_of (table_at tables e.0) e.1) f ≡ false) es × AreApart tables es
 
--- at most n rows of the table agree on the limit's columns
+-- at most n rows of the table without NULL in the limit's columns agree on them
 abbrev pub IsWithinLimit : ℕ → Rows → Limit → Type 0
-IsWithinLimit t rows limit = (values : List Value) → length (group_of t limit.cols values rows) ≤ limit.n
+IsWithinLimit t rows limit =
+    (values : List Value) → has_null values ≡ false → length (group_of t limit.cols values rows) ≤ limit.n
 
--- the row that the foreign key names is there
+-- the row that the foreign key names is there, unless the row has NULL in its columns
 abbrev pub HasParent : List Table → Rows → List Value → Foreign → Type 0
-HasParent tables rows row foreign = IsSome (row_at tables rows foreign.table (cells foreign.cols row))
+HasParent tables rows row foreign = has_null (cells foreign.cols row) ≡ false
+    → IsSome (row_at tables rows foreign.table (cells foreign.cols row))
 
 -- the rows keep the definitions of their tables
 pub record KeepsSchema (tables : List Table) (rows : Rows) : Type 0 where

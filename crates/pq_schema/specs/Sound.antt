@@ -1,5 +1,5 @@
 -- What every table and query has.
-use Rattle.std.specs.Prelude.{◌≡◌, ℕ, ◌<◌, ◌≤◌, All, IsSome, IfSome, count_ones, length, List, [], true}
+use Rattle.std.specs.Prelude.{◌≡◌, ℕ, ◌<◌, ◌≤◌, All, IsSome, IfSome, count_ones, length, List, [], true, false}
 use Rattle.pq_base.specs.declared.value.ColType.{ColType}
 use Rattle.pq_base.specs.declared.value.ColType.TheVariants as type
 use Rattle.pq_schema.specs.declared.table.Column.{Column}
@@ -10,7 +10,8 @@ use Rattle.pq_schema.specs.declared.query.Operand.TheVariants as operand
 use Rattle.pq_schema.specs.declared.query.Pred.{Pred}
 use Rattle.pq_base.specs.Columns.{set_of}
 use Rattle.pq_schema.specs.Sequences.{group_access}
-use Rattle.pq_schema.specs.Tables.{table_at, types_at, same_kinds}
+use Rattle.pq_base.specs.Values.{is_nullable}
+use Rattle.pq_schema.specs.Tables.{table_at, type_at, types_at, same_kinds}
 use Rattle.pq_schema.specs.Candidates.{stop_size}
 use Rattle.pq_schema.specs.declared.table.Limit.{Limit}
 use Rattle.pq_schema.specs.declared.table.Table.{Table}
@@ -65,6 +66,9 @@ abbrev pub IsSized : ColType → Type 0
 IsSized type.Int = Unit {0}
 IsSized type.Bool = Unit {0}
 IsSized (type.Text n) = (1 ≤ n) × (n ≤ 1000)
+IsSized type.NullInt = Unit {0}
+IsSized type.NullBool = Unit {0}
+IsSized (type.NullText n) = (1 ≤ n) × (n ≤ 1000)
 
 -- 1 to 4 different columns of so many
 pub record AreKeyColumns (width : ℕ) (cols : List ℕ) : Type 0 where
@@ -94,6 +98,7 @@ pub record IsMade (tables : List Table) (number : ℕ) (table : Table) : Type 0 
   pub few_columns : length table.columns ≤ 32
   pub sized : All (λ column. IsSized column.ty) table.columns
   pub key : AreKeyColumns (length table.columns) table.key
+  pub plain : All (λ col. is_nullable (type_at table.columns col) ≡ false) table.key
   pub few_limits : length table.limits ≤ 4
   pub limits : All (IsMadeLimit (length table.columns)) table.limits
   pub few_foreign : length table.foreign ≤ 4

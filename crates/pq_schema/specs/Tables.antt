@@ -1,10 +1,11 @@
 -- Tables by their numbers, and limits and the data bound of one table.
-use Rattle.std.specs.Prelude.{ℕ, ◌+◌, ◌-◌, min, Bool, ◌==◌, ◌&&◌, if◌then◌else◌, List, [], ◌∷◌, ◌++◌, map, filter, position, slice_index_or, Option, Some, None, option_map, option_and_then, true, false}
+use Rattle.std.specs.Prelude.{ℕ, ◌+◌, ◌-◌, min, Bool, ◌==◌, ◌&&◌, if◌then◌else◌, List, [], ◌∷◌, ◌++◌, map, filter, position, slice_index_or, not, Option, Some, None, option_map, option_and_then, true, false}
 use Rattle.std.specs.Option.{option_map_or}
+use Rattle.std.specs.List.{list_all}
 use Rattle.pq_base.specs.Columns.{is_column_within, set_of}
 use Rattle.pq_base.specs.declared.value.ColType.{ColType}
 use Rattle.pq_base.specs.declared.value.ColType.TheVariants as type
-use Rattle.pq_base.specs.Values.{same_kind}
+use Rattle.pq_base.specs.Values.{same_kind, is_nullable}
 use Rattle.pq_schema.specs.declared.table.Column.{Column}
 use Rattle.pq_schema.specs.declared.table.Foreign.{Foreign}
 use Rattle.pq_schema.specs.declared.table.Referring.{Referring}
@@ -71,6 +72,10 @@ type_at columns col = slice_index_or (map (λ column. column.ty) columns) col ty
 
 abbrev pub types_at : List Column → List ℕ → List ColType
 types_at columns cols = map (type_at columns) cols
+
+-- none of the columns is nullable
+abbrev pub have_no_null : List Column → List ℕ → Bool
+have_no_null columns cols = list_all (λ col. not (is_nullable (type_at columns col))) cols
 
 -- as many types as types, of the same kinds place by place
 abbrev pub same_kinds : List ColType → List ColType → Bool

@@ -8,9 +8,10 @@ pub struct ColumnDef {
     pub name: PText,
     pub kind: PText,
     pub size: i64,
+    pub nullable: bool,
 }
 
-/// A limit: at most n rows agree on the columns.
+/// A limit: at most n rows without NULL in the columns agree on them.
 #[derive(Debug, Drop)]
 pub struct LimitDef {
     pub n: i64,

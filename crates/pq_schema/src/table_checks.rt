@@ -1,9 +1,9 @@
 //! What refuses a CREATE TABLE, in the written order.
-ghost use Rattle.std.specs.Prelude.{◌≡◌, ◌≤◌, ◌||◌, length, map, IfOk};
+ghost use Rattle.std.specs.Prelude.{◌≡◌, ◌≤◌, ◌||◌, length, map, find, option_map, IfOk};
 ghost use Rattle.std.specs.List.{list_all};
 ghost use Rattle.pq_base.specs.Answers.{Passes};
 ghost use Rattle.pq_schema.specs.ColumnNames.{place_of, places_of};
-ghost use Rattle.pq_schema.specs.Definitions.{text_size, cardinality, column_type, has_type, column_of, is_outside, definition_refusal, name_refusal, counts_refusal, columns_refusal, key_refusal, limit_refusal, limits_refusal, reference_refusal, foreign_refusal, foreigns_refusal, groups_refusal, table_refusal};
+ghost use Rattle.pq_schema.specs.Definitions.{text_size, cardinality, with_null, plain_column_type, column_type, has_type, column_of, is_outside, definition_refusal, name_refusal, counts_refusal, columns_refusal, is_nullable_name, nullable_refusal, key_refusal, limit_refusal, limits_refusal, reference_refusal, foreign_refusal, foreigns_refusal, groups_refusal, table_refusal};
 ghost use Rattle.pq_schema.specs.Schema.{find_table};
 ghost use Rattle.pq_schema.specs.Tables.{type_at, types_at, same_kinds};
 
@@ -48,10 +48,33 @@ pub(crate) fn cardinality(n: i64) -> Option<u32>
     }
 }
 
+/// The type, with NULL where the column is nullable.
+fn with_null(nullable: bool, ty: ColType) -> ColType
+    ensures { result ≡ with_null nullable ty }
+{
+    if !nullable {
+        return ty;
+    }
+    match ty {
+        ColType::Int | ColType::NullInt => ColType::NullInt,
+        ColType::Bool | ColType::NullBool => ColType::NullBool,
+        ColType::Text(most) | ColType::NullText(most) => ColType::NullText(most),
+    }
+}
+
 impl ColumnDef {
     /// The type, None where a text's length is outside its limit.
     fn ty(&self) -> Option<ColType>
         ensures { result ≡ column_type self.now }
+    {
+        match self.plain_ty() {
+            Some(ty) => Some(with_null(self.nullable, ty)),
+            None => None,
+        }
+    }
+
+    fn plain_ty(&self) -> Option<ColType>
+        ensures { result ≡ plain_column_type self.now }
     {
         if self.kind.bytes() == b"INT".as_slice() {
             Some(ColType::Int)
@@ -173,10 +196,36 @@ fn checked_columns(alloc: Global, defs: &[ColumnDef]) -> Result<List<Column>, St
     Ok(columns)
 }
 
+fn is_nullable_name(columns: &[Column], name: &PText) -> bool
+    ensures { result ≡ is_nullable_name columns.now name.now }
+{
+    named_type(columns, name).is_nullable()
+}
+
+fn first_nullable<'a>(columns: &[Column], names: &'a [PText]) -> Option<&'a PText>
+    ensures { option_map (λ name. name.now) result ≡ find (is_nullable_name columns.now) names.now }
+{
+    names.iter().find(|name| is_nullable_name(columns, name))
+}
+
+/// Refuses the first name of a nullable column.
+fn check_not_nullable(alloc: Global, columns: &[Column], names: &[PText]) -> Result<(), Stopped>
+    ensures { Passes result (nullable_refusal columns.now names.now) }
+{
+    match first_nullable(columns, names) {
+        Some(name) => {
+            let name = name.copy(alloc)?;
+            Err(Stopped::Refused(Refusal::NullableKey { name }))
+        }
+        None => Ok(()),
+    }
+}
+
 fn check_key(alloc: Global, columns: &[Column], key: &[PText]) -> Result<(), Stopped>
     ensures { Passes result (key_refusal columns.now key.now) }
 {
     check_names(alloc, columns, key)?;
+    check_not_nullable(alloc, columns, key)?;
     if is_outside(key.len(), 4) {
         return Err(counted(count_word::KEY));
     }

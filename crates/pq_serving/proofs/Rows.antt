@@ -10,6 +10,7 @@ use Rattle.pq_base.specs.declared.value.Value.{Value}
 use Rattle.pq_base.specs.declared.value.Dir.{Dir}
 use Rattle.pq_base.specs.Members.{In}
 use Rattle.pq_key_code.specs.KeyOrder.{common_cmp}
+use Rattle.pq_base.specs.Values.{is_null}
 use Rattle.pq_schema.specs.Keys.{dirs_of}
 use Rattle.pq_schema.specs.declared.table.KeyPart.{KeyPart}
 use Rattle.pq_schema.specs.declared.query.Op.{Op}
@@ -28,7 +29,7 @@ use Rattle.pq_serving.specs.Starts.{Bound, reaches, under, lower, upper}
 use Rattle.pq_serving.specs.Scanning.{first_direction, own_preds, is_operand, is_tied, passes_one, passes, bounds_with, lowers, uppers, front, rest, ties as tie_values, lows, highs, lies_within, cells_of}
 use Rattle.pq_serving.proofs.Columns.{same_test_from}
 use Rattle.pq_serving.proofs.Places.{reaches-under, front_equal, common_cmp-prefix}
-use Rattle.pq_serving.proofs.RangePreds.{range_law}
+use Rattle.pq_serving.proofs.RangePreds.{range_law, right_plain}
 use Rattle.pq_serving.proofs.Served.{HasColumns, IsServed, fixed_in_front, kept_front}
 use Rattle.pq_serving.proofs.Constants.{dirs_are, cells_are, front_long, start_is}
 
@@ -36,6 +37,10 @@ use Rattle.pq_serving.proofs.Constants.{dirs_are, cells_are, front_long, start_i
 abbrev pub is_after : Question → Option (List Value) → List (List Value) → Bool
 is_after q None combo = true
 is_after q (Some at) combo = is_lt (by_position q at (position q combo))
+
+not_so : (b : Bool) → not b ≡ true → b ≡ false
+not_so true h = absurd (false≢true h)
+not_so false h = refl
 
 -- ---- tests of lists of bounds
 
@@ -99,9 +104,9 @@ module _ (q : Question) (p : ℕ) (sequence : List KeyPart) (s : IsServed q p se
   holds_is pred here = λ i. compares pred.op (left_is pred here i) (right_is pred here i)
 
   -- a predicate on the first column of the rest holds within its bounds
-  range_is : (pred : Pred) → In pred (own_preds q p) → is_tied q p pred ≡ false → (w : Value) → side q.params c pred.right ≡ Some w →
+  range_is : (pred : Pred) → In pred (own_preds q p) → is_tied q p pred ≡ false → (w : Value) → side q.params c pred.right ≡ Some w → is_null w ≡ false →
       holds q.params d pred ≡ (list_all (λ b. reaches ds b ys) (lower (first_direction (rest q p sequence)) pred.op w) && list_all (λ b. not (reaches ds b ys)) (upper (first_direction (rest q p sequence)) pred.op w))
-  range_is pred here untied w is =
+  range_is pred here untied w is plain =
       let o = own_is pred here in
       let f = s.ranges pred o.0 o.1 untied in
       let value = λ (col : ℕ). get_or r col no_value in
@@ -110,7 +115,7 @@ module _ (q : Question) (p : ℕ) (sequence : List KeyPart) (s : IsServed q p se
       let left : slice_get r pred.left.col ≡ Some (value f.part.col) = ap (slice_get r) (sym f.column) ∙ get_at r f.part.col no_value inside in
       holds_is pred here
       ∙ (λ i. compares pred.op (left i) (is i))
-      ∙ range_law f.part.dir (dirs_of f.parts) pred.op w (value f.part.col) (cells (columns_of f.parts) r) f.range
+      ∙ range_law f.part.dir (dirs_of f.parts) pred.op w (value f.part.col) (cells (columns_of f.parts) r) f.range plain
       ∙ (λ i. list_all (λ b. reaches (dirs_of (sym f.first i)) b (cells (columns_of (sym f.first i)) r)) (lower (first_direction (sym f.first i)) pred.op w) && list_all (λ b. not (reaches (dirs_of (sym f.first i)) b (cells (columns_of (sym f.first i)) r))) (upper (first_direction (sym f.first i)) pred.op w))
     where
       in_rest : (k : ℕ) → In k (columns_of (rest q p sequence)) → In k (columns_of sequence)
@@ -121,6 +126,13 @@ module _ (q : Question) (p : ℕ) (sequence : List KeyPart) (s : IsServed q p se
           later (suc n) [] k here = here
           later (suc n) (part ∷ parts) k here = inr (later n parts k here)
 
+  -- the operand of a range isn't NULL where the predicate holds
+  operand_plain : keeps q p d ≡ true → (pred : Pred) → In pred (own_preds q p) → is_tied q p pred ≡ false → (w : Value) → side q.params c pred.right ≡ Some w → is_null w ≡ false
+  operand_plain keep pred here untied w is =
+      let o = own_is pred here in
+      let f = s.ranges pred o.0 o.1 untied in
+      right_plain pred.op (slice_get r pred.left.col) (side q.params c pred.right) w f.range is (sym (holds_is pred here) ∙ all_at (holds q.params d) (own_preds q p) keep pred here)
+
   -- ---- where the predicates keep the row
   kept_passes : keeps q p d ≡ true → passes q p c ≡ true
   kept_passes keep = all_from (passes_one q p c) (own_preds q p) (λ pred here.
@@ -130,7 +142,9 @@ module _ (q : Question) (p : ℕ) (sequence : List KeyPart) (s : IsServed q p se
         | true ↦ λ tied.
             let e = tied_one q s.named p pred.left.col (set_members _ pred.left.col tied) c r long keep in
             ap (λ (o : Option Value). compares pred.op o (side q.params c pred.right)) (e.2 ∙ sym e.1) ∙ both
-        | false ↦ λ _. ap is_operand (sides pred.op (slice_get r pred.left.col) (side q.params c pred.right) both).3
+        | false ↦ λ untied.
+            let there = sides pred.op (slice_get r pred.left.col) (side q.params c pred.right) both in
+            ap is_operand there.3 ∙ ap not (operand_plain keep pred here untied there.1 there.3)
       ] refl)
 
   kept_bounds : keeps q p d ≡ true → (above ≡ true) × (below ≡ true)
@@ -147,7 +161,7 @@ module _ (q : Question) (p : ℕ) (sequence : List KeyPart) (s : IsServed q p se
             | false ↦ λ untied.
                 elim (side q.params c pred.right) as (λ o. side q.params c pred.right ≡ o → (list_all (λ b. reaches ds b ys) (bounds_with q p (lower dir pred.op) o) ≡ true) × (list_all (λ b. not (reaches ds b ys)) (bounds_with q p (upper dir pred.op) o) ≡ true)) [
                   | None ↦ λ _. (refl, refl)
-                  | Some w ↦ λ is. and_parts _ _ (sym (range_is pred here untied w is) ∙ all_at (holds q.params d) (own_preds q p) keep pred here)
+                  | Some w ↦ λ is. and_parts _ _ (sym (range_is pred here untied w is (operand_plain keep pred here untied w is)) ∙ all_at (holds q.params d) (own_preds q p) keep pred here)
                 ] refl
           ] refl
 
@@ -181,7 +195,7 @@ module _ (q : Question) (p : ℕ) (sequence : List KeyPart) (s : IsServed q p se
 
       open_holds : (pred : Pred) → In pred (own_preds q p) → is_tied q p pred ≡ false → (o : Option Value) → side q.params c pred.right ≡ o → is_operand o ≡ true → list_all (λ b. reaches ds b ys) (bounds_with q p (lower (first_direction (rest q p sequence)) pred.op) o) ≡ true → list_all (λ b. not (reaches ds b ys)) (bounds_with q p (upper (first_direction (rest q p sequence)) pred.op) o) ≡ true → holds q.params d pred ≡ true
       open_holds pred here untied None is some l h = absurd (false≢true some)
-      open_holds pred here untied (Some w) is some l h = range_is pred here untied w is ∙ and_from _ _ l h
+      open_holds pred here untied (Some w) is some l h = range_is pred here untied w is (not_so (is_null w) some) ∙ and_from _ _ l h
 
   -- ---- both
   ties_long : length (dirs_of (take (count_ones (tied_set q.query p)) sequence)) ≡ length (tie_values q p sequence c)

@@ -1,5 +1,5 @@
 -- The values of an input's bounds are of the kinds of the sequence's columns.
-use Rattle.std.proofs.Common.{◌≡◌, ℕ, zero, suc, ◌-◌, ◌<◌, ◌≤◌, true, false, cond, ◌&&◌, ◌==◌, inl, inr, List, [], ◌∷◌, ◌++◌, length, get_or, map, filter, count_ones, Option, Some, None, slice_get, unwrap_or, option_and_then, refl, sym, ap, ◌∙◌, subst, arith, take-append-drop}
+use Rattle.std.proofs.Common.{◌≡◌, ℕ, zero, suc, ◌-◌, ◌<◌, ◌≤◌, Bool, true, false, cond, ◌⊎◌, ◌&&◌, ◌==◌, inl, inr, List, [], ◌∷◌, ◌++◌, length, get_or, map, filter, count_ones, Option, Some, None, slice_get, unwrap_or, option_and_then, refl, sym, ap, ◌∙◌, subst, arith, take-append-drop}
 use Rattle.std.specs.declared.cmp.Ordering.TheVariants.{Less, Equal, Greater}
 use Rattle.std.specs.List.{find}
 use Rattle.std.proofs.lemmas.Bool.{and_parts, and_from, eqb-true, eq-eqb, false≢true}
@@ -8,6 +8,7 @@ use Rattle.std.proofs.lemmas.List.{length-map, drop-map}
 use Rattle.pq_base.specs.declared.value.Dir.{Dir}
 use Rattle.pq_base.specs.declared.value.Dir.TheVariants.{Asc, Desc}
 use Rattle.pq_base.specs.declared.value.Value.{Value}
+use Rattle.pq_base.specs.declared.value.Value.TheVariants as value
 use Rattle.pq_base.specs.declared.value.ColType.{ColType}
 use Rattle.pq_base.specs.declared.value.ColType.TheVariants as type
 use Rattle.pq_base.specs.Order.{value_cmp, directed_order}
@@ -23,7 +24,7 @@ use Rattle.pq_schema.specs.declared.query.Pred.{Pred}
 use Rattle.pq_schema.specs.declared.query.OrderItem.{OrderItem}
 use Rattle.pq_schema.specs.Resolved.{IsOperand, IsJoined, IsParam, IsPredicate, IsResolved, ref_type, param_type}
 use Rattle.pq_schema.specs.Sequences.{columns_of}
-use Rattle.pq_schema.specs.Relations.{table_of, belongs_to, ties, tied_set, is_rest, part_of, position_columns}
+use Rattle.pq_schema.specs.Relations.{table_of, is_null_test, belongs_to, ties, tied_set, is_rest, part_of, position_columns}
 use Rattle.pq_content.specs.Tables.{types_of, type_at, types_at, IsOfKind}
 use Rattle.pq_plan.specs.Answer.{Question, row_of, side, compares, no_value}
 use Rattle.pq_plan.specs.Running.{tied_value}
@@ -89,38 +90,45 @@ fits_start (t ∷ ts) (d ∷ ds) (Some v ∷ gs) (a ∷ at) f = elim (directed_o
 ]
 fits_start (t ∷ ts) (d ∷ ds) (None ∷ gs) (a ∷ at) f = (f.0, fits_start ts ds gs at f.1)
 
--- ---- bounds of one operand have it alone
+-- ---- bounds of one operand have it alone, or NULL
 one_of : (x b : Bound) (w : Value) → x.values ≡ w ∷ [] → In b (x ∷ []) → b.values ≡ w ∷ []
 one_of x b w h (inl e) = ap (λ (c : Bound). c.values) (sym e) ∙ h
 one_of x b w h (inr i) = absurd i
 
-lower_values : (d : Dir) (o : Op) (w : Value) (b : Bound) → In b (lower d o w) → b.values ≡ w ∷ []
+abbrev IsAlone : Value → Bound → Type 0
+IsAlone w b = (b.values ≡ w ∷ []) ⊎ (b.values ≡ value.Null ∷ [])
+
+lower_values : (d : Dir) (o : Op) (w : Value) (b : Bound) → In b (lower d o w) → IsAlone w b
 lower_values Asc op.Eq w b i = absurd i
 lower_values Asc op.Ne w b i = absurd i
-lower_values Asc op.Lt w b i = absurd i
-lower_values Asc op.Le w b i = absurd i
-lower_values Asc op.Gt w b i = one_of (past_value w) b w refl i
-lower_values Asc op.Ge w b i = one_of (at_value w) b w refl i
+lower_values Asc op.Lt w b i = inr (one_of (past_value value.Null) b value.Null refl i)
+lower_values Asc op.Le w b i = inr (one_of (past_value value.Null) b value.Null refl i)
+lower_values Asc op.Gt w b i = inl (one_of (past_value w) b w refl i)
+lower_values Asc op.Ge w b i = inl (one_of (at_value w) b w refl i)
+lower_values Asc op.IsNull w b i = absurd i
 lower_values Desc op.Eq w b i = absurd i
 lower_values Desc op.Ne w b i = absurd i
-lower_values Desc op.Lt w b i = one_of (past_value w) b w refl i
-lower_values Desc op.Le w b i = one_of (at_value w) b w refl i
+lower_values Desc op.Lt w b i = inl (one_of (past_value w) b w refl i)
+lower_values Desc op.Le w b i = inl (one_of (at_value w) b w refl i)
 lower_values Desc op.Gt w b i = absurd i
 lower_values Desc op.Ge w b i = absurd i
+lower_values Desc op.IsNull w b i = absurd i
 
-upper_values : (d : Dir) (o : Op) (w : Value) (b : Bound) → In b (upper d o w) → b.values ≡ w ∷ []
+upper_values : (d : Dir) (o : Op) (w : Value) (b : Bound) → In b (upper d o w) → IsAlone w b
 upper_values Asc op.Eq w b i = absurd i
 upper_values Asc op.Ne w b i = absurd i
-upper_values Asc op.Lt w b i = one_of (at_value w) b w refl i
-upper_values Asc op.Le w b i = one_of (past_value w) b w refl i
+upper_values Asc op.Lt w b i = inl (one_of (at_value w) b w refl i)
+upper_values Asc op.Le w b i = inl (one_of (past_value w) b w refl i)
 upper_values Asc op.Gt w b i = absurd i
 upper_values Asc op.Ge w b i = absurd i
+upper_values Asc op.IsNull w b i = absurd i
 upper_values Desc op.Eq w b i = absurd i
 upper_values Desc op.Ne w b i = absurd i
-upper_values Desc op.Lt w b i = absurd i
-upper_values Desc op.Le w b i = absurd i
-upper_values Desc op.Gt w b i = one_of (at_value w) b w refl i
-upper_values Desc op.Ge w b i = one_of (past_value w) b w refl i
+upper_values Desc op.Lt w b i = inr (one_of (at_value value.Null) b value.Null refl i)
+upper_values Desc op.Le w b i = inr (one_of (at_value value.Null) b value.Null refl i)
+upper_values Desc op.Gt w b i = inl (one_of (at_value w) b w refl i)
+upper_values Desc op.Ge w b i = inl (one_of (past_value w) b w refl i)
+upper_values Desc op.IsNull w b i = absurd i
 
 -- both sides of a comparison that holds are there
 right_there : (o : Op) (a b : Option Value) → compares o a b ≡ true → (y : Value) × (b ≡ Some y)
@@ -143,9 +151,13 @@ module _ (q : Question) (p : ℕ) (sequence : List KeyPart) (s : IsServed q p se
       (of left pred.right (all_member (IsPredicate q.tables q.query) q.query.preds resolved.preds pred f.0).right is)
     where
       of : pred.left.rel ≡ p → (o : Operand) → IsOperand q.tables q.query pred o → side q.params c o ≡ Some v → IsOfKind (ref_type q.tables q.query pred.left) v
-      of left (operand.Const w) h e = subst (IsOfKind (ref_type q.tables q.query pred.left)) (same_Some w v e) (kind_from_param (ref_type q.tables q.query pred.left) w h)
+      of left (operand.Const w) h e = subst (IsOfKind (ref_type q.tables q.query pred.left)) (same_Some w v e) (constant (is_null_test pred.op) refl)
+        where
+          constant : (b : Bool) → is_null_test pred.op ≡ b → IsOfKind (ref_type q.tables q.query pred.left) w
+          constant true test = subst (IsOfKind (ref_type q.tables q.query pred.left)) (sym (h.1 test)) tt
+          constant false test = kind_from_param (ref_type q.tables q.query pred.left) w (h.0 test)
       of left (operand.Param n) h e =
-          let param : IsParam q.query.params n (param_type (ref_type q.tables q.query pred.left)) = h in
+          let param : IsParam q.query.params n (param_type (ref_type q.tables q.query pred.left)) = h.1 in
           kind_from_param (ref_type q.tables q.query pred.left) v (subst (λ (t : ColType). FitsType t v) param.is_type (fit_get q.query.params q.params (n - 1) v fits e))
       of left (operand.Col col) h e =
           let joined : IsJoined q.tables q.query pred col = h in
@@ -202,15 +214,18 @@ module _ (q : Question) (p : ℕ) (sequence : List KeyPart) (s : IsServed q p se
       ties_fit (h m.0 m.1))))
 
   -- a bound that a predicate makes
-  operand_fits : (pred : Pred) → In pred (own_preds q p) → is_tied q p pred ≡ false → (w : Value) → side q.params c pred.right ≡ Some w → (b : Bound) → b.values ≡ w ∷ [] → Fits rest_types b.values
+  operand_fits : (pred : Pred) → In pred (own_preds q p) → is_tied q p pred ≡ false → (w : Value) → side q.params c pred.right ≡ Some w → (b : Bound) → IsAlone w b → Fits rest_types b.values
   operand_fits pred here untied w is b alone =
       let f = in_filter (λ pred. belongs_to pred == p) pred q.query.preds here in
       let r = s.ranges pred f.0 (eqb-true _ _ f.1) untied in
       let kind : IsOfKind (type_at table.columns r.part.col) w = subst (λ (n : ℕ). IsOfKind (type_at table.columns n) w) (sym r.column) (side_kind pred here w is) in
-      subst (λ (vs : List Value). Fits rest_types vs) (sym alone)
-      (subst (λ (parts : List KeyPart). Fits (types_at table.columns (columns_of parts)) (w ∷ [])) (sym r.first) (kind, fits_none (types_at table.columns (columns_of r.parts))))
+      let by : (v : Value) → IsOfKind (type_at table.columns r.part.col) v → b.values ≡ v ∷ [] → Fits rest_types b.values =
+      λ v kind one.
+      subst (λ (vs : List Value). Fits rest_types vs) (sym one)
+      (subst (λ (parts : List KeyPart). Fits (types_at table.columns (columns_of parts)) (v ∷ [])) (sym r.first) (kind, fits_none (types_at table.columns (columns_of r.parts)))) in
+      elim alone [ inl one ↦ by w kind one | inr null ↦ by value.Null tt null ]
 
-  from_pred : (make : Op → Value → List Bound) → ((o : Op) (w : Value) (b : Bound) → In b (make o w) → b.values ≡ w ∷ []) → (pred : Pred) → In pred (own_preds q p) → (b : Bound) → In b (cond (is_tied q p pred) [] (bounds_with q p (make pred.op) (side q.params c pred.right))) → Fits rest_types b.values
+  from_pred : (make : Op → Value → List Bound) → ((o : Op) (w : Value) (b : Bound) → In b (make o w) → IsAlone w b) → (pred : Pred) → In pred (own_preds q p) → (b : Bound) → In b (cond (is_tied q p pred) [] (bounds_with q p (make pred.op) (side q.params c pred.right))) → Fits rest_types b.values
   from_pred make alone pred here b there =
       elim (is_tied q p pred) as (λ t. is_tied q p pred ≡ t → In b (cond t [] (bounds_with q p (make pred.op) (side q.params c pred.right))) → Fits rest_types b.values) [
         | true ↦ λ _ i. absurd i

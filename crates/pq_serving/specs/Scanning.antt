@@ -5,6 +5,7 @@ use Rattle.std.specs.List.{list_all}
 use Rattle.pq_base.specs.declared.value.Dir.{Dir}
 use Rattle.pq_base.specs.declared.value.Dir.TheVariants.{Asc}
 use Rattle.pq_base.specs.declared.value.Value.{Value}
+use Rattle.pq_base.specs.Values.{is_null}
 use Rattle.pq_base.specs.Columns.{has_col}
 use Rattle.pq_base.specs.Order.{position_cmp}
 use Rattle.pq_base.specs.Sorting.{sort_by}
@@ -26,10 +27,10 @@ abbrev pub first_direction : List KeyPart → Dir
 first_direction [] = Asc
 first_direction (part ∷ parts) = part.dir
 
--- whether there is something that a value can be compared with
+-- whether there is something that a value can be compared with, and it isn't NULL
 abbrev pub is_operand : Option Value → Bool
 is_operand None = false
-is_operand (Some operand) = true
+is_operand (Some operand) = not (is_null operand)
 
 module _ (q : Question) (p : ℕ) where
   -- the value of a position column that is the same for each row of relation p that passes

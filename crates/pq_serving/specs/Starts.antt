@@ -6,6 +6,7 @@ use Rattle.std.specs.Ordering.{is_lt, is_le}
 use Rattle.pq_base.specs.declared.value.Dir.{Dir}
 use Rattle.pq_base.specs.declared.value.Dir.TheVariants.{Asc, Desc}
 use Rattle.pq_base.specs.declared.value.Value.{Value}
+use Rattle.pq_base.specs.declared.value.Value.TheVariants as value
 use Rattle.pq_base.specs.Order.{value_cmp, directed_order}
 use Rattle.pq_schema.specs.declared.query.Op.{Op}
 use Rattle.pq_schema.specs.declared.query.Op.TheVariants as op
@@ -51,20 +52,23 @@ at_value w = record { past = false; values = w ∷ [] }
 abbrev pub past_value : Value → Bound
 past_value w = record { past = true; values = w ∷ [] }
 
--- a range predicate bounds the sequence below or above, by the direction
+-- a range predicate bounds the sequence below or above, by the direction: NULL comes first where values ascend, last
+-- where they descend, and is never within
 abbrev pub lower : Dir → Op → Value → List Bound
 lower Asc op.Gt w = past_value w ∷ []
 lower Asc op.Ge w = at_value w ∷ []
 lower Asc op.Eq w = []
 lower Asc op.Ne w = []
-lower Asc op.Lt w = []
-lower Asc op.Le w = []
+lower Asc op.Lt w = past_value value.Null ∷ []
+lower Asc op.Le w = past_value value.Null ∷ []
+lower Asc op.IsNull w = []
 lower Desc op.Lt w = past_value w ∷ []
 lower Desc op.Le w = at_value w ∷ []
 lower Desc op.Eq w = []
 lower Desc op.Ne w = []
 lower Desc op.Gt w = []
 lower Desc op.Ge w = []
+lower Desc op.IsNull w = []
 
 abbrev pub upper : Dir → Op → Value → List Bound
 upper Asc op.Lt w = at_value w ∷ []
@@ -73,9 +77,11 @@ upper Asc op.Eq w = []
 upper Asc op.Ne w = []
 upper Asc op.Gt w = []
 upper Asc op.Ge w = []
+upper Asc op.IsNull w = []
 upper Desc op.Gt w = at_value w ∷ []
 upper Desc op.Ge w = past_value w ∷ []
 upper Desc op.Eq w = []
 upper Desc op.Ne w = []
-upper Desc op.Lt w = []
-upper Desc op.Le w = []
+upper Desc op.Lt w = at_value value.Null ∷ []
+upper Desc op.Le w = at_value value.Null ∷ []
+upper Desc op.IsNull w = []

@@ -6,6 +6,7 @@ use Rattle.pq_base.specs.declared.value.ColType.{ColType}
 use Rattle.pq_base.specs.declared.value.ColType.TheVariants as type
 use Rattle.pq_base.specs.Values.{IsType}
 use Rattle.pq_content.specs.Tables.{IsTableNumber, types_of}
+use Rattle.pq_schema.proofs.TypeKinds.{type_sized}
 use Rattle.pq_schema.specs.declared.table.Column.{Column}
 use Rattle.pq_schema.specs.declared.definition.TableDef.{TableDef}
 use Rattle.pq_schema.specs.declared.table.Table.{Table}
@@ -30,9 +31,7 @@ made_room schema def table made = room schema def (made_none schema def table ma
 -- ---- the types of columns
 
 is_type : (ty : ColType) → IsSized ty → IsType ty
-is_type type.Int h = tt
-is_type type.Bool h = tt
-is_type (type.Text n) h = omega (arith, h.1)
+is_type = type_sized
 
 are_types : (columns : List Column) → AllByRecursion (λ (column : Column). IsSized column.ty) columns → AllByRecursion IsType (map (λ (column : Column). column.ty) columns)
 are_types [] h = tt

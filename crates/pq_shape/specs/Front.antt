@@ -1,5 +1,5 @@
 -- What the first token is tested for, and how it is read.
-use Rattle.std.specs.Prelude.{ℕ, ℤ, ◌==◌, Bool, true, false, List, Option, Some, None, if◌then◌else◌}
+use Rattle.std.specs.Prelude.{ℕ, ℤ, ◌==◌, Bool, true, false, codes, bytes_eq, List, Option, Some, None, if◌then◌else◌}
 use Rattle.pq_base.specs.declared.value.Value.{Value}
 use Rattle.pq_base.specs.declared.value.Value.TheVariants as value
 use Rattle.pq_grammar.specs.Reader.{Reader, token_at, test_at}
@@ -7,8 +7,23 @@ use Rattle.pq_shape.specs.declared.keyword.TheConstants.{AND, FALSE, JOIN, TRUE}
 use Rattle.pq_shape.specs.declared.mark.TheConstants.{COMMA}
 use Rattle.pq_shape.specs.declared.between.Between.{Between}
 use Rattle.pq_shape.specs.declared.between.Between.TheVariants as between
+use Rattle.pq_shape.specs.declared.soft.Soft.{Soft}
+use Rattle.pq_shape.specs.declared.soft.Soft.TheVariants as soft_word
 use Rattle.pq_shape.specs.declared.shape.Shape.{Shape}
 use Rattle.pq_shape.specs.declared.shape.Shape.TheVariants as shape
+
+-- the name that has the word's letters
+abbrev pub soft_name : Soft → List ℕ
+soft_name soft_word.Is = codes "is"
+soft_name soft_word.Null = codes "null"
+
+unfoldable pub is_soft_shape : Soft → Shape → Bool
+is_soft_shape s (shape.Name n) = bytes_eq n (soft_name s)
+is_soft_shape s (shape.Keyword j) = false
+is_soft_shape s (shape.Number z) = false
+is_soft_shape s (shape.Text t) = false
+is_soft_shape s (shape.Mark c) = false
+is_soft_shape s shape.Other = false
 
 unfoldable pub is_word_shape : ℕ → Shape → Bool
 is_word_shape k (shape.Keyword j) = j == k
@@ -62,21 +77,28 @@ text_in shape.Other = None
 unfoldable pub truth_of : ℕ → Option Value
 truth_of k = if k == TRUE then Some (value.Bool true) else if k == FALSE then Some (value.Bool false) else None
 
-unfoldable pub value_in : Shape → Option Value
-value_in (shape.Number z) = Some (value.Int z)
-value_in (shape.Text t) = Some (value.Text t)
-value_in (shape.Keyword k) = truth_of k
-value_in (shape.Name n) = None
-value_in (shape.Mark c) = None
-value_in shape.Other = None
+unfoldable pub constant_in : Shape → Option Value
+constant_in (shape.Number z) = Some (value.Int z)
+constant_in (shape.Text t) = Some (value.Text t)
+constant_in (shape.Keyword k) = truth_of k
+constant_in (shape.Name n) = None
+constant_in (shape.Mark c) = None
+constant_in shape.Other = None
 
-unfoldable pub is_value : Shape → Bool
-is_value (shape.Number z) = true
-is_value (shape.Text t) = true
-is_value (shape.Keyword k) = if k == TRUE then true else k == FALSE
-is_value (shape.Name n) = false
-is_value (shape.Mark c) = false
-is_value shape.Other = false
+unfoldable pub is_constant : Shape → Bool
+is_constant (shape.Number z) = true
+is_constant (shape.Text t) = true
+is_constant (shape.Keyword k) = if k == TRUE then true else k == FALSE
+is_constant (shape.Name n) = false
+is_constant (shape.Mark c) = false
+is_constant shape.Other = false
+
+-- a constant, or NULL
+abbrev pub value_in : Shape → Option Value
+value_in s = if is_soft_shape soft_word.Null s then Some value.Null else constant_in s
+
+abbrev pub is_value : Shape → Bool
+is_value s = if is_soft_shape soft_word.Null s then true else is_constant s
 
 abbrev pub is_between : Between → Shape → Bool
 is_between between.Comma t = is_mark_shape COMMA t
@@ -100,6 +122,12 @@ number_at = token_at number_in
 
 abbrev pub text_at : Reader Shape (List ℕ)
 text_at = token_at text_in
+
+abbrev pub constant_shape_at : Reader Shape Value
+constant_shape_at = token_at constant_in
+
+abbrev pub soft_at : Soft → Reader Shape (Unit {0})
+soft_at s = test_at (is_soft_shape s)
 
 abbrev pub value_shape_at : Reader Shape Value
 value_shape_at = token_at value_in

@@ -5,6 +5,9 @@ use Rattle.pq_base.specs.declared.value.Value.TheVariants as value
 use Rattle.pq_grammar.specs.Language.{one}
 use Rattle.pq_shape.specs.declared.keyword.TheConstants.{FALSE, TRUE}
 use Rattle.pq_shape.specs.declared.mark.TheConstants.{COMMA}
+use Rattle.pq_shape.specs.Front.{soft_name}
+use Rattle.pq_shape.specs.declared.soft.Soft.{Soft}
+use Rattle.pq_shape.specs.declared.soft.Soft.TheVariants as soft_word
 use Rattle.pq_shape.specs.declared.shape.Shape.{Shape}
 use Rattle.pq_shape.specs.declared.shape.Shape.TheVariants as shape
 
@@ -28,9 +31,21 @@ number z = one (shape.Number z)
 abbrev pub text : List ℕ → List Shape → Type 0
 text t = one (shape.Text t)
 
+-- a soft word
+abbrev pub soft : Soft → List Shape → Type 0
+soft s = one (shape.Name (soft_name s))
+
 -- number | text | TRUE | FALSE
+abbrev pub a_constant : Value → List Shape → Type 0
+a_constant value.Null = λ w. ⊥
+a_constant (value.Int z) = number z
+a_constant (value.Text t) = text t
+a_constant (value.Bool true) = word TRUE
+a_constant (value.Bool false) = word FALSE
+
+-- a constant, or NULL
 abbrev pub a_value : Value → List Shape → Type 0
-a_value (value.Int z) = number z
-a_value (value.Text t) = text t
-a_value (value.Bool true) = word TRUE
-a_value (value.Bool false) = word FALSE
+a_value value.Null = soft soft_word.Null
+a_value (value.Int z) = a_constant (value.Int z)
+a_value (value.Text t) = a_constant (value.Text t)
+a_value (value.Bool b) = a_constant (value.Bool b)

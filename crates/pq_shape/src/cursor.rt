@@ -2,12 +2,13 @@
 ghost use Rattle.std.specs.Prelude.{◌≡◌, [], length};
 ghost use Rattle.pq_grammar.specs.Reader.{begins, rest_at};
 ghost use Rattle.pq_grammar.specs.Answers.{Gives};
-ghost use Rattle.pq_shape.specs.Front.{is_word_shape, is_mark_shape, is_name_shape, is_value, is_between, word_at, mark_at, name_at, number_at, text_at, value_shape_at, between_at};
+ghost use Rattle.pq_shape.specs.Front.{is_word_shape, is_mark_shape, is_name_shape, is_constant, is_value, is_soft_shape, is_between, word_at, soft_at, constant_shape_at, mark_at, name_at, number_at, text_at, value_shape_at, between_at};
 
 use crate::between::Between;
 use crate::keyword::{AND, FALSE, JOIN, TRUE};
 use crate::mark::COMMA;
 use crate::shape::Shape;
+use crate::soft::Soft;
 use pq_base::{PText, Value};
 use pq_grammar::ReadError;
 use std::alloc::Global;
@@ -76,10 +77,24 @@ impl<'a> Cursor<'a> {
         }
     }
 
-    /// Whether the next token is a value.
-    #[tactic(auto, unfolding(crate::specs::Front::is_value))]
-    pub fn is_value(&self) -> bool
-        ensures { result ≡ begins is_value self.now }
+    /// Whether the next token is this soft word.
+    #[tactic(auto, unfolding(crate::specs::Front::is_soft_shape))]
+    pub fn is_soft(&self, soft: Soft) -> bool
+        ensures { result ≡ begins (is_soft_shape soft) self.now }
+    {
+        match self.rest {
+            [shape, ..] => match shape {
+                Shape::Name(name) => name.bytes() == soft.name(),
+                _ => false,
+            },
+            [] => false,
+        }
+    }
+
+    /// Whether the next token is a constant.
+    #[tactic(auto, unfolding(crate::specs::Front::is_constant))]
+    pub fn is_constant(&self) -> bool
+        ensures { result ≡ begins is_constant self.now }
     {
         match self.rest {
             [shape, ..] => match shape {
@@ -89,6 +104,13 @@ impl<'a> Cursor<'a> {
             },
             [] => false,
         }
+    }
+
+    /// Whether the next token is a value: a constant, or NULL.
+    pub fn is_value(&self) -> bool
+        ensures { result ≡ begins is_value self.now }
+    {
+        self.is_soft(Soft::Null) || self.is_constant()
     }
 
     /// Whether the next token stands between the parts of such a list.
@@ -110,6 +132,23 @@ impl<'a> Cursor<'a> {
         match self.rest {
             [shape, rest @ ..] => match shape {
                 Shape::Keyword(other) if *other == place => {
+                    self.rest = rest;
+                    Ok(())
+                }
+                _ => Err(ReadError::Stuck(self.rest.len())),
+            },
+            [] => Err(ReadError::Stuck(0)),
+        }
+    }
+
+    /// Reads this soft word.
+    #[tactic(auto, unfolding(crate::specs::Front::is_soft_shape))]
+    pub fn soft(&mut self, soft: Soft) -> Result<(), ReadError>
+        ensures { Gives (λ x. (x, self.new)) result (soft_at soft self.old) }
+    {
+        match self.rest {
+            [shape, rest @ ..] => match shape {
+                Shape::Name(name) if name.bytes() == soft.name() => {
                     self.rest = rest;
                     Ok(())
                 }
@@ -189,10 +228,10 @@ impl<'a> Cursor<'a> {
         }
     }
 
-    /// Reads a value.
-    #[tactic(auto, unfolding(crate::specs::Front::value_in, crate::specs::Front::truth_of))]
-    pub fn value(&mut self, alloc: Global) -> Result<Value, ReadError>
-        ensures { Gives (λ x. (x, self.new)) result (value_shape_at self.old) }
+    /// Reads a constant.
+    #[tactic(auto, unfolding(crate::specs::Front::constant_in, crate::specs::Front::truth_of))]
+    pub fn constant(&mut self, alloc: Global) -> Result<Value, ReadError>
+        ensures { Gives (λ x. (x, self.new)) result (constant_shape_at self.old) }
     {
         match self.rest {
             [shape, rest @ ..] => {
@@ -208,6 +247,18 @@ impl<'a> Cursor<'a> {
             }
             [] => Err(ReadError::Stuck(0)),
         }
+    }
+
+    /// Reads a value: a constant, or NULL.
+    #[tactic(auto, using(crate::proofs::Tokens::value_chosen))]
+    pub fn value(&mut self, alloc: Global) -> Result<Value, ReadError>
+        ensures { Gives (λ x. (x, self.new)) result (value_shape_at self.old) }
+    {
+        if self.is_soft(Soft::Null) {
+            self.soft(Soft::Null)?;
+            return Ok(Value::Null);
+        }
+        self.constant(alloc)
     }
 
     /// Reads what stands between the parts of such a list.

@@ -13,6 +13,7 @@ mod mark;
 mod number;
 mod part;
 mod shape;
+mod soft;
 
 pub use between::Between;
 pub use cursor::Cursor;
@@ -28,3 +29,4 @@ pub use mark::{
 };
 pub use part::{Part, separated};
 pub use shape::{Shape, shapes};
+pub use soft::Soft;

@@ -5,7 +5,7 @@ use pq_key_code::{catalog_key, decode_key, encode_key, entry_key, intent_key, pa
 use std::test::Fail;
 
 /// A value, its type, its code ascending and its code descending.
-const CODES: [(Sample, ColType, &[u8], &[u8]); 9] = [
+const CODES: [(Sample, ColType, &[u8], &[u8]); 12] = [
     (
         Sample::Text(b""),
         ColType::Text(0),
@@ -60,6 +60,14 @@ const CODES: [(Sample, ColType, &[u8], &[u8]); 9] = [
         &[0x10, 0x01],
         &[0x10, 0xFE],
     ),
+    (Sample::Null, ColType::NullInt, &[0x08], &[0x18]),
+    (Sample::Null, ColType::NullText(8), &[0x08], &[0x18]),
+    (
+        Sample::Bool(true),
+        ColType::NullBool,
+        &[0x10, 0x01],
+        &[0x10, 0xFE],
+    ),
 ];
 
 #[test]
@@ -77,7 +85,7 @@ fn values_both_ways(rt: HostRuntime) -> Result<(), Fail> {
 }
 
 /// Bytes that no value of the type has as its ascending code.
-const NOT_CODES: [(ColType, &[u8]); 12] = [
+const NOT_CODES: [(ColType, &[u8]); 15] = [
     (ColType::Text(9), &[0x10, 0x61, 0x00]),
     (ColType::Bool, &[0x10, 0x02]),
     (ColType::Text(9), &[0x10, 0x61, 0x00, 0x02]),
@@ -99,6 +107,10 @@ const NOT_CODES: [(ColType, &[u8]); 12] = [
     (ColType::Bool, &[]),
     (ColType::Bool, &[0x08]),
     (ColType::Int, &[0x10, 0x61, 0x00, 0x01]),
+    // A NULL and a further byte, the other direction's NULL, and no marker.
+    (ColType::NullInt, &[0x08, 0x00]),
+    (ColType::NullInt, &[0x18]),
+    (ColType::NullBool, &[0x01]),
 ];
 
 #[test]

@@ -9,7 +9,7 @@ use std::alloc::Global;
 use std::test::Fail;
 
 /// A row's values, their types and its code.
-const ROWS: [(&[Sample], &[ColType], &[u8]); 5] = [
+const ROWS: [(&[Sample], &[ColType], &[u8]); 7] = [
     (
         &[Sample::Text(b"ann"), Sample::Text(b"rome")],
         &[ColType::Text(3), ColType::Text(4)],
@@ -39,6 +39,17 @@ const ROWS: [(&[Sample], &[ColType], &[u8]); 5] = [
         &[0x01, 0x00, 0x00],
     ),
     (&[], &[], &[0x00]),
+    // A NULL, and values of nullable types without one.
+    (
+        &[Sample::Int(1), Sample::Null, Sample::Text(b"a")],
+        &[ColType::Int, ColType::NullInt, ColType::NullText(8)],
+        b"\x43\0\0\0\x02\0\0\0\0\0\0\0\x01\0\x01a",
+    ),
+    (
+        &[Sample::Bool(true), Sample::Text(b"a")],
+        &[ColType::NullBool, ColType::NullText(8)],
+        &[0x02, 0x01, 0x00, 0x01, 0x61],
+    ),
 ];
 
 #[test]
@@ -56,7 +67,7 @@ fn rows_both_ways(rt: HostRuntime) -> Result<(), Fail> {
 }
 
 /// Types, and bytes that no row of these types has as its code.
-const NO_ROWS: [(&[ColType], &[u8]); 9] = [
+const NO_ROWS: [(&[ColType], &[u8]); 14] = [
     (&[], &[]),
     // Another number of columns, fewer bytes than columns, and a byte too many.
     (&[ColType::Bool], &[0x02, 0x01]),
@@ -72,6 +83,13 @@ const NO_ROWS: [(&[ColType], &[u8]); 9] = [
     (&[ColType::Text(9)], &[0x01, 0x00, 0x02, 0x61]),
     (&[ColType::Text(1)], &[0x01, 0x00, 0x02, 0x61, 0x62]),
     (&[ColType::Text(9)], &[0x01, 0x00, 0x01, 0xFF]),
+    // NULL in a column that isn't nullable, no NULL at all, one behind the last column, and short marks.
+    (&[ColType::Bool], &[0x41, 0x00, 0x00, 0x00, 0x01]),
+    (&[ColType::NullBool], &[0x41, 0x00, 0x00, 0x00, 0x00, 0x01]),
+    (&[ColType::NullBool], &[0x41, 0x00, 0x00, 0x00, 0x03]),
+    (&[ColType::NullBool], &[0x41, 0x00, 0x00, 0x01]),
+    // A NULL with a further byte.
+    (&[ColType::NullBool], &[0x41, 0x00, 0x00, 0x00, 0x01, 0x01]),
 ];
 
 #[test]

@@ -9,6 +9,7 @@ use std::test::Fail;
 /// A value as a constant.
 #[derive(Clone, Copy)]
 pub enum Sample {
+    Null,
     Int(i64),
     Bool(bool),
     Text(&'static [u8]),
@@ -22,6 +23,7 @@ fn value_of(alloc: Global, sample: Sample) -> Result<Value, Fail>
     ensures { IfOk result IsShort }
 {
     match sample {
+        Sample::Null => Ok(Value::Null),
         Sample::Int(number) => Ok(Value::Int(number)),
         Sample::Bool(truth) => Ok(Value::Bool(truth)),
         Sample::Text(bytes) => {
@@ -46,6 +48,7 @@ pub fn row_of(alloc: Global, samples: &[Sample]) -> Result<Row, Fail>
 
 fn is_sample(value: &Value, sample: Sample) -> bool {
     match (value, sample) {
+        (Value::Null, Sample::Null) => true,
         (Value::Int(number), Sample::Int(expected)) => *number == expected,
         (Value::Bool(truth), Sample::Bool(expected)) => *truth == expected,
         (Value::Text(text), Sample::Text(expected)) => text.bytes() == expected,

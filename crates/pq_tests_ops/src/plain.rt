@@ -22,6 +22,7 @@ fn compares(op: Op, a: i64, b: i64) -> bool {
         Op::Le => a <= b,
         Op::Gt => a > b,
         Op::Ge => a >= b,
+        Op::IsNull => false,
     }
 }
 

@@ -35,6 +35,7 @@ fn columns(alloc: Global, bytes: &[u8]) -> Result<List<ColumnDef>, Fail> {
                 name,
                 kind,
                 size: 0,
+                nullable: false,
             },
         )?;
     }

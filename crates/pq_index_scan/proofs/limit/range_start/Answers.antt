@@ -16,7 +16,7 @@ table_of-table-requires-clause-query c = valid_query c.args.catalog.now c.args.q
 pub sequence_key-requires-clause-short : goal.sequence_key-requires-clause-short
 sequence_key-requires-clause-short c =
     let range = c.args.range.now in
-    let values = c.in_ok-values.ensures ∙ ap (cells_tied c.args.query.now c.args.params.now range.rel c.args.input.now) c.items.ensures in
+    let values = c.requires.values in
     let long = ap (λ (l : List Value). length l) values in
     let sequence = ap (λ (table : Table). length (sequence_of table range.access)) c.table_of-table.ensures.table in
     let short = start_short c.args.catalog.now.tables c.args.query.now c.args.params.now range c.args.input.now c.requires.range in
@@ -25,8 +25,8 @@ sequence_key-requires-clause-short c =
 pub returns : goal.returns
 returns c =
     let range = c.args.range.now in
-    let values = c.in_ok-values.ensures ∙ ap (cells_tied c.args.query.now c.args.params.now range.rel c.args.input.now) c.items.ensures in
+    let values = c.requires.values in
     let same =
-    ap (λ (table : Table). sequence_key range.number table range.access c.in_ok-values.values) c.table_of-table.ensures.table
+    ap (λ (table : Table). sequence_key range.number table range.access c.args.values.now) c.table_of-table.ensures.table
     ∙ ap (λ (vs : List Value). sequence_key range.number (table_of c.args.catalog.now.tables c.args.query.now range.rel) range.access vs) values in
     subst (λ (k : List ℕ). IfOk c.sequence_key.result (λ (key : List ℕ). key ≡ k)) same c.sequence_key.ensures

@@ -1,0 +1,22 @@
+//! The words that are known where the grammar has them, and are names elsewhere.
+ghost use Rattle.std.specs.Prelude.{◌≡◌};
+ghost use Rattle.pq_shape.specs.Front.{soft_name};
+
+/// A word of the table of soft words. It stands in the tokens as the name that has its letters.
+#[derive(Debug, Clone, Copy, PartialEq, Eq)]
+pub enum Soft {
+    Is,
+    Null,
+}
+
+impl Soft {
+    /// Its letters as a name has them.
+    pub fn name(self) -> &'static [u8]
+        ensures { result.now ≡ soft_name self }
+    {
+        match self {
+            Soft::Is => b"is",
+            Soft::Null => b"null",
+        }
+    }
+}
