@@ -1,0 +1,1 @@
+"""Modules of the commands in bin/."""

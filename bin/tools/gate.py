@@ -1,0 +1,133 @@
+"""The test command: the gate, then the tests of the tools."""
+
+import dataclasses
+import os
+import pathlib
+import re
+import signal
+import subprocess
+import sys
+import time
+
+from tools.repository import TOP
+
+# Where tools stand. Each folder `tests` below one of them is run.
+PLACES = ("bin", "drivers", "site", "trials")
+SECONDS = 300
+COUNT = re.compile(r"(\d+) passed, (\d+) failed\s*")
+
+
+@dataclasses.dataclass(frozen=True)
+class Outcome:
+    """How many passed and how many failed."""
+
+    passed: int
+    failed: int
+
+    def __add__(self, other: "Outcome") -> "Outcome":
+        return Outcome(self.passed + other.passed, self.failed + other.failed)
+
+    def __str__(self) -> str:
+        return f"{self.passed} passed, {self.failed} failed"
+
+
+def run_gate(words: list[str]) -> Outcome:
+    """Runs the gate, passes its lines on, and reads its last count. A gate that doesn't end well has failed."""
+    counted, status = None, 1
+    try:
+        how = {"stdout": subprocess.PIPE, "text": True, "errors": "replace"}
+        with subprocess.Popen(words, cwd=TOP, **how) as run:
+            for line in run.stdout or ():
+                if count := COUNT.fullmatch(line):
+                    counted = Outcome(int(count[1]), int(count[2]))
+                else:
+                    print(line, end="", flush=True)
+        status = run.returncode
+    except OSError as error:
+        print(f"test: {' '.join(words)} can't be run: {error}")
+    outcome = counted or Outcome(0, 1)
+    if status and not outcome.failed:
+        outcome += Outcome(0, 1)
+    print(f"the gate: {outcome}", flush=True)
+    return outcome
+
+
+def folders() -> list[pathlib.Path]:
+    """The folders of the tools' tests."""
+    found = (path for place in PLACES for path in (TOP / place).rglob("tests"))
+    return sorted(path for path in found if any(path.glob("test_*.py")))
+
+
+def outcome_of(output: str, status: int) -> Outcome:
+    """What unittest's own last lines say. Where they say nothing, one test failed. What was skipped did neither."""
+    ran = re.search(r"^Ran (\d+) tests? in ", output, re.MULTILINE)
+    ended = re.search(r"^(?:OK|FAILED|NO TESTS RAN)(?: \((.*)\))?$", output, re.MULTILINE)
+    if not ran or not ended:
+        return Outcome(0, 1)
+    counts = {name: int(count) for name, count in re.findall(r"([a-z][a-z ]*)=(\d+)", ended[1] or "")}
+    failed = sum(counts.get(name, 0) for name in ("failures", "errors", "unexpected successes"))
+    passed = int(ran[1]) - failed - counts.get("skipped", 0)
+    return Outcome(max(passed, 0), max(failed, int(status != 0)))
+
+
+def run_folder(folder: pathlib.Path, seconds: float) -> Outcome:
+    """Runs the tests of one folder, for at most so many seconds."""
+    words = [sys.executable, "-B", "-m", "unittest", "discover", "-v", "-s", folder.name]
+    if (folder / "__init__.py").exists():
+        words += ["-t", "."]
+    how = {"stdout": subprocess.PIPE, "stderr": subprocess.STDOUT, "text": True, "errors": "replace"}
+    run = subprocess.Popen(words, cwd=folder.parent, stdin=subprocess.DEVNULL, start_new_session=True, **how)
+    try:
+        output = run.communicate(timeout=seconds)[0]
+    except subprocess.TimeoutExpired:
+        print(f"test: stopped after {seconds:.0f} seconds")
+        os.killpg(run.pid, signal.SIGKILL)
+        output = run.communicate()[0]
+    outcome = outcome_of(output, run.returncode)
+    if outcome.failed:
+        print(output)
+    skipped = [line for line in output.split("\n") if " ... skipped " in line]
+    print(*skipped, f"{folder.relative_to(TOP)}: {outcome}", sep="\n", flush=True)
+    return outcome
+
+
+def run_tools() -> Outcome:
+    """Runs the tests of the tools, all within the seconds that they have."""
+    outcome, end = Outcome(0, 0), time.monotonic() + SECONDS
+    for place in PLACES:
+        if not (TOP / place).is_dir():
+            print(f"{place}: skipped, there is no such folder")
+    for folder in folders():
+        try:
+            outcome += run_folder(folder, max(end - time.monotonic(), 1))
+        except Exception as error:
+            print(f"{folder.relative_to(TOP)}: {error}")
+            outcome += Outcome(0, 1)
+    return outcome
+
+
+def tell_stale() -> None:
+    """Tells which wrong bodies have to be tried again. It is a note, and no part of the outcome."""
+    try:
+        words = [sys.executable, str(TOP / "bin" / "mutants"), "--stale"]
+        run = subprocess.run(words, capture_output=True, text=True, timeout=60)
+        lines = (run.stdout or run.stderr).splitlines()
+        print("note: wrong bodies beside the gate to try again:" if lines else "note: no wrong bodies to try again")
+        print(*(f"  {line}" for line in lines), sep="\n")
+    except (OSError, subprocess.SubprocessError) as error:
+        print(f"note: {error}")
+
+
+def main(words: list[str]) -> int:
+    if words:
+        print("test: it takes no words", file=sys.stderr)
+        return 2
+    outcome = run_gate(["rt", "ci"])
+    try:
+        outcome += run_tools()
+    except Exception as error:
+        print(f"test: the tools' tests can't be run: {error}")
+        outcome += Outcome(0, 1)
+    tell_stale()
+    print(outcome, flush=True)
+    return 1 if outcome.failed else 0

@@ -1,0 +1,115 @@
+"""Tries the wrong bodies of crates in a copy of the checkout."""
+
+import datetime
+import os
+import pathlib
+import re
+import shutil
+import subprocess
+import sys
+import tempfile
+
+from tools import results
+from tools.repository import TOP, Repository
+
+RESULTS = TOP / "mutants" / "RESULTS"
+# Of the tool's lines those that tell of one edit.
+OF_EDIT = re.compile(r"rt: must-fail (\w+)/(\S+)\.edit: (.*)")
+REFUSED = "refused, as it must be"
+
+
+def copy_sources(top: pathlib.Path, room: pathlib.Path) -> None:
+    """Copies what git keeps, or would keep, as it stands in the checkout."""
+    words = ["git", "ls-files", "-z", "--cached", "--others", "--exclude-standard"]
+    names = subprocess.run(words, cwd=top, capture_output=True, text=True, check=True).stdout
+    for name in filter(None, names.split("\0")):
+        if (top / name).is_file():
+            (room / name).parent.mkdir(parents=True, exist_ok=True)
+            shutil.copy2(top / name, room / name, follow_symlinks=False)
+
+
+def link(source: str, target: str) -> None:
+    """Links a file that is never written again, or copies it where that can't be."""
+    try:
+        os.link(source, target)
+    except OSError:
+        shutil.copy2(source, target)
+
+
+def take_over(kept: pathlib.Path, out: pathlib.Path) -> None:
+    """Gives a crate of the copy its library, which is only ever replaced whole, or else what the last check kept."""
+    if (kept / "rlib" / "stamp").exists():
+        shutil.copytree(kept / "rlib", out / "rlib", copy_function=link)
+    elif (kept / "incremental").exists():
+        shutil.copytree(kept / "incremental", out / "incremental")
+
+
+def gather(copy: Repository, crate: str) -> int:
+    """Puts all edits of a crate where the toolchain looks for them, and returns how many they are."""
+    folder = copy.folder(crate) / "must-fail"
+    folder.mkdir(exist_ok=True)
+    edits = copy.edits(crate)
+    if len({path.name for path in edits}) < len(edits):
+        raise SystemExit(f"mutants: two edits of {crate} have one name")
+    for path in edits:
+        if path.parent != folder:
+            shutil.copy2(path, folder)
+    return len(edits)
+
+
+def refused_of(crate: str, room: pathlib.Path) -> int:
+    """Tries the edits of a crate, tells what was found of each, and returns how many were refused."""
+    words = ["rt", "must-fail", crate]
+    how = {"stdout": subprocess.PIPE, "stderr": subprocess.STDOUT, "text": True, "errors": "replace"}
+    refused, lines = 0, []
+    with subprocess.Popen(words, cwd=room, **how) as run:
+        for line in run.stdout or ():
+            lines.append(line)
+            if found := OF_EDIT.match(line):
+                print(f"{found[1]}/{found[2]}: {found[3]}", flush=True)
+                refused += found[3].startswith(REFUSED)
+    if not any(OF_EDIT.match(line) for line in lines):
+        print(f"{crate}: no edit was tried; the toolchain said:", *lines[-12:], sep="\n  ")
+    return refused
+
+
+def try_crate(crate: str, toolchain: str) -> results.Result:
+    """Tries the edits of a crate in a copy of the checkout, which takes over what is kept of the libraries below."""
+    with tempfile.TemporaryDirectory(prefix="mutants-") as name:
+        room = pathlib.Path(name)
+        copy_sources(TOP, room)
+        copy = Repository(room)
+        for low in copy.below(crate):
+            take_over(TOP / "crates" / low / "out", room / "crates" / low / "out")
+        sources, tried = copy.source_sum(crate), gather(copy, crate)
+        refused = refused_of(crate, room)
+    when = datetime.datetime.now(datetime.UTC).strftime("%Y-%m-%dT%H:%MZ")
+    return results.Result(crate, refused, tried, sources, when, toolchain)
+
+
+def try_all(repository: Repository, crates: list[str]) -> int:
+    """Tries the edits of these crates, and keeps what it found of each as soon as it is known."""
+    toolchain = subprocess.run(["rt", "version"], capture_output=True, text=True, check=True).stdout.strip()
+    failed = []
+    for crate in crates:
+        result = try_crate(crate, toolchain)
+        results.keep(RESULTS, result, repository.crates_with_edits())
+        print(result.line(), flush=True)
+        if result.refused < result.tried:
+            failed.append(crate)
+    if failed:
+        print("mutants: not all refused:", *failed)
+    return 1 if failed else 0
+
+
+def main(words: list[str]) -> int:
+    repository = Repository()
+    if words == ["--stale"]:
+        lines = results.stale(repository, results.read(RESULTS))
+        print(*lines, sep="\n", end="\n" if lines else "")
+        return 1 if lines else 0
+    crates = repository.crates_with_edits()
+    if strange := [word for word in words if word not in crates]:
+        print("mutants: no crate with wrong bodies:", *strange, file=sys.stderr)
+        return 2
+    return try_all(repository, words or crates)

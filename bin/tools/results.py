@@ -1,0 +1,66 @@
+"""What is known of the wrong bodies of each crate: the file mutants/RESULTS."""
+
+import dataclasses
+import os
+import pathlib
+import re
+from typing import Self
+
+from tools.repository import Repository
+
+HEAD = "# Of each crate the wrong bodies that were refused, a sum of its sources and those below, when, by which toolchain.\n"
+LINE = re.compile(r"(\w+): (\d+) of (\d+) refused, sources ([0-9a-f]+), (\S+), (.+)")
+
+
+@dataclasses.dataclass(frozen=True)
+class Result:
+    """What one run over the wrong bodies of a crate found."""
+
+    crate: str
+    refused: int
+    tried: int
+    sources: str
+    when: str
+    toolchain: str
+
+    def line(self) -> str:
+        count = f"{self.refused} of {self.tried} refused"
+        return f"{self.crate}: {count}, sources {self.sources}, {self.when}, {self.toolchain}"
+
+    @classmethod
+    def of_line(cls, line: str) -> Self | None:
+        found = LINE.fullmatch(line)
+        if found is None:
+            return None
+        crate, refused, tried, sources, when, toolchain = found.groups()
+        return cls(crate, int(refused), int(tried), sources, when, toolchain)
+
+
+def read(path: pathlib.Path) -> dict[str, Result]:
+    """The results that stand, by crate."""
+    lines = path.read_text().split("\n") if path.exists() else []
+    results = [result for line in lines if (result := Result.of_line(line))]
+    return {result.crate: result for result in results}
+
+
+def keep(path: pathlib.Path, result: Result, crates: list[str]) -> None:
+    """Puts a result in the place of the crate's last one. Of the others those of these crates stay, in this order."""
+    results = {**read(path), result.crate: result}
+    lines = [results[crate].line() + "\n" for crate in crates if crate in results]
+    new = path.with_name(path.name + ".tmp")
+    new.write_text(HEAD + "".join(lines))
+    os.replace(new, path)
+
+
+def stale(repository: Repository, results: dict[str, Result]) -> list[str]:
+    """A line for each crate whose wrong bodies have to be tried again."""
+    lines = []
+    for crate in repository.crates_with_edits():
+        result = results.get(crate)
+        if result is None:
+            lines.append(f"{crate}: not tried yet")
+        elif result.sources != repository.source_sum(crate):
+            lines.append(f"{crate}: changed since {result.when}")
+        elif result.refused < result.tried:
+            lines.append(f"{crate}: {result.refused} of {result.tried} refused")
+    return lines

@@ -1,0 +1,112 @@
+"""Tests of how wrong bodies are tried, with a small program in the place of the toolchain."""
+
+import contextlib
+import io
+import os
+import pathlib
+import shutil
+import subprocess
+import tempfile
+import unittest
+from unittest import mock
+
+from tools import mutants, results
+from tools.repository import Repository
+
+# It says what the toolchain says of each edit: by its text, that it is refused, not refused, or can't be applied.
+TOOL = """#!/bin/sh
+[ "$1" = version ] && echo kit-1 && exit
+status=0
+for edit in crates/"$2"/must-fail/*.edit; do
+    read -r word < "$edit"
+    case $word in
+    good) said='refused, as it must be: note: src/lib.rt:1:1: it is not proved (`returns-clause-sum`)' ;;
+    weak) said='NOT REFUSED: the crate is still proved with this edit'; status=1 ;;
+    *) said='BAD EDIT: it has no pair'; status=1 ;;
+    esac
+    echo "rt: must-fail $2/${edit##*/}: $said"
+done
+exit $status
+"""
+
+
+@unittest.skipUnless(shutil.which("git"), "git is missing")
+class MutantsTest(unittest.TestCase):
+    def setUp(self) -> None:
+        folder = tempfile.TemporaryDirectory()
+        self.addCleanup(folder.cleanup)
+        self.top = pathlib.Path(folder.name, "top")
+        tool = pathlib.Path(folder.name, "tool", "rt")
+        self.write(tool, TOOL)
+        tool.chmod(0o755)
+        self.write(self.top / "crates.txt", "low:\nhigh: low\n")
+        self.write(self.top / "crates/low/src/lib.rt", "")
+        self.write(self.top / "crates/low/out/rlib/stamp", "kept")
+        self.write(self.top / ".gitignore", "out/\n")
+        subprocess.run(["git", "init", "--quiet"], cwd=self.top, check=True)
+        self.path = self.top / "mutants" / "RESULTS"
+        for changed in (
+            mock.patch.object(mutants, "TOP", self.top),
+            mock.patch.object(mutants, "RESULTS", self.path),
+            mock.patch.object(mutants, "Repository", lambda top=self.top: Repository(top)),
+            mock.patch.dict(os.environ, PATH=f"{tool.parent}:{os.environ['PATH']}"),
+        ):
+            changed.start()
+            self.addCleanup(changed.stop)
+
+    @staticmethod
+    def write(path: pathlib.Path, text: str) -> None:
+        path.parent.mkdir(parents=True, exist_ok=True)
+        path.write_text(text)
+
+    def edit(self, crate: str, name: str, word: str) -> None:
+        self.write(self.top / "mutants" / crate / f"{name}.edit", word + "\n")
+
+    def run_main(self, *words: str) -> tuple[int, str]:
+        said = io.StringIO()
+        with contextlib.redirect_stdout(said), contextlib.redirect_stderr(said):
+            status = mutants.main(list(words))
+        return status, said.getvalue()
+
+    def test_all_are_refused_and_kept(self) -> None:
+        self.edit("high", "one", "good")
+        self.write(self.top / "crates/high/must-fail/two.edit", "good\n")
+        status, said = self.run_main()
+        self.assertEqual(status, 0)
+        self.assertIn("high/one: refused, as it must be: note: src/lib.rt:1:1", said)
+        self.assertIn("high/two: refused", said)
+        kept = results.read(self.path)["high"]
+        self.assertEqual((kept.refused, kept.tried, kept.toolchain), (2, 2, "kit-1"))
+        self.assertEqual(self.run_main("--stale"), (0, ""))
+        self.write(self.top / "crates/low/src/lib.rt", "// other")
+        self.assertEqual(self.run_main("--stale")[0], 1)
+
+    def test_what_is_not_refused_fails(self) -> None:
+        for word in ("weak", "unread"):
+            self.edit("low", "one", "good")
+            self.edit("low", "two", word)
+            status, said = self.run_main("low")
+            self.assertEqual(status, 1, word)
+            self.assertIn("low/two: ", said)
+            self.assertIn("not all refused: low", said)
+            self.assertEqual(self.run_main("--stale")[0], 1)
+
+    def test_a_crate_without_edits_is_named(self) -> None:
+        self.edit("low", "one", "good")
+        status, said = self.run_main("low", "high")
+        self.assertEqual((status, "high" in said), (2, True))
+
+    def test_one_name_stands_once(self) -> None:
+        self.edit("low", "one", "good")
+        self.write(self.top / "crates/low/must-fail/one.edit", "good\n")
+        self.assertRaises(SystemExit, self.run_main)
+
+    def test_the_checkout_stays_as_it_is(self) -> None:
+        self.edit("low", "one", "good")
+        self.run_main()
+        self.assertFalse((self.top / "crates/low/must-fail").exists())
+        self.assertEqual((self.top / "crates/low/out/rlib/stamp").read_text(), "kept")
+
+
+if __name__ == "__main__":
+    unittest.main()
