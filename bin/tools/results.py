@@ -8,7 +8,7 @@ from typing import Self
 
 from tools.repository import Repository
 
-HEAD = "# Of each crate the wrong bodies that were refused, a sum of its sources and those below, when, by which toolchain.\n"
+HEAD = "# Of each crate: wrong bodies that were refused, a sum of its sources and of those below, when, the toolchain\n"
 LINE = re.compile(r"(\w+): (\d+) of (\d+) refused, sources ([0-9a-f]+), (\S+), (.+)")
 
 
