@@ -48,7 +48,8 @@ fn read(alloc: Global, catalog: &Catalog, text: &[u8]) -> Result<Query, Stopped>
     }
     let name = named(alloc, b"q")?;
     let seen = tokens(alloc, &text)?;
-    read_query(alloc, catalog, name, &text, &seen, 0)
+    let query = read_query(alloc, catalog, name, &text, &seen, 0)?;
+    Ok(query)
 }
 
 fn put_query(
