@@ -6,15 +6,16 @@
     python3 trials/nulls --engine 'bin/piql'      another build, as words of a command line
     python3 trials/nulls --files 'bin/piql_file'  the same for the program over a file
 
-The tables have a key and two nullable columns, of each two types. Their rows are all collections of up to four pairs of
-NULL, the least and the greatest value, each collection in a group of its own. They are put in before or behind the
+The tables have a key and two nullable columns, of each two types. Their rows are all collections of up to four pairs
+of NULL, the least and the greatest value, each collection in a group of its own. They are put in before or behind the
 queries, or are changed to what they have to be. The queries have each comparison with the least and the greatest, as a
-constant and as a parameter, and IS NULL; no order, and the order of one and of both columns in all directions; no stop,
-and LIMIT and PAGINATE of 1 and 2; and joins by a nullable column. Those without a bound have to be refused. Each other
-one is run over three groups, page by page to the end, behind the cursor that the page before has to print.
+constant and as a parameter, and IS NULL; no order, and the order of one and of both columns in all directions; no
+stop, and LIMIT and PAGINATE of 1 and 2; and joins by a nullable column. Those without a bound have to be refused. Each
+other one is run over three groups, page by page to the end, behind the cursor that the page before has to print.
 
-Then a script of the language without NULL is run, whose tables and columns are called `is` and `null`. And over a file
-with the pairs of a store that such a program wrote, SHOW, the queries and a refused write have to leave these pairs.
+Then a script of the language without NULL is run, whose tables and columns are called `is` and `null`, and a script with
+NULL where it can't be. And over a file with the pairs of a store of the time before NULL, SHOW, the queries and refused
+writes have to leave these pairs.
 
 Where no engine is named and crates/piql/out/piql is missing or older than a source, the sources are run without a
 proof; where there is no such build of piql_file, the last case is told and left out. The last line has the figures. The
@@ -33,6 +34,7 @@ sys.dont_write_bytecode = True
 sys.path.append(str(pathlib.Path(__file__).resolve().parent.parent))
 
 import older
+from inputs import INPUTS, Case, script_of
 from made import families
 from program import BUILD, LIMIT, TOP, Ended, is_fresh, run_sources
 from reports import differences
@@ -82,11 +84,11 @@ def made_cases(words: Sequence[str] | None, every: int) -> list[str]:
     return found
 
 
-def named_case(words: Sequence[str] | None) -> list[str]:
-    """Runs the script whose tables and columns have the names of soft words."""
-    own = Script(*older.script_of(older.NAMED))
+def listed_case(name: str, cases: Sequence[Case], words: Sequence[str] | None) -> list[str]:
+    """Runs the statements of a list as one script."""
+    own = Script(*script_of(cases))
     found = [flaw for script, ended in runs(words, [own]) for flaw in flaws(script, ended)]
-    print(f"names of soft words: {len(own.statements)} statements, {len(found)} differ")
+    print(f"{name}: {len(own.statements)} statements, {len(found)} differ")
     return found
 
 
@@ -103,7 +105,8 @@ def main() -> None:
     engine = given.engine or ([str(BUILD)] if is_fresh(BUILD) else None)
     files = given.files or ([str(FILE_BUILD)] if is_fresh(FILE_BUILD) else None)
     found = made_cases(engine, given.every)
-    found += named_case(engine)
+    found += listed_case("names of soft words", older.NAMED, engine)
+    found += listed_case("bad input", INPUTS, engine)
     if files:
         found += older.opened_store(files)
     else:

@@ -6,12 +6,11 @@ import subprocess
 import tempfile
 from collections.abc import Sequence
 
+from inputs import Case, script_of
 from reports import differences
-from scripts import Wanted
 from values import cursor
 
-# Statements, each with the end of its report and its lines of rows and definitions.
-NAMED: list[tuple[str, str, list[str]]] = [
+NAMED: list[Case] = [
     ("CREATE TABLE null (is INT, NULL TEXT(8), PRIMARY KEY (IS), CARDINALITY LIMIT 2 (Null))", "ok", []),
     ("CREATE TABLE Is (null INT, PRIMARY KEY (null), FOREIGN KEY (null) REFERENCES NULL)", "ok", []),
     ("INSERT INTO NULL VALUES (1, 'null')", "ok", []),
@@ -61,8 +60,8 @@ DEFINITIONS = [
     "PREPARE last AS SELECT c.id, c.tag FROM c AS c ORDER BY c.tag DESC PAGINATE 2;",
     "PREPARE named AS SELECT null.id, m.is FROM c AS null, m AS m WHERE null.id = [1] AND m.id = null.null;",
 ]
-# The rows (1, true) and (-1, false) of m; (1, 1, 'a'), (2, 1, '') and (3, -1, 'a') of c; and the entries of c by tag, by
-# null and by tag descending. Each line is a key and its value.
+# The rows (1, true) and (-1, false) of m; (1, 1, 'a'), (2, 1, '') and (3, -1, 'a') of c; and the entries of c by tag,
+# by null and by tag descending. Each line is a key and its value.
 PAIRS = """
     02 01 10 8000000000000001 / 02 0000000000000001 01
     02 01 10 7fffffffffffffff / 02 ffffffffffffffff 00
@@ -79,7 +78,7 @@ PAIRS = """
     03 02 03 10 fffe 10 8000000000000002 /
     03 02 03 10 9e fffe 10 8000000000000003 /
 """
-STORED: list[tuple[str, str, list[str]]] = [
+STORED: list[Case] = [
     ("SHOW", "ok", [f"def {number} {text}" for number, text in enumerate(DEFINITIONS, 1)]),
     ("RUN tagged ('a')", "ok rows 2", ["row 1", "row 3"]),
     ("RUN tagged ('')", "ok rows 1", ["row 2"]),
@@ -95,15 +94,12 @@ STORED: list[tuple[str, str, list[str]]] = [
 SHAPE = "CREATE TABLE kv(k BLOB PRIMARY KEY, v BLOB NOT NULL)"
 
 
-def script_of(cases: Sequence[tuple[str, str, list[str]]]) -> tuple[list[str], list[Wanted]]:
-    return [f"{statement};" for statement, _, _ in cases], [Wanted(end, lines) for _, end, lines in cases]
-
-
 def stored_pairs() -> list[tuple[bytes, bytes]]:
     """The pairs of the store, in the order of their keys."""
     lines = [line.split("/") for line in PAIRS.strip().split("\n")]
     pairs = [(bytes.fromhex(key), bytes.fromhex(value)) for key, value in lines]
-    pairs += [(b"\1" + number.to_bytes(2, "big"), b"\1\0" + text.encode()) for number, text in enumerate(DEFINITIONS, 1)]
+    for number, text in enumerate(DEFINITIONS, 1):
+        pairs.append((b"\1" + number.to_bytes(2, "big"), b"\1\0" + text.encode()))
     return sorted(pairs)
 
 

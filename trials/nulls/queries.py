@@ -61,6 +61,12 @@ class Predicate(NamedTuple):
     comparison: str
     right: Column | Parameter | Constant | None
 
+    def columns(self) -> list[Column]:
+        return [self.left, self.right] if isinstance(self.right, Column) else [self.left]
+
+    def aliases(self) -> set[str]:
+        return {column.alias for column in self.columns()}
+
     def __str__(self) -> str:
         return f"{self.left} {self.comparison}" + (f" {self.right}" if self.right else "")
 
@@ -111,15 +117,13 @@ class Query:
     def belonging(self, place: int) -> list[Predicate]:
         """The predicates of a relation: those that name it and none behind it."""
         own, known = self.relations[place].alias, self.earlier(place + 1)
-        named = [(it, {it.left.alias} | ({it.right.alias} if isinstance(it.right, Column) else set())) for it in self.where]
-        return [it for it, aliases in named if own in aliases and aliases <= known]
+        return [it for it in self.where if own in it.aliases() and it.aliases() <= known]
 
     def fixed(self, place: int) -> set[str]:
         """The columns of a relation that equalities tie to a value or to a column of an earlier one."""
-        alias = self.relations[place].alias
-        sides = [(it.left, it.right) for it in self.belonging(place) if it.comparison == "="]
-        sides += [(right, left) for left, right in sides if isinstance(right, Column)]
-        return {one.name for one, other in sides if isinstance(one, Column) and one.alias == alias and is_known(alias, other)}
+        own = self.relations[place].alias
+        equalities = [it for it in self.belonging(place) if it.comparison == "="]
+        return {side.name for it in equalities for side in it.columns() if side.alias == own}
 
     def is_lookup(self, place: int) -> bool:
         return set(self.relations[place].table.key) <= self.fixed(place)
@@ -180,11 +184,6 @@ class Query:
     def cursor(self, definition: int, combination: Combination) -> str:
         items = self.position()
         return cursor(definition, [value_at(combination, it.column) for it in items], [it.descending for it in items])
-
-
-def is_known(alias: str, side: Column | Parameter | Constant | None) -> bool:
-    """Whether what a column equals is known before the relation is read."""
-    return not isinstance(side, Column) or side.alias != alias
 
 
 def value_at(combination: Combination, column: Column) -> Value:

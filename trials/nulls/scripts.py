@@ -5,7 +5,7 @@ from collections.abc import Iterator, Mapping, Sequence
 from dataclasses import dataclass, field
 
 from made import Asked, Family, group_rows, row_sets
-from queries import Page, Row
+from queries import Page, Query, Row
 from values import Value, written
 
 # A store has at most 256 definitions, so a script prepares so many queries at most.
@@ -15,6 +15,9 @@ GROUPS = 36
 RUNS = 3
 # The second table has other rows in a group than the first one.
 APART = 357
+
+# The rows of one group, by the names of their tables.
+Group = Mapping[str, Sequence[Row]]
 
 
 @dataclass(frozen=True)
@@ -60,11 +63,11 @@ class Script:
         self.add(f"PREPARE none AS {asked.query.text()}", f"refused E304 {last}")
         return None
 
-    def run(self, definition: int, asked: Asked, parameters: Sequence[Value], rows: Mapping[str, Sequence[Row]]) -> None:
+    def run(self, definition: int, query: Query, parameters: Sequence[Value], rows: Group) -> None:
         """Runs a query page by page to the end, each behind the cursor that the page before has to print."""
         call = f"RUN q{definition} ({', '.join(map(written, parameters))})"
         after = ""
-        for page in asked.query.pages(definition, asked.query.answer(rows, parameters)):
+        for page in query.pages(definition, query.answer(rows, parameters)):
             self.add(call + after, page_end(page), page.rows)
             self.pages += 1
             after = f" AFTER '{page.cursor}'"
@@ -73,9 +76,6 @@ class Script:
 
 def page_end(page: Page) -> str:
     return f"ok rows {len(page.rows)}" + (f" next {page.cursor}" if page.cursor else "")
-
-
-Group = Mapping[str, Sequence[Row]]
 
 
 def groups_of(family: Family, number: int) -> list[Group]:
@@ -113,7 +113,7 @@ def made_script(family: Family, number: int, part: Sequence[Asked]) -> Script:
     for place, (definition, asked) in enumerate(zip(definitions, part)):
         for turn in range(RUNS) if definition else ():
             at = (place * RUNS + turn) % GROUPS
-            script.run(definition, asked, (number * GROUPS + at, *asked.values), groups[at])
+            script.run(definition, asked.query, (number * GROUPS + at, *asked.values), groups[at])
     return script
 
 
