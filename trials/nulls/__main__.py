@@ -13,9 +13,9 @@ constant and as a parameter, and IS NULL; no order, and the order of one and of 
 stop, and LIMIT and PAGINATE of 1 and 2; and joins by a nullable column. Those without a bound have to be refused. Each
 other one is run over three groups, page by page to the end, behind the cursor that the page before has to print.
 
-Then a script of the language without NULL is run, whose tables and columns are called `is` and `null`, and a script with
-NULL where it can't be. And over a file with the pairs of a store of the time before NULL, SHOW, the queries and refused
-writes have to leave these pairs.
+Then a script of the language without NULL is run, whose tables and columns are called `is` and `null`, and a script
+with NULL where it can't be. And over a file with the pairs of a store of the time before NULL, SHOW, the queries and
+refused writes have to leave these pairs.
 
 Where no engine is named and crates/piql/out/piql is missing or older than a source, the sources are run without a
 proof; where there is no such build of piql_file, the last case is told and left out. The last line has the figures. The
