@@ -15,7 +15,8 @@ use Rattle.pq_plan.specs.Answer.{Question, combos, row_of, answer}
 use Rattle.pq_arrange.specs.Moves.{reordered_query, permuted_combo, places}
 use Rattle.pq_arrange.specs.Classes.{class_of, closed_query}
 use Rattle.pq_arrange.specs.Placing.{arranged_order}
-use Rattle.pq_arrange.specs.Arrange.{rearranged_query, has_candidate, arranged_query}
+use Rattle.pq_stop_push.specs.Having.{has_candidate}
+use Rattle.pq_arrange.specs.Arrange.{rearranged_query, arranged_query}
 
 -- an order of the relations 1 to m
 abbrev pub IsOrderOf : Query → List ℕ → Type 0
