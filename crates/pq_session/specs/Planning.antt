@@ -1,5 +1,5 @@
 -- A query that a text spells, with the least of its candidates.
-use Rattle.std.specs.Prelude.{ℕ, List, codes, Option, Result, Ok}
+use Rattle.std.specs.Prelude.{◌≡◌, ℕ, false, true, List, codes, Option, Result, Ok}
 use Rattle.pq_base.specs.declared.refusal.Refusal.{Refusal}
 use Rattle.pq_schema.specs.Candidates.{Candidate}
 use Rattle.pq_schema.specs.Definitions.{definition_refusal}
@@ -11,7 +11,8 @@ use Rattle.pq_schema.specs.declared.table.Table.{Table}
 use Rattle.pq_text.specs.declared.token.Token.{Token}
 use Rattle.pq_query_read.specs.Queries.{read_query_of}
 use Rattle.pq_query_read.specs.Trying.{◌>>=◌, passed_unless}
-use Rattle.pq_arrange.specs.Arrange.{arranged_query}
+use Rattle.pq_stop_push.specs.Having.{has_candidate}
+use Rattle.pq_arrange.specs.Arrange.{rearranged_query, arranged_query}
 
 -- a query with its least candidate and the index that this wants
 pub record PlannedDefinition : Type 0 where
@@ -32,6 +33,12 @@ plan_of tables query = chosen_candidate tables query >>= with_chosen query
 -- it is written
 abbrev pub arranged_plan : List Table → Query → Result PlannedDefinition Refusal
 arranged_plan tables query = plan_of tables (arranged_query tables query)
+
+-- neither the query has a candidate, nor it rearranged, nor it rearranged and closed
+abbrev pub HasNoCandidate : List Table → Query → Type 0
+HasNoCandidate tables query =
+    (has_candidate tables query ≡ false) × (has_candidate tables (rearranged_query tables query false) ≡ false)
+    × (has_candidate tables (rearranged_query tables query true) ≡ false)
 
 -- the query of this name that the tokens of a text spell from a place on, as it stands, or the first refusal
 unfoldable pub plan_from : Schema → List ℕ → List ℕ → List Token → ℕ → Result PlannedDefinition Refusal
