@@ -129,8 +129,8 @@ module _ (tables : List Table) (query : Query) where
   no_bound_told none =
       by_cases (λ taken. plan_of tables taken ≡ Err (no_bound tables query)) tables query
       (λ has. absurd (false≢true (sym none.0 ∙ has)))
-      (λ _ has. absurd (false≢true (sym none.1.0 ∙ has)))
-      (λ _ _ has. absurd (false≢true (sym none.1.1 ∙ has)))
+      (λ _ has. absurd (false≢true (sym none.1 ∙ has)))
+      (λ _ _ has. absurd (false≢true (sym none.2 ∙ has)))
       (λ own _ _. none_planned tables query own)
 
   pub none_has : (alias : List ℕ) → arranged_plan tables query ≡ Err (refusal.NoBound alias) → HasNoCandidate tables query

@@ -29,6 +29,7 @@ use Rattle.pq_query_read.specs.declared.select.SelectDef.{SelectDef}
 use Rattle.pq_query_read.proofs.QueryAnswers.{sound_ok}
 use Rattle.pq_print.specs.Report.{is_refusal}
 use Rattle.pq_print.specs.declared.report.Report.{Report}
+use Rattle.pq_runnable.proofs.Staying.{err_not_ok}
 use Rattle.pq_arrange.specs.Arrange.{arranged_query}
 use Rattle.pq_arrange.proofs.Answers.{same_answers}
 use Rattle.pq_session.specs.Actions.{Action, Creates, Writes, Prepares, Explains, Runs, Shows, action_from, action_of, asked_schema, asked_text, schema_after}
@@ -46,7 +47,7 @@ use Rattle.pq_session.proofs.Statements.{asked_read, too_long, text_piece}
 module _ (schema : Schema) (valid : IsValid schema) (name text : List ℕ) (from : ℕ) (query : Query) where
   by_select : (read : Result SelectDef ℕ) → select_of text (tokens_of text) from ≡ read → (or_syntax text (tokens_of text) read >>= resolved_select schema name) ≡ Ok query → IsResolved schema.tables query
   by_select (Ok def) is stands = (sound_ok schema name text (tokens_of text) from def query refl valid is stands).0
-  by_select (Err left) is stands = absurd (cc)
+  by_select (Err left) is stands = absurd (err_not_ok _ query stands)
 
   read_resolved : read_query_of schema name text (tokens_of text) from ≡ Ok query → IsResolved schema.tables query
   unfolding read_query_of
@@ -87,7 +88,7 @@ module _ (schema : Schema) (written : Query) where
 
   asks_as : (p : Piece) → IsPrepareOf schema written p → PlansAs (action_of schema p)
   asks_as (piece.Statement text) is =
-      subst PlansAs (sym (text_piece schema text (piece.Statement text) refl)) (by_length is.0 text is.1 is.2.0 is.2.1 (nat_le (length text) 65536) refl)
+      subst PlansAs (sym (text_piece schema text (piece.Statement text) refl)) (by_length is.0 text is.1 is.2 is.3 (nat_le (length text) 65536) refl)
   asks_as piece.NotUtf8 is = absurd is
   asks_as piece.TooLong is = absurd is
 
@@ -129,7 +130,7 @@ module _ (schema : Schema) (written : Query) where
       (next_is ∙ ap (λ (b : Bool). if b then schema else asked_schema schema (action_of schema p)) accepted)
     where
       by_piece : IsValid schema → (q : Piece) → IsPrepareOf schema written q → IsResolved schema.tables written
-      by_piece valid (piece.Statement text) is = read_resolved schema valid is.0 text is.1 written is.2.1
+      by_piece valid (piece.Statement text) is = read_resolved schema valid is.0 text is.1 written is.3
       by_piece valid piece.NotUtf8 is = absurd is
       by_piece valid piece.TooLong is = absurd is
 

@@ -48,7 +48,7 @@ impl Session {
         ensures arranged { IfOk result (λ p. (written : Query) → IsPrepareOf self written piece.now
             → is_refusal p.1 ≡ false → IsDefinedAs self.tables written p.0) }
     {
-        self.catalog.known();
+        self.known();
         match self.asked(alloc, piece) {
             Err(Stopped::NoMem) => Err(NoMem),
             Err(Stopped::Refused(why)) => Ok((self, unread_report(alloc, number, why))),

@@ -122,6 +122,13 @@ impl Session {
         }
     }
 
+    /// Tells a proof that the definitions are valid.
+    pub(crate) fn known(&self)
+        ensures { IsValid self.now }
+    {
+        self.catalog.known();
+    }
+
     /// The catalog of its definitions.
     pub fn catalog(&self) -> &Catalog
         ensures { result.now ≡ self.now }
@@ -287,7 +294,7 @@ impl Session {
             (λ content. TellsEvidence self content broke)) }
         ensures cause { HasBrokeCause (S.faults store.old) (S.faults store.new) result }
     {
-        self.catalog.known();
+        self.known();
         self.piece(alloc, number, piece, store, meter)
     }
 

@@ -1,5 +1,5 @@
 //! Queries with their relations in another order, and with their equalities closed.
-use crate::asked::{catalog_of, is_rearranged};
+use crate::asked::{catalog_of, is_arranged, is_rearranged};
 use std::test::Fail;
 
 const TABLES: [&'static str; 3] = [
@@ -72,6 +72,51 @@ const MOVED: [(&'static str, bool, &'static [u8], &'static str); 9] = [
         "PREPARE q AS SELECT u.city FROM users AS u WHERE u.name = [1] AND u.city <> 'x';",
     ),
 ];
+
+/// Queries, and the canonical texts of those that are planned in their place.
+const ARRANGED: [(&'static str, &'static str); 6] = [
+    (
+        "SELECT u.name FROM users u, subs s WHERE s.owner = [1] AND u.name = s.target LIMIT 10;",
+        "PREPARE q AS SELECT u.name FROM subs AS s, users AS u WHERE s.owner = [1] AND u.name = s.target LIMIT 10;",
+    ),
+    // In the better order there is no candidate either.
+    (
+        "SELECT t.body FROM thoughts t, users a, users b WHERE a.name = [1] AND t.owner = a.name AND b.name = t.owner AND b.city = 'rome' ORDER BY t.ts DESC LIMIT 5;",
+        "PREPARE q AS SELECT t.body FROM users AS a, users AS b, thoughts AS t WHERE a.name = [1] AND b.name = [1] AND t.owner = [1] AND b.city = 'rome' ORDER BY t.ts DESC LIMIT 5;",
+    ),
+    // The better order is enough, so the chain stays.
+    (
+        "SELECT t.body FROM thoughts t, users u WHERE u.name = [1] AND t.owner = u.name ORDER BY t.ts LIMIT 5;",
+        "PREPARE q AS SELECT t.body FROM users AS u, thoughts AS t WHERE u.name = [1] AND t.owner = u.name ORDER BY t.ts LIMIT 5;",
+    ),
+    // There is a candidate, though a user alone would come first.
+    (
+        "SELECT s.target FROM subs s, users u WHERE s.owner = [1] AND u.name = [1];",
+        "PREPARE q AS SELECT s.target FROM subs AS s, users AS u WHERE s.owner = [1] AND u.name = [1];",
+    ),
+    // There is one, and its bound is too large.
+    (
+        "SELECT c.target FROM subs a, subs b, subs c, users u WHERE a.owner = [1] AND b.owner = a.target AND c.owner = b.target AND u.name = [2];",
+        "PREPARE q AS SELECT c.target FROM subs AS a, subs AS b, subs AS c, users AS u WHERE a.owner = [1] AND b.owner = a.target AND c.owner = b.target AND u.name = [2];",
+    ),
+    // None of the three has one.
+    (
+        "SELECT t.body FROM users u, subs s, thoughts t WHERE s.owner = [1] AND u.name = s.target AND t.owner = u.name;",
+        "PREPARE q AS SELECT t.body FROM users AS u, subs AS s, thoughts AS t WHERE s.owner = [1] AND s.target = u.name AND t.owner = u.name;",
+    ),
+];
+
+#[test]
+fn queries_are_arranged(rt: HostRuntime) -> Result<(), Fail> {
+    let catalog = catalog_of(rt.alloc(), &TABLES)?;
+    for (text, wanted) in ARRANGED {
+        assert!(rt;
+            is_arranged(rt.alloc(), &catalog, text, wanted)?,
+            "{text:?}"
+        );
+    }
+    Ok(())
+}
 
 #[test]
 fn queries_are_rearranged(rt: HostRuntime) -> Result<(), Fail> {

@@ -1,10 +1,13 @@
 //! What reading a query over a catalog answers, as text.
-use pq_arrange::rearrange;
+ghost use Rattle.std.specs.Prelude.{IfOk};
+ghost use Rattle.pq_schema.specs.Resolved.{IsResolved};
+
+use pq_arrange::{arranged, rearrange};
 use pq_base::{Bound, Bytes, List, NoMem, PText, Stopped, Used};
 use pq_def_read::{Statement, read_statement};
 use pq_print::{End, Report, print_query, print_report};
 use pq_query_read::read_query;
-use pq_schema::Catalog;
+use pq_schema::{Catalog, Query};
 use pq_text::tokens;
 use std::alloc::Global;
 use std::test::Fail;
@@ -95,6 +98,35 @@ pub fn is_read(alloc: Global, catalog: &Catalog, text: &str, wanted: &str) -> Re
     Ok(asked(alloc, catalog, text)?.items() == wanted.as_bytes())
 }
 
+/// The query of a text, as it is written.
+fn written(alloc: Global, catalog: &Catalog, text: &str) -> Result<Query, Fail>
+    ensures { IfOk result (λ query. IsResolved catalog.now.tables query) }
+{
+    let text = text_of(alloc, text)?;
+    if text.bytes().len() > 1_048_576 {
+        return Err(Fail::from("too long"));
+    }
+    let name = text_of(alloc, "q")?;
+    let seen = tokens(alloc, &text)?;
+    match read_query(alloc, catalog, name, &text, &seen, 0) {
+        Ok(query) => Ok(query),
+        Err(_) => Err(Fail::from("not a query of the catalog")),
+    }
+}
+
+/// Whether the query that is planned in place of the query has this canonical text.
+pub fn is_arranged(
+    alloc: Global,
+    catalog: &Catalog,
+    text: &str,
+    wanted: &str,
+) -> Result<bool, Fail> {
+    let query = written(alloc, catalog, text)?;
+    let found = arranged(alloc, catalog, query)?;
+    let printed = print_query(alloc, catalog.tables(), &found)?;
+    Ok(printed.items() == wanted.as_bytes())
+}
+
 /// Whether the query, rearranged, has these new numbers of its relations and this canonical text.
 pub fn is_rearranged(
     alloc: Global,
@@ -104,15 +136,7 @@ pub fn is_rearranged(
     places: &[u8],
     wanted: &str,
 ) -> Result<bool, Fail> {
-    let text = text_of(alloc, text)?;
-    if text.bytes().len() > 1_048_576 {
-        return Err(Fail::from("too long"));
-    }
-    let name = text_of(alloc, "q")?;
-    let seen = tokens(alloc, &text)?;
-    let Ok(query) = read_query(alloc, catalog, name, &text, &seen, 0) else {
-        return Err(Fail::from("not a query of the catalog"));
-    };
+    let query = written(alloc, catalog, text)?;
     let found = rearrange(alloc, catalog, &query, close)?;
     let printed = print_query(alloc, catalog.tables(), &found.query)?;
     Ok(found.places.items() == places && printed.items() == wanted.as_bytes())

@@ -5,7 +5,7 @@ use pq_base::{Bound, Choice, Dir, Refusal, Stopped};
 use pq_compile::{Compiled, compile};
 use pq_predicates::{fixed, limit_of, table_of};
 use pq_schema::{KeyPart, NewIndex};
-use pq_stop_push::{Candidate, candidates};
+use pq_stop_push::{Candidate, candidates, has_candidate};
 use std::test::Fail;
 
 /// Users, subscriptions and thoughts, a plain table, groups of 100, 200, 249 and 250 rows, one whose limit is
@@ -185,6 +185,7 @@ fn candidates_are_listed(rt: HostRuntime) -> Result<(), Fail> {
         assert!(rt; is_query(&catalog, &query), "{spelt}");
         let list = candidates(rt.alloc(), &catalog, &query)?;
         assert_eq!(rt; list.items().len(), count, "{spelt}");
+        assert_eq!(rt; has_candidate(&catalog, &query), count > 0, "{spelt}");
         assert!(rt; is_candidate(list.items().first(), first), "{spelt}");
         assert!(rt; is_candidate(list.items().last(), last), "{spelt}");
     }

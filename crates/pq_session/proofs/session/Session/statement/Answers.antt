@@ -1,5 +1,3 @@
-use Rattle.std.proofs.Common.{subst}
-use Rattle.pq_schema.specs.Valid.{IsValid}
 use Rattle.pq_session.proofs.Promises.{promised_made, promised_matches, promised_next, promised_shown, promised_lasting, promised_stopped, promised_unread, promised_within}
 use Rattle.pq_session.proofs.Written.{promised_as}
 use Rattle.pq_session.proofs.session.Session.statement.Goals as goal
@@ -30,4 +28,4 @@ returns-clause-unread g c = promised_unread c.args.number c.args.piece.now _ _ c
 
 pub returns-clause-arranged : goal.returns-clause-arranged
 returns-clause-arranged g c =
-    promised_as c.args.number c.args.piece.now _ _ c.args.self _ _ (subst IsValid c.self.view_is c.self.invariant.0) c.piece.result c.piece.ensures.step
+    promised_as c.args.number c.args.piece.now _ _ c.args.self _ _ c.known.ensures c.piece.result c.piece.ensures.step
