@@ -96,7 +96,6 @@ fn is_bounded(catalog: &Catalog, query: &Query) -> bool
 }
 
 /// The query rearranged, or rearranged and closed: the first that has a candidate.
-#[tactic(auto, using(crate::proofs::Choosing::again_resolved))]
 fn bounded(alloc: Global, catalog: &Catalog, query: &Query) -> Result<Option<Query>, NoMem>
     requires { IsResolved catalog.now.tables query.now }
     ensures { IfOk result (λ found. found ≡ find (has_candidate catalog.now.tables)
