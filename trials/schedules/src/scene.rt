@@ -14,12 +14,12 @@ pub const LIMIT: usize = 2;
 
 /// A table that is referred to, and one with an index, a limit and a foreign key.
 const TABLES: [&[u8]; 2] = [
-    b"CREATE TABLE p (id INT, PRIMARY KEY (id))",
-    b"CREATE TABLE c (id INT, g INT, PRIMARY KEY (id), FOREIGN KEY (g) REFERENCES p, CARDINALITY LIMIT 2 (g))",
+    b"CREATE TABLE p (id INT, PRIMARY KEY (id));",
+    b"CREATE TABLE c (id INT, g INT, PRIMARY KEY (id), FOREIGN KEY (g) REFERENCES p, CARDINALITY LIMIT 2 (g));",
 ];
 
 /// A table with a key alone.
-const PLAIN: [&[u8]; 1] = [b"CREATE TABLE m (id INT, v INT, PRIMARY KEY (id))"];
+const PLAIN: [&[u8]; 1] = [b"CREATE TABLE m (id INT, v INT, PRIMARY KEY (id));"];
 
 fn defined(alloc: Global, texts: &[&[u8]]) -> Result<Catalog, NoMem> {
     let mut catalog = Catalog::new(alloc);
@@ -28,11 +28,12 @@ fn defined(alloc: Global, texts: &[&[u8]]) -> Result<Catalog, NoMem> {
             return Err(NoMem);
         };
         let found = tokens(alloc, &text)?;
-        if let Ok(Statement::Create(def)) = read_statement(alloc, &text, &found) {
-            match catalog.add_table(alloc, def) {
-                Ok(_) => {}
-                Err(Stopped::NoMem | Stopped::Refused(_)) => return Err(NoMem),
-            }
+        let Ok(Statement::Create(def)) = read_statement(alloc, &text, &found) else {
+            return Err(NoMem);
+        };
+        match catalog.add_table(alloc, def) {
+            Ok(_) => {}
+            Err(Stopped::NoMem | Stopped::Refused(_)) => return Err(NoMem),
         }
     }
     Ok(catalog)
