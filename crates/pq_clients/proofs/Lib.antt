@@ -65,3 +65,4 @@ pub mod Ordered
 pub mod Rounds
 pub mod Stays
 pub mod Worked
+pub mod OneCalls

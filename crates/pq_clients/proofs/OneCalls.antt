@@ -4,15 +4,16 @@ use Rattle.std.specs.FinMap.{get}
 use Rattle.pq_schema.specs.declared.table.Table.{Table}
 use Rattle.pq_store.specs.Content.{Content, written_content}
 use Rattle.pq_index_keep.specs.declared.write.Write.{Write}
+use Rattle.pq_clients.specs.declared.outcome.Outcome.TheVariants as outcome
 use Rattle.pq_clients.specs.Held.{held_value}
-use Rattle.pq_clients.specs.Flights.{Flight, Parent, Child, flight_key, flight_checks}
+use Rattle.pq_clients.specs.Flights.{Flight, Parent, Child, flight_key, new_code, stale_entries, flight_checks}
 use Rattle.pq_clients.specs.Clients.{Stage, Checking, Adding, Testing, Putting, Clearing, Freeing, Undoing, Releasing, Next, Reading, Taking, Looking, Flying, View, write_at}
-use Rattle.pq_clients.specs.Steps.{Then, On, is_just, damaged, checking, read_on, flown, gone_on, if_own}
+use Rattle.pq_clients.specs.Steps.{Then, On, Puts, Ends, is_just, damaged, refused, checking, clearing, read_on, flown, gone_on, if_own}
 use Rattle.pq_clients.specs.Calling.{way}
 use Rattle.pq_clients.specs.OneCall.{answer_of, left_by, stage_call, stage_passed, next_call, next_behind, MakesOneCall}
 
 -- one test for both parts
-apart : {A B : Type 0} (b : Bool) (x y : A) (s t : B) → cond b (x, s) (y, t) ≡ (cond b x y, cond b s t)
+apart : {A B : Type 0} (b : Bool) (x y : A) (s t : B) → ◌≡◌ {A = A × B} (cond {A = A × B} b (x, s) (y, t)) (cond b x y, cond b s t)
 apart true x y s t = refl
 apart false x y s t = refl
 
@@ -29,11 +30,11 @@ module _ (tables : List Table) (client number : ℕ) where
   stage_is f (Checking (Child u place front) left) c = refl
   stage_is f (Adding entry left added) c = refl
   stage_is f (Testing place left passed) c = refl
-  stage_is f Putting c = own_call f f.read _ _ c
+  stage_is f Putting c = own_call f f.read (Some (held_value client number (new_code tables f))) (Puts (Flying f (clearing (stale_entries tables f)))) c
   stage_is f (Clearing entry left) c = refl
-  stage_is f Freeing c = own_call f _ _ _ c
+  stage_is f Freeing c = own_call f (new_code tables f) (new_code tables f) (Ends outcome.Done) c
   stage_is f (Undoing entry left refusal) c = refl
-  stage_is f (Releasing refusal) c = own_call f f.read _ _ c
+  stage_is f (Releasing refusal) c = own_call f f.read f.read (refused refusal) c
 
 pub makes_one_call : (tables : List Table) (v : View) (c : Content) → MakesOneCall tables v c
 makes_one_call tables v c w at = by v.next

@@ -222,7 +222,7 @@ module _ (tables : List Table) where
   run_still (e ∷ es) r all = ap (λ (r : Run). run tables r es) (turn_still r e (slice_get r.clients e.place) refl all) ∙ run_still es r all
 
   -- ---- from the beginning
-  run_writes : (es : List Event) (r : Run) (p : ℕ) (v : View) → slice_get r.clients p ≡ Some v → (u : View) × (slice_get (run tables r es).clients p ≡ Some u) × (u.writes ≡ v.writes)
+  pub run_writes : (es : List Event) (r : Run) (p : ℕ) (v : View) → slice_get r.clients p ≡ Some v → (u : View) × (slice_get (run tables r es).clients p ≡ Some u) × (u.writes ≡ v.writes)
   run_writes [] r p v is = (v, is, refl)
   run_writes (e ∷ es) r p v is = let t = turn_writes (slice_get r.clients e.place) refl in let x = run_writes es (turn tables r e) p t.0 t.1 in (x.0, x.1, x.2 ∙ t.2)
     where
@@ -241,7 +241,7 @@ module _ (tables : List Table) where
               (a.view, subst (λ q. slice_get (slice_set r.clients e.place a.view) q ≡ Some a.view) here (set_here r.clients e.place x a.view there), step_writes tables x r.content e.fate ∙ ap (λ (v : View). v.writes) same)
           by false place = (v, set_apart r.clients e.place p a.view (eqb-false e.place p place) ∙ is, refl)
 
-  same_length : (es : List Event) (r : Run) (p : ℕ) → slice_get r.clients p ≡ None → slice_get (run tables r es).clients p ≡ None
+  pub same_length : (es : List Event) (r : Run) (p : ℕ) → slice_get r.clients p ≡ None → slice_get (run tables r es).clients p ≡ None
   same_length [] r p none = none
   same_length (e ∷ es) r p none = same_length es (turn tables r e) p (by (slice_get r.clients e.place) refl)
     where

@@ -4,7 +4,7 @@ use Rattle.std.proofs.lemmas.List.Sums.{length-filter, count_by-le-length}
 use lib.Count.{ones}
 use Rattle.std.specs.FinMap.{insert, get-empty, get-insert, get-remove, entries-insert}
 use Rattle.std.specs.Cmp.Lexicographic.{nat_list_cmp_total}
-use Rattle.std.specs.Prelude.{All, IsSome, filter, ◌<◌, ◌≤◌, ◌^◌, ◌==◌}
+use Rattle.std.specs.Prelude.{All, IsSome, false, filter, ◌<◌, ◌≤◌, ◌^◌, ◌==◌}
 use Rattle.std.specs.List.{AllByRecursion, IsDistinct}
 use Rattle.pq_base.specs.Columns.{set_of}
 use Rattle.pq_base.specs.declared.refusal.Refusal.TheVariants as refusal

@@ -1,4 +1,4 @@
-use Rattle.std.proofs.Common.{ℕ, List, Bool, Option, ap}
+use Rattle.std.proofs.Common.{ℕ, List, Bool, Option, refl, ap}
 use Rattle.std.specs.FinMap.{get}
 use Rattle.std.specs.Prelude.{is_some}
 use Rattle.pq_store.specs.Content.{Content}
