@@ -82,6 +82,7 @@ fn put_over(alloc: Global, catalog: &Catalog, cells: &Cells, out: &mut Bytes) ->
         "referring" => tables::referring(alloc, catalog, cells, out),
         "query" => queries::query(alloc, catalog, cells, out),
         "rearranged" => queries::rearranged(alloc, catalog, cells, out),
+        "arranged" => queries::arranged(alloc, catalog, cells, out),
         "compiled" => queries::compiled(alloc, catalog, cells, out),
         "candidates" => queries::listed(alloc, catalog, cells, out),
         "limit" => queries::limit(alloc, catalog, cells, out),
