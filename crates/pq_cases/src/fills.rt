@@ -1,7 +1,7 @@
 //! The words of a run, the generated script, and the summary of its reports.
 ghost use Rattle.std.specs.Prelude.{◌≡◌, ◌+◌, ◌^◌, ◌<◌, ◌≤◌, length, IfSome, OnOk};
 
-use crate::cells::{Cells, words_of};
+use crate::cells::{Cells, number_at, words_of};
 use crate::put::{named, put_number, put_plain, put_printed, put_word};
 use pq_base::{Bound, Bytes, List, NoMem, PText, Refusal, Row, Used, Value};
 use pq_fill::{Form, Kind, Summary, fill_count, fill_kind, fill_statement, form_of, print_summary};
@@ -85,13 +85,6 @@ fn kind_of(word: &str) -> Kind {
     }
 }
 
-fn number_at(words: &[&str], place: usize) -> u32 {
-    match words.get(place) {
-        Some(word) => word.parse::<u32>().unwrap_or(0),
-        None => 0,
-    }
-}
-
 // A row whose second value is this number, or one of one value where the word is none.
 fn row_of(alloc: Global, word: &str) -> Result<Row, NoMem> {
     let mut row = Row::new(alloc);
@@ -135,12 +128,12 @@ fn report_of(alloc: Global, words: &[&str]) -> Result<Report, NoMem> {
         lines: rows_of(alloc, rows)?,
         end: end_of(ended, rows.len()),
         bound: Bound {
-            ops: number_at(words, 2) as u128,
-            entries: number_at(words, 3) as u128,
+            ops: number_at(words, 2).unwrap_or(0) as u128,
+            entries: number_at(words, 3).unwrap_or(0) as u128,
         },
         used: Used {
-            ops: number_at(words, 4) as u64,
-            entries: number_at(words, 5) as u64,
+            ops: number_at(words, 4).unwrap_or(0) as u64,
+            entries: number_at(words, 5).unwrap_or(0) as u64,
         },
     })
 }
