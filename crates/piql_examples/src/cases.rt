@@ -1,0 +1,72 @@
+//! Cases: a word that says what is run, and cells. Scripts and what they write are files of the folder `runs`, and
+//! nothing has the used numbers. A script of parts is run without anything between them.
+//!
+//! | word | what is run, and what it has to do |
+//! |---|---|
+//! | `run` | the parts in one run write `out`; part by part, over a store that is opened again for each, they write the same reports, and both stores hold the same |
+//! | `ends` | with the words the run ends with the status, and has written `out`, or so many bytes of it; without `out` nothing. A read or a write may fail, the sink may have less room, and the script may be so many spaces |
+//! | `begins` | with the words the run ends well, and what it has written begins with `out` |
+//! | `codes` | nothing is run; the statuses have their numbers |
+//! | `cuts` | the script is cut behind each byte of its parts, each of which is a statement |
+//! | `crowded` | as `ends`, over a store that counts so many rows |
+//! | `content` | as `ends`, over what `ground` leaves and the pairs that are put into it |
+//! | `stop` | a call of the run fails, done or not; opened again, the store writes `answer` where it `asks` |
+//! | `twice` | the same where a call of the opening behind it fails too, which has so many calls |
+//! | `switch` | as `ends`, over `ground` and the rows of `first` for so many calls, and then over those of `second` |
+ghost use Rattle.std.specs.Prelude.{◌≡◌};
+
+use crate::texts::{Texts, texts_of};
+use crate::{contents, cuts, ends, io_result, parted, stops, switched};
+use pq_base::NoMem;
+use pq_store::{Meter, Opening};
+use std::alloc::Global;
+use std::io;
+use std::marker::Brand;
+use std::sync::ledger::{Blank, Ledger};
+
+// The word of a case.
+fn word_of<'a>(cells: &[&'a str]) -> &'a str {
+    match cells.first() {
+        Some(word) => word,
+        None => "",
+    }
+}
+
+// Whether a case does what it has to. The caller's proof picks the ledger of the blank.
+fn holds<L: Ledger>(
+    alloc: Global,
+    blank: Blank,
+    cells: &[&str],
+    texts: &Texts,
+) -> Result<bool, NoMem>
+    requires name { blank.name ≡ L.name }
+    requires parts { blank.parts ≡ L.parts }
+    requires two { blank.parts ≡ 2 }
+{
+    let mut meter = Meter::<L>::start(Opening::of(blank));
+    match word_of(cells) {
+        "run" => parted::is_as_written(alloc, texts, &mut meter),
+        "ends" => ends::is_as_written(alloc, cells, texts, &mut meter),
+        "begins" => ends::begins_as_written(alloc, cells, texts, &mut meter),
+        "codes" => Ok(ends::are_numbered()),
+        "cuts" => cuts::is_as_written(alloc, texts, &mut meter),
+        "crowded" => ends::is_crowded(alloc, cells, texts, &mut meter),
+        "content" => contents::is_as_written(alloc, cells, texts, &mut meter),
+        "stop" => stops::is_as_written(alloc, cells, texts, &mut meter),
+        "twice" => stops::is_twice_as_written(alloc, cells, texts, &mut meter),
+        "switch" => switched::is_as_written(alloc, cells, texts, &mut meter),
+        _ => Ok(false),
+    }
+}
+
+// The same over a ledger of its own.
+fn holds_alone(alloc: Global, cells: &[&str], texts: &Texts) -> Result<bool, NoMem> {
+    holds::<Brand>(alloc, Blank::new(2), cells, texts)
+}
+
+/// Whether the case of a line does what it has to.
+pub fn is_as_written(rt: &HostRuntime, line: &str) -> io::Result<bool> {
+    let cells: Vec<&str> = line.split_whitespace().collect(rt.alloc())?;
+    let texts = texts_of(rt, &cells)?;
+    io_result(holds_alone(rt.alloc(), &cells, &texts))
+}
