@@ -1,18 +1,22 @@
-//! Cases: a word that says what is run, and cells. Scripts and what they write are files of the folder `runs`, and
-//! nothing has the used numbers. A script of parts is run without anything between them.
+//! Cases: a word that says what is run, and cells. Scripts, and what they write but for the used numbers, are files of
+//! the folder `runs`. A script of parts is run without anything between them.
 //!
-//! | word | what is run, and what it has to do |
-//! |---|---|
-//! | `run` | the parts in one run write `out`; part by part, over a store that is opened again for each, they write the same reports, and both stores hold the same |
-//! | `ends` | with the words the run ends with the status, and has written `out`, or so many bytes of it; without `out` nothing. A read or a write may fail, the sink may have less room, and the script may be so many spaces |
-//! | `begins` | with the words the run ends well, and what it has written begins with `out` |
-//! | `codes` | nothing is run; the statuses have their numbers |
-//! | `cuts` | the script is cut behind each byte of its parts, each of which is a statement |
-//! | `crowded` | as `ends`, over a store that counts so many rows |
-//! | `content` | as `ends`, over what `ground` leaves and the pairs that are put into it |
-//! | `stop` | a call of the run fails, done or not; opened again, the store writes `answer` where it `asks` |
-//! | `twice` | the same where a call of the opening behind it fails too, which has so many calls |
-//! | `switch` | as `ends`, over `ground` and the rows of `first` for so many calls, and then over those of `second` |
+//! - `run`: the parts in one run write `out`; part by part, over a store that is opened again for each, they write the
+//!   same reports, and both stores hold the same in the end.
+//! - `ends`: with the `words`, or `run`, the run ends with the `status`, or well, and has written `out` or its first
+//!   `bytes`, or nothing. A `read` or a `write` may fail, the sink may have other `room`, and the script be `spaces`.
+//! - `begins`: with the words the run ends well, and what it has written begins with `out`.
+//! - `codes`: nothing is run; the statuses have their numbers.
+//! - `cuts`: the script is cut behind each byte of its parts, each of which is a statement. What is written has the
+//!   reports of the whole ones.
+//! - `crowded`: as `ends`, over a store that counts so many `rows`.
+//! - `content`: as `ends`, over what `ground` leaves and the pairs that are `put` into it, `KEY:VALUE` each; `KEY` alone
+//!   is removed.
+//! - `stop`: as `ends`, over what `ground` leaves, where a `call` of the store fails, `done` or not. Opened again, the
+//!   store writes `answer` where it `asks`: of both one `part`, or all.
+//! - `twice`: the run is stopped so, and then each of so many calls that it `tries` of the opening fails too, which has
+//!   as many as `opening` says.
+//! - `switch`: as `ends`, over `ground` and the rows of `first` for so many `calls`, and then those of `second`.
 ghost use Rattle.std.specs.Prelude.{◌≡◌};
 
 use crate::texts::{Texts, texts_of};
