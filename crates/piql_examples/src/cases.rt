@@ -10,7 +10,7 @@
 //! - `cuts`: the script is cut behind each byte of its parts, each of which is a statement. What is written has the
 //!   reports of the whole ones.
 //! - `crowded`: as `ends`, over a store that counts so many `rows`.
-//! - `content`: as `ends`, over what `ground` leaves and the pairs that are `put` into it, `KEY:VALUE` each; `KEY` alone
+//! - `content`: as `ends`, over what `ground` leaves and the pairs `KEY:VALUE` that are `put` into it; a `KEY` alone
 //!   is removed.
 //! - `stop`: as `ends`, over what `ground` leaves, where a `call` of the store fails, `done` or not. Opened again, the
 //!   store writes `answer` where it `asks`: of both one `part`, or all.

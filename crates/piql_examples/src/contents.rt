@@ -1,4 +1,4 @@
-//! Runs over contents that no run leaves: what names the damage is the last line, and what nothing promises is no rubbish.
+//! Runs over contents that no run leaves: what names the damage comes last, and what nothing promises is no rubbish.
 use crate::cells::bytes_of;
 use crate::ends::ends_so;
 use crate::texts::Texts;

@@ -1,4 +1,4 @@
-//! Runs that are stopped at a call of the store, done or not done: opened again, all that they make is there or nothing.
+//! Runs that are stopped at a call of the store, done or not: opened again, all that they make is there or nothing.
 use crate::cells::{cell, number_or};
 use crate::ends::ends_so;
 use crate::parts::part_of;
