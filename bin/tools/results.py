@@ -53,9 +53,9 @@ def keep(path: pathlib.Path, result: Result, crates: list[str]) -> None:
 
 
 def stale(repository: Repository, results: dict[str, Result]) -> list[str]:
-    """A line for each crate whose wrong bodies have to be tried again."""
+    """A line for each crate whose wrong bodies beside the gate have to be tried again."""
     lines = []
-    for crate in repository.crates_with_edits():
+    for crate in filter(repository.edits_beside, repository.uses):
         result = results.get(crate)
         if result is None:
             lines.append(f"{crate}: not tried yet")
