@@ -23,6 +23,7 @@ use Rattle.pq_clients.proofs.Coded.{key_space, names_code}
 use Rattle.pq_clients.proofs.Flying.{AreStanding, ArePassed}
 use Rattle.pq_clients.proofs.Landing.{left, idle}
 use Rattle.pq_clients.proofs.Stages.{present_testing, present_adding, present_checking, present_clearing, present_undoing, fits_testing, fits_adding, fits_checking, fits_clearing, fits_undoing, clears_all, undoes_all, high_within}
+use Rattle.pq_clients.proofs.Apart.{fresh_different, stale_different}
 use Rattle.pq_clients.proofs.Moves.{adds_more, covers_more, check_passed, check_refused, entry_added, limit_passed, limit_refused, row_put, entry_cleared, entry_undone, row_freed, row_released}
 use Rattle.pq_clients.proofs.Shaped.{write_place, just_itself, shaped_row, shaped_added, shaped_removed}
 
@@ -181,7 +182,7 @@ module _ (tables : List Table) (sound : AreWritable tables) (others : List ℕ �
                 (inl (present_testing tables sound f fl left (place ∷ passed_places)))
                 (limit_passed tables sound f fl c stances v.number v.at g standing passed place left passed_places covers room is)
             | false ↦ λ _. goes f (Testing place left passed_places) next_is is c (undoing (fresh_entries tables f) (test_refusal tables f place)) shape
-                (fits_undoing tables sound f fl (fresh_entries tables f) (test_refusal tables f place) (undoes_all tables sound f fl))
+                (fits_undoing tables sound f fl (fresh_entries tables f) (test_refusal tables f place) (undoes_all tables sound f fl) (fresh_different tables f))
                 (inl (present_undoing tables sound f fl (fresh_entries tables f) (test_refusal tables f place)))
                 (limit_refused tables sound f fl c stances v.number v.at g place left passed_places (test_refusal tables f place) is)
           ] refl
@@ -190,15 +191,15 @@ module _ (tables : List Table) (sound : AreWritable tables) (others : List ℕ �
           owned f Putting next_is is f.read (Some (held_value v.number v.at (new_code tables f))) (Puts (Flying f (clearing (stale_entries tables f)))) refl
           (put_on f Putting next_is is (written_content (flight_key tables f) (Some (held_value v.number v.at (new_code tables f))) c) (clearing (stale_entries tables f))
           (shaped_row tables c others (flight_key tables f) (Some (held_value v.number v.at (new_code tables f))) (space f Putting next_is is) (standing_code f Putting next_is is (new_code tables f) fl.new) shape)
-          (fits_clearing tables sound f fl (stale_entries tables f) (clears_all tables sound f fl))
+          (fits_clearing tables sound f fl (stale_entries tables f) (clears_all tables sound f fl) (stale_different tables f))
           (inr (present_clearing tables sound f fl (stale_entries tables f)))
           (row_put tables sound f fl c stances v.number v.at g h.small (few_writes f Putting next_is is) is))
       flown_kept f (Clearing entry left) next_is is standing =
           let fl = flight f (Clearing entry left) next_is is in
           let clears = of_stage f (Clearing entry left) next_is is in
           goes f (Clearing entry left) next_is is (written_content entry None c) (clearing left)
-          (shaped_removed tables c others (flight_key tables f) entry (names_code tables sound (flight_key tables f) f.read entry fl.read (clears entry (or_first (is_key entry entry) (has_entry entry left) (key_itself entry))).1) shape)
-          (fits_clearing tables sound f fl left (λ e there. clears e (or_second (is_key e entry) (has_entry e left) there)))
+          (shaped_removed tables c others (flight_key tables f) entry (names_code tables sound (flight_key tables f) f.read entry fl.read (clears.0 entry (or_first (is_key entry entry) (has_entry entry left) (key_itself entry))).1) shape)
+          (fits_clearing tables sound f fl left (λ e there. clears.0 e (or_second (is_key e entry) (has_entry e left) there)) clears.1.1)
           (inl (present_clearing tables sound f fl left))
           (entry_cleared tables sound f fl c stances v.number v.at g entry left clears is)
       flown_kept f Freeing next_is is standing =
@@ -209,8 +210,8 @@ module _ (tables : List Table) (sound : AreWritable tables) (others : List ℕ �
           let fl = flight f (Undoing entry left why) next_is is in
           let undoes = of_stage f (Undoing entry left why) next_is is in
           goes f (Undoing entry left why) next_is is (written_content entry None c) (undoing left why)
-          (shaped_removed tables c others (flight_key tables f) entry (names_code tables sound (flight_key tables f) (new_code tables f) entry fl.new (undoes entry (or_first (is_key entry entry) (has_entry entry left) (key_itself entry))).1) shape)
-          (fits_undoing tables sound f fl left why (λ e there. undoes e (or_second (is_key e entry) (has_entry e left) there)))
+          (shaped_removed tables c others (flight_key tables f) entry (names_code tables sound (flight_key tables f) (new_code tables f) entry fl.new (undoes.0 entry (or_first (is_key entry entry) (has_entry entry left) (key_itself entry))).1) shape)
+          (fits_undoing tables sound f fl left why (λ e there. undoes.0 e (or_second (is_key e entry) (has_entry e left) there)) undoes.1.1)
           (inl (present_undoing tables sound f fl left why))
           (entry_undone tables sound f fl c stances v.number v.at g entry left why undoes is)
       flown_kept f (Releasing why) next_is is standing =

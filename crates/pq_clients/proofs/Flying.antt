@@ -11,7 +11,7 @@ use Rattle.pq_clients.specs.Held.{Cell, Free, Held, cell_of, held_value}
 use Rattle.pq_clients.specs.Flights.{Flight, flight_key}
 use Rattle.pq_clients.specs.Clients.{Stage}
 use Rattle.pq_clients.specs.Steps.{counted}
-use Rattle.pq_clients.specs.Invariant.{code_row, row_in_group, key_table, has_code_entry, MayStandAt, Names, Group, in_group, group_bound, front_of_group, Hold, Stance, Idle, Holds, Left, cell_at, IsHolder, Owns, present_at_cell, due_by, extra_by, passed_by, due_at, is_there, is_key, KeyGood, AtMost, claims_at, claims, Good, present_of, is_due, is_extra, is_passed, hold_of}
+use Rattle.pq_clients.specs.Invariant.{code_row, row_in_group, key_table, has_code_entry, MayStandAt, Names, Group, in_group, group_bound, front_of_group, Hold, Stance, Idle, Holds, Left, cell_at, IsHolder, Owns, present_at_cell, due_by, extra_by, passed_by, due_at, is_there, is_key, KeyGood, AtMost, claims_at, claims, Good, present_of, is_due, is_passed, hold_of}
 use Rattle.pq_clients.proofs.Basics.{or_first, or_second, either_of, nothing_more, no_cell, at_or_not, not_both, get_here, get_apart, there_written, there_apart, cell_is, space_apart}
 use Rattle.pq_clients.proofs.Owners.{entry_space}
 use Rattle.pq_clients.proofs.Frame.{set_stance, set_self, NotAt, Near, near_same, near_row, near_entry, others_row, others_entry, assemble, claims_elsewhere, limits_kept}
@@ -22,16 +22,13 @@ module _ (tables : List Table) where
   abbrev pub low : Flight → Stage → List ℕ → Bool
   low f s e = has_code_entry tables (flight_key tables f) (present_of tables f s) e || is_due tables f s e
 
-  abbrev pub high : Flight → Stage → List ℕ → Bool
-  high f s e = has_code_entry tables (flight_key tables f) (present_of tables f s) e || is_extra tables f s e
-
   abbrev pub claim : Flight → Stage → Group → Bool
   claim f s g = in_group tables g (flight_key tables f) (present_of tables f s) || is_passed tables f s g
 
   -- the entries at a held key
   pub record Local (c : Content) (f : Flight) (s : Stage) : Type 0 where
     pub lower : (e : List ℕ) → Names tables (flight_key tables f) e → low f s e ≡ true → is_there c e ≡ true
-    pub upper : (e : List ℕ) → Names tables (flight_key tables f) e → is_there c e ≡ true → high f s e ≡ true
+    pub upper : (e : List ℕ) → Names tables (flight_key tables f) e → is_there c e ≡ true → low f s e ≡ true
 
   abbrev pub OwnsAt : Content → ℕ → ℕ → Flight → Stage → Type 0
   OwnsAt c j at f s = Owns c j (Holds (hold_of tables at f s))
@@ -170,7 +167,7 @@ module _ (tables : List Table) where
     )
 
     -- none
-    pub stay : (s' : Stage) → present_of tables f s' ≡ present_of tables f s → ((e : List ℕ) → low f s' e ≡ true → low f s e ≡ true) → ((e : List ℕ) → high f s e ≡ true → high f s' e ≡ true) → ((γ : Group) → claim f s' γ ≡ true → claim f s γ ≡ true) → Good tables c (set_stance stances j (Holds (hold_of tables at f s')))
+    pub stay : (s' : Stage) → present_of tables f s' ≡ present_of tables f s → ((e : List ℕ) → low f s' e ≡ true → low f s e ≡ true) → ((e : List ℕ) → low f s e ≡ true → low f s' e ≡ true) → ((γ : Group) → claim f s' γ ≡ true → claim f s γ ≡ true) → Good tables c (set_stance stances j (Holds (hold_of tables at f s')))
     stay s' same lo hi down =
         fly_down c s' (near_same tables c (flight_key tables f)) (own_then s' same) (λ i _. g.owns i)
         (record { lower = λ e n h. local_of.lower e n (lo e h); upper = λ e n h. hi e (local_of.upper e n h) }) down
@@ -183,7 +180,7 @@ module _ (tables : List Table) where
     -- an entry is added
     pub add : (s' : Stage) (q : List ℕ) → Names tables (flight_key tables f) q → present_of tables f s' ≡ present_of tables f s
         → ((e : List ℕ) → is_key e q ≡ false → low f s' e ≡ true → low f s e ≡ true)
-        → high f s' q ≡ true → ((e : List ℕ) → high f s e ≡ true → high f s' e ≡ true)
+        → low f s' q ≡ true → ((e : List ℕ) → low f s e ≡ true → low f s' e ≡ true)
         → ((γ : Group) → claim f s' γ ≡ true → claim f s γ ≡ true)
         → Good tables (written_content q (Some []) c) (set_stance stances j (Holds (hold_of tables at f s')))
     add s' q names same lo here hi down =
@@ -192,13 +189,13 @@ module _ (tables : List Table) where
         fly_down d s' (near_entry tables c q key (Some []) names) (own_entry q (Some []) s' names same) (λ i _. others_entry tables c q (Some []) i (stances i) (entry_space tables key q names) (g.owns i))
         (record {
           lower = λ e n h. there_written q (Some []) c e ∙ elim (is_key e q) as (λ b. is_key e q ≡ b → cond b true (is_there c e) ≡ true) [ true ↦ λ _. refl | false ↦ λ ne. local_of.lower e n (lo e ne h) ] refl;
-          upper = λ e n h. elim (is_key e q) as (λ b. is_key e q ≡ b → cond b true (is_there c e) ≡ true → high f s' e ≡ true) [ true ↦ λ k _. subst (λ (e : List ℕ). high f s' e ≡ true) (sym (same_key e q k)) here | false ↦ λ ne h. hi e (local_of.upper e n h) ] refl (sym (there_written q (Some []) c e) ∙ h);
+          upper = λ e n h. elim (is_key e q) as (λ b. is_key e q ≡ b → cond b true (is_there c e) ≡ true → low f s' e ≡ true) [ true ↦ λ k _. subst (λ (e : List ℕ). low f s' e ≡ true) (sym (same_key e q k)) here | false ↦ λ ne h. hi e (local_of.upper e n h) ] refl (sym (there_written q (Some []) c e) ∙ h);
         }) down
 
     -- an entry is removed
     pub drop : (s' : Stage) (q : List ℕ) → Names tables (flight_key tables f) q → present_of tables f s' ≡ present_of tables f s
         → low f s' q ≡ false → ((e : List ℕ) → low f s' e ≡ true → low f s e ≡ true)
-        → ((e : List ℕ) → is_key e q ≡ false → high f s e ≡ true → high f s' e ≡ true)
+        → ((e : List ℕ) → is_key e q ≡ false → low f s e ≡ true → low f s' e ≡ true)
         → ((γ : Group) → claim f s' γ ≡ true → claim f s γ ≡ true)
         → Good tables (written_content q None c) (set_stance stances j (Holds (hold_of tables at f s')))
     drop s' q names same here lo hi down =
@@ -207,12 +204,12 @@ module _ (tables : List Table) where
         fly_down d s' (near_entry tables c q key None names) (own_entry q None s' names same) (λ i _. others_entry tables c q None i (stances i) (entry_space tables key q names) (g.owns i))
         (record {
           lower = λ e n h. there_written q None c e ∙ elim (is_key e q) as (λ b. is_key e q ≡ b → cond b false (is_there c e) ≡ true) [ true ↦ λ k. absurd (false≢true (sym here ∙ ap (low f s') (sym (same_key e q k)) ∙ h)) | false ↦ λ ne. local_of.lower e n (lo e h) ] refl;
-          upper = λ e n h. elim (is_key e q) as (λ b. is_key e q ≡ b → cond b false (is_there c e) ≡ true → high f s' e ≡ true) [ true ↦ λ k h. absurd (false≢true h) | false ↦ λ ne h. hi e ne (local_of.upper e n h) ] refl (sym (there_written q None c e) ∙ h);
+          upper = λ e n h. elim (is_key e q) as (λ b. is_key e q ≡ b → cond b false (is_there c e) ≡ true → low f s' e ≡ true) [ true ↦ λ k h. absurd (false≢true h) | false ↦ λ ne h. hi e ne (local_of.upper e n h) ] refl (sym (there_written q None c e) ∙ h);
         }) down
 
     -- the held value is written
     pub put : (s' : Stage) → cell_of (held_value j at (present_of tables f s')) ≡ Held j at (present_of tables f s')
-        → ((e : List ℕ) → low f s' e ≡ true → low f s e ≡ true) → ((e : List ℕ) → high f s e ≡ true → high f s' e ≡ true)
+        → ((e : List ℕ) → low f s' e ≡ true → low f s e ≡ true) → ((e : List ℕ) → low f s e ≡ true → low f s' e ≡ true)
         → ((γ : Group) → claim f s' γ ≡ true → claim f s γ ≡ true)
         → Good tables (written_content (flight_key tables f) (Some (held_value j at (present_of tables f s'))) c) (set_stance stances j (Holds (hold_of tables at f s')))
     put s' back lo hi down =
@@ -228,7 +225,7 @@ module _ (tables : List Table) where
 
     -- a limit is tested, and one more is passed
     pub pass : AreWritable tables → AreStanding c → ArePassed stances
-        → (s' : Stage) (front : List ℕ) (n : ℕ) → present_of tables f s' ≡ present_of tables f s → ((e : List ℕ) → low f s' e ≡ true → low f s e ≡ true) → ((e : List ℕ) → high f s e ≡ true → high f s' e ≡ true)
+        → (s' : Stage) (front : List ℕ) (n : ℕ) → present_of tables f s' ≡ present_of tables f s → ((e : List ℕ) → low f s' e ≡ true → low f s e ≡ true) → ((e : List ℕ) → low f s e ≡ true → low f s' e ≡ true)
         → nat_le (counted c front (n + 1)) n ≡ true
         → (fresh : Group → Bool)
         → ((γ : Group) → claim f s' γ ≡ true → (claim f s γ || fresh γ) ≡ true)

@@ -15,7 +15,7 @@ use Rattle.pq_clients.proofs.Owners.{entry_space}
 use Rattle.pq_clients.proofs.Frame.{set_stance, set_self, NotAt, near_same, near_row, others_row, assemble, limits_kept, key_kept, same_at, stance_set, fewer}
 use Rattle.pq_clients.proofs.Cells.{plain, plain_cell}
 use Rattle.pq_clients.proofs.Coded.{key_space}
-use Rattle.pq_clients.proofs.Flying.{high, OwnsAt, owned_cell, flying_key, own_cell, local_of, elsewhere, not_anothers, claim_here}
+use Rattle.pq_clients.proofs.Flying.{low, OwnsAt, owned_cell, flying_key, own_cell, local_of, elsewhere, not_anothers, claim_here}
 use Rattle.pq_clients.proofs.Stages.{present_checking, low_checking, high_checking, claim_checking}
 
 module _ (tables : List Table) where
@@ -44,7 +44,7 @@ module _ (tables : List Table) where
 
   module _ (sound : AreWritable tables) (c : Content) (stances : ℕ → Stance) (j at : ℕ) (f : Flight) (s : Stage) (g : Good tables c stances) (is : stances j ≡ Holds (hold_of tables at f s)) where
     -- the key is given back
-    pub landed : MayStandAt tables (flight_key tables f) (present_of tables f s) → ((e : List ℕ) → high tables f s e ≡ true → has_code_entry tables (flight_key tables f) (present_of tables f s) e ≡ true)
+    pub landed : MayStandAt tables (flight_key tables f) (present_of tables f s) → ((e : List ℕ) → low tables f s e ≡ true → has_code_entry tables (flight_key tables f) (present_of tables f s) e ≡ true)
         → Good tables (written_content (flight_key tables f) (present_of tables f s) c) (set_stance stances j Idle)
     landed stands hi =
         let key = flight_key tables f in
@@ -66,7 +66,7 @@ module _ (tables : List Table) where
 
     -- the client ends
     pub left : (l : Remains) → l.key ≡ flight_key tables f → l.at ≡ at → (present_of tables f s ≡ l.one) ⊎ (present_of tables f s ≡ l.two)
-        → ((e : List ℕ) → high tables f s e ≡ true → (has_code_entry tables (flight_key tables f) (present_of tables f s) e || l.extra e) ≡ true)
+        → ((e : List ℕ) → low tables f s e ≡ true → (has_code_entry tables (flight_key tables f) (present_of tables f s) e || l.extra e) ≡ true)
         → Good tables c (set_stance stances j (Left l))
     left l key_is at_is shows hi =
         let key = flight_key tables f in

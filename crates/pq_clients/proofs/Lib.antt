@@ -66,3 +66,5 @@ pub mod Rounds
 pub mod Stays
 pub mod Worked
 pub mod OneCalls
+pub mod Apart
+pub mod DueEntries

@@ -17,7 +17,7 @@ use Rattle.pq_clients.proofs.Cells.{held_cell}
 use Rattle.pq_clients.proofs.Coded.{fresh_has, stale_has, names_code, tested_group}
 use Rattle.pq_clients.proofs.Flying.{AreStanding, ArePassed, stay, add, drop, put, pass}
 use Rattle.pq_clients.proofs.Landing.{landed}
-use Rattle.pq_clients.proofs.Stages.{Covers, present_testing, low_testing, high_testing, claim_testing, Adds, present_adding, low_adding, high_adding, claim_adding, present_checking, low_checking, high_checking, claim_checking, present_clearing, low_clearing, high_clearing, claim_clearing, present_undoing, low_undoing, high_undoing, claim_undoing, or_rest, or_swapped}
+use Rattle.pq_clients.proofs.Stages.{Covers, present_testing, low_testing, claim_testing, Adds, present_adding, low_adding, high_adding, claim_adding, present_checking, low_checking, high_checking, claim_checking, present_clearing, low_clearing, claim_clearing, present_undoing, low_undoing, claim_undoing, or_rest, or_swapped, rest_back, swapped_back}
 
 -- ---- tests
 moved_over : (o a x r : Bool) → (o || (a || (x || r))) ≡ true → (o || ((x || a) || r)) ≡ true
@@ -95,7 +95,7 @@ module _ (tables : List Table) (sound : AreWritable tables) (f : Flight) (fits :
         pass tables c stances j at f (Testing place left passed) g is sound standing all_passed (testing left (place ∷ passed)) (tested_front tables f place) (tested_limit tables f place).n
         (present_testing tables sound f fits left (place ∷ passed))
         (λ e h. sym (low_testing tables sound f fits left (place ∷ passed) e) ∙ h)
-        (λ e h. high_testing tables sound f fits left (place ∷ passed) e ∙ h)
+        (λ e h. low_testing tables sound f fits left (place ∷ passed) e ∙ h)
         room fresh
         (λ γ h. split (old_in γ) (has_place γ.place passed) (γ.place == place) (new_in γ) (claim_testing tables sound f fits left (place ∷ passed) (covers_more place left passed covers) γ h))
         (λ γ h. tested_group tables sound f fits place γ (eqb-true γ.place place (and_of (γ.place == place) (new_in γ) h).0) (and_of (γ.place == place) (new_in γ) h).1)
@@ -104,38 +104,41 @@ module _ (tables : List Table) (sound : AreWritable tables) (f : Flight) (fits :
 
     pub limit_refused : (place : ℕ) (left passed : List ℕ) (why : Refusal) → stances j ≡ Holds (hold_of tables at f (Testing place left passed)) → Flies c (undoing (fresh_entries tables f) why)
     limit_refused place left passed why is =
-        stay tables c stances j at f (Testing place left passed) g is (undoing (fresh_entries tables f) why) (present_undoing tables sound f fits (fresh_entries tables f) why)
-        (λ e h. or_first (is_old tables f e) (is_new tables f e) (nothing_more (is_old tables f e) (sym (low_undoing tables sound f fits (fresh_entries tables f) why e) ∙ h)))
-        (λ e h. high_undoing tables sound f fits (fresh_entries tables f) why e ∙ ap (λ b. is_old tables f e || b) (fresh_has tables sound f fits e) ∙ or_rest (is_old tables f e) (is_new tables f e) h)
-        (λ γ h. or_first (in_group tables γ (flight_key tables f) f.read) _ (claim_undoing tables sound f fits (fresh_entries tables f) why γ h))
+        let fresh = fresh_entries tables f in
+        let due = λ (e : List ℕ). low_undoing tables sound f fits fresh why e ∙ ap (λ b. is_old tables f e || b) (fresh_has tables sound f fits e) in
+        stay tables c stances j at f (Testing place left passed) g is (undoing fresh why) (present_undoing tables sound f fits fresh why)
+        (λ e h. rest_back (is_old tables f e) (is_new tables f e) (sym (due e) ∙ h))
+        (λ e h. due e ∙ or_rest (is_old tables f e) (is_new tables f e) h)
+        (λ γ h. or_first (in_group tables γ (flight_key tables f) f.read) _ (claim_undoing tables sound f fits fresh why γ h))
 
     pub row_put : j < 2 ^ 32 → at < 2 ^ 32 → stances j ≡ Holds (hold_of tables at f Putting) → Flies (written_content (flight_key tables f) (Some (held_value j at (new_code tables f))) c) (clearing (stale_entries tables f))
     row_put small few is =
         let stale = stale_entries tables f in
         let same = present_clearing tables sound f fits stale in
+        let due = λ (e : List ℕ). low_clearing tables sound f fits stale e ∙ ap (λ b. is_new tables f e || b) (stale_has tables sound f fits e) in
         subst (λ (p : Option (List ℕ)). Flies (written_content (flight_key tables f) (Some (held_value j at p)) c) (clearing stale)) same
         (put tables c stances j at f Putting g is (clearing stale)
         (ap (λ (p : Option (List ℕ)). cell_of (held_value j at p)) same ∙ held_cell tables (flight_key tables f) j at (new_code tables f) small few fits.new ∙ ap (λ (p : Option (List ℕ)). Held j at p) (sym same))
-        (λ e h. or_second (is_old tables f e) (is_new tables f e) (nothing_more (is_new tables f e) (sym (low_clearing tables sound f fits stale e) ∙ h)))
-        (λ e h. high_clearing tables sound f fits stale e ∙ ap (λ b. is_new tables f e || b) (stale_has tables sound f fits e) ∙ or_swapped (is_old tables f e) (is_new tables f e) h)
+        (λ e h. swapped_back (is_old tables f e) (is_new tables f e) (sym (due e) ∙ h))
+        (λ e h. due e ∙ or_swapped (is_old tables f e) (is_new tables f e) h)
         (λ γ h. or_second (in_group tables γ (flight_key tables f) f.read) (in_group tables γ (flight_key tables f) (new_code tables f)) (claim_clearing tables sound f fits stale γ h)))
 
     pub entry_cleared : (entry : List ℕ) (left : List (List ℕ)) → StageFits tables f (Clearing entry left) → stances j ≡ Holds (hold_of tables at f (Clearing entry left)) → Flies (written_content entry None c) (clearing left)
     entry_cleared entry left clears is =
-        let here = clears entry (or_first (is_key entry entry) (has_entry entry left) (key_itself entry)) in
+        let here = clears.0 entry (or_first (is_key entry entry) (has_entry entry left) (key_itself entry)) in
         drop tables c stances j at f (Clearing entry left) g is (clearing left) entry (names_old entry here.1) (present_clearing tables sound f fits left)
-        (low_clearing tables sound f fits left entry ∙ ap (λ b. b || false) here.0)
-        (λ e h. sym (low_clearing tables sound f fits left e) ∙ h)
-        (λ e ne h. high_clearing tables sound f fits left e ∙ less (is_new tables f e) (has_entry e left) (is_key e entry) ne h)
+        (low_clearing tables sound f fits left entry ∙ ap (λ b. b || has_entry entry left) here.0 ∙ clears.1.0)
+        (λ e h. more (is_new tables f e) (has_entry e left) (is_key e entry) (sym (low_clearing tables sound f fits left e) ∙ h))
+        (λ e ne h. low_clearing tables sound f fits left e ∙ less (is_new tables f e) (has_entry e left) (is_key e entry) ne h)
         (λ γ h. or_first (in_group tables γ (flight_key tables f) (new_code tables f)) false (claim_clearing tables sound f fits left γ h))
 
     pub entry_undone : (entry : List ℕ) (left : List (List ℕ)) (why : Refusal) → StageFits tables f (Undoing entry left why) → stances j ≡ Holds (hold_of tables at f (Undoing entry left why)) → Flies (written_content entry None c) (undoing left why)
     entry_undone entry left why undoes is =
-        let here = undoes entry (or_first (is_key entry entry) (has_entry entry left) (key_itself entry)) in
+        let here = undoes.0 entry (or_first (is_key entry entry) (has_entry entry left) (key_itself entry)) in
         drop tables c stances j at f (Undoing entry left why) g is (undoing left why) entry (names_new entry here.1) (present_undoing tables sound f fits left why)
-        (low_undoing tables sound f fits left why entry ∙ ap (λ b. b || false) here.0)
-        (λ e h. sym (low_undoing tables sound f fits left why e) ∙ h)
-        (λ e ne h. high_undoing tables sound f fits left why e ∙ less (is_old tables f e) (has_entry e left) (is_key e entry) ne h)
+        (low_undoing tables sound f fits left why entry ∙ ap (λ b. b || has_entry entry left) here.0 ∙ undoes.1.0)
+        (λ e h. more (is_old tables f e) (has_entry e left) (is_key e entry) (sym (low_undoing tables sound f fits left why e) ∙ h))
+        (λ e ne h. low_undoing tables sound f fits left why e ∙ less (is_old tables f e) (has_entry e left) (is_key e entry) ne h)
         (λ γ h. or_first (in_group tables γ (flight_key tables f) f.read) false (claim_undoing tables sound f fits left why γ h))
 
     pub row_freed : stances j ≡ Holds (hold_of tables at f Freeing) → Good tables (written_content (flight_key tables f) (new_code tables f) c) (set_stance stances j Idle)

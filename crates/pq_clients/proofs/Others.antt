@@ -56,11 +56,11 @@ module _ (tables : List Table) (sound : AreWritable tables) where
   others_same c v h (Flying f Putting) is k space ne = own_apart v.number v.at f f.read c (Some (held_value v.number v.at (new_code tables f))) (Puts (Flying f (clearing (stale_entries tables f)))) k ne
   others_same c v h (Flying f (Clearing entry left)) is k space ne =
       let fits = subst (λ (n : Next). NextFits tables v n) is h.next in
-      entry_apart c entry None (flight_key tables f) k (names_code tables sound (flight_key tables f) f.read entry fits.0.read (fits.2 entry (or_first (is_key entry entry) _ (key_itself entry))).1) space
+      entry_apart c entry None (flight_key tables f) k (names_code tables sound (flight_key tables f) f.read entry fits.0.read (fits.2.0 entry (or_first (is_key entry entry) _ (key_itself entry))).1) space
   others_same c v h (Flying f Freeing) is k space ne = own_apart v.number v.at f (new_code tables f) c (new_code tables f) (Ends outcome.Done) k ne
   others_same c v h (Flying f (Undoing entry left why)) is k space ne =
       let fits = subst (λ (n : Next). NextFits tables v n) is h.next in
-      entry_apart c entry None (flight_key tables f) k (names_code tables sound (flight_key tables f) (new_code tables f) entry fits.0.new (fits.2 entry (or_first (is_key entry entry) _ (key_itself entry))).1) space
+      entry_apart c entry None (flight_key tables f) k (names_code tables sound (flight_key tables f) (new_code tables f) entry fits.0.new (fits.2.0 entry (or_first (is_key entry entry) _ (key_itself entry))).1) space
   others_same c v h (Flying f (Releasing why)) is k space ne = own_apart v.number v.at f f.read c f.read (refused why) k ne
 
   -- ---- no other step puts

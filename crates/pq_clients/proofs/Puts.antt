@@ -105,14 +105,14 @@ module _ (tables : List Table) (sound : AreWritable tables) where
         (put_there c (flight_key tables f) (Some (held_value v.number v.at (new_code tables f))) (new_code tables f) (held f Putting next_is (new_code tables f) fl.new))
     flown_presents f (Clearing entry left) next_is =
         let fl = flight f (Clearing entry left) next_is in
-        entry_elsewhere c entry None (flight_key tables f) (names_code tables sound (flight_key tables f) f.read entry fl.read (stage_fits f (Clearing entry left) next_is entry (or_first (is_key entry entry) _ (key_itself entry))).1)
+        entry_elsewhere c entry None (flight_key tables f) (names_code tables sound (flight_key tables f) f.read entry fl.read ((stage_fits f (Clearing entry left) next_is).0 entry (or_first (is_key entry entry) _ (key_itself entry))).1)
     flown_presents f Freeing next_is =
         let fl = flight f Freeing next_is in
         owned f Freeing next_is (new_code tables f) (new_code tables f) (Ends outcome.Done) None refl
         (same_there c (flight_key tables f) (new_code tables f) (code_present (flight_key tables f) (new_code tables f) fl.new ∙ sym (ap present_code (own_value f Freeing next_is) ∙ held f Freeing next_is (new_code tables f) fl.new)))
     flown_presents f (Undoing entry left why) next_is =
         let fl = flight f (Undoing entry left why) next_is in
-        entry_elsewhere c entry None (flight_key tables f) (names_code tables sound (flight_key tables f) (new_code tables f) entry fl.new (stage_fits f (Undoing entry left why) next_is entry (or_first (is_key entry entry) _ (key_itself entry))).1)
+        entry_elsewhere c entry None (flight_key tables f) (names_code tables sound (flight_key tables f) (new_code tables f) entry fl.new ((stage_fits f (Undoing entry left why) next_is).0 entry (or_first (is_key entry entry) _ (key_itself entry))).1)
     flown_presents f (Releasing why) next_is =
         let fl = flight f (Releasing why) next_is in
         owned f (Releasing why) next_is f.read f.read (refused why) None refl

@@ -7,10 +7,10 @@ use Rattle.pq_index_keep.specs.Sound.{AreWritable}
 use Rattle.pq_clients.specs.Flights.{Flight, Check, flight_key, new_code, has_entry, fresh_entries, stale_entries, flight_tests}
 use Rattle.pq_clients.specs.Clients.{Stage, Checking, Adding, Testing, Putting, Clearing, Freeing, Undoing, Releasing}
 use Rattle.pq_clients.specs.Steps.{testing, adding, checking, clearing, undoing}
-use Rattle.pq_clients.specs.Invariant.{Group, in_group, has_code_entry, is_old, is_new, present_of, has_place, FlightFits, StageFits}
+use Rattle.pq_clients.specs.Invariant.{Group, in_group, has_code_entry, is_old, is_new, present_of, has_place, FlightFits, StageFits, Different}
 use Rattle.pq_clients.proofs.Basics.{or_first, or_second, either_of, nothing_more, and_of, mono}
 use Rattle.pq_clients.proofs.Coded.{fresh_has, stale_has, tested_or_old}
-use Rattle.pq_clients.proofs.Flying.{low, high, claim}
+use Rattle.pq_clients.proofs.Flying.{low, claim}
 
 -- ---- tests
 to_right : (o n : Bool) → n ≡ true → (o || (false || (n && not o))) ≡ true
@@ -37,6 +37,16 @@ or_swapped o true h = refl
 or_swapped true false h = refl
 or_swapped false false h = h
 
+pub rest_back : (o n : Bool) → (o || (n && not o)) ≡ true → (o || n) ≡ true
+rest_back true n h = refl
+rest_back false true h = refl
+rest_back false false h = h
+
+pub swapped_back : (o n : Bool) → (n || (o && not n)) ≡ true → (o || n) ≡ true
+swapped_back true n h = refl
+swapped_back false true h = refl
+swapped_back false false h = h
+
 module _ (tables : List Table) (sound : AreWritable tables) (f : Flight) (fits : FlightFits tables f) where
   abbrev old_in : Group → Bool
   old_in γ = in_group tables γ (flight_key tables f) f.read
@@ -55,10 +65,6 @@ module _ (tables : List Table) (sound : AreWritable tables) (f : Flight) (fits :
   pub low_testing : (left passed : List ℕ) (e : List ℕ) → low tables f (testing left passed) e ≡ (is_old tables f e || is_new tables f e)
   low_testing [] passed e = refl
   low_testing (l ∷ left) passed e = refl
-
-  pub high_testing : (left passed : List ℕ) (e : List ℕ) → high tables f (testing left passed) e ≡ (is_old tables f e || is_new tables f e)
-  high_testing [] passed e = refl
-  high_testing (l ∷ left) passed e = refl
 
   pub claim_testing : (left passed : List ℕ) → Covers left passed → (γ : Group) → claim tables f (testing left passed) γ ≡ true → (old_in γ || (has_place γ.place passed && new_in γ)) ≡ true
   claim_testing [] passed covers γ h = elim (either_of (old_in γ) (new_in γ) h) [
@@ -95,8 +101,8 @@ module _ (tables : List Table) (sound : AreWritable tables) (f : Flight) (fits :
   ]
   low_adding (x ∷ left) added adds e h = h
 
-  pub high_adding : (left added : List (List ℕ)) → Adds left added → (e : List ℕ) → (is_old tables f e || has_entry e added) ≡ true → high tables f (adding tables f left added) e ≡ true
-  high_adding [] added adds e h = high_testing (flight_tests tables f) [] e ∙ mono (is_old tables f e) (has_entry e added) (is_new tables f e) (adds e).1 h
+  pub high_adding : (left added : List (List ℕ)) → Adds left added → (e : List ℕ) → (is_old tables f e || has_entry e added) ≡ true → low tables f (adding tables f left added) e ≡ true
+  high_adding [] added adds e h = low_testing (flight_tests tables f) [] e ∙ mono (is_old tables f e) (has_entry e added) (is_new tables f e) (adds e).1 h
   high_adding (x ∷ left) added adds e h = h
 
   pub claim_adding : (left added : List (List ℕ)) (γ : Group) → claim tables f (adding tables f left added) γ ≡ true → old_in γ ≡ true
@@ -123,7 +129,7 @@ module _ (tables : List Table) (sound : AreWritable tables) (f : Flight) (fits :
   low_checking [] e h = nothing_more (is_old tables f e) (low_adding (fresh_entries tables f) [] adds_all e h)
   low_checking (x ∷ left) e h = nothing_more (is_old tables f e) h
 
-  pub high_checking : (left : List Check) (e : List ℕ) → is_old tables f e ≡ true → high tables f (checking tables f left) e ≡ true
+  pub high_checking : (left : List Check) (e : List ℕ) → is_old tables f e ≡ true → low tables f (checking tables f left) e ≡ true
   high_checking [] e h = high_adding (fresh_entries tables f) [] adds_all e (or_first (is_old tables f e) false h)
   high_checking (x ∷ left) e h = or_first (is_old tables f e) false h
 
@@ -140,13 +146,9 @@ module _ (tables : List Table) (sound : AreWritable tables) (f : Flight) (fits :
   present_clearing [] = refl
   present_clearing (x ∷ left) = refl
 
-  pub low_clearing : (left : List (List ℕ)) (e : List ℕ) → low tables f (clearing left) e ≡ (is_new tables f e || false)
+  pub low_clearing : (left : List (List ℕ)) (e : List ℕ) → low tables f (clearing left) e ≡ (is_new tables f e || has_entry e left)
   low_clearing [] e = refl
   low_clearing (x ∷ left) e = refl
-
-  pub high_clearing : (left : List (List ℕ)) (e : List ℕ) → high tables f (clearing left) e ≡ (is_new tables f e || has_entry e left)
-  high_clearing [] e = refl
-  high_clearing (x ∷ left) e = refl
 
   pub claim_clearing : (left : List (List ℕ)) (γ : Group) → claim tables f (clearing left) γ ≡ true → new_in γ ≡ true
   claim_clearing [] γ h = nothing_more (new_in γ) h
@@ -155,9 +157,9 @@ module _ (tables : List Table) (sound : AreWritable tables) (f : Flight) (fits :
   abbrev pub Clears : List (List ℕ) → Type 0
   Clears left = (e : List ℕ) → has_entry e left ≡ true → (is_new tables f e ≡ false) × (is_old tables f e ≡ true)
 
-  pub fits_clearing : (left : List (List ℕ)) → Clears left → StageFits tables f (clearing left)
-  fits_clearing [] h = tt
-  fits_clearing (x ∷ left) h = h
+  pub fits_clearing : (left : List (List ℕ)) → Clears left → Different left → StageFits tables f (clearing left)
+  fits_clearing [] h different = tt
+  fits_clearing (x ∷ left) h different = (h, different)
 
   pub clears_all : Clears (stale_entries tables f)
   clears_all e h = let p = parts_of (is_new tables f e) (is_old tables f e) (sym (stale_has tables sound f fits e) ∙ h) in (p.0, p.1)
@@ -167,13 +169,9 @@ module _ (tables : List Table) (sound : AreWritable tables) (f : Flight) (fits :
   present_undoing [] why = refl
   present_undoing (x ∷ left) why = refl
 
-  pub low_undoing : (left : List (List ℕ)) (why : Refusal) (e : List ℕ) → low tables f (undoing left why) e ≡ (is_old tables f e || false)
+  pub low_undoing : (left : List (List ℕ)) (why : Refusal) (e : List ℕ) → low tables f (undoing left why) e ≡ (is_old tables f e || has_entry e left)
   low_undoing [] why e = refl
   low_undoing (x ∷ left) why e = refl
-
-  pub high_undoing : (left : List (List ℕ)) (why : Refusal) (e : List ℕ) → high tables f (undoing left why) e ≡ (is_old tables f e || has_entry e left)
-  high_undoing [] why e = refl
-  high_undoing (x ∷ left) why e = refl
 
   pub claim_undoing : (left : List (List ℕ)) (why : Refusal) (γ : Group) → claim tables f (undoing left why) γ ≡ true → old_in γ ≡ true
   claim_undoing [] why γ h = nothing_more (old_in γ) h
@@ -182,20 +180,20 @@ module _ (tables : List Table) (sound : AreWritable tables) (f : Flight) (fits :
   abbrev pub Undoes : List (List ℕ) → Type 0
   Undoes left = (e : List ℕ) → has_entry e left ≡ true → (is_old tables f e ≡ false) × (is_new tables f e ≡ true)
 
-  pub fits_undoing : (left : List (List ℕ)) (why : Refusal) → Undoes left → StageFits tables f (undoing left why)
-  fits_undoing [] why h = tt
-  fits_undoing (x ∷ left) why h = h
+  pub fits_undoing : (left : List (List ℕ)) (why : Refusal) → Undoes left → Different left → StageFits tables f (undoing left why)
+  fits_undoing [] why h different = tt
+  fits_undoing (x ∷ left) why h different = (h, different)
 
   pub undoes_all : Undoes (fresh_entries tables f)
   undoes_all e h = parts_of (is_old tables f e) (is_new tables f e) (sym (fresh_has tables sound f fits e) ∙ h)
 
   -- all that may be there is of the old or the new row
-  pub high_within : (s : Stage) → StageFits tables f s → (e : List ℕ) → high tables f s e ≡ true → (has_code_entry tables (flight_key tables f) (present_of tables f s) e || (is_old tables f e || is_new tables f e)) ≡ true
+  pub high_within : (s : Stage) → StageFits tables f s → (e : List ℕ) → low tables f s e ≡ true → (has_code_entry tables (flight_key tables f) (present_of tables f s) e || (is_old tables f e || is_new tables f e)) ≡ true
   high_within (Checking check left) h e high = or_first (is_old tables f e) (is_old tables f e || is_new tables f e) (nothing_more (is_old tables f e) high)
   high_within (Adding entry left added) h e high = mono (is_old tables f e) (has_entry e added) (is_old tables f e || is_new tables f e) (λ a. or_second (is_old tables f e) (is_new tables f e) ((h e).1 a)) high
   high_within (Testing place left passed) h e high = mono (is_old tables f e) (is_new tables f e) (is_old tables f e || is_new tables f e) (or_second (is_old tables f e) (is_new tables f e)) high
   high_within Putting h e high = mono (is_old tables f e) (is_new tables f e) (is_old tables f e || is_new tables f e) (or_second (is_old tables f e) (is_new tables f e)) high
-  high_within (Clearing entry left) h e high = mono (is_new tables f e) (has_entry e (entry ∷ left)) (is_old tables f e || is_new tables f e) (λ a. or_first (is_old tables f e) (is_new tables f e) (h e a).1) high
+  high_within (Clearing entry left) h e high = mono (is_new tables f e) (has_entry e (entry ∷ left)) (is_old tables f e || is_new tables f e) (λ a. or_first (is_old tables f e) (is_new tables f e) (h.0 e a).1) high
   high_within Freeing h e high = or_first (is_new tables f e) (is_old tables f e || is_new tables f e) (nothing_more (is_new tables f e) high)
-  high_within (Undoing entry left why) h e high = mono (is_old tables f e) (has_entry e (entry ∷ left)) (is_old tables f e || is_new tables f e) (λ a. or_second (is_old tables f e) (is_new tables f e) (h e a).1) high
+  high_within (Undoing entry left why) h e high = mono (is_old tables f e) (has_entry e (entry ∷ left)) (is_old tables f e || is_new tables f e) (λ a. or_second (is_old tables f e) (is_new tables f e) (h.0 e a).1) high
   high_within (Releasing why) h e high = or_first (is_old tables f e) (is_old tables f e || is_new tables f e) (nothing_more (is_old tables f e) high)

@@ -103,12 +103,12 @@ module _ (tables : List Table) (sound : AreWritable tables) (others : List ℕ �
     held_unseen f (Clearing entry left) flying free =
         let x = fits f (Clearing entry left) flying in
         as_it_is f (Clearing entry left) flying (written_content entry None c)
-        (entry_apart tables sound c entry None (flight_key tables f) (flight_key tables f) (names_code tables sound (flight_key tables f) f.read entry x.0.read (x.2 entry (or_first (is_key entry entry) _ (key_itself entry))).1) (key_space tables f.write))
+        (entry_apart tables sound c entry None (flight_key tables f) (flight_key tables f) (names_code tables sound (flight_key tables f) f.read entry x.0.read (x.2.0 entry (or_first (is_key entry entry) _ (key_itself entry))).1) (key_space tables f.write))
     held_unseen f Freeing flying free = absurd (false≢true (sym free))
     held_unseen f (Undoing entry left why) flying free =
         let x = fits f (Undoing entry left why) flying in
         as_it_is f (Undoing entry left why) flying (written_content entry None c)
-        (entry_apart tables sound c entry None (flight_key tables f) (flight_key tables f) (names_code tables sound (flight_key tables f) (new_code tables f) entry x.0.new (x.2 entry (or_first (is_key entry entry) _ (key_itself entry))).1) (key_space tables f.write))
+        (entry_apart tables sound c entry None (flight_key tables f) (flight_key tables f) (names_code tables sound (flight_key tables f) (new_code tables f) entry x.0.new (x.2.0 entry (or_first (is_key entry entry) _ (key_itself entry))).1) (key_space tables f.write))
     held_unseen f (Releasing why) flying free = absurd (false≢true (sym free))
 
     -- a step of the client itself

@@ -97,26 +97,16 @@ is_old tables f e = has_code_entry tables (flight_key tables f) f.read e
 abbrev pub is_new : List Table → Flight → List ℕ → Bool
 is_new tables f e = has_code_entry tables (flight_key tables f) (new_code tables f) e
 
--- entries that are there beside those of the present row, and those that may be
+-- entries that are there beside those of the present row: those that were added, and those that are still to be removed
 abbrev pub is_due : List Table → Flight → Stage → List ℕ → Bool
 is_due tables f (Checking check left) e = false
 is_due tables f (Adding entry left added) e = has_entry e added
 is_due tables f (Testing place left passed) e = is_new tables f e
 is_due tables f Putting e = is_new tables f e
-is_due tables f (Clearing entry left) e = false
+is_due tables f (Clearing entry left) e = has_entry e (entry ∷ left)
 is_due tables f Freeing e = false
-is_due tables f (Undoing entry left refusal) e = false
+is_due tables f (Undoing entry left refusal) e = has_entry e (entry ∷ left)
 is_due tables f (Releasing refusal) e = false
-
-abbrev pub is_extra : List Table → Flight → Stage → List ℕ → Bool
-is_extra tables f (Checking check left) e = false
-is_extra tables f (Adding entry left added) e = has_entry e added
-is_extra tables f (Testing place left passed) e = is_new tables f e
-is_extra tables f Putting e = is_new tables f e
-is_extra tables f (Clearing entry left) e = has_entry e (entry ∷ left)
-is_extra tables f Freeing e = false
-is_extra tables f (Undoing entry left refusal) e = has_entry e (entry ∷ left)
-is_extra tables f (Releasing refusal) e = false
 
 abbrev pub has_place : ℕ → List ℕ → Bool
 has_place place places = list_any (λ other. place == other) places
@@ -141,7 +131,6 @@ pub record Hold : Type 0 where
   pub at : ℕ
   pub present : Option (List ℕ)
   pub due : List ℕ → Bool
-  pub extra : List ℕ → Bool
   pub passed : Group → Bool
 
 -- what a client that ended may have left: a key that it held, one of two rows present, and entries
@@ -163,7 +152,6 @@ hold_of tables at f stage = record {
   at = at;
   present = present_of tables f stage;
   due = is_due tables f stage;
-  extra = is_extra tables f stage;
   passed = is_passed tables f stage;
 }
 
@@ -232,7 +220,7 @@ due_by (Left l) e = false
 
 abbrev pub extra_by : Stance → List ℕ → Bool
 extra_by Idle e = false
-extra_by (Holds h) e = h.extra e
+extra_by (Holds h) e = h.due e
 extra_by (Left l) e = l.extra e
 
 abbrev pub due_at : Option Cell → (ℕ → Stance) → List ℕ → Bool
@@ -309,11 +297,11 @@ StageFits tables f (Adding entry left added) = (e : List ℕ)
 StageFits tables f (Testing place left passed) = (l : ℕ)
     → (has_place l (flight_tests tables f) ≡ true → (has_place l passed || has_place l (place ∷ left)) ≡ true)
 StageFits tables f Putting = Unit {0}
-StageFits tables f (Clearing entry left) = (e : List ℕ) → has_entry e (entry ∷ left) ≡ true
-    → (is_new tables f e ≡ false) × (is_old tables f e ≡ true)
+StageFits tables f (Clearing entry left) = ((e : List ℕ) → has_entry e (entry ∷ left) ≡ true
+    → (is_new tables f e ≡ false) × (is_old tables f e ≡ true)) × Different (entry ∷ left)
 StageFits tables f Freeing = Unit {0}
-StageFits tables f (Undoing entry left refusal) = (e : List ℕ) → has_entry e (entry ∷ left) ≡ true
-    → (is_old tables f e ≡ false) × (is_new tables f e ≡ true)
+StageFits tables f (Undoing entry left refusal) = ((e : List ℕ) → has_entry e (entry ∷ left) ≡ true
+    → (is_old tables f e ≡ false) × (is_new tables f e ≡ true)) × Different (entry ∷ left)
 StageFits tables f (Releasing refusal) = Unit {0}
 
 abbrev pub NextFits : List Table → View → Next → Type 0

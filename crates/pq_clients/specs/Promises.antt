@@ -1,5 +1,5 @@
 -- What holds at each moment of a run of clients, whatever the order of their steps and whatever calls fail.
-use Rattle.std.specs.Prelude.{◌≡◌, ℕ, ◌+◌, ◌-◌, ◌*◌, ◌^◌, ◌<◌, ◌≤◌, Bool, true, false, ◌&&◌, ◌==◌, not, if◌then◌else◌, List, [], ◌∷◌, ◌++◌, map, length, filter, All, Option, Some, None, is_some, ◌⊎◌}
+use Rattle.std.specs.Prelude.{◌≡◌, ℕ, ◌+◌, ◌-◌, ◌*◌, ◌^◌, ◌<◌, ◌≤◌, Bool, true, false, ◌&&◌, ◌||◌, ◌==◌, not, if◌then◌else◌, List, [], ◌∷◌, ◌++◌, map, length, filter, All, Option, Some, None, is_some, ◌⊎◌}
 use Rattle.std.specs.List.{AllByRecursion, IsDistinct, slice_get, count_by, sum_by, range_with_len}
 use Rattle.std.specs.FinMap.{get}
 use Rattle.pq_base.specs.Members.{In}
@@ -30,6 +30,7 @@ use Rattle.pq_clients.specs.Flights.{Flight, Parent, Child, table_number, key_wr
 use Rattle.pq_clients.specs.Clients.{Stage, Checking, Testing, Putting, Freeing, Undoing, Releasing, Next, Reading, Taking, Looking, Flying, View, present_of, may_show, is_freeing, flight_of, write_at, is_over, new_view}
 use Rattle.pq_clients.specs.Steps.{is_just, is_held_by_other, Fate, Answers, NotDone, DoneUnseen, NoMemory, is_fault, stepped}
 use Rattle.pq_clients.specs.Runs.{Event, Run, begun, turn, run}
+use Rattle.pq_clients.specs.Invariant.{has_code_entry, Names, is_due, is_there}
 use Rattle.pq_clients.specs.Present.{present_at, present_rows, rows_after, rows_after_all, write_named, writes_named}
 
 -- ---- the beginning
@@ -137,6 +138,14 @@ pub record ShowsWrites (tables : List Table) (rows : Rows) (clients : List View)
       → (v.over ≡ None) ⊎ (v.over ≡ Some outcome.NoMem) ⊎ (is_freeing stage ≡ false)
       → (present : Option (List ℕ)) × (get r.content (flight_key tables f) ≡ Some (held_value v.number v.at present))
       × ((present ≡ present_of tables f stage) ⊎ ((is_some v.over ≡ true) × (present ≡ may_show tables f stage)))
+
+-- while a client that is not over holds a key, the entries there are just those of the row present and those that are due:
+-- those that it has added, and those that it has still to remove
+abbrev pub HasDueEntries : List Table → Run → Type 0
+HasDueEntries tables r = (p : ℕ) (v : View) (f : Flight) (stage : Stage) → slice_get r.clients p ≡ Some v → v.over ≡ None
+    → v.next ≡ Flying f stage → (e : List ℕ) → Names tables (flight_key tables f) e
+    → is_there r.content e
+    ≡ (has_code_entry tables (flight_key tables f) (present_of tables f stage) e || is_due tables f stage e)
 
 -- it is told exactly where the free is answered with true, of a write that was put
 abbrev pub Frees : List Table → View → Content → Fate → Type 0
@@ -403,6 +412,7 @@ pub record ComesToEnd (tables : List Table) (start : Run) (events : List Event) 
 pub record HoldsThroughout (tables : List Table) (rows : Rows) (others : List Pair) (clients : List View) (events : List Event) : Type 0 where
   pub kept : KeepsPresent tables (reached tables rows others clients events).content
   pub shows : ShowsWrites tables rows clients (reached tables rows others clients events)
+  pub due : HasDueEntries tables (reached tables rows others clients events)
   pub done : TellsDone tables (reached tables rows others clients events)
   pub order : TellsInOrder (reached tables rows others clients events)
   pub rests : IsSettledAgain tables others (reached tables rows others clients events)
