@@ -270,6 +270,11 @@ fn cells_with<'a>(alloc: Global, words: &[&'a str], texts: List<Bytes>) -> Resul
     })
 }
 
+/// The number that the word of this place is.
+pub fn number_at(words: &[&str], place: usize) -> Option<u32> {
+    words.get(place)?.parse::<u32>().ok()
+}
+
 /// The words of a text.
 pub fn words_of<'a>(alloc: Global, text: &'a str) -> Result<Vec<&'a str>, NoMem> {
     Ok(text.split_whitespace().collect(alloc)?)

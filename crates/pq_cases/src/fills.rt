@@ -1,5 +1,7 @@
 //! The words of a run, the generated script, and the summary of its reports.
-use crate::cells::{Cells, words_of};
+ghost use Rattle.std.specs.Prelude.{◌≡◌, ◌+◌, ◌^◌, ◌<◌, ◌≤◌, length, IfSome, OnOk};
+
+use crate::cells::{Cells, number_at, words_of};
 use crate::put::{named, put_number, put_plain, put_printed, put_word};
 use pq_base::{Bound, Bytes, List, NoMem, PText, Refusal, Row, Used, Value};
 use pq_fill::{Form, Kind, Summary, fill_count, fill_kind, fill_statement, form_of, print_summary};
@@ -45,11 +47,12 @@ fn put_kind(alloc: Global, kind: Option<Kind>, out: &mut Bytes) -> Result<(), No
     }
 }
 
-fn users_of(cells: &Cells) -> Option<u32> {
-    match cells.number(0) {
-        users @ 1..=20_000 => Some(users),
-        _ => None,
-    }
+// The users of a script, of which there are 1 to 20,000.
+fn users_of(cells: &Cells) -> Option<u32>
+    ensures { IfSome result (λ users. (1 ≤ users) × (users ≤ 20000)) }
+{
+    let users = cells.number(0);
+    (1 <= users && users <= 20_000).then_some(users)
 }
 
 /// How many statements the script for so many users has.
@@ -79,13 +82,6 @@ fn kind_of(word: &str) -> Kind {
         "thought" => Kind::Thought,
         "run" => Kind::Run,
         _ => Kind::Definition,
-    }
-}
-
-fn number_at(words: &[&str], place: usize) -> u32 {
-    match words.get(place) {
-        Some(word) => word.parse::<u32>().unwrap_or(0),
-        None => 0,
     }
 }
 
@@ -132,17 +128,20 @@ fn report_of(alloc: Global, words: &[&str]) -> Result<Report, NoMem> {
         lines: rows_of(alloc, rows)?,
         end: end_of(ended, rows.len()),
         bound: Bound {
-            ops: number_at(words, 2) as u128,
-            entries: number_at(words, 3) as u128,
+            ops: number_at(words, 2).unwrap_or(0) as u128,
+            entries: number_at(words, 3).unwrap_or(0) as u128,
         },
         used: Used {
-            ops: number_at(words, 4) as u64,
-            entries: number_at(words, 5) as u64,
+            ops: number_at(words, 4).unwrap_or(0) as u64,
+            entries: number_at(words, 5).unwrap_or(0) as u64,
         },
     })
 }
 
-fn note(alloc: Global, text: &[u8], summary: &mut Summary) -> Result<(), NoMem> {
+fn note(alloc: Global, text: &[u8], summary: &mut Summary) -> Result<(), NoMem>
+    requires { summary.old.reports + 1 < 2 ^ 32 }
+    ensures { OnOk result (summary.new.reports ≡ summary.old.reports + 1) }
+{
     let text = named(alloc, text)?;
     let words = words_of(alloc, text.as_str())?;
     let kind = kind_of(words.first().copied().unwrap_or(""));
@@ -150,15 +149,28 @@ fn note(alloc: Global, text: &[u8], summary: &mut Summary) -> Result<(), NoMem> 
     Ok(())
 }
 
-/// The summary of the reports that the texts describe, of so many users and an opening that used so much.
-pub fn summary(alloc: Global, cells: &Cells, out: &mut Bytes) -> Result<(), NoMem> {
-    let mut summary = Summary::new(Used {
-        ops: cells.number(1) as u64,
-        entries: cells.number(2) as u64,
-    });
-    for text in cells.texts.items().iter().take(1000) {
+// The summary of the reports that the texts describe.
+fn summary_of(alloc: Global, opening: Used, texts: &[Bytes]) -> Result<Summary, NoMem>
+    requires { length texts.now ≤ 1000 }
+{
+    let mut summary = Summary::new(opening);
+    for text in texts {
         note(alloc, text.items(), &mut summary)?;
     }
+    Ok(summary)
+}
+
+/// The summary of the reports that the texts describe, of so many users and an opening that used so much.
+pub fn summary(alloc: Global, cells: &Cells, out: &mut Bytes) -> Result<(), NoMem> {
+    let texts = cells.texts.items();
+    if texts.len() > 1000 {
+        return Ok(());
+    }
+    let opening = Used {
+        ops: cells.number(1) as u64,
+        entries: cells.number(2) as u64,
+    };
+    let summary = summary_of(alloc, opening, texts)?;
     let mut printed = Bytes::new(alloc);
     print_summary(alloc, cells.number(0), &summary, &mut printed)?;
     put_printed(alloc, printed.items(), out)

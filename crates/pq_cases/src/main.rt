@@ -80,11 +80,9 @@ fn put_over(alloc: Global, catalog: &Catalog, cells: &Cells, out: &mut Bytes) ->
         "printed" => tables::printed(alloc, catalog, cells, out),
         "last_definition" => tables::last_definition(alloc, catalog, out),
         "referring" => tables::referring(alloc, catalog, cells, out),
-        "query" => queries::query(alloc, catalog, cells, out),
-        "rearranged" => queries::rearranged(alloc, catalog, cells, out),
-        "compiled" => queries::compiled(alloc, catalog, cells, out),
-        "candidates" => queries::listed(alloc, catalog, cells, out),
-        "limit" => queries::limit(alloc, catalog, cells, out),
+        "query" | "rearranged" | "compiled" | "candidates" | "limit" => {
+            queries::query(alloc, catalog, cells, out)
+        }
         _ => put_texts(alloc, cells, out),
     }
 }

@@ -48,7 +48,8 @@ fn read(alloc: Global, catalog: &Catalog, text: &[u8]) -> Result<Query, Stopped>
     }
     let name = named(alloc, b"q")?;
     let seen = tokens(alloc, &text)?;
-    read_query(alloc, catalog, name, &text, &seen, 0)
+    let query = read_query(alloc, catalog, name, &text, &seen, 0)?;
+    Ok(query)
 }
 
 fn put_query(
@@ -61,19 +62,7 @@ fn put_query(
     put_plain(alloc, text.items(), out)
 }
 
-/// The canonical text of the query, or its refusal.
-pub fn query(
-    alloc: Global,
-    catalog: &Catalog,
-    cells: &Cells,
-    out: &mut Bytes,
-) -> Result<(), NoMem> {
-    match read(alloc, catalog, cells.text(0)) {
-        Ok(query) => put_query(alloc, catalog, &query, out),
-        Err(stopped) => put_stopped(alloc, stopped, out),
-    }
-}
-
+// The new numbers of the query's relations, rearranged, and its text; with its equalities closed or as they are.
 fn put_rearranged(
     alloc: Global,
     catalog: &Catalog,
@@ -88,20 +77,6 @@ fn put_rearranged(
         put_number(alloc, *place as i64, out)?;
     }
     put_query(alloc, catalog, &found.query, out)
-}
-
-/// The new numbers of the query's relations, rearranged, and its text. Its equalities are closed where the second
-/// word is `closed`.
-pub fn rearranged(
-    alloc: Global,
-    catalog: &Catalog,
-    cells: &Cells,
-    out: &mut Bytes,
-) -> Result<(), NoMem> {
-    match read(alloc, catalog, cells.text(0)) {
-        Ok(query) => put_rearranged(alloc, catalog, &query, cells.what == "closed", out),
-        Err(stopped) => put_stopped(alloc, stopped, out),
-    }
 }
 
 fn put_choice(alloc: Global, choice: Choice, out: &mut Bytes) -> Result<(), NoMem> {
@@ -154,24 +129,22 @@ fn put_compiled(
     }
 }
 
-fn compiled_of(alloc: Global, catalog: &Catalog, text: &[u8]) -> Result<Compiled, Stopped> {
-    let query = read(alloc, catalog, text)?;
-    compile(alloc, catalog, &query)
-}
-
-/// What the query is compiled to: its choice, its bound, and the index that it wants; or its refusal.
-pub fn compiled(
+// What the query is compiled to: its choice, its bound, and the index that it wants; or its refusal.
+fn put_outcome(
     alloc: Global,
     catalog: &Catalog,
-    cells: &Cells,
+    query: &Query,
     out: &mut Bytes,
-) -> Result<(), NoMem> {
-    match compiled_of(alloc, catalog, cells.text(0)) {
+) -> Result<(), NoMem>
+    requires { IsQuery catalog.now.tables query.now }
+{
+    match compile(alloc, catalog, query) {
         Ok(made) => put_compiled(alloc, catalog, &made, out),
         Err(stopped) => put_stopped(alloc, stopped, out),
     }
 }
 
+// The candidates of the query, each with its bound.
 fn put_candidates(
     alloc: Global,
     catalog: &Catalog,
@@ -188,19 +161,7 @@ fn put_candidates(
     Ok(())
 }
 
-/// The candidates of the query, each with its bound.
-pub fn listed(
-    alloc: Global,
-    catalog: &Catalog,
-    cells: &Cells,
-    out: &mut Bytes,
-) -> Result<(), NoMem> {
-    match read(alloc, catalog, cells.text(0)) {
-        Ok(query) => put_candidates(alloc, catalog, &query, out),
-        Err(stopped) => put_stopped(alloc, stopped, out),
-    }
-}
-
+// The limit that bounds the query's first relation, by its number.
 fn put_limit(alloc: Global, catalog: &Catalog, query: &Query, out: &mut Bytes) -> Result<(), NoMem>
     requires { IsQuery catalog.now.tables query.now }
 {
@@ -214,15 +175,36 @@ fn put_limit(alloc: Global, catalog: &Catalog, query: &Query, out: &mut Bytes) -
     }
 }
 
-/// The limit that bounds the query's first relation, by its number.
-pub fn limit(
+// What a command tells of a query.
+fn put_told(
+    alloc: Global,
+    catalog: &Catalog,
+    cells: &Cells,
+    query: &Query,
+    out: &mut Bytes,
+) -> Result<(), NoMem>
+    requires resolved { IsResolved catalog.now.tables query.now }
+    requires query { IsQuery catalog.now.tables query.now }
+{
+    match cells.command {
+        "rearranged" => put_rearranged(alloc, catalog, query, cells.what == "closed", out),
+        "compiled" => put_outcome(alloc, catalog, query, out),
+        "candidates" => put_candidates(alloc, catalog, query, out),
+        "limit" => put_limit(alloc, catalog, query, out),
+        _ => put_query(alloc, catalog, query, out),
+    }
+}
+
+/// What the command tells of the query that the text spells, its canonical text unless it asks for something else; or
+/// the query's refusal.
+pub fn query(
     alloc: Global,
     catalog: &Catalog,
     cells: &Cells,
     out: &mut Bytes,
 ) -> Result<(), NoMem> {
     match read(alloc, catalog, cells.text(0)) {
-        Ok(query) => put_limit(alloc, catalog, &query, out),
+        Ok(query) => put_told(alloc, catalog, cells, &query, out),
         Err(stopped) => put_stopped(alloc, stopped, out),
     }
 }

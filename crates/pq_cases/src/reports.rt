@@ -1,5 +1,5 @@
 //! Reports line by line, and refusals one by one.
-use crate::cells::{Cells, words_of};
+use crate::cells::{Cells, number_at, words_of};
 use crate::put::{named, put_printed, put_word};
 use pq_base::{Bound, Bytes, Choice, Dir, List, NoMem, PText, Refusal, Row, Used};
 use pq_print::{
@@ -122,10 +122,6 @@ pub fn value_kind(alloc: Global, cells: &Cells, out: &mut Bytes) -> Result<(), N
     let table = named(alloc, cells.text(0))?;
     let column = named(alloc, cells.text(1))?;
     put_refusal(alloc, Refusal::ValueKind { table, column }, out)
-}
-
-fn number_at(words: &[&str], place: usize) -> Option<u32> {
-    words.get(place)?.parse::<u32>().ok()
 }
 
 fn name_at(alloc: Global, words: &[&str], place: usize) -> Result<PText, NoMem> {
