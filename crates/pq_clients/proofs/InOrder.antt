@@ -16,9 +16,8 @@ use Rattle.pq_clients.specs.Held.{Cell, Free, Held, cell_of, stored_row, held_va
 use Rattle.pq_clients.specs.Flights.{Flight, Check, row_made, table_of, pair_key, flight_table, flight_key, new_code, fresh_entries, stale_entries, flight_checks, flight_tests, check_refusal, test_refusal}
 use Rattle.pq_clients.specs.Clients.{Stage, Checking, Adding, Testing, Putting, Clearing, Freeing, Undoing, Releasing, Next, Reading, Taking, Looking, Flying, View, write_at, is_over}
 use Rattle.pq_clients.specs.Steps.{is_just, is_held_by_other, taking_short, after_row, after_code, after_cell, after_read, read_on, damaged, refused, Then, On, Puts, Ends, testing, adding, checking, clearing, undoing, passes, has_room, flown, gone_on, is_fault, After, after_call, Fate, Answers, NotDone, DoneUnseen, NoMemory, stepped}
-use Rattle.pq_clients.specs.declared.outcome.Outcome.{Outcome}
 use Rattle.pq_clients.specs.declared.outcome.Outcome.TheVariants as outcome
-use Rattle.pq_clients.specs.Runs.{Event, Run, turned, turn, run}
+use Rattle.pq_clients.specs.Runs.{Event, Run, turned, run}
 use Rattle.pq_clients.specs.Promises.{IsFresh}
 use Rattle.pq_clients.specs.Testing.{Test, OfCheck, OfLimit, is_passed_by, limits_tested, all_tests, tests_left, test_of, is_refused, WasPassed, TestsBefore, TestsInOrder}
 use Rattle.pq_clients.proofs.ByCalls.{call_by, by_call}
