@@ -1,0 +1,90 @@
+"""What each refusal means and the way out of it, read from REFUSALS.md, the document that lies in the package too."""
+
+import re
+from functools import cache
+from importlib.resources import files
+from typing import NamedTuple
+
+from .scripts import Place, Token, tokens
+
+RULE = re.compile(r"^\*\*(E\d\d\d)([A-Z ]*): ?(.*?)(?=^\*\*E\d|^#|\Z)", re.DOTALL | re.MULTILINE)
+ROW = re.compile(r"^\| (.*?) \| (.*?) \|$", re.MULTILINE)
+WAY = re.compile(r"\*Ways? out:?\*:?")
+CODE = re.compile(r"`([^`]*)`")
+WITHOUT_DROP = "; `python -m piql rebuild OLD NEW SCHEMA` makes one"
+REBUILDS = ("definitions", "tables", "indexes")
+
+
+class Rule(NamedTuple):
+    """A refusal in general: its fields by their names, its cause, its way out, and a way out for each word or case."""
+
+    code: str
+    fields: tuple[str, ...]
+    cause: str
+    way_out: str
+    cases: tuple[tuple[str, str], ...]
+
+
+class Refusal(NamedTuple):
+    """A refusal of one statement. `place` is where its tokens spell nothing, or None."""
+
+    number: str
+    fields: dict[str, str]
+    statement: str
+    place: Place | None
+    cause: str
+    way_out: str
+
+
+def one_line(text: str) -> str:
+    """A paragraph of the document as one line."""
+    return " ".join(text.replace("**", "").split())
+
+
+def read_rule(code: str, fields: str, text: str) -> Rule:
+    """A rule from its paragraphs: the first has the cause and mostly the way out, a table has ways for some cases."""
+    paragraph, _, rest = text.partition("\n\n")
+    cause, *ways = WAY.split(paragraph, maxsplit=1)
+    cases = tuple((case, way) for case, way in ROW.findall(text) if not set(case + way) <= set("- |"))
+    return Rule(code, tuple(fields.lower().split()), one_line(cause), one_line(ways[0] if ways else ""), cases)
+
+
+@cache
+def rules() -> dict[str, Rule]:
+    """The rules of the document by their codes."""
+    text = files("piql").joinpath("REFUSALS.md").read_text(encoding="utf-8")
+    return {found[1]: read_rule(found[1], found[2], found[3]) for found in RULE.finditer(text)}
+
+
+def cases_with(rule: Rule, words: set[str]) -> str:
+    """The way out of the first case that names one of the words as code."""
+    for case, way in rule.cases:
+        if words & {word.split(" ")[0] for word in CODE.findall(case)}:
+            return one_line(way)
+    return ""
+
+
+def token_at(statement: str, place: Place) -> Token | None:
+    """The token of a statement at a place."""
+    lines = statement.split("\n")
+    at = sum(len(line) + 1 for line in lines[: place.line - 1]) + place.column - 1
+    return next((token for token in tokens(statement) if token.start <= at < token.end), None)
+
+
+def way_out_of(rule: Rule, fields: tuple[str, ...], statement: str, place: Place | None) -> str:
+    """The way out for these fields, or for the token at the place."""
+    if rule.code == "E206" and fields:
+        return cases_with(rule, {fields[0]}) + (WITHOUT_DROP if fields[0] in REBUILDS else "")
+    if place is not None and (token := token_at(statement, place)):
+        return cases_with(rule, {token.text.upper()}) or rule.way_out
+    if rule.code == "E304":
+        return "; ".join(f"{case}: {one_line(way)}" for case, way in rule.cases if case != "Cause")
+    return rule.way_out
+
+
+def refusal_of(fields: tuple[str, ...], statement: str, place: Place | None = None) -> Refusal:
+    """The refusal that a report's end line has, for the statement as its writer knows it."""
+    code, values = fields[0], fields[1:]
+    rule = rules().get(code) or Rule(code, tuple(f"field{i + 1}" for i in range(len(values))), "", "", ())
+    named = dict(zip(rule.fields, values))
+    return Refusal(code, named, statement, place, rule.cause, way_out_of(rule, values, statement, place))

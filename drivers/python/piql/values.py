@@ -1,0 +1,29 @@
+"""Values of Python as the statements write them."""
+
+from .errors import DataError, ProgrammingError
+
+LEAST, GREATEST = -(2**63), 2**63 - 1
+
+
+def quoted_text(text: str) -> str:
+    """A text between quotes, each of its own quotes written twice."""
+    try:
+        text.encode()
+    except UnicodeEncodeError as error:
+        raise DataError(f"a text with half a surrogate pair is no UTF-8: {text!r}") from error
+    return "'" + text.replace("'", "''") + "'"
+
+
+def quoted(value: object) -> str:
+    """A value as a statement writes it: a whole number, True or False, a text, or None for NULL."""
+    if isinstance(value, str):
+        return quoted_text(value)
+    if value is None:
+        return "NULL"
+    if isinstance(value, bool):
+        return "TRUE" if value else "FALSE"
+    if isinstance(value, int):
+        if LEAST <= value <= GREATEST:
+            return str(int(value))
+        raise DataError(f"{value} is outside the 64 bits of INT")
+    raise ProgrammingError(f"a value is an int, a bool, a str or None, and no {type(value).__name__}")
