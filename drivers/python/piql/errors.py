@@ -111,7 +111,7 @@ def refused(refusal: Refusal) -> DatabaseError:
     head = " ".join([refusal.number, *refusal.fields.values()])
     place = f" at line {refusal.place.line}, column {refusal.place.column}" if refusal.place else ""
     way = f" Way out: {refusal.way_out}" if refusal.way_out else ""
-    error = class_of(refusal)(f"{head}{place}: {refusal.cause}{way}")
+    error = class_of(refusal)(f"{head}{place}: {refusal.headline}{way}")
     error.refusal = refusal
     return error
 

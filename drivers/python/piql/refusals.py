@@ -12,6 +12,8 @@ ROW = re.compile(r"^\| (.*?) \| (.*?) \|$", re.MULTILINE)
 WAY = re.compile(r"\*Ways? out:?\*:?")
 CODE = re.compile(r"`([^`]*)`")
 WITHOUT_DROP = "; `python -m piql rebuild OLD NEW SCHEMA` makes one"
+# A headline with no more characters says too little alone.
+SHORT = 10
 REBUILDS = ("definitions", "tables", "indexes")
 
 
@@ -20,6 +22,7 @@ class Rule(NamedTuple):
 
     code: str
     fields: tuple[str, ...]
+    headline: str
     cause: str
     way_out: str
     cases: tuple[tuple[str, str], ...]
@@ -32,6 +35,7 @@ class Refusal(NamedTuple):
     fields: dict[str, str]
     statement: str
     place: Place | None
+    headline: str
     cause: str
     way_out: str
 
@@ -45,8 +49,10 @@ def read_rule(code: str, fields: str, text: str) -> Rule:
     """A rule from its paragraphs: the first has the cause and mostly the way out, a table has ways for some cases."""
     paragraph, _, rest = text.partition("\n\n")
     cause, *ways = WAY.split(paragraph, maxsplit=1)
+    bold = one_line(cause.partition("**")[0])
+    headline = bold if bold.endswith(".") and len(bold) > SHORT else one_line(cause)
     cases = tuple((case, way) for case, way in ROW.findall(text) if not set(case + way) <= set("- |"))
-    return Rule(code, tuple(fields.lower().split()), one_line(cause), one_line(ways[0] if ways else ""), cases)
+    return Rule(code, tuple(fields.lower().split()), headline, one_line(cause), one_line(ways[0] if ways else ""), cases)
 
 
 @cache
@@ -85,6 +91,7 @@ def way_out_of(rule: Rule, fields: tuple[str, ...], statement: str, place: Place
 def refusal_of(fields: tuple[str, ...], statement: str, place: Place | None = None) -> Refusal:
     """The refusal that a report's end line has, for the statement as its writer knows it."""
     code, values = fields[0], fields[1:]
-    rule = rules().get(code) or Rule(code, tuple(f"field{i + 1}" for i in range(len(values))), "", "", ())
+    rule = rules().get(code) or Rule(code, tuple(f"field{i + 1}" for i in range(len(values))), "", "", "", ())
     named = dict(zip(rule.fields, values))
-    return Refusal(code, named, statement, place, rule.cause, way_out_of(rule, values, statement, place))
+    way = way_out_of(rule, values, statement, place)
+    return Refusal(code, named, statement, place, rule.headline, rule.cause, way)

@@ -1,7 +1,7 @@
 """Reading reports: the lines that the engine writes, as docs/FORMATS.md has them, and the statement that a report ends."""
 
 import re
-from collections.abc import Iterable, Iterator
+from collections.abc import Iterator
 from typing import NamedTuple
 
 Value = int | bool | str | None
@@ -49,12 +49,6 @@ class DefinitionLine(NamedTuple):
     text: str
 
 
-class RowLine(NamedTuple):
-    """A row of an answer."""
-
-    values: Row
-
-
 class EndLine(NamedTuple):
     """The last line of a report. `refusal` is the code and its fields, and empty where the statement was made."""
 
@@ -72,18 +66,15 @@ class DamageLine(NamedTuple):
     key: str
 
 
-Line = OpeningLine | QueryLine | IndexLine | DefinitionLine | RowLine | EndLine | DamageLine
+Line = OpeningLine | QueryLine | IndexLine | DefinitionLine | EndLine | DamageLine
 
 
 class Report(NamedTuple):
-    """A report: its lines and its end line."""
+    """A report: its rows, or its other lines, and its end line. No report has rows and other lines."""
 
-    lines: tuple[Line, ...]
+    rows: list[Row]
+    lines: list[Line]
     end: EndLine
-
-    def rows(self) -> list[Row]:
-        """The rows of the answer."""
-        return [line.values for line in self.lines if isinstance(line, RowLine)]
 
     def queries(self) -> list[QueryLine]:
         """The query lines."""
@@ -133,9 +124,7 @@ def read_end(line: str) -> EndLine | None:
 
 
 def read_line(line: str) -> Line | None:
-    """Any line of a report without its line feed; None for a text that is none."""
-    if line.startswith("row "):
-        return RowLine(read_values(line[4:]))
+    """Any line of a report but a row, without its line feed; None for a text that is none."""
     if found := DEFINITION.fullmatch(line):
         return DefinitionLine(int(found[1]), found[2])
     if found := QUERY.fullmatch(line):
@@ -162,28 +151,38 @@ def cut_lines(text: str) -> Iterator[str]:
         yield line
 
 
-def read_reports(text: str) -> Iterator[Line | Report]:
-    """The opening line, then each report whole; then what stands behind the last whole report, line by line."""
+def read_reports(text: str) -> Iterator[Report | OpeningLine | DamageLine]:
+    """What a run wrote: the opening line, each report whole, and the line of a damage, in order."""
+    rows: list[Row] = []
     lines: list[Line] = []
-    for line in filter(None, map(read_line, cut_lines(text))):
+    for text_line in cut_lines(text):
+        line = None if text_line.startswith("row ") else read_line(text_line)
         if isinstance(line, EndLine):
-            yield Report(tuple(lines), line)
-            lines = []
-        elif isinstance(line, OpeningLine):
+            yield Report(rows, lines, line)
+            rows, lines = [], []
+        elif isinstance(line, (OpeningLine, DamageLine)):
             yield line
-        else:
+        elif line is not None:
             lines.append(line)
-    yield from lines
+        elif text_line.startswith("row "):
+            rows.append(read_values(text_line[4:]))
+
+
+def read_rows(text: str, count: int) -> list[Row]:
+    """So many rows of an answer, from their lines."""
+    lines = text.split("\n")
+    if len(lines) != count + 1:
+        return [read_values(line[4:]) for line in cut_lines(text)]
+    return [read_values(line[4:]) for line in lines[:-1]]
 
 
 def read_report(text: str) -> Report:
     """The one report that the text is. A text that is none is a ValueError."""
-    found = list(read_reports(text))
-    if len(found) != 1 or not isinstance(found[0], Report):
-        raise ValueError(f"this is not one report: {text[:200]!r}")
-    return found[0]
-
-
-def reports_of(text: str) -> Iterable[Report]:
-    """The whole reports alone."""
-    return (report for report in read_reports(text) if isinstance(report, Report))
+    start = text.rfind("\n", 0, -1) + 1
+    end = read_end(text[start:-1])
+    if end is None:
+        raise ValueError(f"no report ends so: {text[start:][:200]!r}")
+    if end.rows:
+        return Report(read_rows(text[:start], end.rows), [], end)
+    lines = [line for line in map(read_line, cut_lines(text[:start])) if line is not None]
+    return Report([], lines, end)
