@@ -32,6 +32,12 @@ class Copy:
         shutil.copytree(TOP / "bin", self.top / "bin", ignore=shutil.ignore_patterns("tests", "__pycache__"))
         (self.top / "programs").mkdir()
 
+    def put_package(self) -> None:
+        """The Python package with the document that it reads."""
+        ignored = shutil.ignore_patterns("tests", "__pycache__")
+        shutil.copytree(TOP / "drivers", self.top / "drivers", ignore=ignored, symlinks=True)
+        shutil.copytree(TOP / "docs", self.top / "docs")
+
     def put_program(self, name: str, program: pathlib.Path) -> None:
         """A program that is there."""
         (self.top / "programs" / name).symlink_to(program)

@@ -5,12 +5,12 @@ from functools import cache
 from importlib.resources import files
 from typing import NamedTuple
 
-from .scripts import Place, Token, tokens
+from .scripts import Place, character_of
+from .syntax import CODE, way_out_at
 
 RULE = re.compile(r"^\*\*(E\d\d\d)([A-Z ]*): ?(.*?)(?=^\*\*E\d|^#|\Z)", re.DOTALL | re.MULTILINE)
 ROW = re.compile(r"^\| (.*?) \| (.*?) \|$", re.MULTILINE)
 WAY = re.compile(r"\*Ways? out:?\*:?")
-CODE = re.compile(r"`([^`]*)`")
 WITHOUT_DROP = "; `python -m piql rebuild OLD NEW SCHEMA` makes one"
 # A headline with no more characters says too little alone.
 SHORT = 10
@@ -70,19 +70,12 @@ def cases_with(rule: Rule, words: set[str]) -> str:
     return ""
 
 
-def token_at(statement: str, place: Place) -> Token | None:
-    """The token of a statement at a place."""
-    lines = statement.split("\n")
-    at = sum(len(line) + 1 for line in lines[: place.line - 1]) + place.column - 1
-    return next((token for token in tokens(statement) if token.start <= at < token.end), None)
-
-
 def way_out_of(rule: Rule, fields: tuple[str, ...], statement: str, place: Place | None) -> str:
     """The way out for these fields, or for the token at the place."""
     if rule.code == "E206" and fields:
         return cases_with(rule, {fields[0]}) + (WITHOUT_DROP if fields[0] in REBUILDS else "")
-    if place is not None and (token := token_at(statement, place)):
-        return cases_with(rule, {token.text.upper()}) or rule.way_out
+    if place is not None:
+        return one_line(way_out_at(rule.cases, statement, character_of(statement, place))) or rule.way_out
     if rule.code == "E304":
         return "; ".join(f"{case}: {one_line(way)}" for case, way in rule.cases if case != "Cause")
     return rule.way_out

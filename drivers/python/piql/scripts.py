@@ -85,6 +85,11 @@ def place_at(text: str, at: int) -> Place:
     return Place(text.count("\n", 0, at) + 1, at - text.rfind("\n", 0, at))
 
 
+def character_of(text: str, place: Place) -> int:
+    """The character of the text, from 0, that stands at a place."""
+    return sum(len(line) + 1 for line in text.split("\n")[: place.line - 1]) + place.column - 1
+
+
 def character_at(text: bytes, at: int) -> int:
     """How many characters stand before a byte of a UTF-8 text."""
     return len(text[:at].decode(errors="replace"))
