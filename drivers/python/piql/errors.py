@@ -116,9 +116,14 @@ def refused(refusal: Refusal) -> DatabaseError:
     return error
 
 
+def with_status(status: int | None, text: str) -> DatabaseError:
+    """The exception of a run that ended with a status, if there was one."""
+    error = (InternalError if status == 6 else OperationalError)(text)
+    error.status = status
+    return error
+
+
 def ended(status: int, stands: str) -> DatabaseError:
     """The exception of a run that ended with a status, or by the signal of a negative one, with what stands then."""
     why = STATUSES.get(status, f"signal {-status}" if status < 0 else "a status that the engine doesn't have")
-    error = (InternalError if status == 6 else OperationalError)(f"the run ended with status {status}, {why}. {stands}")
-    error.status = status
-    return error
+    return with_status(status, f"the run ended with status {status}, {why}. {stands}")

@@ -5,7 +5,7 @@ import os
 import socket
 import time
 
-from .errors import Error, InterfaceError, OperationalError, ProgrammingError, ended
+from .errors import InterfaceError, OperationalError, ProgrammingError, with_status
 from .frames import BACKUP, BROKEN, ENDED, GREETING, HELLO, STATEMENT, FrameError, Gone, read_frame, write_frame
 
 LOST = (
@@ -86,16 +86,12 @@ class SocketLink:
             self.close()
             raise
         if answer == ENDED:
-            raise self.told(json.loads(said))
+            told = json.loads(said)
+            raise with_status(told["status"], told["text"])
         if answer == BROKEN:
             self.close()
             raise ProgrammingError(said.decode(errors="replace"))
         return said
-
-    def told(self, said: dict[str, object]) -> Error:
-        """The exception of a run that ended at the server, or of what the server couldn't do."""
-        status, text = said["status"], str(said["text"])
-        return ended(status, text) if isinstance(status, int) else OperationalError(text)
 
     def backup(self, path: str) -> None:
         """Has the server copy its file between two statements."""

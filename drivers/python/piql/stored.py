@@ -1,99 +1,70 @@
-"""What a store's file has, read from its pairs as docs/FORMATS.md has them: the definitions, and the rows of each table."""
+"""The rows of a store's file, read by the bytes that docs/FORMATS.md gives, while no run is on."""
 
-import contextlib
 import sqlite3
-from collections.abc import Iterator, Sequence
+from collections.abc import Iterator
 from pathlib import Path
-from typing import NamedTuple
 
-from .reports import Row, Value
-from .schema import Column, Table, read_table
+from .errors import InternalError, OperationalError
+from .reports import DefinitionLine, Row, Value
+from .schema import Column, Schema, read_schema
 
-DEFINITION, ROW, INTENT = 1, 2, 4
-FORMAT, READY = 1, 0
-# Added to the number of columns where some column is NULL; the marks of these follow in four bytes.
-WITH_NULLS, MARKS = 0x40, 4
-BY_SPACE = "SELECT k, v FROM kv WHERE k >= ? AND k < ? ORDER BY k"
+DEFINITIONS, ROWS = 1, 2
+# A row with a NULL has this added to its number of columns, and then four bytes whose bit i is column i's.
+HAS_NULL = 0x40
 
 
-class NotStored(Exception):
-    """Why a file can't be read as a store."""
+def open_file(path: str) -> sqlite3.Connection:
+    """The file for reading alone."""
+    file = sqlite3.connect(Path(path).absolute().as_uri() + "?mode=ro", uri=True, timeout=5)
+    try:
+        file.execute("SELECT k, v FROM kv LIMIT 1").fetchone()
+    except sqlite3.Error as error:
+        file.close()
+        raise OperationalError(f"{path} can't be read: {error}") from error
+    return file
 
 
-class Stored(NamedTuple):
-    """A store's definitions in order, by their canonical texts, and its pairs."""
-
-    definitions: list[str]
-    pairs: sqlite3.Connection
-
-    def tables(self) -> list[Table]:
-        """The tables in the order of their definitions."""
-        return [read_table(text) for text in self.definitions if text.startswith("CREATE")]
-
-    def rows(self, number: int, table: Table) -> Iterator[Row]:
-        """The rows of the table of this number, from 1, in the order of their keys."""
-        for _, code in self.pairs.execute(BY_SPACE, (bytes([ROW, number]), bytes([ROW, number + 1]))):
-            yield read_row(code, table.columns)
+def pairs(file: sqlite3.Connection, first: int, *after: int) -> Iterator[tuple[bytes, bytes]]:
+    """The pairs whose key begins with these bytes, of which the last is below 255, in order."""
+    low = bytes([first, *after])
+    high = low[:-1] + bytes([low[-1] + 1])
+    yield from file.execute("SELECT k, v FROM kv WHERE k >= ? AND k < ? ORDER BY k", (low, high))
 
 
-def marked(code: bytes, columns: int) -> tuple[list[bool], int]:
-    """Which columns are NULL by the front of a row's code, and where the values begin."""
-    if code[0] == columns:
-        return [False] * columns, 1
-    if code[0] != columns + WITH_NULLS:
-        raise NotStored(f"a row's code begins with {code[0]}, for {columns} columns")
-    marks = int.from_bytes(code[1 : 1 + MARKS], "big")
-    return [bool(marks >> place & 1) for place in range(columns)], 1 + MARKS
+def read_stored_schema(file: sqlite3.Connection) -> Schema:
+    """The definitions. A value begins with its format and its mark."""
+    found = [DefinitionLine(int.from_bytes(k[1:]), v[2:].decode()) for k, v in pairs(file, DEFINITIONS)]
+    return read_schema(found)
 
 
-def read_value(code: bytes, at: int, column: Column) -> tuple[Value, int]:
-    """A value that isn't NULL, and the place behind it."""
+def read_cell(column: Column, code: bytes, at: int) -> tuple[Value, int]:
+    """A value that is no NULL, and the place behind it."""
     if column.type == "INT":
-        return int.from_bytes(code[at : at + 8], "big", signed=True), at + 8
+        return int.from_bytes(code[at : at + 8], signed=True), at + 8
     if column.type == "BOOL":
         return code[at] == 1, at + 1
-    end = at + 2 + int.from_bytes(code[at : at + 2], "big")
+    end = at + 2 + int.from_bytes(code[at : at + 2])
     return code[at + 2 : end].decode(), end
 
 
-def read_row(code: bytes, columns: Sequence[Column]) -> Row:
-    """The row of a code."""
-    nulls, at = marked(code, len(columns))
-    values: list[Value] = []
-    for column, is_null in zip(columns, nulls):
-        value, at = (None, at) if is_null else read_value(code, at, column)
-        values.append(value)
+def read_row(columns: tuple[Column, ...], code: bytes) -> Row:
+    """The row that a code is."""
+    has_null = code[0] >= HAS_NULL
+    marks = int.from_bytes(code[1:5]) if has_null else 0
+    at, row = 5 if has_null else 1, []
+    if code[0] - has_null * HAS_NULL != len(columns):
+        raise InternalError(f"a row of {code[0]} columns, where the table has {len(columns)}")
+    for place, column in enumerate(columns):
+        value: Value = None
+        if not marks >> place & 1:
+            value, at = read_cell(column, code, at)
+        row.append(value)
     if at != len(code):
-        raise NotStored(f"a row's code has {len(code)} bytes, and its values end at {at}")
-    return tuple(values)
+        raise InternalError("a row's code goes on behind its last column")
+    return tuple(row)
 
 
-def read_definition(key: bytes, value: bytes) -> str:
-    """The canonical text of a definition."""
-    if value[:1] != bytes([FORMAT]):
-        raise NotStored(f"definition {int.from_bytes(key[1:], 'big')} was written by a later version")
-    if value[1:2] != bytes([READY]):
-        raise NotStored("an index of it isn't filled to its end; a run over it, also of nothing, fills it")
-    return value[2:].decode()
-
-
-def read_definitions(pairs: sqlite3.Connection) -> list[str]:
-    """All definitions, where no write was cut off."""
-    if pairs.execute("SELECT 1 FROM kv WHERE k = ?", (bytes([INTENT]),)).fetchone():
-        raise NotStored("a write of it was cut off; a run over it, also of nothing, makes the write whole")
-    found = pairs.execute(BY_SPACE, (bytes([DEFINITION]), bytes([DEFINITION + 1])))
-    return [read_definition(key, value) for key, value in found]
-
-
-@contextlib.contextmanager
-def opened(path: str) -> Iterator[Stored]:
-    """A store's file, opened for reading while no run is on."""
-    if not Path(path).is_file():
-        raise NotStored("there is no such file")
-    pairs = sqlite3.connect(Path(path).absolute().as_uri() + "?mode=ro", uri=True)
-    try:
-        yield Stored(read_definitions(pairs), pairs)
-    except sqlite3.Error as error:
-        raise NotStored(f"SQLite says: {error}") from error
-    finally:
-        pairs.close()
+def stored_rows(file: sqlite3.Connection, number: int, columns: tuple[Column, ...]) -> Iterator[Row]:
+    """The rows of the table of this number, from 1, in the order of their keys."""
+    for _, code in pairs(file, ROWS, number):
+        yield read_row(columns, code)
