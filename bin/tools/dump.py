@@ -5,30 +5,46 @@ the indexes, which are filled by the rows that follow: the new file has the same
 """
 
 import argparse
+import sqlite3
 import sys
 from collections.abc import Iterable, Iterator
 from pathlib import Path
 
+from piql.errors import Error, OperationalError
 from piql.schema import Table
 from piql.scripts import SCRIPT_BYTES
-from piql.stored import NotStored, Stored, opened
+from piql.stored import DEFINITIONS, open_file, pairs, read_stored_schema, stored_rows
 from piql.values import quoted
 from tools.launch import tell
 from tools.statuses import USAGE
 
 NAME = "dump"
 REFUSED = 1
+INTENT = 4
+FORMAT, READY = 1, 0
+
+
+def check_whole(file: sqlite3.Connection) -> None:
+    """What the next opening would make whole first, and what a later version wrote, is told."""
+    if next(pairs(file, INTENT), None):
+        raise OperationalError("a write of it was cut off; a run over it, also of nothing, makes the write whole")
+    for key, value in pairs(file, DEFINITIONS):
+        if value[0] != FORMAT:
+            raise OperationalError(f"definition {int.from_bytes(key[1:], 'big')} was written by a later version")
+        if value[1] != READY:
+            raise OperationalError("an index of it isn't filled to its end; a run over it, also of nothing, fills it")
 
 
 def insert(table: Table, row: Iterable[object]) -> str:
     return f"INSERT INTO {table.name} VALUES ({', '.join(map(quoted, row))});"
 
 
-def statements(stored: Stored) -> Iterator[str]:
+def statements(file: sqlite3.Connection) -> Iterator[str]:
     """The statements that make a store with these pairs."""
-    yield from stored.definitions
-    for number, table in enumerate(stored.tables(), 1):
-        yield from (insert(table, row) for row in stored.rows(number, table))
+    schema = read_stored_schema(file)
+    yield from (definition.text for definition in schema.definitions)
+    for number, table in enumerate(schema.tables().values(), 1):
+        yield from (insert(table, row) for row in stored_rows(file, number, table.columns))
 
 
 def scripts(lines: Iterable[str], most: int) -> Iterator[bytes]:
@@ -61,6 +77,17 @@ def write_folder(parts: Iterable[bytes], folder: Path) -> int:
     return 0
 
 
+def write(path: str, folder: str | None) -> int:
+    """Writes the scripts of a file."""
+    file = open_file(path)
+    try:
+        check_whole(file)
+        parts = scripts(statements(file), SCRIPT_BYTES)
+        return write_folder(parts, Path(folder)) if folder else write_out(parts)
+    finally:
+        file.close()
+
+
 def read_given(words: list[str]) -> argparse.Namespace:
     parser = argparse.ArgumentParser(prog="bin/dump", description="A store's file as scripts that make it again.")
     parser.add_argument("file", metavar="FILE", help="the file, over which no run is on")
@@ -71,10 +98,8 @@ def read_given(words: list[str]) -> argparse.Namespace:
 def main(words: list[str]) -> int:
     given = read_given(words)
     try:
-        with opened(given.file) as stored:
-            parts = scripts(statements(stored), SCRIPT_BYTES)
-            return write_folder(parts, Path(given.folder)) if given.folder else write_out(parts)
-    except NotStored as error:
+        return write(given.file, given.folder)
+    except Error as error:
         tell(NAME, f"{given.file}: {error}")
         return REFUSED
     except OSError as error:

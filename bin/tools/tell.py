@@ -10,7 +10,7 @@ from typing import NamedTuple
 from piql.refusals import refusal_of
 from piql.reports import DamageLine, DefinitionLine, IndexLine, OpeningLine, QueryLine, Report, read_reports
 from piql.scripts import Piece, Token, character_at, pieces, place_at, tokens
-from tools.answers import table
+from piql.tables import table
 from tools.kept import NotBuilt
 from tools.launch import tell
 from tools.pointing import pointed
@@ -106,6 +106,12 @@ def tell_refusal(script: Script, report: Report, shapes: Shapes) -> None:
     print(*wrapped(cause), *wrapped(refusal.way_out, "way out: "), "", sep="\n")
 
 
+def names_of(report: Report, known: list[str]) -> list[str]:
+    """The names of an answer's columns, or their numbers where they aren't known."""
+    count = len(report.rows[0])
+    return known if len(known) == count else [str(number) for number in range(1, count + 1)]
+
+
 def tell_answer(script: Script, report: Report, shapes: Shapes) -> None:
     """The rows of an answer under their names."""
     end = report.end
@@ -114,7 +120,7 @@ def tell_answer(script: Script, report: Report, shapes: Shapes) -> None:
     line = script.data.count(b"\n", 0, script.pieces[end.number].start + len(text[: found[0].start].encode())) + 1
     print(f"{script.name}:{line}: {' '.join(text[found[0].start :].split())[:WIDTH]}")
     if report.rows:
-        print(*(f"  {it}" for it in table(shapes.selected_by(found[1].text.lower()), report.rows)), sep="\n")
+        print(textwrap.indent(table(names_of(report, shapes.selected_by(found[1].text.lower())), report.rows), "  "))
     pages = f", the next page is behind '{end.cursor}'" if end.cursor else ""
     rows = "1 row" if end.rows == 1 else f"{end.rows} rows"
     print(f"  {rows}{pages}; bound {end.bound}, used {end.used}\n")

@@ -105,10 +105,10 @@ class BytesTest(unittest.TestCase):
         for code in (b"\x03" + b"\xff" * 8 + b"\x01", b"\x02" + b"\xff" * 8 + b"\x01\x00"):
             self.path.unlink(missing_ok=True)
             self.write(PAIRS | {b"\x02\x01\x10\x7f" + b"\xff" * 7: code})
-            self.assertIn("a row's code", run_dump(self.path).stderr.decode())
+            self.assertIn("a row", self.refused())
 
     def test_no_store_is_told(self) -> None:
-        self.assertIn("there is no such file", self.refused())
+        self.assertIn("unable to open", self.refused())
         self.path.write_text("a text, and no store of pairs at all; longer than a page's head\n" * 20)
         self.assertIn("file is not a database", self.refused())
 

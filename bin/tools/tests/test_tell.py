@@ -32,7 +32,7 @@ row -7, 'two
 lines', true
 row 12, NULL, false
 5 ok rows 2 bound 1 9 used 1 2
-row 7, 'NULL', true
+row 7, 'it''s so', true
 6 ok rows 1 next AQAC bound 1 2 used 1 1
 7 refused E102 bound 0 0 used 0 0
 """
@@ -55,9 +55,9 @@ NAME:6: RUN q ();
   2 rows; bound 1 9, used 1 2
 
 NAME:6: RUN all;
-  a | b      | c
-  --+--------+-----
-  7 | 'NULL' | true
+  a | b       | c
+  --+---------+-----
+  7 | it's so | true
   1 row, the next page is behind 'AQAC'; bound 1 2, used 1 1
 
 NAME:7: statement 7 is refused: E102
