@@ -1,5 +1,6 @@
 """Running a program: its words are looked at first, then the program is found, and what its end says is told."""
 
+import ctypes
 import signal
 import subprocess
 import sys
@@ -14,6 +15,8 @@ from tools.words import Asked, Wrong, help_of, read_words, shown, usage
 AT_A_TERMINAL = "type statements, each with a ; at its end: each is answered at once. Control-D ends the script"
 UNPROVED = "this run is not proved, and is slow; bin/prove proves and builds the program"
 PASSED_ON = (signal.SIGTERM, signal.SIGHUP)
+# Linux's number for asking that a signal comes when the parent ends.
+PARENT_DEATH_SIGNAL = 1
 
 
 def tell(name: str, line: str) -> None:
@@ -21,9 +24,14 @@ def tell(name: str, line: str) -> None:
     print(f"{name}: {line}", file=sys.stderr, flush=True)
 
 
+def end_with_parent() -> None:
+    """Asks that this process is killed when the one that started it is, so that no program holds a file alone."""
+    ctypes.CDLL(None).prctl(PARENT_DEATH_SIGNAL, signal.SIGKILL)
+
+
 def run_once(program: Program, words: list[str], script: BinaryIO | None) -> int:
     """Runs the program over a script or standard input. A signal that ends this process ends the program first."""
-    run = subprocess.Popen([program.path, *words], stdin=script)
+    run = subprocess.Popen([program.path, *words], stdin=script, preexec_fn=end_with_parent)
     for number in PASSED_ON:
         signal.signal(number, lambda given, _: run.send_signal(given))
     # An interrupt at the terminal reaches the program by itself.

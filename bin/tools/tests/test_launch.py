@@ -72,14 +72,15 @@ class EndsTest(unittest.TestCase):
 
     def test_a_signal_to_the_command_ends_the_program(self) -> None:
         self.copy.put_script("piql", "echo $$; exec sleep 60\n")
-        words = [self.copy.top / "bin/piql", "run"]
-        with subprocess.Popen(words, stdin=subprocess.DEVNULL, stdout=subprocess.PIPE, stderr=subprocess.PIPE) as run:
-            assert run.stdout is not None
-            number = int(run.stdout.readline())
-            run.send_signal(signal.SIGTERM)
-            self.assertEqual(run.wait(), 128 + signal.SIGTERM)
-        with self.assertRaises(ProcessLookupError):
-            os.kill(number, 0)
+        for given, status in ((signal.SIGTERM, 128 + signal.SIGTERM), (signal.SIGKILL, -signal.SIGKILL)):
+            words = [self.copy.top / "bin/piql", "run"]
+            with subprocess.Popen(words, stdin=subprocess.PIPE, stdout=subprocess.PIPE, stderr=subprocess.PIPE) as run:
+                assert run.stdout is not None
+                run.stdout.readline()
+                run.send_signal(given)
+                # The program has the pipe too: its end comes when both are gone.
+                self.assertEqual(run.stdout.read(), b"")
+                self.assertEqual(run.wait(), status)
 
 
 @unittest.skipUnless(PIQL, "crates/piql is not built")
