@@ -9,7 +9,8 @@ import sys
 import unittest
 
 from tools.documents import blocks, commands, documents, is_shown
-from tools.repository import TOP
+from tools.layers import Layers
+from tools.repository import TOP, Repository
 from tools.tests.copies import Copy, built
 
 PIQL, PIQL_FILE = built("piql"), built("piql_file")
@@ -32,6 +33,18 @@ class ShownTest(unittest.TestCase):
         for document in documents():
             for block in blocks(document, "python"):
                 self.assertTrue(any(block.text in text for text in files), block.place)
+
+    def test_a_worked_proof_stands_in_the_sources(self) -> None:
+        parts = [path for part in ("src", "proofs") for path in (TOP / "crates/pq_base" / part).rglob("*.*t")]
+        sources = [path.read_text() for path in parts]
+        found = [block for document in documents() for block in blocks(document, "rattle", "antt")]
+        self.assertGreater(len(found), 1)
+        for block in found:
+            self.assertTrue(any(block.text in text for text in sources), block.place)
+
+    def test_the_picture_is_that_of_the_crates(self) -> None:
+        (block,) = blocks(TOP / "docs/ARCHITECTURE.md", "mermaid")
+        self.assertEqual(block.text, Layers(Repository()).picture())
 
     def test_commands_that_are_not_run_are_there(self) -> None:
         for document in documents():
