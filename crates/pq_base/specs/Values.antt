@@ -49,15 +49,6 @@ room_of type.NullInt = 0
 room_of type.NullBool = 0
 room_of (type.NullText n) = n
 
--- the type without NULL
-abbrev pub plain_type : ColType → ColType
-plain_type type.Int = type.Int
-plain_type type.Bool = type.Bool
-plain_type (type.Text n) = type.Text n
-plain_type type.NullInt = type.Int
-plain_type type.NullBool = type.Bool
-plain_type (type.NullText n) = type.Text n
-
 -- a text's greatest length is of 16 bits
 abbrev pub IsType : ColType → Type 0
 IsType t = room_of t < 2 ^ 16

@@ -1,6 +1,6 @@
 //! Values, rows and their order.
 ghost use Rattle.std.specs.Prelude.{◌≡◌, ◌↔◌, IfOk, IsTrue, All};
-ghost use Rattle.pq_base.specs.Values.{IsValue, IsType, is_null, has_null, kind_of, kind_of_type, is_nullable, room_of, plain_type, is_kind, AreAlike, FitsType, AllFit, fits_type, all_fit};
+ghost use Rattle.pq_base.specs.Values.{IsValue, IsType, is_null, has_null, kind_of, kind_of_type, is_nullable, room_of, is_kind, AreAlike, FitsType, AllFit, fits_type, all_fit};
 ghost use Rattle.pq_base.specs.Order.{value_cmp, position_cmp};
 
 use crate::list::{List, NoMem};
@@ -90,17 +90,6 @@ impl ColType {
         match self {
             ColType::Int | ColType::Bool | ColType::NullInt | ColType::NullBool => 0,
             ColType::Text(most) | ColType::NullText(most) => most,
-        }
-    }
-
-    /// The type without NULL.
-    pub fn plain(self) -> ColType
-        ensures { result ≡ plain_type self }
-    {
-        match self {
-            ColType::Int | ColType::NullInt => ColType::Int,
-            ColType::Bool | ColType::NullBool => ColType::Bool,
-            ColType::Text(most) | ColType::NullText(most) => ColType::Text(most),
         }
     }
 }

@@ -47,7 +47,8 @@ pub record IsFound (tables : List Table) (rows : Rows) (t : ℕ) (key row : List
 
 -- the group of a limit's columns that a row comes into has room; a row with NULL in them comes into none
 abbrev pub HasRoom : ℕ → Rows → List Value → Limit → Type 0
-HasRoom t rows row limit = has_null (cells limit.cols row) ≡ false → length (group_of t limit.cols (cells limit.cols row) rows) < limit.n
+HasRoom t rows row limit = has_null (cells limit.cols row) ≡ false
+    → length (group_of t limit.cols (cells limit.cols row) rows) < limit.n
 
 -- no row names the row of this table with this key
 abbrev pub IsUnreferenced : List Table → Rows → ℕ → List Value → Type 0

@@ -9,25 +9,23 @@ use Rattle.base64.specs.Engines.{url_safe_no_pad}
 use Rattle.base64.specs.GeneralPurpose.{encode_of, decode_of, decoded_of}
 use Rattle.base64.specs.declared.decode.DecodeError.{DecodeError}
 use Rattle.base64.proofs.EngineFacts.{decode_of_strict, decode_of-encode_of}
-use Rattle.pq_base.specs.Values.{AllFit}
+use Rattle.pq_base.specs.Values.{AreValues, AllFit}
 use Rattle.pq_base.specs.declared.value.ColType.{ColType}
 use Rattle.pq_base.specs.declared.value.Dir.{Dir}
 use Rattle.pq_base.specs.declared.value.Value.{Value}
 use Rattle.pq_base.proofs.TypeFits.{value_from_fit}
-use Rattle.pq_key_code.specs.KeyCode.{IsBytes, payload, turned_byte, code_of}
+use Rattle.pq_key_code.specs.KeyCode.{IsBytes, code_of}
 use Rattle.pq_key_code.specs.KeyReading.{key_at}
-use Rattle.pq_key_code.proofs.Order.{IsBytes-append, payload_bytes}
-use Rattle.pq_key_code.proofs.Reading.{IsBytes_at, IsBytes-drop, IsBytes-turned, key_takes, key_again, chosen}
+use Rattle.pq_key_code.proofs.CodeBytes.{code_bytes}
+use Rattle.pq_key_code.proofs.Reading.{IsBytes_at, IsBytes-drop, key_takes, key_again, chosen}
 use Rattle.std.proofs.lemmas.Slice.Eq.{bytes_eq-Decides}
 use Rattle.pq_cursor.specs.Cursors.{IsCursorOf, IsNoCursor, cursor_head, cursor_bytes, cursor_text, position_behind, position_in}
 
--- ---- the code of values that fit is bytes
-code_bytes : (types : List ColType) (dirs : List Dir) (p : List Value) → AllFit types p → IsBytes (code_of dirs p)
-code_bytes types [] p h = tt
-code_bytes types (d ∷ dirs) [] h = tt
-code_bytes [] (d ∷ dirs) (x ∷ p) h = absurd h
-code_bytes (t ∷ types) (d ∷ dirs) (x ∷ p) h =
-    IsBytes-append (16 ∷ map (turned_byte d) (payload x)) (code_of dirs p) (omega arith, IsBytes-turned d (payload x) (payload_bytes x (value_from_fit t x h.0))) (code_bytes types dirs p h.1)
+values_from_fits : (types : List ColType) (p : List Value) → AllFit types p → AreValues p
+values_from_fits [] [] h = tt
+values_from_fits [] (x ∷ p) h = absurd h
+values_from_fits (t ∷ types) [] h = absurd h
+values_from_fits (t ∷ types) (x ∷ p) h = (value_from_fit t x h.0, values_from_fits types p h.1)
 
 -- the bytes of a text that decodes
 decoded : (r : Result (List ℕ) DecodeError) (bytes : List ℕ) → r ≡ Ok bytes → result_ok r ≡ Some bytes
@@ -77,7 +75,7 @@ module _ (number : ℕ) (types : List ColType) (dirs : List Dir) (long : length 
   head_bytes rest fit = (omega arith, (mod-lt (number / 256) (omega arith), (mod-lt number (omega arith), fit)))
 
   fit_bytes : (p : List Value) → AllFit types p → IsBytes (cursor_bytes number dirs p)
-  fit_bytes p fits = head_bytes (code_of dirs p) (code_bytes types dirs p fits)
+  fit_bytes p fits = head_bytes (code_of dirs p) (code_bytes dirs p (values_from_fits types p fits))
 
   -- the cursor of a position is read as it
   pub cursor_again : (p : List Value) → AllFit types p → position_in number types dirs (cursor_text number dirs p) ≡ Some p

@@ -8,7 +8,7 @@ use Rattle.pq_grammar.proofs.Readers.{pair_reads, close_reads, map_reads}
 use Rattle.pq_grammar.proofs.Options.{always, option_reads, rest_reads}
 use Rattle.pq_grammar.proofs.Lists.{one_opens, then_opens, one_shuts, then_shuts, pair_free, skip_free, close_free, same_set, separated_reads}
 use Rattle.pq_grammar.proofs.Choices.{made_reads, choice_reads, listed_reads, begins_with, first_of_then, any_of, not_first, not_second, one_or_other}
-use Rattle.pq_shape.specs.Front.{is_word_shape, is_mark_shape, is_value, word_at, mark_at, name_at, text_at, value_shape_at}
+use Rattle.pq_shape.specs.Front.{is_word_shape, is_mark_shape, is_constant, is_soft_shape, is_value, word_at, mark_at, name_at, text_at, value_shape_at}
 use Rattle.pq_shape.specs.Parts.{word, mark, comma, name, text, a_value}
 use Rattle.pq_shape.proofs.Tokens.{word_reads, mark_reads, name_reads, text_reads, value_reads, value_opens, comma_separated}
 use Rattle.pq_shape.specs.declared.shape.Shape.{Shape}
@@ -138,7 +138,7 @@ listed_values_reads =
     value_opens (not_second (is_mark_shape COMMA) is_value)
 
 between_reads : Reads (λ vs. mark OPEN ⋅ listed_by comma a_value vs ⋅ mark CLOSE) never (skip_at (mark_at OPEN) (close_at listed_values_at (mark_at CLOSE)))
-unfolding is_mark_shape is_value
+unfolding is_mark_shape is_soft_shape is_constant
 between_reads =
     skip_free (mark OPEN) (λ vs. listed_by comma a_value vs ⋅ mark CLOSE) never (mark_at OPEN) _ (mark_reads OPEN)
     (close_reads (listed_by comma a_value) (mark CLOSE) (any_of (is_mark_shape COMMA) is_value) never listed_values_at (mark_at CLOSE) listed_values_reads (mark_reads CLOSE)

@@ -60,7 +60,8 @@ limit_at table place = slice_index_or table.limits place no_limit
 abbrev pub no_room : Table → ℕ → Refusal
 no_room table place = refusal.Cardinality table.name (place + 1) (limit_at table place).n
 
--- the first limit that is touched, at whose columns the values change and none is NULL, and whose group has n rows already
+-- the first limit that is touched, at whose columns the values change and none is NULL, and whose group has n rows
+-- already
 abbrev pub room_refusal : Rows → Scope → Option (List Value) → ℕ → Table → List Value → Option Refusal
 room_refusal rows of old t table row = option_map (no_room table) (position (lacks_room rows of old t row) table.limits)
 

@@ -91,7 +91,7 @@ fn secondary_key(
 
 /// The beginning of the keys of the rows with these values at these columns.
 #[tactic(auto, unfolding(crate::specs::Groups::group_key))]
-fn group_key(
+pub fn group_key(
     alloc: Global,
     number: u8,
     table: &Table,

@@ -48,7 +48,7 @@ fn put_given(
 }
 
 /// The key of the row whose key is the values of this row at the columns.
-pub(crate) fn key_at(alloc: Global, number: u8, cols: &[u8], row: &[Value]) -> Result<Bytes, NoMem>
+pub fn key_at(alloc: Global, number: u8, cols: &[u8], row: &[Value]) -> Result<Bytes, NoMem>
     ensures { IfOk result (λ key. key ≡ row_key number (cells cols.now row.now)) }
 {
     let mut key = row_front(alloc, number)?;
@@ -88,7 +88,7 @@ fn put_left(
 }
 
 /// The key of the row's entry in an index of this number, from 1.
-pub(crate) fn entry_of(
+pub fn entry_of(
     alloc: Global,
     number: u8,
     place: u8,

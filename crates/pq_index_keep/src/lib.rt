@@ -23,6 +23,13 @@ mod writes;
 
 pub use bound::write_bound;
 pub use check::check_write;
-pub use plan::Planned;
-pub use write::{SetCol, Write};
+pub use groups::group_key;
+pub use keys::{entry_of, key_at};
+pub use limits::stays;
+pub use plan::{Planned, table_of};
+pub use references::referenced;
+pub use refusals::{no_parent, no_room};
+pub use rows::{null_at, values_at};
+pub use update::with_sets;
+pub use write::{Scope, SetCol, Write};
 pub use writes::plan_write;

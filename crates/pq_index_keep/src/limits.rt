@@ -27,7 +27,7 @@ use std::alloc::Global;
 use std::sync::ledger::Ledger;
 
 /// Whether the row before had the same values at the columns.
-fn stays(old: &Option<Row>, row: &Row, cols: &[u8]) -> bool
+pub fn stays(old: &Option<Row>, row: &Row, cols: &[u8]) -> bool
     ensures { result ≡ stays old.now row.now cols.now }
 {
     match old {

@@ -36,7 +36,7 @@ pub enum Planned {
 }
 
 /// The table of a write.
-pub(crate) fn table_of(catalog: &Catalog, number: u8) -> &Table
+pub fn table_of(catalog: &Catalog, number: u8) -> &Table
     requires sound { AreWritable catalog.now.tables }
     requires number { IsTableNumber catalog.now.tables number }
     ensures table { result.now ≡ table_at catalog.now.tables number }

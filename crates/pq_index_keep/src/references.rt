@@ -17,7 +17,8 @@ use pq_store::{Broke, Store};
 use std::alloc::Global;
 use std::sync::ledger::Ledger;
 
-fn referenced(alloc: Global, table: &Table, place: usize) -> Result<Refusal, NoMem>
+/// The refusal of a DELETE whose row is named by this foreign key of this table.
+pub fn referenced(alloc: Global, table: &Table, place: usize) -> Result<Refusal, NoMem>
     requires { place < 4 }
     ensures { IfOk result (λ refusal. refusal ≡ referenced_refusal table.now place) }
 {

@@ -27,7 +27,8 @@ use pq_store::{Broke, Store};
 use std::alloc::Global;
 use std::sync::ledger::Ledger;
 
-fn no_parent(alloc: Global, table: &Table, place: usize) -> Result<Refusal, NoMem>
+/// The refusal of a row for which this foreign key of its table finds none.
+pub fn no_parent(alloc: Global, table: &Table, place: usize) -> Result<Refusal, NoMem>
     requires { place < 4 }
     ensures { IfOk result (λ refusal. refusal ≡ no_parent table.now place) }
 {
@@ -37,7 +38,8 @@ fn no_parent(alloc: Global, table: &Table, place: usize) -> Result<Refusal, NoMe
     })
 }
 
-fn no_room(alloc: Global, table: &Table, place: usize) -> Result<Refusal, NoMem>
+/// The refusal of a row whose group by this limit of its table is full.
+pub fn no_room(alloc: Global, table: &Table, place: usize) -> Result<Refusal, NoMem>
     requires limit { place < length table.now.limits }
     requires few { place < 4 }
     ensures { IfOk result (λ refusal. refusal ≡ no_room table.now place) }

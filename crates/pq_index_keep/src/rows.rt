@@ -20,7 +20,7 @@ fn value_of(alloc: Global, row: &[Value], col: u8) -> Result<Value, NoMem>
 }
 
 /// The values at some columns.
-pub(crate) fn values_at(alloc: Global, row: &[Value], cols: &[u8]) -> Result<Row, NoMem>
+pub fn values_at(alloc: Global, row: &[Value], cols: &[u8]) -> Result<Row, NoMem>
     ensures { IfOk result (λ values. values ≡ cells cols.now row.now) }
 {
     let mut values = List::with_room(alloc, cols.len())?;
@@ -72,7 +72,7 @@ fn is_null_at(row: &[Value], col: u8) -> bool
 }
 
 /// Whether the row has NULL at one of the columns.
-pub(crate) fn null_at(cols: &[u8], row: &[Value]) -> bool
+pub fn null_at(cols: &[u8], row: &[Value]) -> bool
     ensures { result ≡ has_null (cells cols.now row.now) }
 {
     match cols.split_first() {

@@ -44,7 +44,7 @@ fn set_value(row: Row, col: u8, value: Value) -> Row
 }
 
 /// The row with the values that are set.
-fn with_sets(alloc: Global, row: &Row, sets: &[SetCol]) -> Result<Row, NoMem>
+pub fn with_sets(alloc: Global, row: &Row, sets: &[SetCol]) -> Result<Row, NoMem>
     requires { All (λ set. set.col < length row.now) sets.now }
     ensures { IfOk result (λ new. new ≡ with_sets sets.now row.now) }
 {

@@ -34,7 +34,7 @@ pub enum Write {
 
 /// The columns that a write gives values: all of them, or those of a set.
 #[derive(Clone, Copy)]
-pub(crate) enum Scope {
+pub enum Scope {
     All,
     Columns(ColSet),
 }
@@ -48,7 +48,7 @@ fn has_any(set: ColSet, cols: &[u8]) -> bool
 
 impl Scope {
     /// Whether some of these columns get a value.
-    pub(crate) fn touches(&self, cols: &[u8]) -> bool
+    pub fn touches(&self, cols: &[u8]) -> bool
         requires { All (λ col. col < 32) cols.now }
         ensures { result ≡ touches self.now cols.now }
     {
@@ -59,7 +59,7 @@ impl Scope {
     }
 
     /// The columns that an UPDATE sets.
-    pub(crate) fn of(sets: &[SetCol]) -> Scope
+    pub fn of(sets: &[SetCol]) -> Scope
         requires { All (λ set. set.col < 32) sets.now }
         ensures { result ≡ scope_of sets.now }
     {

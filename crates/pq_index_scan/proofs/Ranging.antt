@@ -147,8 +147,8 @@ module _ (tables : List Table) (query : Query) (params : List Value) (given : Is
         let values = tied_cells q range.rel own.cols input in
         let few = each_in (IsWithinLimit t rows) table.limits (keeps.limits t number) own (at_in table.limits (range.limit - 1) no_limit (omega arith)) values cells_plain in
         let same = ap (λ (l : List (List Value)). length l)
-            (matching_group tables query rows params given.resolved given.params_fit range.rel input fits keeps.schema own.cols (within_tied query range.rel own.cols is.ready.is.tied)
-            ∙ ap (λ (b : Bool). cond b [] (group_of t own.cols values rows)) cells_plain) in
+        (matching_group tables query rows params given.resolved given.params_fit range.rel input fits keeps.schema own.cols (within_tied query range.rel own.cols is.ready.is.tied)
+        ∙ ap (λ (b : Bool). cond b [] (group_of t own.cols values rows)) cells_plain) in
         omega (arith, few, same)
 
     -- and they are those of the range

@@ -1,4 +1,5 @@
 pub mod Bytes
+pub mod CodeBytes
 pub mod Escapes
 pub mod Order
 pub mod Loop

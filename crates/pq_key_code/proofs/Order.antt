@@ -186,18 +186,18 @@ behind d x = map (turned_byte d) (payload x)
 
 pub component_apart : (d : Dir) (x y : Value) → IsValue x → IsValue y → SameKind x y → Apart (component d x) (component d y)
 component_apart d x y f g k = elim (marked d x) [
-    | inl n ↦ subst (λ (v : Value). Apart (component d v) (component d y)) (sym n) (from_null y)
-    | inr p ↦ elim (marked d y) [
-      | inl n ↦ λ e. absurd (null_apart d (ap (marker d) (sym n) ∙ sym e ∙ p.1))
-      | inr q ↦ λ _. turned_apart d (payload x) (payload y) (payload_bytes x f) (payload_bytes y g) (payload_apart x y (p.0, q.0) k)
-    ]
+  | inl n ↦ subst (λ (v : Value). Apart (component d v) (component d y)) (sym n) (from_null y)
+  | inr p ↦ elim (marked d y) [
+    | inl n ↦ λ e. absurd (null_apart d (ap (marker d) (sym n) ∙ sym e ∙ p.1))
+    | inr q ↦ λ _. turned_apart d (payload x) (payload y) (payload_bytes x f) (payload_bytes y g) (payload_apart x y (p.0, q.0) k)
   ]
+]
   where
     from_null : (v : Value) → Apart (component d values.Null) (component d v)
     from_null v = elim (marked d v) [
-        | inl n ↦ subst (λ (v : Value). Apart (component d values.Null) (component d v)) (sym n) (λ _. tt)
-        | inr q ↦ λ e. absurd (null_apart d (e ∙ q.1))
-      ]
+      | inl n ↦ subst (λ (v : Value). Apart (component d values.Null) (component d v)) (sym n) (λ _. tt)
+      | inr q ↦ λ e. absurd (null_apart d (e ∙ q.1))
+    ]
 
 then_other : (o r : Ordering) → (o ≡ Equal → ⊥) → ordering_then o r ≡ o
 then_other Less r n = refl
@@ -220,28 +220,28 @@ then_done Greater = refl
 -- the bytes of two components are ordered as the values
 one_cmp : (d : Dir) (x y : Value) → IsValue x → IsValue y → SameKind x y → slice_cmp nat_cmp (component d x) (component d y) ≡ directed_order d (value_cmp x y)
 one_cmp d x y f g k = elim (marked d x) [
-    | inl n ↦ subst (λ (v : Value). slice_cmp nat_cmp (component d v) (component d y) ≡ directed_order d (value_cmp v y)) (sym n) (from_null y)
-    | inr p ↦ elim (marked d y) [
-      | inl n ↦ subst (λ (v : Value). slice_cmp nat_cmp (component d x) (component d v) ≡ directed_order d (value_cmp x v)) (sym n) (
-          ap (λ (m : ℕ). ordering_then (nat_cmp m (null_marker d)) (slice_cmp nat_cmp (behind d x) [])) p.1
-          ∙ then_other (nat_cmp 16 (null_marker d)) (slice_cmp nat_cmp (behind d x) []) (unequal d).1
-          ∙ (null_below d x p.0).1)
-      | inr q ↦
-          ap (λ (m : ℕ). ordering_then (nat_cmp m (marker d y)) (slice_cmp nat_cmp (behind d x) (behind d y))) p.1
-          ∙ ap (λ (m : ℕ). ordering_then (nat_cmp 16 m) (slice_cmp nat_cmp (behind d x) (behind d y))) q.1
-          ∙ turned_cmp d (payload x) (payload y) (payload_bytes x f) (payload_bytes y g) (payload_apart x y (p.0, q.0) k)
-          ∙ ap (directed_order d) (payload_cmp x y (p.0, q.0) f g k)
-    ]
+  | inl n ↦ subst (λ (v : Value). slice_cmp nat_cmp (component d v) (component d y) ≡ directed_order d (value_cmp v y)) (sym n) (from_null y)
+  | inr p ↦ elim (marked d y) [
+    | inl n ↦ subst (λ (v : Value). slice_cmp nat_cmp (component d x) (component d v) ≡ directed_order d (value_cmp x v)) (sym n) (
+        ap (λ (m : ℕ). ordering_then (nat_cmp m (null_marker d)) (slice_cmp nat_cmp (behind d x) [])) p.1
+        ∙ then_other (nat_cmp 16 (null_marker d)) (slice_cmp nat_cmp (behind d x) []) (unequal d).1
+        ∙ (null_below d x p.0).1)
+    | inr q ↦
+        ap (λ (m : ℕ). ordering_then (nat_cmp m (marker d y)) (slice_cmp nat_cmp (behind d x) (behind d y))) p.1
+        ∙ ap (λ (m : ℕ). ordering_then (nat_cmp 16 m) (slice_cmp nat_cmp (behind d x) (behind d y))) q.1
+        ∙ turned_cmp d (payload x) (payload y) (payload_bytes x f) (payload_bytes y g) (payload_apart x y (p.0, q.0) k)
+        ∙ ap (directed_order d) (payload_cmp x y (p.0, q.0) f g k)
   ]
+]
   where
     from_null : (v : Value) → slice_cmp nat_cmp (component d values.Null) (component d v) ≡ directed_order d (value_cmp values.Null v)
     from_null v = elim (marked d v) [
-        | inl n ↦ subst (λ (v : Value). slice_cmp nat_cmp (component d values.Null) (component d v) ≡ directed_order d (value_cmp values.Null v)) (sym n) (then_done (nat_cmp (null_marker d) (null_marker d)) ∙ null_itself d)
-        | inr q ↦
-            ap (λ (m : ℕ). ordering_then (nat_cmp (null_marker d) m) (slice_cmp nat_cmp [] (behind d v))) q.1
-            ∙ then_other (nat_cmp (null_marker d) 16) (slice_cmp nat_cmp [] (behind d v)) (unequal d).0
-            ∙ (null_below d v q.0).0
-      ]
+      | inl n ↦ subst (λ (v : Value). slice_cmp nat_cmp (component d values.Null) (component d v) ≡ directed_order d (value_cmp values.Null v)) (sym n) (then_done (nat_cmp (null_marker d) (null_marker d)) ∙ null_itself d)
+      | inr q ↦
+          ap (λ (m : ℕ). ordering_then (nat_cmp (null_marker d) m) (slice_cmp nat_cmp [] (behind d v))) q.1
+          ∙ then_other (nat_cmp (null_marker d) 16) (slice_cmp nat_cmp [] (behind d v)) (unequal d).0
+          ∙ (null_below d v q.0).0
+    ]
 
 -- the bytes after two components decide only where the values are equal
 pub component_cmp : (d : Dir) (x y : Value) (r s : List ℕ) → IsValue x → IsValue y → SameKind x y → slice_cmp nat_cmp (component d x ++ r) (component d y ++ s) ≡ ordering_then (directed_order d (value_cmp x y)) (slice_cmp nat_cmp r s)

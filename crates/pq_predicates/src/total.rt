@@ -112,9 +112,7 @@ fn some_ties(
     ensures { result ≡ list_any (λ one. one.table == number && have_no_null columns.now one.cols
         && is_whole query.now rel earlier (zip one.cols key.now)) foreign.now }
 {
-    foreign
-        .iter()
-        .any(|one| ties_by(one, columns, query, rel, earlier, number, key))
+    foreign.iter().any(|one| ties_by(one, columns, query, rel, earlier, number, key))
 }
 
 fn is_tied(catalog: &Catalog, query: &Query, rel: u8, earlier: u8) -> bool

@@ -18,6 +18,7 @@ mod value;
 pub use canonical::print_definition;
 pub use print::{print_damage, print_opening, print_report};
 pub use query::print_query;
+pub use refusal::put_refusal;
 pub use report::{End, IndexCol, Line, Opened, Report};
 pub use table::print_table;
 pub use value::print_row;

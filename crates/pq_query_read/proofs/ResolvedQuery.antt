@@ -188,9 +188,11 @@ column_of tables query ref i = record { from_one = i.from_one; there = i.there; 
 -- the operand of a predicate of the query
 side_of : (tables : List Table) (query : Query) (preds : List Pred) → params_of (uses tables query.relations preds) ≡ Ok query.params → (pred : Pred) → In pred preds → (right : Operand) → pred.right ≡ right → IsSide tables query.relations pred.op pred.left right → IsOperand tables query pred right
 side_of tables query preds is pred i (operand.Const v) at fits = fits
-side_of tables query preds is pred i (operand.Param number) at u = (u,
-    param_is tables query.relations preds query.params is pred.left number
-    (made_in (λ (p : Pred). use_in tables query.relations p.left p.right) pred (record { number = number; ty = param_type (type_of tables query.relations pred.left) }) preds i (ap (use_in tables query.relations pred.left) at)))
+side_of tables query preds is pred i (operand.Param number) at u = (
+  u,
+  param_is tables query.relations preds query.params is pred.left number
+      (made_in (λ (p : Pred). use_in tables query.relations p.left p.right) pred (record { number = number; ty = param_type (type_of tables query.relations pred.left) }) preds i (ap (use_in tables query.relations pred.left) at)),
+)
 side_of tables query preds is pred i (operand.Col col) at join =
     record { equal = join.equal; column = column_of tables query col join.column; earlier = join.earlier; kind = join.kind }
 

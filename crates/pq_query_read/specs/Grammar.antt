@@ -40,6 +40,7 @@ relation r = name r.table ⋅ optional alias r.alias
 abbrev pub comma_or_join : List Shape → Type 0
 comma_or_join w = comma w ⊎ word JOIN w
 
+-- the mark of a comparison; IS NULL has none, and no mark is 0
 abbrev pub operator : Op → ℕ
 operator op.Eq = EQUAL
 operator op.Ne = UNEQUAL
@@ -68,7 +69,8 @@ compare op.IsNull (operand.Ref r) = λ w. ⊥
 
 -- IS NULL
 abbrev pub null_test : Op × OperandDef → List Shape → Type 0
-null_test = made_from (λ (u : Unit {0}). (op.IsNull, operand.Const value.Null)) (λ u. soft soft_word.Is ⋅ soft soft_word.Null)
+null_test = made_from (λ (u : Unit {0}). (op.IsNull, operand.Const value.Null))
+    (λ u. soft soft_word.Is ⋅ soft soft_word.Null)
 
 -- a comparison by an operator with a mark, or IS NULL
 abbrev pub comparison : Op × OperandDef → List Shape → Type 0

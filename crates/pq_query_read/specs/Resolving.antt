@@ -85,10 +85,11 @@ module _ (tables : List Table) (relations : List Relation) where
   operand_of (operand_def.Param number) = Ok (operand.Param (param_number number))
   operand_of (operand_def.Ref def) = ref_of tables relations def >>= λ ref. Ok (operand.Col ref)
 
-  -- NULL behind IS NULL; a constant of the column's kind, a text of at most 1,000 bytes; any parameter; a column of its kind and of
-  -- another relation
+  -- NULL behind IS NULL; a constant of the column's kind, a text of at most 1,000 bytes; any parameter; a column of
+  -- its kind and of another relation
   abbrev pub is_comparable : Op → ColRef → Operand → Bool
-  is_comparable op left (operand.Const value) = is_null_test op || fits_type (param_type (type_of tables relations left)) value
+  is_comparable op left (operand.Const value) =
+      is_null_test op || fits_type (param_type (type_of tables relations left)) value
   is_comparable op left (operand.Param number) = true
   is_comparable op left (operand.Col right) =
       not (right.rel == left.rel) && same_kind (type_of tables relations left) (type_of tables relations right)

@@ -64,8 +64,8 @@ fn operand(
     }
 }
 
-/// Whether the column may be compared with the operand: NULL behind IS NULL, a constant of its kind, any parameter, or a column of
-/// its kind and of another relation.
+/// Whether the column may be compared with the operand: NULL behind IS NULL, a constant of its kind, any
+/// parameter, or a column of its kind and of another relation.
 fn is_comparable(
     catalog: &Catalog,
     relations: &[Relation],
@@ -80,8 +80,7 @@ fn is_comparable(
 {
     match right {
         Operand::Const(value) => {
-            matches!(op, Op::IsNull)
-                || fits(value, param_type(type_of(catalog, relations, left)))
+            matches!(op, Op::IsNull) || fits(value, param_type(type_of(catalog, relations, left)))
         }
         Operand::Param(_) => true,
         Operand::Col(right) => {

@@ -81,7 +81,12 @@ pub fn encode_row(alloc: Global, row: &Row) -> Result<Bytes, NoMem>
     ensures { IfOk result (λ code. code ≡ row_code row.now) }
 {
     let mut code = Bytes::with_room(alloc, row_code_len(row) as usize)?;
-    put_front(alloc, &mut code, row.items().len() as u8, null_marks(row.items()))?;
+    put_front(
+        alloc,
+        &mut code,
+        row.items().len() as u8,
+        null_marks(row.items()),
+    )?;
     for value in row.items() {
         put_field(alloc, &mut code, value)?;
     }

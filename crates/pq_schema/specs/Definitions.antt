@@ -34,7 +34,7 @@ abbrev pub cardinality : ℤ → Option ℕ
 cardinality (pos n) = if nat_le 1 n && nat_le n 10000 then Some n else None
 cardinality (negsuc n) = None
 
--- the type that NULL is of besides, where asked
+-- the type, with NULL where the column is nullable
 abbrev pub with_null : Bool → ColType → ColType
 with_null false t = t
 with_null true type.Int = type.NullInt
@@ -100,7 +100,7 @@ is_nullable_name columns name = is_nullable (type_at columns (place_of columns n
 abbrev pub nullable_key : List ℕ → Refusal
 nullable_key name = refusal.NullableKey name
 
--- a name of a nullable column
+-- the first name of a nullable column
 abbrev pub nullable_refusal : List Column → List (List ℕ) → Option Refusal
 nullable_refusal columns names = option_map nullable_key (find (is_nullable_name columns) names)
 

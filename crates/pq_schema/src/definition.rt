@@ -2,7 +2,7 @@
 
 use pq_base::{List, PText};
 
-/// A column: its kind is INT, BOOL or TEXT, its size is that of TEXT, else 0, and NULL may be of it.
+/// A column: its kind is INT, BOOL or TEXT, and its size is that of TEXT, else 0.
 #[derive(Debug, Drop)]
 pub struct ColumnDef {
     pub name: PText,
@@ -11,7 +11,7 @@ pub struct ColumnDef {
     pub nullable: bool,
 }
 
-/// A limit: at most n rows agree on the columns.
+/// A limit: at most n rows without NULL in the columns agree on them.
 #[derive(Debug, Drop)]
 pub struct LimitDef {
     pub n: i64,

@@ -15,7 +15,7 @@ pub struct Column {
     pub ty: ColType,
 }
 
-/// At most `n` rows agree on the columns.
+/// At most `n` rows without NULL in the columns agree on them.
 #[derive(Debug, Drop)]
 pub struct Limit {
     pub n: u32,

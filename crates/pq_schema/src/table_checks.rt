@@ -48,7 +48,7 @@ pub(crate) fn cardinality(n: i64) -> Option<u32>
     }
 }
 
-/// The type that NULL is of besides, where asked.
+/// The type, with NULL where the column is nullable.
 fn with_null(nullable: bool, ty: ColType) -> ColType
     ensures { result ≡ with_null nullable ty }
 {

@@ -7,13 +7,11 @@ use Rattle.std.proofs.lemmas.List.Elements.{All-cons, All-nil}
 use Rattle.std.proofs.Math.Seq.{take-length}
 use Rattle.pq_base.specs.Members.{In}
 use Rattle.pq_base.specs.Values.{AreValues}
-use Rattle.pq_base.specs.declared.value.Dir.{Dir}
 use Rattle.pq_base.specs.declared.value.Dir.TheVariants.{Asc}
 use Rattle.pq_base.specs.declared.value.Value.{Value}
 use Rattle.pq_base.proofs.Members.{in_filter, in_from_contains}
-use Rattle.pq_key_code.specs.KeyCode.{IsBytes, catalog_key, code_of, payload, row_key, turned_byte}
-use Rattle.pq_key_code.proofs.Order.{IsBytes-append, payload_bytes}
-use Rattle.pq_key_code.proofs.Reading.{IsBytes-turned}
+use Rattle.pq_key_code.specs.KeyCode.{IsBytes, catalog_key, code_of, row_key}
+use Rattle.pq_key_code.proofs.CodeBytes.{code_bytes}
 use Rattle.pq_schema.specs.Rows.{IsTableNumber, types_of}
 use Rattle.pq_schema.specs.Schema.{Schema}
 use Rattle.pq_schema.specs.Tables.{table_at}
@@ -42,13 +40,6 @@ use Rattle.pq_builds.specs.declared.target.NewQuery.{NewQuery}
 use Rattle.pq_session.specs.Evidence.{TellsEvidence}
 
 -- ---- bytes
-
--- the code of values is bytes
-code_bytes : (dirs : List Dir) (values : List Value) → AreValues values → IsBytes (code_of dirs values)
-code_bytes [] values known = tt
-code_bytes (d ∷ dirs) [] known = tt
-code_bytes (d ∷ dirs) (x ∷ values) known =
-    IsBytes-append (16 ∷ map (turned_byte d) (payload x)) (code_of dirs values) (omega arith, IsBytes-turned d (payload x) (payload_bytes x known.0)) (code_bytes dirs values known.1)
 
 row_key_bytes : (t : ℕ) (values : List Value) → t < 256 → AreValues values → IsBytes (row_key t values)
 row_key_bytes t values low known = (omega arith, (low, code_bytes (replicate (length values) Asc) values known))

@@ -119,6 +119,13 @@ impl Session {
         }
     }
 
+    /// The catalog of its definitions.
+    pub fn catalog(&self) -> &Catalog
+        ensures { result.now ≡ self.now }
+    {
+        &self.catalog
+    }
+
     /// Opens a store: what an intent left is made whole, the catalog is read by one range, and a build
     /// that was left is completed. The first pair that is no definition's is damage, and so is an intent
     /// that is none, and what stops the completion.

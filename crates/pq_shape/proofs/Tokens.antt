@@ -1,13 +1,12 @@
 -- Each reader of one token reads what that token spells.
-use Rattle.std.proofs.Common.{◌≡◌, ℕ, ℤ, pos, Bool, true, false, cond, eqb, eq-eqb, List, [], Some, None, refl, sym, ap, codes, ◌∙◌}
-use Rattle.std.specs.Str.{bytes_eq}
+use Rattle.std.proofs.Common.{◌≡◌, ℕ, ℤ, pos, Bool, true, false, cond, eqb, eq-eqb, List, [], ◌∷◌, Option, Some, None, Ok, refl, sym, ap, ◌∙◌}
 use Rattle.std.proofs.lemmas.Bool.{eqb-true, false≢true}
 use Rattle.std.proofs.lemmas.Slice.Eq.{bytes_eq-Decides}
 use Rattle.pq_base.specs.Values.{is_null}
 use Rattle.pq_base.specs.declared.value.Value.{Value}
 use Rattle.pq_base.specs.declared.value.Value.TheVariants as value
 use Rattle.pq_grammar.specs.Language.{one, separated_by}
-use Rattle.pq_grammar.specs.Reader.{Reader, begins, separated_at}
+use Rattle.pq_grammar.specs.Reader.{Reader, ◌>>=◌, begins, picked_token, map_at, choice_at, separated_at}
 use Rattle.pq_grammar.proofs.Steps.{Reads, never, begins-never}
 use Rattle.pq_grammar.proofs.Readers.{one_reads, part_reads}
 use Rattle.pq_grammar.proofs.Lists.{one_opens, same_set, separated_reads}
@@ -17,6 +16,7 @@ use Rattle.pq_shape.specs.Parts.{word, soft, mark, comma, name, number, text, a_
 use Rattle.pq_shape.specs.declared.keyword.TheConstants.{FALSE, TRUE}
 use Rattle.pq_shape.specs.declared.mark.TheConstants.{COMMA}
 use Rattle.pq_shape.specs.declared.soft.Soft.{Soft}
+use Rattle.pq_shape.specs.declared.soft.Soft.TheVariants as soft_word
 use Rattle.pq_shape.specs.declared.shape.Shape.{Shape}
 use Rattle.pq_shape.specs.declared.shape.Shape.TheVariants as shape
 
@@ -109,7 +109,7 @@ soft_reads s = test_reads (is_soft_shape s) (shape.Name (soft_name s)) (soft_pas
 
 -- the one token of a value
 value_token : Value → Shape
-value_token value.Null = shape.Name (codes "null")
+value_token value.Null = shape.Name (soft_name soft_word.Null)
 value_token (value.Int z) = shape.Number z
 value_token (value.Text t) = shape.Text t
 value_token (value.Bool true) = shape.Keyword TRUE
@@ -123,55 +123,6 @@ unfolding value_token
 truth_is j true c v e f h = ap (λ (i : ℕ). shape.Keyword i) (eqb-true j TRUE e) ∙ ap value_token (some_is (value.Bool true) v h)
 truth_is j false true v e f h = ap (λ (i : ℕ). shape.Keyword i) (eqb-true j FALSE f) ∙ ap value_token (some_is (value.Bool false) v h)
 truth_is j false false v e f h = absurd cc
-
-null_back : (n : List ℕ) (b : Bool) (v : Value) → bytes_eq n (codes "null") ≡ b → cond b (Some value.Null) None ≡ Some v → shape.Name n ≡ value_token v
-unfolding value_token
-null_back n true v e h = ap (λ (m : List ℕ). shape.Name m) ((bytes_eq-Decides n (codes "null")).0 e) ∙ ap value_token (some_is value.Null v h)
-null_back n false v e h = absurd cc
-
-value_back : (t : Shape) (v : Value) → value_in t ≡ Some v → t ≡ value_token v
-unfolding value_in truth_of value_token
-value_back (shape.Number z) v e = let h : value.Int z ≡ v = cc in ap value_token h
-value_back (shape.Text t) v e = let h : value.Text t ≡ v = cc in ap value_token h
-value_back (shape.Keyword j) v e = truth_is j (eqb j TRUE) (eqb j FALSE) v refl refl e
-value_back (shape.Name n) v e = null_back n (bytes_eq n (codes "null")) v refl e
-value_back (shape.Mark j) v e = absurd cc
-value_back shape.Other v e = absurd cc
-
-value_forth : (v : Value) → value_in (value_token v) ≡ Some v
-unfolding value_in truth_of value_token
-value_forth value.Null = ap (λ b. cond b (Some value.Null) None) ((bytes_eq-Decides (codes "null") (codes "null")).1 refl)
-value_forth (value.Int z) = refl
-value_forth (value.Text t) = refl
-value_forth (value.Bool true) = refl
-value_forth (value.Bool false) = refl
-
-value_set : (v : Value) (w : List Shape) → one (value_token v) w → a_value v w
-unfolding value_token
-value_set value.Null w h = h
-value_set (value.Int z) w h = h
-value_set (value.Text t) w h = h
-value_set (value.Bool true) w h = h
-value_set (value.Bool false) w h = h
-
-value_unset : (v : Value) (w : List Shape) → a_value v w → one (value_token v) w
-unfolding value_token
-value_unset value.Null w h = h
-value_unset (value.Int z) w h = h
-value_unset (value.Text t) w h = h
-value_unset (value.Bool true) w h = h
-value_unset (value.Bool false) w h = h
-
-pub value_reads : Reads a_value never value_shape_at
-value_reads = same_set (λ v. one (value_token v)) a_value never value_shape_at value_set value_unset (one_reads value_in value_token (value.Bool true) value_back value_forth)
-
-pub value_opens : (v : Value) (w : List Shape) → a_value v w → begins is_value w ≡ true
-unfolding is_value
-value_opens value.Null w h = one_opens is_value (shape.Name (codes "null")) ((bytes_eq-Decides (codes "null") (codes "null")).1 refl) w h
-value_opens (value.Int z) w h = one_opens is_value (shape.Number z) refl w h
-value_opens (value.Text t) w h = one_opens is_value (shape.Text t) refl w h
-value_opens (value.Bool true) w h = one_opens is_value (shape.Keyword TRUE) refl w h
-value_opens (value.Bool false) w h = one_opens is_value (shape.Keyword FALSE) refl w h
 
 -- ---- constants
 
@@ -235,6 +186,66 @@ constant_opens (value.Int z) w h = one_opens is_constant (shape.Number z) refl w
 constant_opens (value.Text t) w h = one_opens is_constant (shape.Text t) refl w h
 constant_opens (value.Bool true) w h = one_opens is_constant (shape.Keyword TRUE) refl w h
 constant_opens (value.Bool false) w h = one_opens is_constant (shape.Keyword FALSE) refl w h
+
+-- ---- values
+
+null_or : (t : Shape) (b : Bool) (v : Value) → is_soft_shape soft_word.Null t ≡ b → cond b (Some value.Null) (constant_in t) ≡ Some v → t ≡ value_token v
+unfolding value_token
+null_or t true v e h = soft_is soft_word.Null t e ∙ ap value_token (some_is value.Null v h)
+null_or t false v e h = constant_back t v h
+
+value_back : (t : Shape) (v : Value) → value_in t ≡ Some v → t ≡ value_token v
+value_back t v e = null_or t (is_soft_shape soft_word.Null t) v refl e
+
+value_forth : (v : Value) → value_in (value_token v) ≡ Some v
+unfolding value_token is_soft_shape constant_in truth_of
+value_forth value.Null = ap (λ b. cond b (Some value.Null) None) (soft_passes soft_word.Null)
+value_forth (value.Int z) = refl
+value_forth (value.Text t) = refl
+value_forth (value.Bool true) = refl
+value_forth (value.Bool false) = refl
+
+value_set : (v : Value) (w : List Shape) → one (value_token v) w → a_value v w
+unfolding value_token
+value_set value.Null w h = h
+value_set (value.Int z) w h = h
+value_set (value.Text t) w h = h
+value_set (value.Bool true) w h = h
+value_set (value.Bool false) w h = h
+
+value_unset : (v : Value) (w : List Shape) → a_value v w → one (value_token v) w
+unfolding value_token
+value_unset value.Null w h = h
+value_unset (value.Int z) w h = h
+value_unset (value.Text t) w h = h
+value_unset (value.Bool true) w h = h
+value_unset (value.Bool false) w h = h
+
+pub value_reads : Reads a_value never value_shape_at
+value_reads = same_set (λ v. one (value_token v)) a_value never value_shape_at value_set value_unset (one_reads value_in value_token (value.Bool true) value_back value_forth)
+
+or_true : (b : Bool) → cond b true true ≡ true
+or_true true = refl
+or_true false = refl
+
+constant_is_value : (w : List Shape) → begins is_constant w ≡ true → begins is_value w ≡ true
+constant_is_value [] e = e
+constant_is_value (t ∷ w) e = ap (λ (b : Bool). cond (is_soft_shape soft_word.Null t) true b) e ∙ or_true (is_soft_shape soft_word.Null t)
+
+pub value_opens : (v : Value) (w : List Shape) → a_value v w → begins is_value w ≡ true
+value_opens value.Null w h = one_opens is_value (shape.Name (soft_name soft_word.Null)) (ap (λ b. cond b true (is_constant (shape.Name (soft_name soft_word.Null)))) (soft_passes soft_word.Null)) w h
+value_opens (value.Int z) w h = constant_is_value w (constant_opens (value.Int z) w h)
+value_opens (value.Text t) w h = constant_is_value w (constant_opens (value.Text t) w h)
+value_opens (value.Bool b) w h = constant_is_value w (constant_opens (value.Bool b) w h)
+
+chosen_token : (b : Bool) (o : Option Value) (ts : List Shape) → picked_token (cond b (Some value.Null) o) ts ≡ cond b (map_at (λ u. value.Null) (λ rest. picked_token {X = Unit {0}} (cond b (Some tt) None) rest) ts) (picked_token o ts)
+chosen_token true o ts = refl
+chosen_token false o ts = refl
+
+-- a value is NULL, where it comes, or a constant
+pub value_chosen : (ts : List Shape) → value_shape_at ts ≡ choice_at (is_soft_shape soft_word.Null) (map_at (λ u. value.Null) (soft_at soft_word.Null)) constant_shape_at ts
+value_chosen [] = refl
+value_chosen (t ∷ ts) = chosen_token (is_soft_shape soft_word.Null t) (constant_in t) ts
 
 -- ---- lists with commas
 

@@ -94,21 +94,11 @@ is_constant (shape.Mark c) = false
 is_constant shape.Other = false
 
 -- a constant, or NULL
-unfoldable pub value_in : Shape → Option Value
-value_in (shape.Number z) = Some (value.Int z)
-value_in (shape.Text t) = Some (value.Text t)
-value_in (shape.Keyword k) = truth_of k
-value_in (shape.Name n) = if bytes_eq n (codes "null") then Some value.Null else None
-value_in (shape.Mark c) = None
-value_in shape.Other = None
+abbrev pub value_in : Shape → Option Value
+value_in s = if is_soft_shape soft_word.Null s then Some value.Null else constant_in s
 
-unfoldable pub is_value : Shape → Bool
-is_value (shape.Number z) = true
-is_value (shape.Text t) = true
-is_value (shape.Keyword k) = if k == TRUE then true else k == FALSE
-is_value (shape.Name n) = bytes_eq n (codes "null")
-is_value (shape.Mark c) = false
-is_value shape.Other = false
+abbrev pub is_value : Shape → Bool
+is_value s = if is_soft_shape soft_word.Null s then true else is_constant s
 
 abbrev pub is_between : Between → Shape → Bool
 is_between between.Comma t = is_mark_shape COMMA t

@@ -1,8 +1,10 @@
--- The words that the keywords' constants name, and the marks.
+-- The words that the keywords' constants name, the soft words, and the marks.
 use Rattle.std.specs.Prelude.{◌≡◌, ℕ, List, [], ◌∷◌, Some, map, codes, slice_get}
-use Rattle.pq_base.specs.Words.{keywords}
-use Rattle.pq_shape.specs.Shapes.{mark_code}
+use Rattle.pq_base.specs.Words.{keywords, softs}
+use Rattle.pq_shape.specs.Front.{soft_name}
+use Rattle.pq_shape.specs.Shapes.{mark_code, lowercase_bytes}
 use Rattle.pq_shape.specs.declared.keyword.TheConstants.{AFTER, AND, AS, ASC, BOOL, BY, CARDINALITY, CREATE, DELETE, DESC, EXPLAIN, FALSE, FOREIGN, FROM, INSERT, INT, INTO, JOIN, KEY, LIMIT, ORDER, PAGINATE, PREPARE, PRIMARY, REFERENCES, RUN, SELECT, SET, SHOW, TABLE, TEXT, TRUE, UPDATE, VALUES, WHERE}
+use Rattle.pq_shape.specs.declared.soft.Soft.TheVariants as soft_word
 use Rattle.pq_shape.specs.declared.mark.TheConstants.{CLOSE, CLOSE_SQUARE, COLON, COMMA, EQUAL, GREATER, GREATER_EQUAL, LESS, LESS_EQUAL, OPEN, OPEN_SQUARE, POINT, SEMICOLON, STAR, UNEQUAL}
 
 abbrev pub words : List (ℕ × List ℕ)
@@ -68,3 +70,7 @@ NamesWords = map (λ p. slice_get keywords p.0) words ≡ map (λ p. Some p.1) w
 -- each constant is the code of its mark
 abbrev pub NamesMarks : Type 0
 NamesMarks = map (λ p. mark_code p.1) marks ≡ map (λ p. p.0) marks
+
+-- each soft word is the name that has the letters of a word of the table
+abbrev pub NamesSoftWords : Type 0
+NamesSoftWords = map soft_name (soft_word.Is ∷ soft_word.Null ∷ []) ≡ map lowercase_bytes softs

@@ -46,7 +46,6 @@ a_constant (value.Bool false) = word FALSE
 -- a constant, or NULL
 abbrev pub a_value : Value → List Shape → Type 0
 a_value value.Null = soft soft_word.Null
-a_value (value.Int z) = number z
-a_value (value.Text t) = text t
-a_value (value.Bool true) = word TRUE
-a_value (value.Bool false) = word FALSE
+a_value (value.Int z) = a_constant (value.Int z)
+a_value (value.Text t) = a_constant (value.Text t)
+a_value (value.Bool b) = a_constant (value.Bool b)

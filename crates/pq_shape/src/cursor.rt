@@ -107,19 +107,10 @@ impl<'a> Cursor<'a> {
     }
 
     /// Whether the next token is a value: a constant, or NULL.
-    #[tactic(auto, unfolding(crate::specs::Front::is_value))]
     pub fn is_value(&self) -> bool
         ensures { result ≡ begins is_value self.now }
     {
-        match self.rest {
-            [shape, ..] => match shape {
-                Shape::Number(_) | Shape::Text(_) => true,
-                Shape::Keyword(place) => *place == TRUE || *place == FALSE,
-                Shape::Name(name) => name.bytes() == b"null".as_slice(),
-                _ => false,
-            },
-            [] => false,
-        }
+        self.is_soft(Soft::Null) || self.is_constant()
     }
 
     /// Whether the next token stands between the parts of such a list.
@@ -259,25 +250,15 @@ impl<'a> Cursor<'a> {
     }
 
     /// Reads a value: a constant, or NULL.
-    #[tactic(auto, unfolding(crate::specs::Front::value_in, crate::specs::Front::truth_of))]
+    #[tactic(auto, using(crate::proofs::Tokens::value_chosen))]
     pub fn value(&mut self, alloc: Global) -> Result<Value, ReadError>
         ensures { Gives (λ x. (x, self.new)) result (value_shape_at self.old) }
     {
-        match self.rest {
-            [shape, rest @ ..] => {
-                let value = match shape {
-                    Shape::Number(number) => Value::Int(*number),
-                    Shape::Text(text) => Value::Text(text.copy(alloc)?),
-                    Shape::Keyword(place) if *place == TRUE => Value::Bool(true),
-                    Shape::Keyword(place) if *place == FALSE => Value::Bool(false),
-                    Shape::Name(name) if name.bytes() == b"null".as_slice() => Value::Null,
-                    _ => return Err(ReadError::Stuck(self.rest.len())),
-                };
-                self.rest = rest;
-                Ok(value)
-            }
-            [] => Err(ReadError::Stuck(0)),
+        if self.is_soft(Soft::Null) {
+            self.soft(Soft::Null)?;
+            return Ok(Value::Null);
         }
+        self.constant(alloc)
     }
 
     /// Reads what stands between the parts of such a list.

@@ -85,10 +85,7 @@ const NO_ROWS: [(&[ColType], &[u8]); 14] = [
     (&[ColType::Text(9)], &[0x01, 0x00, 0x01, 0xFF]),
     // NULL in a column that isn't nullable, no NULL at all, one behind the last column, and short marks.
     (&[ColType::Bool], &[0x41, 0x00, 0x00, 0x00, 0x01]),
-    (
-        &[ColType::NullBool],
-        &[0x41, 0x00, 0x00, 0x00, 0x00, 0x01],
-    ),
+    (&[ColType::NullBool], &[0x41, 0x00, 0x00, 0x00, 0x00, 0x01]),
     (&[ColType::NullBool], &[0x41, 0x00, 0x00, 0x00, 0x03]),
     (&[ColType::NullBool], &[0x41, 0x00, 0x00, 0x01]),
     // A NULL with a further byte.
