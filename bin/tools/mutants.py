@@ -57,6 +57,17 @@ def gather(copy: Repository, crate: str) -> int:
     return len(edits)
 
 
+def is_proved(crate: str, room: pathlib.Path) -> bool:
+    """Whether a crate is proved as it stands: over one that isn't, no refusal shows anything."""
+    folder = room / "crates" / crate
+    words = ["rt", "check" if (folder / "src" / "main.rt").exists() else "lib", "--jobs", "1"]
+    how = {"stdout": subprocess.PIPE, "stderr": subprocess.STDOUT, "text": True, "errors": "replace"}
+    run = subprocess.run(words, cwd=folder, stdin=subprocess.DEVNULL, **how)
+    if run.returncode:
+        print(f"{crate}: not proved as it stands, so no edit was tried:", *run.stdout.split("\n")[-12:], sep="\n  ")
+    return run.returncode == 0
+
+
 def refused_of(crate: str, room: pathlib.Path) -> int:
     """Tries the edits of a crate, tells what was found of each, and returns how many were refused."""
     words = ["rt", "must-fail", crate]
@@ -74,15 +85,15 @@ def refused_of(crate: str, room: pathlib.Path) -> int:
 
 
 def try_crate(crate: str, toolchain: str) -> results.Result:
-    """Tries the edits of a crate in a copy of the checkout, which takes over what is kept of the libraries below."""
+    """Tries the edits of a crate in a copy of the checkout, which takes over what is kept of it and of those below."""
     with tempfile.TemporaryDirectory(prefix="mutants-") as name:
         room = pathlib.Path(name)
         copy_sources(TOP, room)
         copy = Repository(room)
-        for low in copy.below(crate):
+        for low in {crate, *copy.below(crate)}:
             take_over(TOP / "crates" / low / "out", room / "crates" / low / "out")
         sources, tried = copy.source_sum(crate), gather(copy, crate)
-        refused = refused_of(crate, room)
+        refused = refused_of(crate, room) if is_proved(crate, room) else 0
     when = datetime.datetime.now(datetime.UTC).strftime("%Y-%m-%dT%H:%MZ")
     return results.Result(crate, refused, tried, sources, when, toolchain)
 

@@ -32,10 +32,13 @@ class Repository:
     def folder(self, crate: str) -> pathlib.Path:
         return self.top / "crates" / crate
 
+    def edits_beside(self, crate: str) -> list[pathlib.Path]:
+        """The wrong bodies of a crate that the gate doesn't try."""
+        return sorted((self.top / "mutants" / crate).glob("*.edit"))
+
     def edits(self, crate: str) -> list[pathlib.Path]:
         """The wrong bodies of a crate: first those that the gate tries, then those beside it."""
-        folders = [self.folder(crate) / "must-fail", self.top / "mutants" / crate]
-        return [path for folder in folders for path in sorted(folder.glob("*.edit"))]
+        return [*sorted((self.folder(crate) / "must-fail").glob("*.edit")), *self.edits_beside(crate)]
 
     def crates_with_edits(self) -> list[str]:
         return [crate for crate in self.uses if self.edits(crate)]

@@ -8,7 +8,7 @@ from typing import Self
 
 from tools.repository import Repository
 
-HEAD = "# Of each crate the wrong bodies that were refused, a sum of its sources and those below, when, by which toolchain.\n"
+HEAD = "# Of each crate: wrong bodies that were refused, a sum of its sources and of those below, when, the toolchain\n"
 LINE = re.compile(r"(\w+): (\d+) of (\d+) refused, sources ([0-9a-f]+), (\S+), (.+)")
 
 
@@ -53,9 +53,9 @@ def keep(path: pathlib.Path, result: Result, crates: list[str]) -> None:
 
 
 def stale(repository: Repository, results: dict[str, Result]) -> list[str]:
-    """A line for each crate whose wrong bodies have to be tried again."""
+    """A line for each crate whose wrong bodies beside the gate have to be tried again."""
     lines = []
-    for crate in repository.crates_with_edits():
+    for crate in filter(repository.edits_beside, repository.uses):
         result = results.get(crate)
         if result is None:
             lines.append(f"{crate}: not tried yet")

@@ -16,6 +16,7 @@ from tools.repository import Repository
 # It says what the toolchain says of each edit: by its text, that it is refused, not refused, or can't be applied.
 TOOL = """#!/bin/sh
 [ "$1" = version ] && echo kit-1 && exit
+[ "$1" = lib ] && { [ ! -e src/flaw ]; exit; }
 status=0
 for edit in crates/"$2"/must-fail/*.edit; do
     read -r word < "$edit"
@@ -70,6 +71,7 @@ class MutantsTest(unittest.TestCase):
 
     def test_all_are_refused_and_kept(self) -> None:
         self.edit("high", "one", "good")
+        self.write(self.top / "crates/high/src/lib.rt", "")
         self.write(self.top / "crates/high/must-fail/two.edit", "good\n")
         status, said = self.run_main()
         self.assertEqual(status, 0)
@@ -90,6 +92,13 @@ class MutantsTest(unittest.TestCase):
             self.assertIn("low/two: ", said)
             self.assertIn("not all refused: low", said)
             self.assertEqual(self.run_main("--stale")[0], 1)
+
+    def test_over_a_crate_that_is_not_proved_nothing_is_tried(self) -> None:
+        self.edit("low", "one", "good")
+        self.write(self.top / "crates/low/src/flaw", "")
+        status, said = self.run_main("low")
+        self.assertEqual((status, "not proved as it stands" in said), (1, True))
+        self.assertEqual(results.read(self.path)["low"].refused, 0)
 
     def test_a_crate_without_edits_is_named(self) -> None:
         self.edit("low", "one", "good")

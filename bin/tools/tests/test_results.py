@@ -40,6 +40,8 @@ class ResultsTest(unittest.TestCase):
         for crate in "abcd":
             (self.top / "mutants" / crate).mkdir(parents=True)
             (self.top / "mutants" / crate / "x.edit").write_text("file: src/lib.rt\n")
+        (self.top / "crates" / "e" / "must-fail").mkdir(parents=True)
+        (self.top / "crates" / "e" / "must-fail" / "x.edit").write_text("file: src/lib.rt\n")
         repository = Repository(self.top)
         known = {
             "a": result("a", repository.source_sum("a")),
