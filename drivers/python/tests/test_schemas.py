@@ -101,10 +101,11 @@ class SchemaTest(unittest.TestCase):
         self.assertEqual(len(connection.schema().definitions), 2)
 
     def test_migrate_names_the_line(self) -> None:
+        connection = self.open()
         for text in ("PREPARE town AS SELECT nothing FROM users WHERE name = [1];", "SHOW;"):
             self.schema.write_text(FIRST.partition("PREPARE")[0] + "\n\n" + text)
             with self.subTest(text), self.assertRaises(piql.ProgrammingError) as caught:
-                piql.migrate(self.open(), self.schema)
+                piql.migrate(connection, self.schema)
             self.assertEqual(caught.exception.__notes__, [f"in {self.schema}, line 5"])
 
     def test_bounds(self) -> None:
@@ -153,7 +154,7 @@ class SchemaTest(unittest.TestCase):
             with self.assertRaises(piql.OperationalError):
                 load(connection, "users", io.StringIO(broken), mark, tell)
             self.assertEqual(int(mark.read_text().split()[0]), cut)
-        connection.execute("INSERT INTO users VALUES ('n25', 'made before the mark was written')")
+        connection.execute("INSERT INTO users VALUES ('n25', 'x')")
         with self.assertRaises(piql.ProgrammingError):
             load(connection, "users", io.StringIO(text.replace("n3,", "m3,")), mark, tell)
         self.assertEqual(load(connection, "users", io.StringIO(text), mark, tell), Loaded(40, 0))
