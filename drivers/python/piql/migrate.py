@@ -11,9 +11,7 @@ from .errors import Error, ProgrammingError
 from .links import FileLink
 from .reports import Report
 from .scripts import first_token, pieces, place_at
-from .statements import Kind, Sent, read_statement
-
-DEFINE = frozenset({Kind.CREATE, Kind.PREPARE})
+from .statements import DEFINES, Sent, read_statement
 
 
 class Wanted(NamedTuple):
@@ -42,7 +40,7 @@ def define_each(scratch: Connection, script: str, source: str) -> list[Report]:
         text = data[piece.start : piece.end]
         try:
             statement = read_statement(text.decode())
-            if statement.kind not in DEFINE:
+            if statement.kind not in DEFINES:
                 raise ProgrammingError("a schema has CREATE TABLE and PREPARE alone")
             reports.append(scratch.report(Sent(statement, "", ())))
         except Error as error:

@@ -34,7 +34,7 @@ class StatementTest(unittest.TestCase):
         for value, wanted in QUOTED:
             with self.subTest(value=value):
                 self.assertEqual(quoted(value), wanted)
-        for value, error in ((2**63, piql.DataError), ("\ud800", piql.DataError), (1.5, piql.ProgrammingError)):
+        for value, error in ((2**63, piql.DataError), (1.5, piql.ProgrammingError)):
             with self.subTest(value=value), self.assertRaises(error):
                 quoted(value)
 
@@ -58,6 +58,8 @@ class StatementTest(unittest.TestCase):
         for text in NO_STATEMENT:
             with self.subTest(text), self.assertRaises(piql.ProgrammingError):
                 read_statement(text)
+        with self.assertRaises(piql.DataError):
+            Sent(read_statement("RUN q (?)"), "", (quoted("\ud800"),)).data()
         with self.assertRaises(piql.ProgrammingError) as caught:
             Sent(read_statement(f"RUN q ('{'x' * 65_536}')"), "", ()).data()
         self.assertEqual(caught.exception.number, "E103")
