@@ -55,8 +55,9 @@ def fans_text(fans: Sequence[str]) -> str:
 def article(post: Post) -> str:
     """A post."""
     path = f"/post/{quote(post.author)}/{post.stamp}"
+    number = link(path, f"no. {post.stamp}")
     return (
-        f"<article><p>{user_link(post.author, post.shown)} <span class=small>{link(path, f'no. {post.stamp}')}</span></p>"
+        f"<article><p>{user_link(post.author, post.shown)} <span class=small>{number}</span></p>"
         f"<p>{escape(post.line)}</p><p class=small>{escape(fans_text(post.fans))}</p></article>"
     )
 
@@ -118,7 +119,8 @@ def page(title: str, me: str | None, body: str, store: Store) -> str:
     """A whole page."""
     leave = f"{escape(me)} {button('/leave', 'Leave')}" if me else ""
     nav = f"<nav>{link('/', 'Feed')}{link('/users', 'Users')}{leave}</nav>"
+    head = f"<head><meta charset=utf-8><title>{escape(title)}</title><style>{STYLE}</style></head>"
     return (
-        f"<!doctype html><html lang=en><head><meta charset=utf-8><title>{escape(title)}</title><style>{STYLE}</style></head>"
+        f"<!doctype html><html lang=en>{head}"
         f"<body>{nav}<h1>{escape(title)}</h1>{body}{footer(store)}</body></html>"
     )

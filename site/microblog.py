@@ -117,7 +117,8 @@ def post(request: Request, author: str, stamp: str) -> Answer:
     liking = ""
     if request.me is not None:
         is_fan = request.store.row("is_fan", author, number, request.me)
-        liking = html.button("/unlike" if is_fan else "/like", "Unlike" if is_fan else "Like", author=author, stamp=stamp)
+        path_of_form, text = ("/unlike", "Unlike") if is_fan else ("/like", "Like")
+        liking = html.button(path_of_form, text, author=author, stamp=stamp)
     (shown,) = with_fans(request, [row])
     body = html.article(shown) + liking + html.people(fans.rows) + html.further(path, fans.next_page)
     return show(request, f"{author}, no. {number}", body)
@@ -218,9 +219,10 @@ def single(text: str) -> dict[str, str]:
 def user_of(environ: Environ) -> str | None:
     """The user of the cookie."""
     try:
-        cookie = SimpleCookie(environ.get("HTTP_COOKIE", "")).get("me")
+        cookies: SimpleCookie[str] = SimpleCookie(environ.get("HTTP_COOKIE", ""))
     except CookieError:
         return None
+    cookie = cookies.get("me")
     return unquote(cookie.value) if cookie and cookie.value else None
 
 

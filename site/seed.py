@@ -47,7 +47,8 @@ def writes(users: int) -> Iterator[Write]:
         for target in neighbours(i, FOLLOWS, users):
             yield "INSERT INTO follows VALUES (?, ?)", (name(i), target)
         for turn, stamp in enumerate(posts_of(i), 1):
-            yield "INSERT INTO posts VALUES (?, ?, ?)", (name(i), stamp, f"{name(i)} says something, for the {turn}. time.")
+            line = f"{name(i)} says something, for the {turn}. time."
+            yield "INSERT INTO posts VALUES (?, ?, ?)", (name(i), stamp, line)
     for i in range(users):
         for stamp in posts_of(i):
             for fan in neighbours(i, LIKES, users):

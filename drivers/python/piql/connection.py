@@ -6,7 +6,7 @@ from collections.abc import Sequence
 from typing import TYPE_CHECKING
 
 from . import errors
-from .errors import DatabaseError, InterfaceError, InternalError, NotSupportedError, ProgrammingError, refused
+from .errors import InterfaceError, InternalError, NotSupportedError, ProgrammingError, refused
 from .links import Link
 from .refusals import refusal_of
 from .reports import Report, Work, read_report
@@ -30,7 +30,8 @@ def fillings_of(statement: Statement, parameters: Parameters) -> tuple[str, ...]
     if type(parameters) not in LISTS and (isinstance(parameters, (str, bytes)) or not isinstance(parameters, Sequence)):
         raise ProgrammingError(f"values come as a list or a tuple, and no {type(parameters).__name__}")
     if len(parameters) != statement.params:
-        raise ProgrammingError(f"{statement.params} values are wanted, {len(parameters)} are given: {statement.text[:200]}")
+        text = statement.text[:200]
+        raise ProgrammingError(f"{statement.params} values are wanted, {len(parameters)} are given: {text}")
     return tuple([quoted(value) for value in parameters])
 
 
@@ -90,7 +91,7 @@ class Connection:
             self._schema = None
         return report
 
-    def refusal(self, sent: Sent, fields: tuple[str, ...]) -> DatabaseError:
+    def refusal(self, sent: Sent, fields: tuple[str, ...]) -> errors.DatabaseError:
         """The exception of a refusal; where the tokens spell nothing, with the place in the writer's text."""
         text = sent.statement.text
         if fields[0] != "E104":

@@ -75,17 +75,17 @@ class Cursor:
     @property
     def bound(self) -> Work | None:
         """What the last statement might use at most."""
-        return self._report and self._report.end.bound
+        return None if self._report is None else self._report.end.bound
 
     @property
     def used(self) -> Work | None:
         """What the last statement used."""
-        return self._report and self._report.end.used
+        return None if self._report is None else self._report.end.used
 
     @property
     def next_page(self) -> str | None:
         """The cursor behind a full page, to be handed to execute as `after`."""
-        return self._report and self._report.end.cursor
+        return None if self._report is None else self._report.end.cursor
 
     def execute(self, operation: str, parameters: "Parameters" = (), *, after: str | None = None) -> "Cursor":
         """Executes one statement with a value for each `?`; `after` is the next_page of the page before."""

@@ -78,7 +78,7 @@ def migrate(
     program: str | os.PathLike[str] | None = None,
     out: TextIO | None = None,
 ) -> list[str]:
-    """Defines what the schema at the path has and the store lacks, in its order; the names. The bounds are told first."""
+    """Defines what the schema at the path has and the store lacks; the names. The bounds are told first."""
     missing = missing_of(connection, read_wanted(path, program))
     for line in [line for it in missing for line in it.told]:
         print(line, file=out or sys.stdout)

@@ -1,4 +1,4 @@
-"""Reading reports: the lines that the engine writes, as docs/FORMATS.md has them, and the statement that a report ends."""
+"""Reading reports: the lines that the engine writes, as docs/FORMATS.md has them."""
 
 import re
 from collections.abc import Iterator

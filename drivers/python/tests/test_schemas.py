@@ -21,7 +21,8 @@ CREATE TABLE users (name TEXT(20), town TEXT(30) NULL, PRIMARY KEY (name));
 PREPARE town AS SELECT u.town FROM users AS u WHERE u.name = [1: who];
 """
 SECOND = FIRST + """
-CREATE TABLE notes (owner TEXT(20), stamp INT, hot BOOL, PRIMARY KEY (owner, stamp), FOREIGN KEY (owner) REFERENCES users);
+CREATE TABLE notes (owner TEXT(20), stamp INT, hot BOOL, PRIMARY KEY (owner, stamp),
+  FOREIGN KEY (owner) REFERENCES users);
 PREPARE latest AS SELECT stamp, hot FROM notes WHERE owner = [1] ORDER BY stamp LIMIT 5;
 """
 ROWS = 'name,town\nann,rome\n"b,o""b",\n"two\nlines",oslo\nann,lima\n' + "x" * 21 + ",lima\ncid,lima,7\n"
@@ -173,14 +174,14 @@ class SchemaTest(unittest.TestCase):
         source = self.folder / "rows.csv"
         source.write_text("name,town\n" + "".join(f"n{i},x\n" for i in range(300)))
         words = [sys.executable, "-m", "piql", "load", str(self.path), "users"]
-        how = {"env": {**os.environ, "PYTHONPATH": str(TOP / "drivers/python")}, "stderr": subprocess.PIPE}
+        environment = {**os.environ, "PYTHONPATH": str(TOP / "drivers/python")}
         mark = Path(f"{self.path}.users.load")
-        with source.open() as rows, subprocess.Popen(words, stdin=rows, **how) as first:
+        with source.open() as rows, subprocess.Popen(words, stdin=rows, env=environment) as first:
             while first.poll() is None and not (mark.exists() and mark.read_text() >= f"{5:020}"):
                 pass
             first.send_signal(signal.SIGKILL)
         with source.open() as rows:
-            second = subprocess.run(words, stdin=rows, check=False, **how)
+            second = subprocess.run(words, stdin=rows, env=environment, capture_output=True)
         self.assertEqual((second.returncode, second.stderr.splitlines()[-1]), (0, b"300 records, 0 refused"))
 
     def test_commands(self) -> None:
@@ -207,8 +208,8 @@ class SchemaTest(unittest.TestCase):
 
     def test_rebuild(self) -> None:
         self.rows_of_old()
-        changed = "CREATE TABLE users (town TEXT(30) NULL, name TEXT(19), age INT, note TEXT(5) NULL, PRIMARY KEY (name));"
-        self.schema.write_text(changed)
+        columns = "town TEXT(30) NULL, name TEXT(19), age INT, note TEXT(5) NULL"
+        self.schema.write_text(f"CREATE TABLE users ({columns}, PRIMARY KEY (name));")
         new, tell = self.folder / "new.db", io.StringIO()
         with self.assertRaises(piql.ProgrammingError):
             rebuild(str(self.path), str(new), self.schema, tell, {})

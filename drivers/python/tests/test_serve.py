@@ -52,8 +52,8 @@ class ServeTest(unittest.TestCase):
         self.addCleanup(server.end)
         return server
 
-    def open(self, **how: object) -> piql.Connection:
-        connection = piql.connect(f"unix:{self.at}", **how)
+    def open(self) -> piql.Connection:
+        connection = piql.connect(f"unix:{self.at}")
         self.addCleanup(connection.close)
         return connection
 
@@ -65,9 +65,10 @@ class ServeTest(unittest.TestCase):
         self.assertEqual(read_frame(made)[0], HELLO)
         return made
 
-    def stored(self, connection: piql.Connection) -> list[tuple[int, int]]:
+    def stored(self, connection: piql.Connection) -> list[piql.Row]:
         """All rows."""
-        found, after = [], None
+        found: list[piql.Row] = []
+        after = None
         while not found or after:
             cursor = connection.execute(PAGE, after=after)
             found += cursor.fetchall()
@@ -76,7 +77,7 @@ class ServeTest(unittest.TestCase):
 
     def test_each_report_that_said_ok_is_in_the_file(self) -> None:
         self.open().cursor().executescript(SCRIPT)
-        made: list[tuple[int, int]] = []
+        made: list[piql.Row] = []
 
         def write(client: int) -> None:
             connection = self.open()
@@ -211,7 +212,7 @@ class ServeTest(unittest.TestCase):
         connection = self.open()
         connection.cursor().executescript(SCRIPT)
         stop = threading.Event()
-        made: list[tuple[int, int]] = []
+        made: list[piql.Row] = []
 
         def write() -> None:
             other = self.open()

@@ -139,7 +139,8 @@ class WorkersTest(unittest.TestCase):
 
     def served_pages(self, path: Path, workers: int) -> str:
         """The page of all users, asked for many times at once."""
-        words = [sys.executable, TOP / "site/run.py", "--file", path, "--port", "0", "--workers", str(workers)]
+        words: list[str | Path] = [sys.executable, TOP / "site/run.py", "--file", path, "--port", "0"]
+        words += ["--workers", str(workers)]
         process = subprocess.Popen(words, stdout=subprocess.PIPE, text=True)
         self.addCleanup(process.kill)
         assert process.stdout is not None
