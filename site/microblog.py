@@ -59,14 +59,23 @@ def with_fans(request: Request, rows: list[tuple]) -> list[Post]:  # type: ignor
     return posts
 
 
-def feed(request: Request) -> Answer:
-    """What those whom the user follows have posted, newest first."""
+def feed_posts(request: Request, name: str, path: str) -> str:
+    """What those whom a user follows have posted, newest first."""
+    found = request.store.page("feed", name, after=request.after)
+    posts = "".join(html.article(post) for post in with_fans(request, found.rows))
+    return (posts or "<p>Nothing yet.</p>") + html.further(path, found.next_page)
+
+
+def front(request: Request) -> Answer:
+    """The user's own feed, and where a post is written; a stranger is asked who he is."""
     if request.me is None:
         return show(request, "Microblog", html.join_form())
-    found = request.store.page("feed", request.me, after=request.after)
-    posts = "".join(html.article(post) for post in with_fans(request, found.rows))
-    body = html.post_form() + (posts or "<p>Nothing yet. Follow somebody.</p>") + html.further("/", found.next_page)
-    return show(request, "Feed", body)
+    return show(request, "Feed", html.post_form() + feed_posts(request, request.me, "/"))
+
+
+def feed(request: Request, name: str) -> Answer:
+    """The feed of any user."""
+    return show(request, f"{name}: feed", feed_posts(request, name, f"/user/{quote(name)}/feed"))
 
 
 def users(request: Request) -> Answer:
@@ -93,7 +102,7 @@ def profile(request: Request, name: str) -> Answer:
     path = f"/user/{quote(name)}"
     found = request.store.page("posts_of", name, after=request.after)
     head = f"<p>{escape(about)}</p>" if about is not None else ""
-    links = html.link(f"{path}/following", "following") + " · " + html.link(f"{path}/followers", "followers")
+    links = " · ".join(html.link(f"{path}/{which}", which) for which in ("feed", "following", "followers"))
     posts = "".join(html.article(post) for post in with_fans(request, found.rows))
     body = f"{head}<p>{links} {follow_button(request, name)}</p>{posts}{html.further(path, found.next_page)}"
     return show(request, shown, body)
@@ -195,9 +204,10 @@ def unlike(request: Request) -> Answer:
 
 Handler = Callable[..., Answer]
 ADDRESSES: list[tuple[str, re.Pattern[str], Handler]] = [
-    ("GET", re.compile(r"/"), feed),
+    ("GET", re.compile(r"/"), front),
     ("GET", re.compile(r"/users"), users),
     ("GET", re.compile(r"/user/([^/]+)"), profile),
+    ("GET", re.compile(r"/user/([^/]+)/feed"), feed),
     ("GET", re.compile(r"/user/([^/]+)/(following|followers)"), people),
     ("GET", re.compile(r"/post/([^/]+)/(\d{1,18})"), post),
     ("POST", re.compile(r"/enter"), enter),

@@ -25,6 +25,7 @@ ADDRESSES = [
     ("/users", "", USER),
     (f"/user/{USER}", "", "u00039"),
     (f"/user/{USER}", "", "u00050"),
+    (f"/user/{USER}/feed", "", None),
     (f"/user/{USER}/following", "", None),
     (f"/user/{USER}/followers", "", None),
     (f"/post/{USER}/2000040", "", "u00041"),
