@@ -78,14 +78,14 @@ def main() -> int:
     parser = argparse.ArgumentParser(description="Compares the site's pages for few and for many users in Chromium.")
     parser.add_argument("--picture", type=Path, help="a PNG file for a picture of the feed")
     given = parser.parse_args()
-    browser = next(filter(None, map(shutil.which, BROWSERS)), None)
-    if browser is None:
+    browsers = [path for name in BROWSERS if (path := shutil.which(name))]
+    if not browsers:
         print("skipped: no Chromium is installed")
         return 0
     place = "/dev/shm" if os.access("/dev/shm", os.W_OK) else None
     with tempfile.TemporaryDirectory(prefix="microblog-", dir=place) as folder:
-        few = pages(browser, Path(folder), FEW, given.picture)
-        many = pages(browser, Path(folder), MANY, None)
+        few = pages(browsers[0], Path(folder), FEW, given.picture)
+        many = pages(browsers[0], Path(folder), MANY, None)
     different = differences(few, many)
     for path in PATHS:
         print(f"{path}: {'differs' if path in different else 'the same'} for {FEW:,} and {MANY:,} users")
