@@ -25,7 +25,7 @@ from .errors import (
 )
 from .links import FileLink, Link, MemoryLink
 from .migrate import migrate
-from .reports import Work
+from .reports import Row, Value, Work
 from .socketlink import SocketLink
 from .types import (
     BINARY,
@@ -96,11 +96,13 @@ __all__ = [
     "OperationalError",
     "ProgrammingError",
     "ROWID",
+    "Row",
     "STRING",
     "Time",
     "TimeFromTicks",
     "Timestamp",
     "TimestampFromTicks",
+    "Value",
     "Warning",
     "Work",
     "apilevel",

@@ -52,7 +52,8 @@ def run_load(given: argparse.Namespace) -> int:
     """Loads a CSV file."""
     mark = given.mark or f"{given.file.removeprefix('unix:')}.{given.table}.load"
     # The lines of a CSV text end as its records say, so they are read as they are.
-    with open(sys.stdin.fileno(), newline="", encoding="utf-8", closefd=False) as source, connect(given.file) as connection:
+    source = open(sys.stdin.fileno(), newline="", encoding="utf-8", closefd=False)
+    with source, connect(given.file) as connection:
         try:
             loaded = load(connection, given.table, source, mark, sys.stderr, given.null)
         except (Error, KeyboardInterrupt) as error:
@@ -85,7 +86,8 @@ def run_shell(given: argparse.Namespace) -> int:
 
 def parser() -> argparse.ArgumentParser:
     """The words of the commands."""
-    top = argparse.ArgumentParser(prog="python -m piql", description=__doc__, formatter_class=argparse.RawTextHelpFormatter)
+    as_written = argparse.RawTextHelpFormatter
+    top = argparse.ArgumentParser(prog="python -m piql", description=__doc__, formatter_class=as_written)
     words = top.add_subparsers(required=True, metavar="WORD")
 
     def command(name: str, run: object, *places: str) -> argparse.ArgumentParser:

@@ -6,7 +6,7 @@ from pathlib import Path
 from .connection import Connection
 from .reports import Work
 
-HEAD = "# The bound of each query: its name, operations, entries. `python -m piql bounds FILE --write PATH` writes it.\n"
+HEAD = "# Each query's bound: its name, operations, entries. `python -m piql bounds FILE --write PATH` writes this.\n"
 
 
 class BoundsRose(AssertionError):

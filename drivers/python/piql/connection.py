@@ -6,19 +6,20 @@ from collections.abc import Sequence
 from typing import TYPE_CHECKING
 
 from . import errors
-from .errors import DatabaseError, InterfaceError, InternalError, NotSupportedError, ProgrammingError, refused
+from .errors import InterfaceError, InternalError, NotSupportedError, ProgrammingError, refused
 from .links import Link
 from .refusals import refusal_of
 from .reports import Report, Work, read_report
 from .scripts import place_at
 from .schema import Query, Schema, read_schema
-from .statements import NUMBERED, Kind, Sent, Statement, read_statement
+from .statements import DEFINES, NUMBERED, READS, Kind, Sent, Statement, read_statement
 from .values import quoted, quoted_text
 
 if TYPE_CHECKING:
     from .cursor import Cursor
 
 Parameters = Sequence[object]
+LISTS = (tuple, list)
 SHOW = read_statement("SHOW")
 UNPREPARED = "this SELECT isn't prepared in the store, and the connection was made with prepare=False: {text}"
 NO_ROLLBACK = "nothing is rolled back: each statement is made whole or not at all, at once"
@@ -26,11 +27,12 @@ NO_ROLLBACK = "nothing is rolled back: each statement is made whole or not at al
 
 def fillings_of(statement: Statement, parameters: Parameters) -> tuple[str, ...]:
     """The values as the statement writes them, one for each place."""
-    if isinstance(parameters, (str, bytes)) or not isinstance(parameters, Sequence):
+    if type(parameters) not in LISTS and (isinstance(parameters, (str, bytes)) or not isinstance(parameters, Sequence)):
         raise ProgrammingError(f"values come as a list or a tuple, and no {type(parameters).__name__}")
     if len(parameters) != statement.params:
-        raise ProgrammingError(f"{statement.params} values are wanted, {len(parameters)} are given: {statement.text[:200]}")
-    return tuple(map(quoted, parameters))
+        text = statement.text[:200]
+        raise ProgrammingError(f"{statement.params} values are wanted, {len(parameters)} are given: {text}")
+    return tuple([quoted(value) for value in parameters])
 
 
 class Connection:
@@ -74,21 +76,22 @@ class Connection:
 
     def report(self, sent: Sent) -> Report:
         """The report of a statement; a refusal is raised."""
+        data, statement = sent.data(), sent.statement
         with self._lock:
-            data = sent.data()
-            text = self.link().exchange(data, sent.statement.reads())
+            link = self._link or self.link()
+            text = link.exchange(data, statement.kind in READS)
             self._sent += 1
         try:
             report = read_report(text)
         except ValueError as error:
             raise InternalError(str(error)) from error
-        if report.end.refusal:
+        if report.is_refused():
             raise self.refusal(sent, report.end.refusal)
-        if sent.statement.kind in (Kind.CREATE, Kind.PREPARE):
+        if statement.kind in DEFINES:
             self._schema = None
         return report
 
-    def refusal(self, sent: Sent, fields: tuple[str, ...]) -> DatabaseError:
+    def refusal(self, sent: Sent, fields: tuple[str, ...]) -> errors.DatabaseError:
         """The exception of a refusal; where the tokens spell nothing, with the place in the writer's text."""
         text = sent.statement.text
         if fields[0] != "E104":
@@ -98,13 +101,13 @@ class Connection:
 
     def answer(self, statement: Statement, parameters: Parameters, after: str | None = None) -> Report:
         """The report of a statement with its values, behind a cursor of pages; a SELECT is prepared where it isn't."""
+        values = fillings_of(statement, parameters)
         behind = "" if after is None else f" AFTER {quoted_text(after)}"
         if statement.kind is Kind.SELECT:
-            return self.answer_select(statement, fillings_of(statement, parameters), behind)
-        if after is not None and statement.kind is not Kind.RUN:
+            return self.answer_select(statement, values, behind)
+        if behind and statement.kind is not Kind.RUN:
             raise ProgrammingError("only a SELECT or a RUN has pages")
-        fillings = fillings_of(statement, parameters)
-        return self.report(Sent(statement, "", statement.numbered() if statement.kind in NUMBERED else fillings, behind))
+        return self.report(Sent(statement, "", statement.numbered() if statement.kind in NUMBERED else values, behind))
 
     def answer_select(self, statement: Statement, values: tuple[str, ...], behind: str) -> Report:
         """The report of the RUN of a SELECT. Where the file was changed for another, the definitions are read anew."""

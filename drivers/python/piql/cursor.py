@@ -11,7 +11,8 @@ from .statements import WRITES, Kind, Statement, read_statement
 if TYPE_CHECKING:
     from .connection import Connection, Parameters
 
-ANSWERS = frozenset({Kind.SELECT, Kind.RUN, Kind.SHOW, Kind.EXPLAIN})
+ROWS = (Kind.SELECT, Kind.RUN)
+ANSWERS = (*ROWS, Kind.SHOW, Kind.EXPLAIN)
 
 
 class ColumnDescription(NamedTuple):
@@ -53,13 +54,11 @@ class Cursor:
 
     def _forget(self) -> None:
         """No statement was executed."""
-        self.rowcount = -1
-        self.bound: Work | None = None
-        self.used: Work | None = None
-        self.next_page: str | None = None
+        self._statement: Statement | None = None
+        self._report: Report | None = None
         self._rows: list[Row] | None = None
         self._at = 0
-        self._statement: Statement | None = None
+        self._made = -1
         self._described: Sequence[ColumnDescription] | None = None
 
     def _open(self) -> "Connection":
@@ -68,29 +67,42 @@ class Cursor:
             raise InterfaceError("the cursor is closed")
         return self.connection
 
+    @property
+    def rowcount(self) -> int:
+        """How many rows the answer has, or how many were written; -1 where it is neither."""
+        return self._made if self._rows is None else len(self._rows)
+
+    @property
+    def bound(self) -> Work | None:
+        """What the last statement might use at most."""
+        return None if self._report is None else self._report.end.bound
+
+    @property
+    def used(self) -> Work | None:
+        """What the last statement used."""
+        return None if self._report is None else self._report.end.used
+
+    @property
+    def next_page(self) -> str | None:
+        """The cursor behind a full page, to be handed to execute as `after`."""
+        return None if self._report is None else self._report.end.cursor
+
     def execute(self, operation: str, parameters: "Parameters" = (), *, after: str | None = None) -> "Cursor":
         """Executes one statement with a value for each `?`; `after` is the next_page of the page before."""
         connection = self._open()
         self._forget()
         statement = read_statement(operation)
-        report = connection.answer(statement, parameters, after)
-        self._keep(statement, report)
-        return self
-
-    def _keep(self, statement: Statement, report: Report) -> None:
-        """Keeps what a statement was answered."""
+        report = self._report = connection.answer(statement, parameters, after)
         self._statement = statement
-        self.bound, self.used, self.next_page = report.end.bound, report.end.used, report.end.cursor
-        if statement.kind in (Kind.SELECT, Kind.RUN):
+        if statement.kind in ROWS:
             self._rows = report.rows
+        elif statement.kind in WRITES:
+            self._made = 1
         elif statement.kind is Kind.SHOW:
             self._rows = [(line.number, line.text) for line in report.definitions()]
         elif statement.kind is Kind.EXPLAIN:
             self._rows = explained(report)
-        if self._rows is not None:
-            self.rowcount = len(self._rows)
-        elif statement.kind in WRITES:
-            self.rowcount = 1
+        return self
 
     def executemany(self, operation: str, seq_of_parameters: Iterable["Parameters"]) -> "Cursor":
         """Executes a write once for each list of values, until one is refused; rowcount is how many were made."""
@@ -99,11 +111,10 @@ class Cursor:
         statement = read_statement(operation)
         if statement.kind in ANSWERS:
             raise ProgrammingError("executemany is for statements without an answer")
-        self.rowcount = 0
+        self._made = 0
         for parameters in seq_of_parameters:
-            report = connection.answer(statement, parameters)
-            self.bound, self.used = report.end.bound, report.end.used
-            self.rowcount += 1
+            self._report = connection.answer(statement, parameters)
+            self._made += 1
         return self
 
     def executescript(self, script: str) -> "Cursor":
@@ -127,7 +138,7 @@ class Cursor:
         return self._described
 
     def _describe(self, statement: Statement) -> Sequence[ColumnDescription] | None:
-        if statement.kind not in (Kind.SELECT, Kind.RUN):
+        if statement.kind not in ROWS:
             return {Kind.SHOW: SHOWN, Kind.EXPLAIN: EXPLAINED}.get(statement.kind)
         schema, query = self._open().find_query(statement.name)
         return tuple(

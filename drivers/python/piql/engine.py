@@ -62,7 +62,7 @@ class Engine:
         return self.sent + len(statement) <= SCRIPT_BYTES
 
     def exchange(self, statement: bytes) -> bytes:
-        """The report of one statement. Whatever stops this ends the process, since a report would be left in the pipe."""
+        """The report of one statement. Whatever stops this ends the process: a report would be left in the pipe."""
         try:
             self.sent += len(statement)
             self.write(statement)

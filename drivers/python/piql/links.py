@@ -10,7 +10,10 @@ from .backup import copy_whole
 from .engine import Engine, EngineEnded, find_program
 from .errors import Error, InterfaceError, OperationalError, ended
 
-STANDS_READ = "This statement changes nothing; all that was reported as ok stands. The next statement opens the file anew."
+STANDS_READ = (
+    "This statement changes nothing; all that was reported as ok before stands."
+    " The next statement opens the file anew."
+)
 STANDS_WRITE = (
     "This statement was made whole or not at all; all that was reported as ok before stands."
     " The next statement opens the file anew, which settles it."

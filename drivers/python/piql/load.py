@@ -39,20 +39,23 @@ class Mark:
         self.path = path
         self.records, self.refused, self.sum = 0, 0, 0
         self.is_resumed = path.exists()
+        self.file: int | None = None
         if self.is_resumed:
             self.records, self.refused, self.sum = map(int, path.read_text().split())
-        self.file = os.open(path, os.O_RDWR | os.O_CREAT, 0o600)
 
     def write(self, is_refused: bool, total: int) -> None:
         """One record more was taken; the sum of all of them."""
+        if self.file is None:
+            self.file = os.open(self.path, os.O_RDWR | os.O_CREAT, 0o600)
         self.records, self.refused, self.sum = self.records + 1, self.refused + is_refused, total
         os.pwrite(self.file, f"{self.records:020} {self.refused:020} {self.sum:010}\n".encode(), 0)
 
     def close(self, is_done: bool) -> None:
         """Closes the file, which is taken away where all is done."""
-        os.close(self.file)
+        if self.file is not None:
+            os.close(self.file)
         if is_done:
-            self.path.unlink()
+            self.path.unlink(missing_ok=True)
 
 
 def records_of(source: TextIO) -> Iterator[Record]:

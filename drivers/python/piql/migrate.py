@@ -11,9 +11,7 @@ from .errors import Error, ProgrammingError
 from .links import FileLink
 from .reports import Report
 from .scripts import first_token, pieces, place_at
-from .statements import Kind, Sent, read_statement
-
-DEFINE = frozenset({Kind.CREATE, Kind.PREPARE})
+from .statements import DEFINES, Sent, read_statement
 
 
 class Wanted(NamedTuple):
@@ -42,7 +40,7 @@ def define_each(scratch: Connection, script: str, source: str) -> list[Report]:
         text = data[piece.start : piece.end]
         try:
             statement = read_statement(text.decode())
-            if statement.kind not in DEFINE:
+            if statement.kind not in DEFINES:
                 raise ProgrammingError("a schema has CREATE TABLE and PREPARE alone")
             reports.append(scratch.report(Sent(statement, "", ())))
         except Error as error:
@@ -80,7 +78,7 @@ def migrate(
     program: str | os.PathLike[str] | None = None,
     out: TextIO | None = None,
 ) -> list[str]:
-    """Defines what the schema at the path has and the store lacks, in its order; the names. The bounds are told first."""
+    """Defines what the schema at the path has and the store lacks; the names. The bounds are told first."""
     missing = missing_of(connection, read_wanted(path, program))
     for line in [line for it in missing for line in it.told]:
         print(line, file=out or sys.stdout)

@@ -40,7 +40,8 @@ def sources_of(old: Table, new: Table, values: Values) -> list[Source]:
     lacking = [it.name for it in new.columns if it.name not in places and not it.nullable]
     unknown = [name for name in lacking if (new.name, name) not in values]
     if unknown:
-        raise ProgrammingError(f"the old {new.name} has no {', '.join(unknown)}: give --value {new.name}.{unknown[0]}=..")
+        way = f"give --value {new.name}.{unknown[0]}=.."
+        raise ProgrammingError(f"the old {new.name} has no {', '.join(unknown)}: {way}")
     return [Source(places.get(it.name), values.get((new.name, it.name))) for it in new.columns]
 
 

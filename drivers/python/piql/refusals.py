@@ -52,7 +52,8 @@ def read_rule(code: str, fields: str, text: str) -> Rule:
     bold = one_line(cause.partition("**")[0])
     headline = bold if bold.endswith(".") and len(bold) > SHORT else one_line(cause)
     cases = tuple((case, way) for case, way in ROW.findall(text) if not set(case + way) <= set("- |"))
-    return Rule(code, tuple(fields.lower().split()), headline, one_line(cause), one_line(ways[0] if ways else ""), cases)
+    way_out = one_line(ways[0] if ways else "")
+    return Rule(code, tuple(fields.lower().split()), headline, one_line(cause), way_out, cases)
 
 
 @cache

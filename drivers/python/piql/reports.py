@@ -1,4 +1,4 @@
-"""Reading reports: the lines that the engine writes, as docs/FORMATS.md has them, and the statement that a report ends."""
+"""Reading reports: the lines that the engine writes, as docs/FORMATS.md has them."""
 
 import re
 from collections.abc import Iterator
@@ -69,12 +69,27 @@ class DamageLine(NamedTuple):
 Line = OpeningLine | QueryLine | IndexLine | DefinitionLine | EndLine | DamageLine
 
 
-class Report(NamedTuple):
+class Report:
     """A report: its rows, or its other lines, and its end line. No report has rows and other lines."""
 
-    rows: list[Row]
-    lines: list[Line]
-    end: EndLine
+    __slots__ = ("rows", "lines", "ending", "_end")
+
+    def __init__(self, rows: list[Row], lines: list[Line], ending: str) -> None:
+        self.rows, self.lines, self.ending = rows, lines, ending
+        self._end: EndLine | None = None
+
+    @property
+    def end(self) -> EndLine:
+        """The end line. It is read when it is asked for: most callers want the rows alone."""
+        if self._end is None:
+            self._end = read_end(self.ending)
+        if self._end is None:
+            raise ValueError(f"no report ends so: {self.ending[:200]!r}")
+        return self._end
+
+    def is_refused(self) -> bool:
+        """Whether the statement was refused. No other end line has the word."""
+        return " refused " in self.ending
 
     def queries(self) -> list[QueryLine]:
         """The query lines."""
@@ -94,6 +109,7 @@ WORDS: dict[str, Value] = {"true": True, "false": False, "NULL": None}
 NUMBERS = r"bound (\d+) (\d+) used (\d+) (\d+)"
 OPENING = re.compile(r"open defs (\d+) " + NUMBERS)
 END = re.compile(r"(\d+) (?:ok(?: rows (\d+)(?: next ([A-Za-z0-9_-]+))?)?|refused (E\d\d\d[^'\n]*?)) " + NUMBERS)
+ROWS = re.compile(r"\d+ ok rows (\d+) ")
 QUERY = re.compile(r"query (\w+) (whole|stop \d+) bound (\d+) (\d+)")
 INDEX = re.compile(r"index (\w+) (\d+) \(([^)]*)\)")
 DEFINITION = re.compile(r"def (\d+) (.*)", re.DOTALL)
@@ -102,10 +118,10 @@ DAMAGE = re.compile(r"damaged ([0-9a-f]*)")
 
 def read_values(text: str) -> Row:
     """The values of a row as a report prints them, behind the word `row`."""
-    return tuple(
+    return tuple([
         int(number) if number else WORDS[word] if word else quoted.replace("''", "'")
         for quoted, number, word in VALUE.findall(text)
-    )
+    ])
 
 
 def work(operations: str, entries: str) -> Work:
@@ -158,7 +174,7 @@ def read_reports(text: str) -> Iterator[Report | OpeningLine | DamageLine]:
     for text_line in cut_lines(text):
         line = None if text_line.startswith("row ") else read_line(text_line)
         if isinstance(line, EndLine):
-            yield Report(rows, lines, line)
+            yield Report(rows, lines, text_line)
             rows, lines = [], []
         elif isinstance(line, (OpeningLine, DamageLine)):
             yield line
@@ -169,20 +185,17 @@ def read_reports(text: str) -> Iterator[Report | OpeningLine | DamageLine]:
 
 
 def read_rows(text: str, count: int) -> list[Row]:
-    """So many rows of an answer, from their lines."""
-    lines = text.split("\n")
-    if len(lines) != count + 1:
-        return [read_values(line[4:]) for line in cut_lines(text)]
-    return [read_values(line[4:]) for line in lines[:-1]]
+    """So many rows of an answer, from their lines. With as many line feeds as rows, none stands in a text."""
+    lines = text[:-1].split("\n") if text.count("\n") == count else cut_lines(text)
+    return [read_values(line[4:]) for line in lines]
 
 
 def read_report(text: str) -> Report:
     """The one report that the text is. A text that is none is a ValueError."""
     start = text.rfind("\n", 0, -1) + 1
-    end = read_end(text[start:-1])
-    if end is None:
-        raise ValueError(f"no report ends so: {text[start:][:200]!r}")
-    if end.rows:
-        return Report(read_rows(text[:start], end.rows), [], end)
-    lines = [line for line in map(read_line, cut_lines(text[:start])) if line is not None]
-    return Report([], lines, end)
+    ending = text[start:-1]
+    if text.startswith("row ") and (counted := ROWS.match(ending)):
+        return Report(read_rows(text[:start], int(counted[1])), [], ending)
+    if read_end(ending) is None:
+        raise ValueError(f"no report ends so: {ending[:200]!r}")
+    return Report([], [line for line in map(read_line, cut_lines(text[:start])) if line is not None], ending)

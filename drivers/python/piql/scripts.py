@@ -24,7 +24,7 @@ TOKEN = re.compile(
 
 
 class Piece(NamedTuple):
-    """A piece of a script that isn't blank: its number, from 1, its place in the script's bytes, whether it has a `;`."""
+    """A piece that isn't blank: its number, from 1, its place in the script's bytes, and whether it has a `;`."""
 
     number: int
     start: int

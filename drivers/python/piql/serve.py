@@ -1,6 +1,6 @@
 """piql-serve: hands the statements of many connections, one after the other, to one run of the engine over a file.
 
-    piql-serve FILE SOCKET     serves until SIGTERM or SIGINT; then the statement at hand is finished and the file closed
+    piql-serve FILE SOCKET     serves until SIGTERM or SIGINT; then it finishes the statement at hand and closes the file
 
 Clients connect by piql.connect("unix:SOCKET"). Only the owner of the server may. A second server on the file, or on the
 socket, ends at once. Each client has a thread; the engine is taken by one of them at a time.
@@ -40,7 +40,7 @@ CLIENTS = 256
 PEER = struct.Struct("iII")
 SOCKET_MODE = 0o600
 READING = re.compile(rb"(?:RUN|SHOW|EXPLAIN)\b", re.IGNORECASE)
-# For how many seconds a stop waits for reports that are on their way, and a file that another process has is tried again.
+# For how many seconds a stop waits for reports on their way, and a file that another process has is tried again.
 PATIENCE = 5.0
 
 
@@ -132,7 +132,8 @@ class Server:
                 self.clients[client] = threading.Thread(target=self.serve, args=(client,), daemon=True)
                 self.clients[client].start()
                 return
-        tell_broken(client, f"there are {CLIENTS} clients already" if is_full else "only the server's owner may connect")
+        full = f"there are {CLIENTS} clients already"
+        tell_broken(client, full if is_full else "only the server's owner may connect")
         client.close()
 
     def serve(self, client: socket.socket) -> None:

@@ -25,9 +25,10 @@ class Kind(Enum):
     OTHER = "OTHER"
 
 
-READS = frozenset({Kind.RUN, Kind.EXPLAIN, Kind.SHOW})
-WRITES = frozenset({Kind.INSERT, Kind.UPDATE, Kind.DELETE})
-NUMBERED = frozenset({Kind.SELECT, Kind.PREPARE, Kind.EXPLAIN})
+READS = (Kind.RUN, Kind.EXPLAIN, Kind.SHOW)
+DEFINES = (Kind.CREATE, Kind.PREPARE)
+WRITES = (Kind.INSERT, Kind.UPDATE, Kind.DELETE)
+NUMBERED = (Kind.SELECT, Kind.PREPARE, Kind.EXPLAIN)
 
 
 class Statement(NamedTuple):
@@ -43,10 +44,6 @@ class Statement(NamedTuple):
         """What stands for each `?` in the text of a query."""
         return tuple(f"[{i}]" for i in range(1, len(self.parts)))
 
-    def reads(self) -> bool:
-        """Whether it changes nothing."""
-        return self.kind in READS
-
 
 class Sent(NamedTuple):
     """A statement as the engine gets it: a text before its own, what stands for each `?`, and a text behind."""
@@ -59,10 +56,11 @@ class Sent(NamedTuple):
     def text(self) -> str:
         """The statement with its end."""
         parts = self.statement.parts
-        if not self.fillings:
-            return f"{self.before}{parts[0]}{self.behind};"
-        filled = "".join([it for pair in zip(parts, self.fillings) for it in pair])
-        return f"{self.before}{filled}{parts[-1]}{self.behind};"
+        texts = [self.before, parts[0]]
+        for filling, part in zip(self.fillings, parts[1:]):
+            texts += (filling, part)
+        texts += (self.behind, ";")
+        return "".join(texts)
 
     def data(self) -> bytes:
         """The bytes of the statement."""

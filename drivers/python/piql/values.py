@@ -10,10 +10,6 @@ LEAST, GREATEST = -(2**63), 2**63 - 1
 
 def quoted_text(text: str) -> str:
     """A text between quotes, each of its own quotes written twice."""
-    try:
-        text.encode()
-    except UnicodeEncodeError as error:
-        raise DataError(f"a text with half a surrogate pair is no UTF-8: {text!r}") from error
     return "'" + text.replace("'", "''") + "'"
 
 
@@ -23,7 +19,7 @@ def quoted(value: object) -> str:
         return quoted_text(value)
     if value is None:
         return "NULL"
-    if isinstance(value, bool):
+    if value is True or value is False:
         return "TRUE" if value else "FALSE"
     if isinstance(value, int):
         if LEAST <= value <= GREATEST:

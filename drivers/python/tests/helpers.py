@@ -11,7 +11,8 @@ TOP = Path(__file__).resolve().parents[3]
 sys.path.insert(0, str(TOP / "drivers/python"))
 
 import piql  # noqa: E402 - the package stands beside the tests
-from piql.engine import find_program  # noqa: E402
+from piql.engine import Engine  # noqa: E402
+from piql.links import FileLink  # noqa: E402
 
 
 def built(name: str) -> str | None:
@@ -31,20 +32,24 @@ needs_file = unittest.skipUnless(PIQL_FILE, "crates/piql_file is not built")
 needs_memory = unittest.skipUnless(PIQL, "crates/piql is not built")
 
 
-def new_folder(case: unittest.TestCase) -> Path:
-    """A folder for the files of a test; in memory where the machine has such a place, since each write waits for a sync."""
+def make_folder() -> Path:
+    """A folder for files; in memory where the machine has such a place, since each write waits for a sync."""
     place = "/dev/shm" if os.access("/dev/shm", os.W_OK) else None
-    folder = Path(tempfile.mkdtemp(prefix="piql-test-", dir=place))
+    return Path(tempfile.mkdtemp(prefix="piql-test-", dir=place))
+
+
+def new_folder(case: unittest.TestCase) -> Path:
+    """A folder for the files of a test."""
+    folder = make_folder()
     case.addCleanup(shutil.rmtree, folder, ignore_errors=True)
     return folder
 
 
-def new_folder_of(case: type[unittest.TestCase]) -> Path:
-    """The same for all tests of a class."""
-    place = "/dev/shm" if os.access("/dev/shm", os.W_OK) else None
-    folder = Path(tempfile.mkdtemp(prefix="piql-test-", dir=place))
-    case.addClassCleanup(shutil.rmtree, folder, ignore_errors=True)
-    return folder
+def engine_of(connection: piql.Connection) -> Engine:
+    """The run behind a connection to a file."""
+    link = connection.link()
+    assert isinstance(link, FileLink) and link.engine is not None
+    return link.engine
 
 
 @needs_file
@@ -57,10 +62,12 @@ class StoreCase(unittest.TestCase):
 
     @classmethod
     def setUpClass(cls) -> None:
-        cls.path = new_folder_of(cls) / "store.db"
+        folder = make_folder()
+        cls.addClassCleanup(shutil.rmtree, folder, ignore_errors=True)
+        cls.path = folder / "store.db"
         cls.connection = piql.connect(cls.path)
         cls.addClassCleanup(cls.connection.close)
         cls.connection.cursor().executescript(cls.script)
 
 
-__all__ = ["PIQL", "PIQL_FILE", "StoreCase", "TOP", "find_program", "needs_file", "needs_memory", "new_folder", "piql"]
+__all__ = ["PIQL", "PIQL_FILE", "StoreCase", "TOP", "engine_of", "needs_file", "needs_memory", "new_folder", "piql"]

@@ -6,7 +6,7 @@ import signal
 import threading
 import unittest
 
-from helpers import StoreCase, needs_file, needs_memory, new_folder, piql
+from helpers import StoreCase, engine_of, needs_file, needs_memory, new_folder, piql
 
 SCRIPT = """
 CREATE TABLE users (name TEXT(20), town TEXT(30), PRIMARY KEY (name));
@@ -17,7 +17,7 @@ INSERT INTO users VALUES ('ann', 'rome');
 INSERT INTO users VALUES ('bob', 'oslo');
 """
 BY_KEY = "SELECT v.i, v.b, v.t FROM vals AS v WHERE v.id = ?"
-TEXTS = ["", "it's", "''", "a\0b", "\0", "\r\n", "x\n9 ok bound 1 1 used 1 1\n", "; --", "é" * 500, "x" * 1000, "?", "[1]"]
+TEXTS = ["", "it's", "''", "a\0b", "\0", "\r\n", "x\n9 ok bound 1 1 used 1 1\n", "; --", "?", "[1]", "é" * 500, "x" * 1000]
 # A statement with its values, and the exception, the number and the fields of its refusal.
 REFUSED = [
     ("INSERT INTO users VALUES (?, ?)", ("ann", "pisa"), piql.IntegrityError, "E503", {"table": "users"}),
@@ -57,7 +57,8 @@ class DriverTest(StoreCase):
         source = random.Random(38)
         for number in range(1000, 2000):
             letters = "".join(source.choices("ab'\n\0;-é€𝄞\\\"", k=source.randrange(60)))
-            row = tuple(source.choice([None, it]) for it in (source.randrange(-(2**63), 2**63), source.random() < 0.5, letters))
+            values = (source.randrange(-(2**63), 2**63), source.random() < 0.5, letters)
+            row = tuple(source.choice([None, value]) for value in values)
             self.connection.execute("INSERT INTO vals VALUES (?, ?, ?, ?)", (number, *row))
             self.assertEqual(self.connection.execute(BY_KEY, (number,)).fetchall(), [row])
 
@@ -138,8 +139,8 @@ class RunTest(unittest.TestCase):
         self.folder = new_folder(self)
         self.path = self.folder / "store.db"
 
-    def open(self, **how: object) -> piql.Connection:
-        connection = piql.connect(self.path, **how)
+    def open(self, prepare: bool = True) -> piql.Connection:
+        connection = piql.connect(self.path, prepare=prepare)
         self.addCleanup(connection.close)
         return connection
 
@@ -174,7 +175,7 @@ class RunTest(unittest.TestCase):
         connection = self.open()
         connection.execute("CREATE TABLE t (a INT, PRIMARY KEY (a))")
         connection.execute("INSERT INTO t VALUES (1)")
-        os.kill(connection.link().engine.process.pid, signal.SIGKILL)
+        os.kill(engine_of(connection).process.pid, signal.SIGKILL)
         with self.assertRaises(piql.OperationalError) as caught:
             connection.execute("INSERT INTO t VALUES (2)")
         self.assertEqual(caught.exception.status, -signal.SIGKILL)
@@ -185,7 +186,7 @@ class RunTest(unittest.TestCase):
     def test_an_interrupt_leaves_no_report_behind(self) -> None:
         connection = self.open()
         connection.execute("CREATE TABLE t (a INT, PRIMARY KEY (a))")
-        engine = connection.link().engine
+        engine = engine_of(connection)
         engine.write(b"INSERT INTO t VALUES (1);")
         engine.kill()
         with self.assertRaises(Exception):

@@ -1,4 +1,4 @@
-"""Connections that last: more statements than a run takes, many openings, many rows, a full disk, runs that are killed."""
+"""Connections that last: more statements than a run takes, many openings and rows, a full disk, killed runs."""
 
 import os
 import random
@@ -7,7 +7,7 @@ import subprocess
 import threading
 import unittest
 
-from helpers import needs_file, needs_memory, new_folder, piql
+from helpers import engine_of, needs_file, needs_memory, new_folder, piql
 
 COUNT = "SELECT a FROM t ORDER BY a LIMIT 1000"
 
@@ -27,14 +27,14 @@ class LastingTest(unittest.TestCase):
     def test_forty_megabytes_of_statements(self) -> None:
         connection = self.open()
         connection.execute("CREATE TABLE t (a INT, PRIMARY KEY (a))")
-        first = connection.link().engine
+        first = engine_of(connection)
         sent = 0
         for number in range(40_000_000 // 65_000 + 1):
             statement = f"INSERT INTO t{' ' * 64_970}VALUES ({number});"
             sent += len(statement)
             connection.execute(statement)
         self.assertGreater(sent, 40_000_000)
-        self.assertIsNot(connection.link().engine, first)
+        self.assertIsNot(engine_of(connection), first)
         self.assertEqual(len(connection.execute(COUNT).fetchall()), number + 1)
 
     def test_a_hundred_openings(self) -> None:
@@ -52,7 +52,8 @@ class LastingTest(unittest.TestCase):
         rows = [(number, f"row {number}") for number in range(10_000)]
         cursor = connection.cursor().executemany("INSERT INTO t VALUES (?, ?)", rows)
         self.assertEqual(cursor.rowcount, 10_000)
-        found, after = [], None
+        found: list[piql.Row] = []
+        after = None
         while not found or after:
             cursor = connection.execute("SELECT a, b FROM t ORDER BY a PAGINATE 1000", after=after)
             found += cursor.fetchall()
@@ -82,10 +83,10 @@ class LastingTest(unittest.TestCase):
     def test_killed_in_mid_statement(self) -> None:
         connection = self.open()
         connection.execute("CREATE TABLE t (a INT, b INT, PRIMARY KEY (a), CARDINALITY LIMIT 10000 (b))")
-        made: list[int] = []
+        made: list[object] = []
         source = random.Random(9)
         for _ in range(5):
-            process = connection.link().engine.process
+            process = engine_of(connection).process
             killer = threading.Timer(source.random() * 0.1, os.kill, (process.pid, signal.SIGKILL))
             killer.start()
             with self.assertRaises(piql.OperationalError) as caught:
@@ -97,7 +98,7 @@ class LastingTest(unittest.TestCase):
             self.assertEqual(caught.exception.status, -signal.SIGKILL)
             rows = [row[0] for row in connection.execute("SELECT a FROM t ORDER BY a LIMIT 1000").fetchall()]
             self.assertIn(rows, (made, [*made, len(made)]))
-            made = rows
+            made = list(rows)
 
 
 @needs_file
@@ -110,7 +111,7 @@ class FullDiskTest(unittest.TestCase):
         mount = subprocess.run(["mount", "-t", "tmpfs", "-o", "size=512k", "piql-test", place], capture_output=True)
         if mount.returncode != 0:
             self.skipTest("a small tmpfs can't be mounted here")
-        self.addCleanup(subprocess.run, ["umount", place], check=True)
+        self.addCleanup(lambda: subprocess.run(["umount", place], check=True))
         connection = piql.connect(place / "store.db")
         self.addCleanup(connection.close)
         connection.execute("CREATE TABLE t (a INT, b TEXT(1000), PRIMARY KEY (a))")

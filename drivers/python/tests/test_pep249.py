@@ -4,8 +4,8 @@ import unittest
 
 from helpers import StoreCase, needs_file, new_folder, piql
 
-MODULE = """apilevel threadsafety paramstyle connect Warning Error InterfaceError DatabaseError DataError OperationalError
-IntegrityError InternalError ProgrammingError NotSupportedError STRING BINARY NUMBER DATETIME ROWID Date Time Timestamp
+MODULE = """apilevel threadsafety paramstyle connect Warning Error InterfaceError DatabaseError DataError
+OperationalError IntegrityError InternalError ProgrammingError NotSupportedError STRING BINARY NUMBER DATETIME ROWID Date Time Timestamp
 DateFromTicks TimeFromTicks TimestampFromTicks Binary"""
 CONNECTION = """close commit rollback cursor Warning Error InterfaceError DatabaseError DataError OperationalError
 IntegrityError InternalError ProgrammingError NotSupportedError autocommit"""
@@ -93,7 +93,8 @@ class CursorTest(StoreCase):
         self.assertEqual(list(cursor), [(1,), (2,), (3,)])
 
     def test_description(self) -> None:
-        cursor = self.connection.execute("SELECT x.a, x.b, y.a, x.c FROM t AS x JOIN t AS y WHERE x.a = ? AND y.a = 1", (1,))
+        select = "SELECT x.a, x.b, y.a, x.c FROM t AS x JOIN t AS y WHERE x.a = ? AND y.a = 1"
+        cursor = self.connection.execute(select, (1,))
         self.assertEqual([it[0] for it in cursor.description or ()], ["x.a", "b", "y.a", "c"])
         self.assertEqual([it[1] for it in cursor.description or ()], ["INT", "TEXT", "INT", "BOOL"])
         self.assertEqual([it[6] for it in cursor.description or ()], [False, True, False, False])
@@ -115,13 +116,13 @@ class CursorTest(StoreCase):
         self.assertEqual(cursor.fetchall(), [("stop 1", 3, 4, "t (c, b DESC)")])
 
     def test_what_is_not_offered(self) -> None:
-        self.assertIsNone(self.connection.commit())
+        self.connection.commit()
         self.assertTrue(self.connection.autocommit)
         with self.assertRaises(piql.NotSupportedError):
             self.connection.rollback()
         cursor = self.connection.cursor()
-        self.assertIsNone(cursor.setinputsizes([1]))
-        self.assertIsNone(cursor.setoutputsize(1))
+        cursor.setinputsizes([1])
+        cursor.setoutputsize(1)
         self.assertIsNone(cursor.lastrowid)
 
 
@@ -137,6 +138,7 @@ class ClosingTest(unittest.TestCase):
             cursor.execute("SHOW")
         connection.close()
         connection.close()
-        for call in (connection.cursor, connection.commit, lambda: connection.execute("SHOW")):
-            with self.assertRaises(piql.InterfaceError):
-                call()
+        with self.assertRaises(piql.InterfaceError):
+            connection.cursor()
+        with self.assertRaises(piql.InterfaceError):
+            connection.commit()

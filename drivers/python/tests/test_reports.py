@@ -34,7 +34,8 @@ VALUES = [
     ("'a, b', 1", ("a, b", 1)),
     ("'line\nfeed', 'NULL', '7'", ("line\nfeed", "NULL", "7")),
 ]
-RUN = "row 10, 'oslo'\nrow 11, 'li\n7 ok rows 1 bound 1 1 used 1 1\nma'\n17 ok rows 2 next AQ-_ bound 104 403 used 6 9\n"
+ROWS = "row 10, 'oslo'\nrow 11, 'li\n7 ok rows 1 bound 1 1 used 1 1\nma'\n"
+RUN = ROWS + "17 ok rows 2 next AQ-_ bound 104 403 used 6 9\n"
 
 
 class ReportTest(unittest.TestCase):

@@ -21,7 +21,8 @@ CREATE TABLE users (name TEXT(20), town TEXT(30) NULL, PRIMARY KEY (name));
 PREPARE town AS SELECT u.town FROM users AS u WHERE u.name = [1: who];
 """
 SECOND = FIRST + """
-CREATE TABLE notes (owner TEXT(20), stamp INT, hot BOOL, PRIMARY KEY (owner, stamp), FOREIGN KEY (owner) REFERENCES users);
+CREATE TABLE notes (owner TEXT(20), stamp INT, hot BOOL, PRIMARY KEY (owner, stamp),
+  FOREIGN KEY (owner) REFERENCES users);
 PREPARE latest AS SELECT stamp, hot FROM notes WHERE owner = [1] ORDER BY stamp LIMIT 5;
 """
 ROWS = 'name,town\nann,rome\n"b,o""b",\n"two\nlines",oslo\nann,lima\n' + "x" * 21 + ",lima\ncid,lima,7\n"
@@ -101,10 +102,11 @@ class SchemaTest(unittest.TestCase):
         self.assertEqual(len(connection.schema().definitions), 2)
 
     def test_migrate_names_the_line(self) -> None:
+        connection = self.open()
         for text in ("PREPARE town AS SELECT nothing FROM users WHERE name = [1];", "SHOW;"):
             self.schema.write_text(FIRST.partition("PREPARE")[0] + "\n\n" + text)
             with self.subTest(text), self.assertRaises(piql.ProgrammingError) as caught:
-                piql.migrate(self.open(), self.schema)
+                piql.migrate(connection, self.schema)
             self.assertEqual(caught.exception.__notes__, [f"in {self.schema}, line 5"])
 
     def test_bounds(self) -> None:
@@ -153,7 +155,7 @@ class SchemaTest(unittest.TestCase):
             with self.assertRaises(piql.OperationalError):
                 load(connection, "users", io.StringIO(broken), mark, tell)
             self.assertEqual(int(mark.read_text().split()[0]), cut)
-        connection.execute("INSERT INTO users VALUES ('n25', 'made before the mark was written')")
+        connection.execute("INSERT INTO users VALUES ('n25', 'x')")
         with self.assertRaises(piql.ProgrammingError):
             load(connection, "users", io.StringIO(text.replace("n3,", "m3,")), mark, tell)
         self.assertEqual(load(connection, "users", io.StringIO(text), mark, tell), Loaded(40, 0))
@@ -172,14 +174,14 @@ class SchemaTest(unittest.TestCase):
         source = self.folder / "rows.csv"
         source.write_text("name,town\n" + "".join(f"n{i},x\n" for i in range(300)))
         words = [sys.executable, "-m", "piql", "load", str(self.path), "users"]
-        how = {"env": {**os.environ, "PYTHONPATH": str(TOP / "drivers/python")}, "stderr": subprocess.PIPE}
+        environment = {**os.environ, "PYTHONPATH": str(TOP / "drivers/python")}
         mark = Path(f"{self.path}.users.load")
-        with source.open() as rows, subprocess.Popen(words, stdin=rows, **how) as first:
+        with source.open() as rows, subprocess.Popen(words, stdin=rows, env=environment) as first:
             while first.poll() is None and not (mark.exists() and mark.read_text() >= f"{5:020}"):
                 pass
             first.send_signal(signal.SIGKILL)
         with source.open() as rows:
-            second = subprocess.run(words, stdin=rows, check=False, **how)
+            second = subprocess.run(words, stdin=rows, env=environment, capture_output=True)
         self.assertEqual((second.returncode, second.stderr.splitlines()[-1]), (0, b"300 records, 0 refused"))
 
     def test_commands(self) -> None:
@@ -206,8 +208,8 @@ class SchemaTest(unittest.TestCase):
 
     def test_rebuild(self) -> None:
         self.rows_of_old()
-        changed = "CREATE TABLE users (town TEXT(30) NULL, name TEXT(19), age INT, note TEXT(5) NULL, PRIMARY KEY (name));"
-        self.schema.write_text(changed)
+        columns = "town TEXT(30) NULL, name TEXT(19), age INT, note TEXT(5) NULL"
+        self.schema.write_text(f"CREATE TABLE users ({columns}, PRIMARY KEY (name));")
         new, tell = self.folder / "new.db", io.StringIO()
         with self.assertRaises(piql.ProgrammingError):
             rebuild(str(self.path), str(new), self.schema, tell, {})

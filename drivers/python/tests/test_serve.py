@@ -52,8 +52,8 @@ class ServeTest(unittest.TestCase):
         self.addCleanup(server.end)
         return server
 
-    def open(self, **how: object) -> piql.Connection:
-        connection = piql.connect(f"unix:{self.at}", **how)
+    def open(self) -> piql.Connection:
+        connection = piql.connect(f"unix:{self.at}")
         self.addCleanup(connection.close)
         return connection
 
@@ -65,9 +65,10 @@ class ServeTest(unittest.TestCase):
         self.assertEqual(read_frame(made)[0], HELLO)
         return made
 
-    def stored(self, connection: piql.Connection) -> list[tuple[int, int]]:
+    def stored(self, connection: piql.Connection) -> list[piql.Row]:
         """All rows."""
-        found, after = [], None
+        found: list[piql.Row] = []
+        after = None
         while not found or after:
             cursor = connection.execute(PAGE, after=after)
             found += cursor.fetchall()
@@ -76,7 +77,7 @@ class ServeTest(unittest.TestCase):
 
     def test_each_report_that_said_ok_is_in_the_file(self) -> None:
         self.open().cursor().executescript(SCRIPT)
-        made: list[tuple[int, int]] = []
+        made: list[piql.Row] = []
 
         def write(client: int) -> None:
             connection = self.open()
@@ -175,8 +176,10 @@ class ServeTest(unittest.TestCase):
         connection.cursor().executescript(SCRIPT)
         source = random.Random(4)
         numbers = iter(range(10**9))
-        lost: list[int] = []
+        # Numbers whose write was reported, whose report was lost, and that no server was there for.
         made: list[int] = []
+        lost: list[int] = []
+        unsent: list[int] = []
         for _ in range(3):
             killer = threading.Timer(0.05 + 0.1 * source.random(), self.server.process.kill)
             killer.start()
@@ -186,8 +189,7 @@ class ServeTest(unittest.TestCase):
                     connection.execute("INSERT INTO t VALUES (0, ?)", (number,))
                     made.append(number)
             killer.join()
-            lost.append(number)
-            self.assertIn("made or not made", str(caught.exception))
+            (lost if "made or not made" in str(caught.exception) else unsent).append(number)
             self.server = self.serve()
         stored = {number for _, number in self.stored(connection)}
         self.assertLessEqual(set(made), stored)
@@ -210,7 +212,7 @@ class ServeTest(unittest.TestCase):
         connection = self.open()
         connection.cursor().executescript(SCRIPT)
         stop = threading.Event()
-        made: list[tuple[int, int]] = []
+        made: list[piql.Row] = []
 
         def write() -> None:
             other = self.open()

@@ -88,15 +88,15 @@ class ProgramTest(unittest.TestCase):
     def test_a_pipe(self) -> None:
         script = SCRIPT.encode() + b"RUN page; RUN nothing;"
         piped = subprocess.run(self.words, input=script, capture_output=True)
-        plain = subprocess.run([PIQL_FILE, self.folder / "other.db", "run"], input=script, capture_output=True)
+        plain = subprocess.run([str(PIQL_FILE), self.folder / "other.db", "run"], input=script, capture_output=True)
         self.assertEqual((piped.stdout, piped.returncode), (plain.stdout, plain.returncode))
         self.assertEqual(piped.returncode, 1)
 
     def test_a_terminal(self) -> None:
         terminal, inner = pty.openpty()
         self.addCleanup(os.close, terminal)
-        how = {"env": {**os.environ, "HOME": str(self.folder), "TERM": "dumb"}}
-        process = subprocess.Popen(self.words, stdin=inner, stdout=inner, stderr=inner, start_new_session=True, **how)
+        environment = {**os.environ, "HOME": str(self.folder), "TERM": "dumb"}
+        process = subprocess.Popen(self.words, stdin=inner, stdout=inner, env=environment, start_new_session=True)
         os.close(inner)
         os.write(terminal, b"CREATE TABLE t (a INT,\nPRIMARY KEY (a));\n.tables\n.quit\n")
         said = b""

@@ -34,9 +34,10 @@ class StatementTest(unittest.TestCase):
         for value, wanted in QUOTED:
             with self.subTest(value=value):
                 self.assertEqual(quoted(value), wanted)
-        for value, error in ((2**63, piql.DataError), ("\ud800", piql.DataError), (1.5, piql.ProgrammingError)):
-            with self.subTest(value=value), self.assertRaises(error):
-                quoted(value)
+        wrong: list[tuple[object, type[piql.Error]]] = [(2**63, piql.DataError), (1.5, piql.ProgrammingError)]
+        for given, error in wrong:
+            with self.subTest(value=given), self.assertRaises(error):
+                quoted(given)
 
     def test_one_name_for_all_spellings(self) -> None:
         names = {read_statement(text).name for text in SAME}
@@ -58,6 +59,8 @@ class StatementTest(unittest.TestCase):
         for text in NO_STATEMENT:
             with self.subTest(text), self.assertRaises(piql.ProgrammingError):
                 read_statement(text)
+        with self.assertRaises(piql.DataError):
+            Sent(read_statement("RUN q (?)"), "", (quoted("\ud800"),)).data()
         with self.assertRaises(piql.ProgrammingError) as caught:
             Sent(read_statement(f"RUN q ('{'x' * 65_536}')"), "", ()).data()
         self.assertEqual(caught.exception.number, "E103")
@@ -94,5 +97,6 @@ class StatementTest(unittest.TestCase):
     def test_the_message(self) -> None:
         error = refused(refusal_of(("E503", "users"), "INSERT ..", None))
         self.assertIsInstance(error, piql.IntegrityError)
-        self.assertEqual(str(error), "E503 users: a row with this key is there. Way out: UPDATE it, or choose another key.")
+        said = "E503 users: a row with this key is there. Way out: UPDATE it, or choose another key."
+        self.assertEqual(str(error), said)
         self.assertEqual((error.number, error.fields, error.statement), ("E503", {"table": "users"}, "INSERT .."))
