@@ -1,4 +1,0 @@
-use Rattle.pq_tests_builds.proofs.builds.a_stopped_build_is_made_whole.Given as goal
-
-abbrev pub ghosts-first_build : goal.ghosts-first_build
-ghosts-first_build g a = record { name = a.blank.name; parts = a.blank.parts }

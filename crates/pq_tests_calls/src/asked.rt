@@ -1,0 +1,144 @@
+//! Queries over the tables of the tests, and the nodes of their plans.
+ghost use Rattle.std.specs.Prelude.{◌≡◌, option_copied, IsTrue, IfOk, IfSome};
+ghost use Rattle.std.specs.List.{AllByRecursion};
+ghost use Rattle.pq_schema.specs.Resolved.{IsResolved};
+ghost use Rattle.pq_compile.specs.Chosen.{IsCompiled};
+ghost use Rattle.pq_nodes.specs.Operators.{IsReadyNode};
+ghost use Rattle.pq_plan.specs.Nodes.{nodes};
+ghost use Rattle.pq_tests_calls.specs.Reads.{input_of, IsReadyAt};
+
+use crate::rows::{FALLING, TABLES};
+use pq_base::PText;
+use pq_compile::{Compiled, compile};
+use pq_def_read::{Statement, read_statement};
+use pq_plan::Physical;
+use pq_query_read::read_query;
+use pq_schema::{Catalog, Query, is_name};
+use pq_text::tokens;
+use std::alloc::Global;
+use std::test::Fail;
+
+fn text_of(alloc: Global, text: &str) -> Result<PText, Fail> {
+    Ok(PText::from_bytes(alloc, text.as_bytes())?.ok_or("not UTF-8")?)
+}
+
+/// A query, and what it is compiled to.
+#[derive(Drop)]
+pub(crate) struct Planned {
+    pub query: Query,
+    pub made: Compiled,
+}
+
+/// The query that the text spells.
+pub(crate) fn plan_of(alloc: Global, catalog: &Catalog, text: &str) -> Result<Planned, Fail>
+    ensures resolved { IfOk result (λ p. IsResolved catalog.now.tables p.query) }
+    ensures compiled { IfOk result (λ p. IsCompiled catalog.now.tables p.query p.made) }
+{
+    catalog.known();
+    let text = text_of(alloc, text)?;
+    if text.bytes().len() > 1_048_576 {
+        return Err(Fail::from("too long"));
+    }
+    let name = text_of(alloc, "q")?;
+    let seen = tokens(alloc, &text)?;
+    let query = read_query(alloc, catalog, name, &text, &seen, 0)?;
+    let made = compile(alloc, catalog, &query)?;
+    Ok(Planned { query, made })
+}
+
+fn define_table(alloc: Global, catalog: &mut Catalog, text: &str) -> Result<(), Fail> {
+    let text = text_of(alloc, text)?;
+    if text.bytes().len() > 1_048_576 {
+        return Err(Fail::from("too long"));
+    }
+    let seen = tokens(alloc, &text)?;
+    let Ok(Statement::Create(def)) = read_statement(alloc, &text, &seen) else {
+        return Err(Fail::from("not the definition of a table"));
+    };
+    if !def.is_spelt() {
+        return Err(Fail::from("not as statements spell it"));
+    }
+    let _number = catalog.add_table(alloc, def)?;
+    Ok(())
+}
+
+/// Defines a query with the index that it wants.
+fn define_query(alloc: Global, catalog: &mut Catalog, text: &str) -> Result<(), Fail> {
+    let Planned { query, made } = plan_of(alloc, catalog, text)?;
+    if !is_name(&query.name) {
+        return Err(Fail::from("not a name"));
+    }
+    let _number = catalog.add_query(alloc, query, made.wanted)?;
+    Ok(())
+}
+
+/// The tables with their indexes.
+pub(crate) fn catalog_of(alloc: Global) -> Result<Catalog, Fail> {
+    let mut catalog = Catalog::new(alloc);
+    for text in &TABLES {
+        define_table(alloc, &mut catalog, text)?;
+    }
+    define_query(alloc, &mut catalog, FALLING)?;
+    Ok(catalog)
+}
+
+/// Whether the outermost node of a tree reads the relation.
+fn is_read(catalog: &Catalog, query: &Query, tree: &Physical, rel: u8) -> bool
+    requires { AllByRecursion (IsReadyNode catalog.now.tables query.now) (nodes tree.now) }
+    ensures { IsTrue result → IsReadyAt catalog.now.tables query.now rel tree.now }
+{
+    match tree {
+        Physical::Lookup { rel: at, .. } => *at == rel,
+        Physical::LimitRange { rel: at, .. } => *at == rel,
+        Physical::StopScan { rel: at, .. } => *at == rel,
+        _ => false,
+    }
+}
+
+/// The tree under the outermost node.
+fn input_of(tree: &Physical) -> Option<&Physical>
+    ensures { option_copied result ≡ input_of tree.now }
+{
+    match tree {
+        Physical::Unit => None,
+        Physical::Lookup { input, .. }
+        | Physical::LimitRange { input, .. }
+        | Physical::StopScan { input, .. }
+        | Physical::Filter { input, .. }
+        | Physical::Sort { input }
+        | Physical::Cut { input, .. }
+        | Physical::Project { input } => Some(input),
+    }
+}
+
+/// The node of a tree that reads the relation.
+fn read_in<'a>(
+    catalog: &Catalog,
+    query: &Query,
+    tree: &'a Physical,
+    rel: u8,
+) -> Option<&'a Physical>
+    requires { AllByRecursion (IsReadyNode catalog.now.tables query.now) (nodes tree.now) }
+    ensures { IfSome (option_copied result) (IsReadyAt catalog.now.tables query.now rel) }
+{
+    if is_read(catalog, query, tree, rel) {
+        return Some(tree);
+    }
+    match input_of(tree) {
+        Some(input) => read_in(catalog, query, input, rel),
+        None => None,
+    }
+}
+
+/// The node of a plan that reads the relation. There is none where the plan wants an index.
+pub(crate) fn read_of<'a>(catalog: &Catalog, planned: &'a Planned, rel: u8) -> Option<&'a Physical>
+    requires resolved { IsResolved catalog.now.tables planned.now.query }
+    requires compiled { IsCompiled catalog.now.tables planned.now.query planned.now.made }
+    ensures { IfSome (option_copied result) (IsReadyAt catalog.now.tables planned.now.query rel) }
+{
+    catalog.known();
+    match &planned.made.wanted {
+        None => read_in(catalog, &planned.query, planned.made.plan.tree(), rel),
+        Some(_) => None,
+    }
+}

@@ -1,4 +1,0 @@
-use Rattle.pq_tests_files.proofs.runs.unlike_in_memory.Given as goal
-
-abbrev pub ghosts-first_unlike : goal.ghosts-first_unlike
-ghosts-first_unlike a = record { name = a.blank.name; parts = a.blank.parts }

@@ -1,4 +1,0 @@
-use Rattle.pq_tests_ops.proofs.operators.operators_give_the_plain_rows.Given as goal
-
-abbrev pub ghosts-first_unlike : goal.ghosts-first_unlike
-ghosts-first_unlike g a = record { name = a.blank.name; parts = a.blank.parts }

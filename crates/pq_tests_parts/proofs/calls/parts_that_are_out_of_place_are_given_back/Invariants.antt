@@ -1,4 +1,0 @@
-use Rattle.pq_tests_parts.proofs.calls.parts_that_are_out_of_place_are_given_back.Given as goal
-
-abbrev pub ghosts-made_of : goal.ghosts-made_of
-ghosts-made_of g a = record { name = a.nodes.name; parts = a.nodes.parts }
