@@ -99,9 +99,9 @@ class SqlTest(unittest.TestCase):
 
     def test_the_first_column_is_refused_and_the_second_is_made(self) -> None:
         statements: list[tuple[str, str]] = []
-        for line in (TOP / "docs/SQL.md").read_text().splitlines():
-            cells = line.strip("|").split("|")
-            if len(cells) == 3:
+        for table in (TOP / "docs/SQL.md").read_text().split("| In SQL | Here | To know |\n")[1:]:
+            for line in table.split("\n\n")[0].splitlines():
+                cells = line.strip("|").split("|")
                 statements += [(code, "refused") for code in CODE.findall(cells[0]) if STATEMENT.match(code)]
                 statements += [(code, "ok") for code in CODE.findall(cells[1]) if WHOLE.match(code)]
         tables = (TOP / "docs/scripts/sql.piql").read_text()
