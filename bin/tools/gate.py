@@ -120,8 +120,10 @@ def tell_stale() -> None:
 
 
 def main(words: list[str]) -> int:
+    if words == ["--browser"]:
+        return subprocess.run([sys.executable, "-B", str(TOP / "site" / "browse.py")]).returncode
     if words:
-        print("test: it takes no words", file=sys.stderr)
+        print("test: it takes no words but --browser", file=sys.stderr)
         return 2
     outcome = run_gate(["rt", "ci"])
     try:

@@ -124,8 +124,8 @@ class Connection:
         """The report of the RUN of a SELECT, which is prepared where it isn't."""
         self.schema()
         name = self._names.get(statement.name) or self.define(statement)
-        run = Statement(statement.text, Kind.RUN, name, (f"RUN {name} ({', '.join(values)})",), 0)
-        return self.report(Sent(run, "", (), behind))
+        run = statement._replace(kind=Kind.RUN, template="%s")
+        return self.report(Sent(run, f"RUN {name} (", (", ".join(values),), ")" + behind))
 
     def define(self, statement: Statement) -> str:
         """Prepares a SELECT under the name of its tokens, unless another connection has done so meanwhile."""

@@ -7,6 +7,7 @@ socket, ends at once. Each client has a thread; the engine is taken by one of th
 """
 
 import argparse
+import contextlib
 import json
 import os
 import re
@@ -100,10 +101,8 @@ def serve_client(client: socket.socket, answers: Answers) -> None:
 
 def tell_broken(client: socket.socket, why: str) -> None:
     """Tells a client why it is left, if it still listens."""
-    try:
+    with contextlib.suppress(OSError):
         write_frame(client, BROKEN, why.encode())
-    except OSError:
-        pass
 
 
 class Server:
@@ -147,11 +146,13 @@ class Server:
 
     def stop(self) -> None:
         """Takes no more clients and no more frames, sends the reports that are on their way, and closes the file."""
-        os.unlink(self.path)
+        with contextlib.suppress(FileNotFoundError):
+            os.unlink(self.path)
         with self.guard:
             clients = dict(self.clients)
         for client in clients:
-            client.shutdown(socket.SHUT_RD)
+            with contextlib.suppress(OSError):
+                client.shutdown(socket.SHUT_RD)
         until = time.monotonic() + PATIENCE
         for thread in clients.values():
             thread.join(max(0.0, until - time.monotonic()))

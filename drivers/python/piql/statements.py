@@ -32,13 +32,17 @@ NUMBERED = (Kind.SELECT, Kind.PREPARE, Kind.EXPLAIN)
 
 
 class Statement(NamedTuple):
-    """A statement: its kind, the query that it runs or defines, and its text, cut at each `?`."""
+    """A statement: its kind, the query that it runs or defines, its text cut at each `?`, and how many values it takes.
+
+    `template` is the parts with `%s` between them.
+    """
 
     text: str
     kind: Kind
     name: str
     parts: tuple[str, ...]
     params: int
+    template: str
 
     def numbered(self) -> tuple[str, ...]:
         """What stands for each `?` in the text of a query."""
@@ -55,12 +59,7 @@ class Sent(NamedTuple):
 
     def text(self) -> str:
         """The statement with its end."""
-        parts = self.statement.parts
-        texts = [self.before, parts[0]]
-        for filling, part in zip(self.fillings, parts[1:]):
-            texts += (filling, part)
-        texts += (self.behind, ";")
-        return "".join(texts)
+        return f"{self.before}{self.statement.template % self.fillings}{self.behind};"
 
     def data(self) -> bytes:
         """The bytes of the statement."""
@@ -165,4 +164,5 @@ def read_statement(text: str) -> Statement:
     ends = [*(token.start for token in places), found[-1].end]
     parts = tuple(text[start:end] for start, end in zip(starts, ends))
     params = param_count(texts) if kind is Kind.SELECT else len(places) if kind not in NUMBERED else 0
-    return Statement(text, kind, name_in(kind, found, texts), parts, params)
+    template = "%s".join(part.replace("%", "%%") for part in parts)
+    return Statement(text, kind, name_in(kind, found, texts), parts, params, template)

@@ -3,10 +3,12 @@
 import os
 import random
 import signal
+import subprocess
+import sys
 import threading
 import unittest
 
-from helpers import StoreCase, engine_of, needs_file, needs_memory, new_folder, piql
+from helpers import TOP, StoreCase, engine_of, needs_file, needs_memory, new_folder, piql
 
 SCRIPT = """
 CREATE TABLE users (name TEXT(20), town TEXT(30), PRIMARY KEY (name));
@@ -205,6 +207,12 @@ class RunTest(unittest.TestCase):
             piql.connect(self.path)
         self.assertIn("no SQLite file", str(caught.exception))
         self.assertEqual(self.path.read_bytes(), b"no database" * 1000)
+
+    def test_the_document_s_script(self) -> None:
+        environment = {**os.environ, "PYTHONPATH": str(TOP / "drivers/python")}
+        words = [sys.executable, TOP / "docs/scripts/users.py"]
+        run = subprocess.run(words, cwd=self.folder, env=environment, capture_output=True, text=True)
+        self.assertEqual((run.stdout, run.stderr), ("[('rome',)] at most 1 1 used 1 1\n", ""))
 
     def test_no_program(self) -> None:
         with self.assertRaises(piql.InterfaceError):

@@ -5,7 +5,7 @@ use Rattle.pq_shell.proofs.serving.make.Goals as goal
 
 pub returns-in-Ok-clause-ok : goal.returns-in-Ok-clause-ok
 returns-in-Ok-clause-ok g c =
-    rw c.in-Check.is (made_checked c.args.number c.args.piece.now c.args.session _ _ c.in-Ok.made.0 c.in-Ok.made.1 c.in-Ok.ensures.report c.in-Ok.ensures.next)
+    rw c.in-Check.is (made_checked c.args.number c.args.piece.now c.args.session _ _ c.in-Ok.made.0 c.in-Ok.made.1 c.in-Ok.ensures.report c.in-Ok.ensures.next c.in-Ok.ensures.arranged)
 
 pub returns-in-Err-clause-err : goal.returns-in-Err-clause-err
 returns-in-Err-clause-err g c = rw c.in-Check.is (lost_checked c.args.number c.args.piece.now c.args.session _ _)
