@@ -62,7 +62,14 @@ pub fn is_as_written<L: Ledger>(
         let cut = unfinished(alloc, out, number)?;
         number = number.saturating_add(1);
         let whole = up_to(alloc, out, number)?;
-        if !goes_on(alloc, &mut script, part.items(), cut.as_slice(), whole, meter)? {
+        if !goes_on(
+            alloc,
+            &mut script,
+            part.items(),
+            cut.as_slice(),
+            whole,
+            meter,
+        )? {
             return Ok(false);
         }
     }

@@ -78,7 +78,14 @@ fn run_new<L: Ledger>(
     let mut source = source_of(alloc, cells, script)?;
     let mut sink = sink_of(alloc, cells)?;
     let mut store = MemStore::new(alloc);
-    run_words(alloc, words.items(), &mut source, &mut store, &mut sink, meter)
+    run_words(
+        alloc,
+        words.items(),
+        &mut source,
+        &mut store,
+        &mut sink,
+        meter,
+    )
 }
 
 /// Whether the run ends as the cells say.
@@ -129,5 +136,8 @@ pub fn are_numbered() -> bool {
         Status::NoMem,
         Status::TooLong,
     ];
-    statuses.iter().zip(0u8..9).all(|(status, code)| status.code() == code)
+    statuses
+        .iter()
+        .zip(0u8..9)
+        .all(|(status, code)| status.code() == code)
 }

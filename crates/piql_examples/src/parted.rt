@@ -63,7 +63,13 @@ impl Parted {
     }
 
     // Puts what the run of a part has written. Whether it begins with the opening of so many definitions, and ends so.
-    fn put(&mut self, alloc: Global, part: &[u8], ended: Status, text: &[u8]) -> Result<bool, NoMem> {
+    fn put(
+        &mut self,
+        alloc: Global,
+        part: &[u8],
+        ended: Status,
+        text: &[u8],
+    ) -> Result<bool, NoMem> {
         let definitions = self.definitions;
         let opening = format!(in alloc; "open defs {definitions} bound 2 257\n")?;
         match text.strip_prefix(opening.as_bytes()) {
@@ -146,5 +152,8 @@ pub fn is_as_written<L: Ledger>(
     }
     let parts = parts_of(alloc, texts.parts.as_slice())?;
     let mut parted = Parted::new(alloc)?;
-    Ok(parted.run_all(alloc, parts.items(), out, meter)? && have_same(alloc, &whole, &parted.store)?)
+    Ok(
+        parted.run_all(alloc, parts.items(), out, meter)?
+            && have_same(alloc, &whole, &parted.store)?,
+    )
 }

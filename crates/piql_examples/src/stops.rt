@@ -29,7 +29,11 @@ fn ground_of<L: Ledger>(
         return Ok(Some(store));
     }
     let (ended, _) = run_script(alloc, ground, &mut store, meter)?;
-    Ok(if ended == Status::Good { Some(store) } else { None })
+    Ok(if ended == Status::Good {
+        Some(store)
+    } else {
+        None
+    })
 }
 
 // What a cell's file has, or its part.
@@ -77,7 +81,11 @@ fn left<L: Ledger>(
         None => text.as_slice(),
     };
     let well = ends_so(cells, out, status, text.as_slice());
-    Ok(if well { Some(failing.into_inner()) } else { None })
+    Ok(if well {
+        Some(failing.into_inner())
+    } else {
+        None
+    })
 }
 
 /// Whether the run is stopped at its call as the cells say, and the store, opened again, answers as it has to, where it

@@ -5,7 +5,6 @@ use Rattle.std.specs.List.{AllByRecursion}
 use Rattle.std.specs.Int.{w32, to_be_bytes, from_be_bytes}
 use Rattle.std.proofs.lemmas.Bool.{ne_eqb}
 use Rattle.std.proofs.lemmas.Bool.Decides.{nat_tests}
-use Rattle.pq_base.specs.declared.value.ColType.{ColType}
 use Rattle.pq_base.specs.declared.value.Value.{Value}
 use Rattle.pq_base.specs.Values.{IsType, AllFit}
 use Rattle.pq_base.proofs.TypeFits.{length_from_fits}

@@ -85,8 +85,9 @@ module _ (tables : List Table) (v left : View) (s : Step) (c : Content) where
   followed (d, Ends outcome.Failed) is calm = inl (record { content = refl; view = is.view; step = is.step })
   followed (d, Ends outcome.NoMem) is calm = inl (record { content = refl; view = is.view; step = is.step })
   followed (d, Ends (outcome.Damaged damage)) is calm = elim is [
-      inl e ↦ inl (record { content = refl; view = e.view; step = e.step })
-    | inr e ↦ inr (record { content = ap Some calm; view = e.view; step = e.step }) ]
+    | inl e ↦ inl (record { content = refl; view = e.view; step = e.step })
+    | inr e ↦ inr (record { content = ap Some calm; view = e.view; step = e.step })
+  ]
 
   going : (fate : Fate) → is_over v ≡ false → met tables v c fate ≡ stepped tables v c fate
   going fate e = rw e refl
@@ -103,14 +104,16 @@ module _ (tables : List Table) (v left : View) (s : Step) (c : Content) where
       → Follows v (seen_course f course) left s → StepsOn content
   steps_ok f course content e same is follows =
       elim (followed (gone_on tables v v.next c) (subst (λ (goes : Then). Follows v goes left s) same follows) (calm tables v v.next c)) [
-        inl step ↦ steps_by Answers content e (subst (λ (k : Option Content). IsStep (after_call v (gone_on tables v v.next c)) k left s) (sym is) step)
-      | inr step ↦ steps_by NoMemory content e (subst (λ (k : Option Content). IsStep (met tables v c NoMemory) k left s) (sym is) step) ]
+        | inl step ↦ steps_by Answers content e (subst (λ (k : Option Content). IsStep (after_call v (gone_on tables v v.next c)) k left s) (sym is) step)
+        | inr step ↦ steps_by NoMemory content e (subst (λ (k : Option Content). IsStep (met tables v c NoMemory) k left s) (sym is) step)
+      ]
 
   steps_broke : (h : Halt) (content : Option Content) → is_over v ≡ false
       → (content ≡ Some c) ⊎ (content ≡ Some (gone_on tables v v.next c).0) → Ended v outcome.Failed left s → StepsOn content
   steps_broke h content e is ended = elim is [
-      inl same ↦ steps_by NotDone content e (record { content = same; view = ended.view; step = ended.step })
-    | inr done ↦ steps_by DoneUnseen content e (record { content = done; view = ended.view; step = ended.step }) ]
+    | inl same ↦ steps_by NotDone content e (record { content = same; view = ended.view; step = ended.step })
+    | inr done ↦ steps_by DoneUnseen content e (record { content = done; view = ended.view; step = ended.step })
+  ]
 
 -- over a told content the step is one of the definitions'
 pub leaves_step : (tables : List Table) (v : View) (f : Flight) (before after : Spot) (went : Result Course Halt) (left : View) (s : Step)
@@ -129,6 +132,7 @@ leaves_step tables v f before after went left s going goes concludes = by_told b
         (elim goes.told [ inl same ↦ inl (same ∙ e) | inr done ↦ inr (done ∙ ap (option_map (λ (c : Content). (gone_on tables v v.next c).0)) e) ]) concludes
     by_went c e (Err halt.NoMem) goes concludes =
         steps_by tables v left s c NoMemory after.told going (record { content = goes.told ∙ e; view = concludes.view; step = concludes.step })
+
     by_told : (o : Option Content) → before.told ≡ o → IfSome o (λ c. (fate : Fate) × IsStep (stepped tables v c fate) after.told left s)
     by_told None e = tt
     by_told (Some c) e = by_went c e went goes concludes
@@ -152,8 +156,9 @@ sober v f (course.Ends (ending.Refused refusal)) left s follows is = let e = tel
 sober v f (course.Ends (ending.Busy found)) left s follows is = let e = tells_other v _ left s follows is in cc
 sober v f (course.Ends (ending.Conflict read found)) left s follows is = let e = tells_other v _ left s follows is in cc
 sober v f (course.Ends (ending.Damaged damage)) left s follows is = elim follows [
-    inl ended ↦ (let e = tells_other v _ left s ended is in cc)
-  | inr ended ↦ (let e = tells_other v _ left s ended is in cc) ]
+  | inl ended ↦ (let e = tells_other v _ left s ended is in cc)
+  | inr ended ↦ (let e = tells_other v _ left s ended is in cc)
+]
 
 -- a step that made its call, over every store
 pub makes_call : (v : View) (f : Flight) (gone : Content → Content × Then) (before after : Spot) (went : Result Course Halt) (left : View) (s : Step)

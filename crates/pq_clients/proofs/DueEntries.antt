@@ -1,5 +1,5 @@
 -- The entries at a key that a client holds are just those of the row present and those that are due.
-use Rattle.std.proofs.Common.{◌≡◌, ℕ, ◌||◌, List, Option, None, ap, ◌∙◌}
+use Rattle.std.proofs.Common.{◌≡◌, ◌||◌, List, Option, None, ap, ◌∙◌}
 use Rattle.pq_schema.specs.declared.table.Table.{Table}
 use Rattle.pq_content.specs.Pairs.{Pair}
 use Rattle.pq_content.specs.Tables.{Rows}
@@ -20,7 +20,7 @@ module _ (tables : List Table) (rows : Rows) (pairs : List Pair) (clients : List
       let r = reached tables rows pairs clients events in
       let h = holding tables rows pairs clients b events in
       let holds : stance_of tables v ≡ Holds (hold_of tables v.at f stage) =
-        ap (λ (o : Option Outcome). stance_at tables v.at o v.next) unbroken ∙ ap (stance_at tables v.at None) flying in
+      ap (λ (o : Option Outcome). stance_at tables v.at o v.next) unbroken ∙ ap (stance_at tables v.at None) flying in
       let loc = local_of tables r.content (stances_of tables r.clients) v.number v.at f stage h.good (own_stance tables r.clients p v h.differ here ∙ holds) in
       same_tests (is_there r.content e) (has_code_entry tables (flight_key tables f) (present_of tables f stage) e || is_due tables f stage e)
       (loc.upper e names) (loc.lower e names)

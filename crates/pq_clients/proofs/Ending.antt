@@ -25,9 +25,12 @@ module _ (tables : List Table) where
       → calls_of_client tables v ≤ count_by (λ q. q == p) (map (λ (e : Event). e.place) events) → IsOverAt (run tables (begun c clients) events).clients p
   own_over c clients events fresh p v at few =
       let x = run_writes tables events (begun c clients) p v at in
-      let enough : calls_of_client tables v ≤ count_by (λ (e : Event). e.place == p) events = omega (arith, few, visited p events) in
-      (x.0, x.1, (comes_to_end tables c clients events (each_by (IsFresh tables) clients fresh.each)).ends p x.0 x.1
-      (subst (λ (ws : List Write). sum_by (calls_of_write tables) ws ≤ count_by (λ (e : Event). e.place == p) events) (sym x.2) enough))
+      let enough : calls_of_client tables v ≤ count_by (λ (e : Event). e.place == p) events = omega (arith, few, visited p events) in (
+        x.0,
+        x.1,
+        (comes_to_end tables c clients events (each_by (IsFresh tables) clients fresh.each)).ends p x.0 x.1
+            (subst (λ (ws : List Write). sum_by (calls_of_write tables) ws ≤ count_by (λ (e : Event). e.place == p) events) (sym x.2) enough),
+      )
 
   was_there : (c : Content) (clients : List View) (events : List Event) (p : ℕ) (v : View) → slice_get (run tables (begun c clients) events).clients p ≡ Some v → (u : View) × (slice_get clients p ≡ Some u)
   was_there c clients events p v is = by (slice_get clients p) refl
@@ -73,8 +76,8 @@ module _ (tables : List Table) where
       → map (λ (e : Event). e.place) events ≡ places → left ≡ (run tables (begun c clients) events).clients → AreOverAfter tables clients places left
   are_over c clients events places left fresh at leaves =
       let own : (p : ℕ) (v : View) → slice_get clients p ≡ Some v → calls_of_client tables v ≤ count_by (λ q. q == p) places → IsOverAt left p =
-        λ p v is few. subst (λ (l : List View). IsOverAt l p) (sym leaves)
-          (own_over c clients events fresh p v is (subst (λ (l : List ℕ). calls_of_client tables v ≤ count_by (λ q. q == p) l) (sym at) few)) in
+      λ p v is few. subst (λ (l : List View). IsOverAt l p) (sym leaves)
+      (own_over c clients events fresh p v is (subst (λ (l : List ℕ). calls_of_client tables v ≤ count_by (λ q. q == p) l) (sym at) few)) in
       record {
         each = own;
         rounds = λ n most turns. each_over left (λ p v is. by_turn n most turns own p v is);

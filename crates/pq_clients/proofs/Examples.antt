@@ -73,9 +73,9 @@ same_held : cell_of (held_value 1 1 None) ≡ Held 1 1 None
 unfolding cell_of held_value
 same_held = refl
 
-row_42_key : pair_key (m ∷ []) (write.Insert 1 (pair 1 7)) ≡ 2 ∷ 1 ∷ 16 ∷ 128 ∷ 0 ∷ 0 ∷ 0 ∷ 0 ∷ 0 ∷ 0 ∷ 1 ∷ []
+key_conflict : pair_key (m ∷ []) (write.Insert 1 (pair 1 7)) ≡ 2 ∷ 1 ∷ 16 ∷ 128 ∷ 0 ∷ 0 ∷ 0 ∷ 0 ∷ 0 ∷ 0 ∷ 1 ∷ []
 unfolding pair_key
-row_42_key = refl
+key_conflict = refl
 
 abbrev pub tell : ℕ → ℕ → Outcome → Told
 tell i n o = record { client = i; number = n; outcome = o }
@@ -84,168 +84,168 @@ abbrev key_of_one : List ℕ
 key_of_one = row_key 1 (value.Int (pos 1) ∷ [])
 
 -- two clients insert one key: the second one's take answers false, and its get finds what the first has put
-abbrev after_42 : Run
-after_42 = run (m ∷ []) (begun no_pairs (client 1 1 7 ∷ client 2 1 8 ∷ [])) (turns (0 ∷ 1 ∷ 0 ∷ 1 ∷ 0 ∷ 1 ∷ 0 ∷ []))
+abbrev after_conflict : Run
+after_conflict = run (m ∷ []) (begun no_pairs (client 1 1 7 ∷ client 2 1 8 ∷ [])) (turns (0 ∷ 1 ∷ 0 ∷ 1 ∷ 0 ∷ 1 ∷ 0 ∷ []))
 
-told_42 : after_42.told ≡ tell 2 1 (outcome.Conflict None (Some (held_value 1 1 (Some (stored_code m (pair 1 7)))))) ∷ tell 1 1 outcome.Done ∷ []
+told_conflict : after_conflict.told ≡ tell 2 1 (outcome.Conflict None (Some (held_value 1 1 (Some (stored_code m (pair 1 7)))))) ∷ tell 1 1 outcome.Done ∷ []
 unfolding ones pair_key held_value cell_of old_row new_row new_code entry_keys old_entries new_entries flight_checks flight_tests group_key group_front tested_front counted present_rows row_decoded fields_at cell_at front_at field_at
-told_42 = simp (get-insert {X = List ℕ} nat_list_cmp_total, get-remove {X = List ℕ} nat_list_cmp_total, get-empty {X = List ℕ} key_cmp, entries-insert {X = List ℕ} nat_list_cmp_total, entries-remove, entries_none)
+told_conflict = simp (get-insert {X = List ℕ} nat_list_cmp_total, get-remove {X = List ℕ} nat_list_cmp_total, get-empty {X = List ℕ} key_cmp, entries-insert {X = List ℕ} nat_list_cmp_total, entries-remove, entries_none)
 
-present_42 : present_rows (m ∷ []) after_42.content ≡ (1, pair 1 7) ∷ []
+present_conflict : present_rows (m ∷ []) after_conflict.content ≡ (1, pair 1 7) ∷ []
 unfolding ones pair_key held_value cell_of old_row new_row new_code entry_keys old_entries new_entries flight_checks flight_tests group_key group_front tested_front counted present_rows row_decoded fields_at cell_at front_at field_at
-present_42 = simp (get-insert {X = List ℕ} nat_list_cmp_total, get-remove {X = List ℕ} nat_list_cmp_total, get-empty {X = List ℕ} key_cmp, entries-insert {X = List ℕ} nat_list_cmp_total, entries-remove, entries_none)
+present_conflict = simp (get-insert {X = List ℕ} nat_list_cmp_total, get-remove {X = List ℕ} nat_list_cmp_total, get-empty {X = List ℕ} key_cmp, entries-insert {X = List ℕ} nat_list_cmp_total, entries-remove, entries_none)
 
 -- two writes find no row, a third is told that its key is held, and the other client's two are done
 abbrev delete : ℕ → Write
 delete a = write.Delete 1 (value.Int (pos a) ∷ [])
 
-abbrev deleter_43 : View
-deleter_43 = new_view 1 (delete 5 ∷ delete 6 ∷ write.Insert 1 (pair 1 8) ∷ [])
+abbrev deleter_queue : View
+deleter_queue = new_view 1 (delete 5 ∷ delete 6 ∷ write.Insert 1 (pair 1 8) ∷ [])
 
-abbrev writer_43 : View
-writer_43 = new_view 2 (write.Insert 1 (pair 1 7) ∷ write.Insert 1 (pair 2 2) ∷ [])
+abbrev writer_queue : View
+writer_queue = new_view 2 (write.Insert 1 (pair 1 7) ∷ write.Insert 1 (pair 2 2) ∷ [])
 
-abbrev refused_43 : List Told
-refused_43 = tell 1 1 (outcome.Refused (refusal.NoRow m.name)) ∷ tell 1 2 (outcome.Refused (refusal.NoRow m.name)) ∷ tell 1 3 (outcome.Busy (held_value 2 1 None)) ∷ []
+abbrev refused_queue : List Told
+refused_queue = tell 1 1 (outcome.Refused (refusal.NoRow m.name)) ∷ tell 1 2 (outcome.Refused (refusal.NoRow m.name)) ∷ tell 1 3 (outcome.Busy (held_value 2 1 None)) ∷ []
 
 -- after the first client's three writes
-abbrev between_43 : Run
-between_43 = record {
+abbrev between_queue : Run
+between_queue = record {
   content = insert no_pairs key_of_one (held_value 2 1 None);
-  clients = record deleter_43 { at = 4 } ∷ record writer_43 { next = Flying (record { write = write.Insert 1 (pair 1 7); read = None }) Putting } ∷ [];
-  told = refused_43;
+  clients = record deleter_queue { at = 4 } ∷ record writer_queue { next = Flying (record { write = write.Insert 1 (pair 1 7); read = None }) Putting } ∷ [];
+  told = refused_queue;
   puts = [];
 }
 
-begins_43 : run (m ∷ []) (begun no_pairs (deleter_43 ∷ writer_43 ∷ [])) (turns (0 ∷ 1 ∷ 0 ∷ 1 ∷ 0 ∷ [])) ≡ between_43
+begins_queue : run (m ∷ []) (begun no_pairs (deleter_queue ∷ writer_queue ∷ [])) (turns (0 ∷ 1 ∷ 0 ∷ 1 ∷ 0 ∷ [])) ≡ between_queue
 unfolding ones pair_key held_value cell_of old_row new_row new_code entry_keys old_entries new_entries flight_checks flight_tests group_key group_front tested_front counted present_rows row_decoded fields_at cell_at front_at field_at
-begins_43 = simp (get-insert {X = List ℕ} nat_list_cmp_total, get-remove {X = List ℕ} nat_list_cmp_total, get-empty {X = List ℕ} key_cmp, entries-insert {X = List ℕ} nat_list_cmp_total, entries-remove, entries_none)
+begins_queue = simp (get-insert {X = List ℕ} nat_list_cmp_total, get-remove {X = List ℕ} nat_list_cmp_total, get-empty {X = List ℕ} key_cmp, entries-insert {X = List ℕ} nat_list_cmp_total, entries-remove, entries_none)
 
-puts_43 : (run (m ∷ []) between_43 (turns (0 ∷ 1 ∷ 0 ∷ 1 ∷ []))).told ≡ refused_43 ++ tell 2 1 outcome.Done ∷ []
+puts_queue : (run (m ∷ []) between_queue (turns (0 ∷ 1 ∷ 0 ∷ 1 ∷ []))).told ≡ refused_queue ++ tell 2 1 outcome.Done ∷ []
 unfolding ones pair_key held_value cell_of old_row new_row new_code entry_keys old_entries new_entries flight_checks flight_tests group_key group_front tested_front counted present_rows row_decoded fields_at cell_at front_at field_at
-puts_43 = simp (get-insert {X = List ℕ} nat_list_cmp_total, get-remove {X = List ℕ} nat_list_cmp_total, get-empty {X = List ℕ} key_cmp, entries-insert {X = List ℕ} nat_list_cmp_total, entries-remove, entries_none)
+puts_queue = simp (get-insert {X = List ℕ} nat_list_cmp_total, get-remove {X = List ℕ} nat_list_cmp_total, get-empty {X = List ℕ} key_cmp, entries-insert {X = List ℕ} nat_list_cmp_total, entries-remove, entries_none)
 
-ends_43 : (run (m ∷ []) (begun (insert no_pairs key_of_one (stored_code m (pair 1 7))) (record writer_43 { at = 2 } ∷ [])) (turns (0 ∷ 0 ∷ 0 ∷ 0 ∷ []))).told ≡ tell 2 2 outcome.Done ∷ []
+ends_queue : (run (m ∷ []) (begun (insert no_pairs key_of_one (stored_code m (pair 1 7))) (record writer_queue { at = 2 } ∷ [])) (turns (0 ∷ 0 ∷ 0 ∷ 0 ∷ []))).told ≡ tell 2 2 outcome.Done ∷ []
 unfolding ones pair_key held_value cell_of old_row new_row new_code entry_keys old_entries new_entries flight_checks flight_tests group_key group_front tested_front counted present_rows row_decoded fields_at cell_at front_at field_at
-ends_43 = simp (get-insert {X = List ℕ} nat_list_cmp_total, get-remove {X = List ℕ} nat_list_cmp_total, get-empty {X = List ℕ} key_cmp, entries-insert {X = List ℕ} nat_list_cmp_total, entries-remove, entries_none)
+ends_queue = simp (get-insert {X = List ℕ} nat_list_cmp_total, get-remove {X = List ℕ} nat_list_cmp_total, get-empty {X = List ℕ} key_cmp, entries-insert {X = List ℕ} nat_list_cmp_total, entries-remove, entries_none)
 
 -- a limit of one row: the pairs of both writes in flight are counted, and both are refused
 abbrev g : Table
 g = record { name = 103 ∷ []; columns = record { name = 97 ∷ []; ty = type.Int } ∷ record { name = 98 ∷ []; ty = type.Int } ∷ []; key = 0 ∷ 1 ∷ []; limits = record { n = 1; cols = 0 ∷ [] } ∷ []; foreign = []; indexes = [] }
 
-abbrev after_44 : Run
-after_44 = run (g ∷ []) (begun no_pairs (client 1 1 1 ∷ client 2 1 2 ∷ [])) (turns (0 ∷ 1 ∷ 0 ∷ 1 ∷ 0 ∷ 1 ∷ 0 ∷ 1 ∷ []))
+abbrev after_full : Run
+after_full = run (g ∷ []) (begun no_pairs (client 1 1 1 ∷ client 2 1 2 ∷ [])) (turns (0 ∷ 1 ∷ 0 ∷ 1 ∷ 0 ∷ 1 ∷ 0 ∷ 1 ∷ []))
 
-told_44 : after_44.told ≡ tell 1 1 (outcome.Refused (refusal.Cardinality g.name 1 1)) ∷ tell 2 1 (outcome.Refused (refusal.Cardinality g.name 1 1)) ∷ []
+told_full : after_full.told ≡ tell 1 1 (outcome.Refused (refusal.Cardinality g.name 1 1)) ∷ tell 2 1 (outcome.Refused (refusal.Cardinality g.name 1 1)) ∷ []
 unfolding ones pair_key held_value cell_of old_row new_row new_code entry_keys old_entries new_entries flight_checks flight_tests group_key group_front tested_front counted present_rows row_decoded fields_at cell_at front_at field_at
-told_44 = simp (get-insert {X = List ℕ} nat_list_cmp_total, get-remove {X = List ℕ} nat_list_cmp_total, get-empty {X = List ℕ} key_cmp, entries-insert {X = List ℕ} nat_list_cmp_total, entries-remove, entries_none)
+told_full = simp (get-insert {X = List ℕ} nat_list_cmp_total, get-remove {X = List ℕ} nat_list_cmp_total, get-empty {X = List ℕ} key_cmp, entries-insert {X = List ℕ} nat_list_cmp_total, entries-remove, entries_none)
 
-present_44 : present_rows (g ∷ []) after_44.content ≡ []
+present_full : present_rows (g ∷ []) after_full.content ≡ []
 unfolding ones pair_key held_value cell_of old_row new_row new_code entry_keys old_entries new_entries flight_checks flight_tests group_key group_front tested_front counted present_rows row_decoded fields_at cell_at front_at field_at
-present_44 = simp (get-insert {X = List ℕ} nat_list_cmp_total, get-remove {X = List ℕ} nat_list_cmp_total, get-empty {X = List ℕ} key_cmp, entries-insert {X = List ℕ} nat_list_cmp_total, entries-remove, entries_none)
+present_full = simp (get-insert {X = List ℕ} nat_list_cmp_total, get-remove {X = List ℕ} nat_list_cmp_total, get-empty {X = List ℕ} key_cmp, entries-insert {X = List ℕ} nat_list_cmp_total, entries-remove, entries_none)
 
 -- one client alone: behind the first write, which is done, the second is refused
-abbrev alone_44 : View
-alone_44 = new_view 1 (write.Insert 1 (pair 1 1) ∷ write.Insert 1 (pair 1 2) ∷ [])
+abbrev alone_full : View
+alone_full = new_view 1 (write.Insert 1 (pair 1 1) ∷ write.Insert 1 (pair 1 2) ∷ [])
 
-begins_44 : (run (g ∷ []) (begun no_pairs (alone_44 ∷ [])) (turns (0 ∷ 0 ∷ 0 ∷ 0 ∷ 0 ∷ []))).told ≡ tell 1 1 outcome.Done ∷ []
+begins_full : (run (g ∷ []) (begun no_pairs (alone_full ∷ [])) (turns (0 ∷ 0 ∷ 0 ∷ 0 ∷ 0 ∷ []))).told ≡ tell 1 1 outcome.Done ∷ []
 unfolding ones pair_key held_value cell_of old_row new_row new_code entry_keys old_entries new_entries flight_checks flight_tests group_key group_front tested_front counted present_rows row_decoded fields_at cell_at front_at field_at
-begins_44 = simp (get-insert {X = List ℕ} nat_list_cmp_total, get-remove {X = List ℕ} nat_list_cmp_total, get-empty {X = List ℕ} key_cmp, entries-insert {X = List ℕ} nat_list_cmp_total, entries-remove, entries_none)
+begins_full = simp (get-insert {X = List ℕ} nat_list_cmp_total, get-remove {X = List ℕ} nat_list_cmp_total, get-empty {X = List ℕ} key_cmp, entries-insert {X = List ℕ} nat_list_cmp_total, entries-remove, entries_none)
 
-told_alone_44 : (run (g ∷ []) (begun (insert no_pairs (row_key 1 (pair 1 1)) (stored_code g (pair 1 1))) (record alone_44 { at = 2 } ∷ [])) (turns (0 ∷ 0 ∷ 0 ∷ 0 ∷ []))).told ≡ tell 1 2 (outcome.Refused (refusal.Cardinality g.name 1 1)) ∷ []
+told_alone_full : (run (g ∷ []) (begun (insert no_pairs (row_key 1 (pair 1 1)) (stored_code g (pair 1 1))) (record alone_full { at = 2 } ∷ [])) (turns (0 ∷ 0 ∷ 0 ∷ 0 ∷ []))).told ≡ tell 1 2 (outcome.Refused (refusal.Cardinality g.name 1 1)) ∷ []
 unfolding ones pair_key held_value cell_of old_row new_row new_code entry_keys old_entries new_entries flight_checks flight_tests group_key group_front tested_front counted present_rows row_decoded fields_at cell_at front_at field_at
-told_alone_44 = simp (get-insert {X = List ℕ} nat_list_cmp_total, get-remove {X = List ℕ} nat_list_cmp_total, get-empty {X = List ℕ} key_cmp, entries-insert {X = List ℕ} nat_list_cmp_total, entries-remove, entries_none)
+told_alone_full = simp (get-insert {X = List ℕ} nat_list_cmp_total, get-remove {X = List ℕ} nat_list_cmp_total, get-empty {X = List ℕ} key_cmp, entries-insert {X = List ℕ} nat_list_cmp_total, entries-remove, entries_none)
 
 -- three clients; the call of the third one's add fails, and is not done
 abbrev h : Table
 h = record { name = 104 ∷ []; columns = record { name = 105 ∷ []; ty = type.Int } ∷ record { name = 116 ∷ []; ty = type.Int } ∷ []; key = 0 ∷ []; limits = record { n = 5; cols = 1 ∷ [] } ∷ []; foreign = []; indexes = record { cols = record { col = 1; dir = Asc } ∷ [] } ∷ [] }
 
-abbrev flight_45 : ℕ → ℕ → Flight
-flight_45 a b = record { write = write.Insert 1 (pair a b); read = None }
+abbrev flight_fault : ℕ → ℕ → Flight
+flight_fault a b = record { write = write.Insert 1 (pair a b); read = None }
 
-abbrev entry_45 : ℕ → List ℕ
-entry_45 a = entry_key 1 1 (Asc ∷ Asc ∷ []) (value.Int (pos 1) ∷ value.Int (pos a) ∷ [])
+abbrev entry_fault : ℕ → List ℕ
+entry_fault a = entry_key 1 1 (Asc ∷ Asc ∷ []) (value.Int (pos 1) ∷ value.Int (pos a) ∷ [])
 
-abbrev held_45 : ℕ → Content → Content
-held_45 a c = insert c (row_key 1 (value.Int (pos a) ∷ [])) (held_value a 1 None)
+abbrev held_fault : ℕ → Content → Content
+held_fault a c = insert c (row_key 1 (value.Int (pos a) ∷ [])) (held_value a 1 None)
 
 -- each holds its key
-abbrev taken_45 : Run
-taken_45 = begun (held_45 3 (held_45 2 (held_45 1 no_pairs))) (adder 1 ∷ adder 2 ∷ adder 3 ∷ [])
+abbrev taken_fault : Run
+taken_fault = begun (held_fault 3 (held_fault 2 (held_fault 1 no_pairs))) (adder 1 ∷ adder 2 ∷ adder 3 ∷ [])
   where
     adder : ℕ → View
-    adder a = record (client a a 1) { next = Flying (flight_45 a 1) (Adding (entry_45 a) [] []) }
+    adder a = record (client a a 1) { next = Flying (flight_fault a 1) (Adding (entry_fault a) [] []) }
 
-takes_45 : run (h ∷ []) (begun no_pairs (client 1 1 1 ∷ client 2 2 1 ∷ client 3 3 1 ∷ [])) (turns (0 ∷ 1 ∷ 2 ∷ 0 ∷ 1 ∷ 2 ∷ [])) ≡ taken_45
+takes_fault : run (h ∷ []) (begun no_pairs (client 1 1 1 ∷ client 2 2 1 ∷ client 3 3 1 ∷ [])) (turns (0 ∷ 1 ∷ 2 ∷ 0 ∷ 1 ∷ 2 ∷ [])) ≡ taken_fault
 unfolding ones pair_key held_value cell_of old_row new_row new_code entry_keys old_entries new_entries flight_checks flight_tests group_key group_front tested_front counted present_rows row_decoded fields_at cell_at front_at field_at
-takes_45 = simp (get-insert {X = List ℕ} nat_list_cmp_total, get-remove {X = List ℕ} nat_list_cmp_total, get-empty {X = List ℕ} key_cmp, entries-insert {X = List ℕ} nat_list_cmp_total, entries-remove, entries_none)
+takes_fault = simp (get-insert {X = List ℕ} nat_list_cmp_total, get-remove {X = List ℕ} nat_list_cmp_total, get-empty {X = List ℕ} key_cmp, entries-insert {X = List ℕ} nat_list_cmp_total, entries-remove, entries_none)
 
 -- the third one's add fails
-abbrev added_45 : Run
-added_45 = record {
-  content = insert (insert (held_45 3 (held_45 2 (held_45 1 no_pairs))) (entry_45 1) []) (entry_45 2) [];
-  clients = tester 1 ∷ tester 2 ∷ record (client 3 3 1) { next = Flying (flight_45 3 1) (Adding (entry_45 3) [] []); over = Some outcome.Failed } ∷ [];
+abbrev added_fault : Run
+added_fault = record {
+  content = insert (insert (held_fault 3 (held_fault 2 (held_fault 1 no_pairs))) (entry_fault 1) []) (entry_fault 2) [];
+  clients = tester 1 ∷ tester 2 ∷ record (client 3 3 1) { next = Flying (flight_fault 3 1) (Adding (entry_fault 3) [] []); over = Some outcome.Failed } ∷ [];
   told = tell 3 1 outcome.Failed ∷ [];
   puts = [];
 }
   where
     tester : ℕ → View
-    tester a = record (client a a 1) { next = Flying (flight_45 a 1) (Testing 0 [] []) }
+    tester a = record (client a a 1) { next = Flying (flight_fault a 1) (Testing 0 [] []) }
 
-adds_45 : run (h ∷ []) taken_45 (turns (0 ∷ 1 ∷ []) ++ record { place = 2; fate = NotDone } ∷ []) ≡ added_45
+adds_fault : run (h ∷ []) taken_fault (turns (0 ∷ 1 ∷ []) ++ record { place = 2; fate = NotDone } ∷ []) ≡ added_fault
 unfolding ones pair_key held_value cell_of old_row new_row new_code entry_keys old_entries new_entries flight_checks flight_tests group_key group_front tested_front counted present_rows row_decoded fields_at cell_at front_at field_at
-adds_45 = refl
+adds_fault = refl
 
-told_45 : (run (h ∷ []) added_45 (turns (0 ∷ 1 ∷ 2 ∷ 0 ∷ 1 ∷ 2 ∷ 0 ∷ 1 ∷ []))).told ≡ tell 3 1 outcome.Failed ∷ tell 1 1 outcome.Done ∷ tell 2 1 outcome.Done ∷ []
+told_fault : (run (h ∷ []) added_fault (turns (0 ∷ 1 ∷ 2 ∷ 0 ∷ 1 ∷ 2 ∷ 0 ∷ 1 ∷ []))).told ≡ tell 3 1 outcome.Failed ∷ tell 1 1 outcome.Done ∷ tell 2 1 outcome.Done ∷ []
 unfolding ones pair_key held_value cell_of old_row new_row new_code entry_keys old_entries new_entries flight_checks flight_tests group_key group_front tested_front counted present_rows row_decoded fields_at cell_at front_at field_at
-told_45 = simp (get-insert {X = List ℕ} nat_list_cmp_total, get-remove {X = List ℕ} nat_list_cmp_total, get-empty {X = List ℕ} key_cmp, entries-insert {X = List ℕ} nat_list_cmp_total, entries-remove, entries_none)
+told_fault = simp (get-insert {X = List ℕ} nat_list_cmp_total, get-remove {X = List ℕ} nat_list_cmp_total, get-empty {X = List ℕ} key_cmp, entries-insert {X = List ℕ} nat_list_cmp_total, entries-remove, entries_none)
 
 -- ---- calls against their bounds
 
 -- a take that answers false costs three calls, a write that is done four where there is nothing to test
-bound_42 : calls_of_write (m ∷ []) (write.Insert 1 (pair 1 7)) ≡ 4
-bound_42 = refl
+bound_conflict : calls_of_write (m ∷ []) (write.Insert 1 (pair 1 7)) ≡ 4
+bound_conflict = refl
 
-calls_42 : steps_of (m ∷ []) (begun no_pairs (client 1 1 7 ∷ client 2 1 8 ∷ [])) (turns (0 ∷ 1 ∷ 0 ∷ 1 ∷ 0 ∷ 1 ∷ 0 ∷ 1 ∷ 0 ∷ [])) 1 1 ≡ 4
+calls_conflict : steps_of (m ∷ []) (begun no_pairs (client 1 1 7 ∷ client 2 1 8 ∷ [])) (turns (0 ∷ 1 ∷ 0 ∷ 1 ∷ 0 ∷ 1 ∷ 0 ∷ 1 ∷ 0 ∷ [])) 1 1 ≡ 4
 unfolding ones pair_key held_value cell_of old_row new_row new_code entry_keys old_entries new_entries flight_checks flight_tests group_key group_front tested_front counted present_rows row_decoded fields_at cell_at front_at field_at
-calls_42 = simp (get-insert {X = List ℕ} nat_list_cmp_total, get-remove {X = List ℕ} nat_list_cmp_total, get-empty {X = List ℕ} key_cmp, entries-insert {X = List ℕ} nat_list_cmp_total, entries-remove, entries_none)
+calls_conflict = simp (get-insert {X = List ℕ} nat_list_cmp_total, get-remove {X = List ℕ} nat_list_cmp_total, get-empty {X = List ℕ} key_cmp, entries-insert {X = List ℕ} nat_list_cmp_total, entries-remove, entries_none)
 
-calls_42_other : steps_of (m ∷ []) (begun no_pairs (client 1 1 7 ∷ client 2 1 8 ∷ [])) (turns (0 ∷ 1 ∷ 0 ∷ 1 ∷ 0 ∷ 1 ∷ 0 ∷ 1 ∷ 0 ∷ [])) 2 1 ≡ 3
+calls_conflict_other : steps_of (m ∷ []) (begun no_pairs (client 1 1 7 ∷ client 2 1 8 ∷ [])) (turns (0 ∷ 1 ∷ 0 ∷ 1 ∷ 0 ∷ 1 ∷ 0 ∷ 1 ∷ 0 ∷ [])) 2 1 ≡ 3
 unfolding ones pair_key held_value cell_of old_row new_row new_code entry_keys old_entries new_entries flight_checks flight_tests group_key group_front tested_front counted present_rows row_decoded fields_at cell_at front_at field_at
-calls_42_other = simp (get-insert {X = List ℕ} nat_list_cmp_total, get-remove {X = List ℕ} nat_list_cmp_total, get-empty {X = List ℕ} key_cmp, entries-insert {X = List ℕ} nat_list_cmp_total, entries-remove, entries_none)
+calls_conflict_other = simp (get-insert {X = List ℕ} nat_list_cmp_total, get-remove {X = List ℕ} nat_list_cmp_total, get-empty {X = List ℕ} key_cmp, entries-insert {X = List ℕ} nat_list_cmp_total, entries-remove, entries_none)
 
 -- a delete that finds no row makes one
-bound_43 : calls_of_write (m ∷ []) (delete 5) ≡ 4
-bound_43 = refl
+bound_queue : calls_of_write (m ∷ []) (delete 5) ≡ 4
+bound_queue = refl
 
-calls_43 : steps_of (m ∷ []) (begun no_pairs (deleter_43 ∷ writer_43 ∷ [])) (turns (0 ∷ 1 ∷ 0 ∷ 1 ∷ 0 ∷ [])) 1 1 ≡ 1
+calls_queue : steps_of (m ∷ []) (begun no_pairs (deleter_queue ∷ writer_queue ∷ [])) (turns (0 ∷ 1 ∷ 0 ∷ 1 ∷ 0 ∷ [])) 1 1 ≡ 1
 unfolding ones pair_key held_value cell_of old_row new_row new_code entry_keys old_entries new_entries flight_checks flight_tests group_key group_front tested_front counted present_rows row_decoded fields_at cell_at front_at field_at
-calls_43 = simp (get-insert {X = List ℕ} nat_list_cmp_total, get-remove {X = List ℕ} nat_list_cmp_total, get-empty {X = List ℕ} key_cmp, entries-insert {X = List ℕ} nat_list_cmp_total, entries-remove, entries_none)
+calls_queue = simp (get-insert {X = List ℕ} nat_list_cmp_total, get-remove {X = List ℕ} nat_list_cmp_total, get-empty {X = List ℕ} key_cmp, entries-insert {X = List ℕ} nat_list_cmp_total, entries-remove, entries_none)
 
 -- one limit and no index: five calls where the write is done, four where it is refused
-bound_44 : calls_of_write (g ∷ []) (write.Insert 1 (pair 1 1)) ≡ 5
-bound_44 = refl
+bound_full : calls_of_write (g ∷ []) (write.Insert 1 (pair 1 1)) ≡ 5
+bound_full = refl
 
-calls_44 : steps_of (g ∷ []) (begun no_pairs (client 1 1 1 ∷ client 2 1 2 ∷ [])) (turns (0 ∷ 1 ∷ 0 ∷ 1 ∷ 0 ∷ 1 ∷ 0 ∷ 1 ∷ [])) 1 1 ≡ 4
+calls_full : steps_of (g ∷ []) (begun no_pairs (client 1 1 1 ∷ client 2 1 2 ∷ [])) (turns (0 ∷ 1 ∷ 0 ∷ 1 ∷ 0 ∷ 1 ∷ 0 ∷ 1 ∷ [])) 1 1 ≡ 4
 unfolding ones pair_key held_value cell_of old_row new_row new_code entry_keys old_entries new_entries flight_checks flight_tests group_key group_front tested_front counted present_rows row_decoded fields_at cell_at front_at field_at
-calls_44 = simp (get-insert {X = List ℕ} nat_list_cmp_total, get-remove {X = List ℕ} nat_list_cmp_total, get-empty {X = List ℕ} key_cmp, entries-insert {X = List ℕ} nat_list_cmp_total, entries-remove, entries_none)
+calls_full = simp (get-insert {X = List ℕ} nat_list_cmp_total, get-remove {X = List ℕ} nat_list_cmp_total, get-empty {X = List ℕ} key_cmp, entries-insert {X = List ℕ} nat_list_cmp_total, entries-remove, entries_none)
 
-alone_calls_44 : steps_of (g ∷ []) (begun no_pairs (alone_44 ∷ [])) (turns (0 ∷ 0 ∷ 0 ∷ 0 ∷ 0 ∷ [])) 1 1 ≡ 5
+alone_calls_full : steps_of (g ∷ []) (begun no_pairs (alone_full ∷ [])) (turns (0 ∷ 0 ∷ 0 ∷ 0 ∷ 0 ∷ [])) 1 1 ≡ 5
 unfolding ones pair_key held_value cell_of old_row new_row new_code entry_keys old_entries new_entries flight_checks flight_tests group_key group_front tested_front counted present_rows row_decoded fields_at cell_at front_at field_at
-alone_calls_44 = simp (get-insert {X = List ℕ} nat_list_cmp_total, get-remove {X = List ℕ} nat_list_cmp_total, get-empty {X = List ℕ} key_cmp, entries-insert {X = List ℕ} nat_list_cmp_total, entries-remove, entries_none)
+alone_calls_full = simp (get-insert {X = List ℕ} nat_list_cmp_total, get-remove {X = List ℕ} nat_list_cmp_total, get-empty {X = List ℕ} key_cmp, entries-insert {X = List ℕ} nat_list_cmp_total, entries-remove, entries_none)
 
 -- one limit and one index: four calls of the last six stand before the add that fails
-bound_45 : calls_of_write (h ∷ []) (write.Insert 1 (pair 1 1)) ≡ 7
-bound_45 = refl
+bound_fault : calls_of_write (h ∷ []) (write.Insert 1 (pair 1 1)) ≡ 7
+bound_fault = refl
 
-calls_45 : steps_of (h ∷ []) added_45 (turns (0 ∷ 1 ∷ 2 ∷ 0 ∷ 1 ∷ 2 ∷ 0 ∷ 1 ∷ [])) 1 1 ≡ 3
+calls_fault : steps_of (h ∷ []) added_fault (turns (0 ∷ 1 ∷ 2 ∷ 0 ∷ 1 ∷ 2 ∷ 0 ∷ 1 ∷ [])) 1 1 ≡ 3
 unfolding ones pair_key held_value cell_of old_row new_row new_code entry_keys old_entries new_entries flight_checks flight_tests group_key group_front tested_front counted present_rows row_decoded fields_at cell_at front_at field_at
-calls_45 = simp (get-insert {X = List ℕ} nat_list_cmp_total, get-remove {X = List ℕ} nat_list_cmp_total, get-empty {X = List ℕ} key_cmp, entries-insert {X = List ℕ} nat_list_cmp_total, entries-remove, entries_none)
+calls_fault = simp (get-insert {X = List ℕ} nat_list_cmp_total, get-remove {X = List ℕ} nat_list_cmp_total, get-empty {X = List ℕ} key_cmp, entries-insert {X = List ℕ} nat_list_cmp_total, entries-remove, entries_none)
 
 -- ---- the premises of all promises are met by two clients that insert one key
 
-abbrev clients_42 : List View
-clients_42 = client 1 1 7 ∷ client 2 1 8 ∷ []
+abbrev clients_conflict : List View
+clients_conflict = client 1 1 7 ∷ client 2 1 8 ∷ []
 
 pub key_columns : AreKeyColumns 2 (0 ∷ [])
 unfolding ones
@@ -295,17 +295,17 @@ different : IsDistinct ◌==◌ (1 ∷ 2 ∷ [])
 unfolding IsDistinct
 different = ((refl, tt), (tt, tt))
 
-begins_42 : Begins (m ∷ []) [] [] clients_42
-begins_42 = record {
+begins_conflict : Begins (m ∷ []) [] [] clients_conflict
+begins_conflict = record {
   sound = writable_m;
   keeps = keeps_none;
   beside = tt;
   fresh = record {
-    each = each_is (IsFresh (m ∷ [])) clients_42 (fresh_client 1 7 (omega arith) (omega arith) (small_number 7 (omega arith)), (fresh_client 2 8 (omega arith) (omega arith) (small_number 8 (omega arith)), tt));
+    each = each_is (IsFresh (m ∷ [])) clients_conflict (fresh_client 1 7 (omega arith) (omega arith) (small_number 7 (omega arith)), (fresh_client 2 8 (omega arith) (omega arith) (small_number 8 (omega arith)), tt));
     differ = different;
     few = omega arith;
   };
 }
 
-holds_42 : (events : List Event) → HoldsThroughout (m ∷ []) [] [] clients_42 events
-holds_42 events = holds_throughout (m ∷ []) [] [] clients_42 begins_42 events
+holds_conflict : (events : List Event) → HoldsThroughout (m ∷ []) [] [] clients_conflict events
+holds_conflict events = holds_throughout (m ∷ []) [] [] clients_conflict begins_conflict events

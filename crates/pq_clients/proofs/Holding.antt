@@ -33,6 +33,7 @@ use Rattle.pq_clients.proofs.Listed.{TellFacts, step_tells}
 use Rattle.pq_clients.proofs.Leads.{OfNext, own_test, reads_taken, takes_found, looks_going}
 use Rattle.pq_clients.proofs.Ofs.{OfView, run_of, fresh_of}
 use Rattle.pq_clients.proofs.DueEntries.{due_entries}
+use Rattle.pq_clients.proofs.InOrder.{tests_in_order}
 
 -- ---- calls that fail
 module _ (tables : List Table) where
@@ -137,5 +138,6 @@ module _ (tables : List Table) (rows : Rows) (others : List Pair) (clients : Lis
     said = says_all tables (content_pairs tables rows others) clients events;
     shown = shown_told events;
     end = comes_to_end tables (content_pairs tables rows others) clients events (each_by (IsFresh tables) clients b.fresh.each);
+    tests = tests_in_order tables (begun (content_pairs tables rows others) clients) (each_by (IsFresh tables) clients b.fresh.each) events;
     few = few_calls tables (content_pairs tables rows others) clients events b.fresh;
   }

@@ -224,8 +224,9 @@ followed_client tables v left (Ends (outcome.Conflict read found)) s client fit 
 followed_client tables v left (Ends outcome.Failed) s client fit follows = ended_client tables v left _ s client follows
 followed_client tables v left (Ends outcome.NoMem) s client fit follows = ended_client tables v left _ s client follows
 followed_client tables v left (Ends (outcome.Damaged damage)) s client fit follows = elim follows [
-    inl ended ↦ ended_client tables v left _ s client ended
-  | inr ended ↦ ended_client tables v left _ s client ended ]
+  | inl ended ↦ ended_client tables v left _ s client ended
+  | inr ended ↦ ended_client tables v left _ s client ended
+]
 
 -- a step leaves a client of the tables, whatever the store holds
 pub keeps_client : (tables : List Table) (v left : View) (f : Flight) (next : Phase) (went : Result Course Halt) (s : Step) → v.next ≡ seen_next f next

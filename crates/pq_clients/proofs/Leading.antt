@@ -1,6 +1,6 @@
 -- From a write that was answered to what it leads to.
-use Rattle.std.proofs.Common.{◌≡◌, ℕ, List, Bool, true, false, Option, Result, Ok, Err, refl, sym, ap, ◌∙◌, subst}
-use Rattle.std.specs.Prelude.{IfOk, if◌then◌else◌}
+use Rattle.std.proofs.Common.{◌≡◌, ℕ, List, Bool, true, false, Option, Ok, Err, refl, ap, ◌∙◌}
+use Rattle.std.specs.Prelude.{if◌then◌else◌}
 use Rattle.std.specs.FinMap.{get}
 use Rattle.pq_store.specs.Content.{Content, written_content}
 use Rattle.pq_clients.specs.declared.halt.Halt.{Halt}
@@ -36,8 +36,11 @@ module _ (f : Flight) (key q : List ℕ) (expected new : Option (List ℕ)) (one
   guarded b course same chosen goes =
       let way : Bool → Then = λ x. if x then one else other in
       follow (λ (x : Bool). x) (over q expected new) (seen_course f) (either key expected new one other) before after b course goes
-      (λ k e. (chosen ∙ ap way (e ∙ ap (λ (p : List ℕ). is_just expected (get k p)) same)
-      ∙ way_of (is_just expected (get k key)) (written_content key new k) k one other, same_left same k))
+      (λ k e. (
+        chosen ∙ ap way (e ∙ ap (λ (p : List ℕ). is_just expected (get k p)) same)
+            ∙ way_of (is_just expected (get k key)) (written_content key new k) k one other,
+        same_left same k,
+      ))
 
   pub guarded_err : (h : Halt) → q ≡ key → Goes (λ (x : Bool). x) (over q expected new) before after (Err h)
       → Goes (seen_course f) (either key expected new one other) before after (Err h)

@@ -187,8 +187,9 @@ followed v left (Ends (outcome.Conflict read found)) s going one once follows = 
 followed v left (Ends outcome.Failed) s going one once follows = ended v left _ s going one follows
 followed v left (Ends outcome.NoMem) s going one once follows = ended v left _ s going one follows
 followed v left (Ends (outcome.Damaged damage)) s going one once follows = elim follows [
-    inl first ↦ ended v left _ s going one first
-  | inr other ↦ ended v left _ s going one other ]
+  | inl first ↦ ended v left _ s going one first
+  | inr other ↦ ended v left _ s going one other
+]
 
 -- a step that tells or puts leaves less to tell or to put, over every store
 pub leaves_less : (tables : List Table) (v left : View) (before after : Spot) (s : Step) → 1 ≤ v.at
@@ -201,8 +202,9 @@ leaves_less tables v left before after s one takes calls = by_over (is_over v) r
         subst (λ (t : Step). LeavesLess v left t) (sym over.2) (subst (λ (u : View). LeavesLess v u step.Over) (sym over.1)
         (record { told = omega arith; puts = omega arith }))
     by_over false e = elim (takes e) [
-        inl goes ↦ followed v left goes.0 s e one (puts_once tables v.number _ v.next goes.0 goes.1) goes.2
-      | inr fell ↦ elim fell [ inl failed ↦ ended v left _ s e one failed | inr starved ↦ ended v left _ s e one starved ] ]
+      | inl goes ↦ followed v left goes.0 s e one (puts_once tables v.number _ v.next goes.0 goes.1) goes.2
+      | inr fell ↦ elim fell [ inl failed ↦ ended v left _ s e one failed | inr starved ↦ ended v left _ s e one starved ]
+    ]
 
 -- of all clients, where one takes a step
 pub sum_set : (f : View → ℕ) (vs : List View) (place : ℕ) (v left : View) (n : ℕ) → slice_get vs place ≡ Some v → n + f left ≤ f v

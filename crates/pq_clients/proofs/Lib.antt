@@ -68,3 +68,4 @@ pub mod Worked
 pub mod OneCalls
 pub mod Apart
 pub mod DueEntries
+pub mod InOrder

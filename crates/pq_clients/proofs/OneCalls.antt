@@ -1,5 +1,5 @@
 -- Each step is its one call, and goes on by the call's answer.
-use Rattle.std.proofs.Common.{◌≡◌, ℕ, Bool, true, false, cond, List, Option, Some, None, refl, ap, ◌∙◌}
+use Rattle.std.proofs.Common.{◌≡◌, ℕ, Bool, true, false, cond, List, Option, Some, None, refl, ap}
 use Rattle.std.specs.FinMap.{get}
 use Rattle.pq_schema.specs.declared.table.Table.{Table}
 use Rattle.pq_store.specs.Content.{Content, written_content}
@@ -7,7 +7,7 @@ use Rattle.pq_index_keep.specs.declared.write.Write.{Write}
 use Rattle.pq_clients.specs.declared.outcome.Outcome.TheVariants as outcome
 use Rattle.pq_clients.specs.Held.{held_value}
 use Rattle.pq_clients.specs.Flights.{Flight, Parent, Child, flight_key, new_code, stale_entries, flight_checks}
-use Rattle.pq_clients.specs.Clients.{Stage, Checking, Adding, Testing, Putting, Clearing, Freeing, Undoing, Releasing, Next, Reading, Taking, Looking, Flying, View, write_at}
+use Rattle.pq_clients.specs.Clients.{Stage, Checking, Adding, Testing, Putting, Clearing, Freeing, Undoing, Releasing, Next, Reading, Taking, Looking, Flying, View}
 use Rattle.pq_clients.specs.Steps.{Then, On, Puts, Ends, is_just, damaged, refused, checking, clearing, read_on, flown, gone_on, if_own}
 use Rattle.pq_clients.specs.Calling.{way}
 use Rattle.pq_clients.specs.OneCall.{answer_of, left_by, stage_call, stage_passed, next_call, next_behind, MakesOneCall}
@@ -19,8 +19,10 @@ apart false x y s t = refl
 
 module _ (tables : List Table) (client number : ℕ) where
   own_call : (f : Flight) (present new : Option (List ℕ)) (next : Then) (c : Content) → if_own tables client number f present c new next
-      ≡ (cond (is_just (Some (held_value client number present)) (get c (flight_key tables f))) (written_content (flight_key tables f) new c) c,
-      cond (is_just (Some (held_value client number present)) (get c (flight_key tables f))) next (damaged (flight_key tables f) None))
+      ≡ (
+        cond (is_just (Some (held_value client number present)) (get c (flight_key tables f))) (written_content (flight_key tables f) new c) c,
+        cond (is_just (Some (held_value client number present)) (get c (flight_key tables f))) next (damaged (flight_key tables f) None),
+      )
   own_call f present new next c =
       apart (is_just (Some (held_value client number present)) (get c (flight_key tables f))) (written_content (flight_key tables f) new c) c next (damaged (flight_key tables f) None)
 

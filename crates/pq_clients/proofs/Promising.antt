@@ -24,7 +24,7 @@ pub runs_as_promised : (tables : List Table) (rows : Rows) (others : List Pair) 
     → RunsAsPromised tables rows others clients places after.spot.told after.clients after.told after.puts
 runs_as_promised tables rows others clients places start after leaves begins told =
     let ran : Leaves tables places clients after (content_pairs tables rows others) =
-      subst (λ (o : Option Content). IfSome o (Leaves tables places clients after)) told leaves in
+    subst (λ (o : Option Content). IfSome o (Leaves tables places clients after)) told leaves in
     record {
       events = ran.0;
       at = ran.1;

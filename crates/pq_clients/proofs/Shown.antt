@@ -24,7 +24,7 @@ use Rattle.pq_clients.proofs.Once.{step_number, all_map, all_snoc, all_nil}
 use Rattle.pq_clients.proofs.Whole.{at_place, set_place}
 
 module _ (tables : List Table) where
-  run-snoc : (r : Run) (es : List Event) (e : Event) → run tables r (es ++ e ∷ []) ≡ turn tables (run tables r es) e
+  pub run-snoc : (r : Run) (es : List Event) (e : Event) → run tables r (es ++ e ∷ []) ≡ turn tables (run tables r es) e
   run-snoc r [] e = refl
   run-snoc r (x ∷ es) e = run-snoc (turn tables r x) es e
 
@@ -48,7 +48,7 @@ module _ (tables : List Table) where
   met_same v c DoneUnseen = told_same v outcome.Failed
   met_same v c NoMemory = told_same v outcome.NoMem
 
-  step_same : (v : View) (c : Content) (fate : Fate) (f : Flight) (stage : Stage) → (stepped tables v c fate).view.next ≡ Flying f stage → (stepped tables v c fate).view.at ≡ v.at
+  pub step_same : (v : View) (c : Content) (fate : Fate) (f : Flight) (stage : Stage) → (stepped tables v c fate).view.next ≡ Flying f stage → (stepped tables v c fate).view.at ≡ v.at
   step_same v c fate f stage = by (is_over v)
     where
       by : (b : Bool) → (cond b (record { content = c; view = v; step = step.Over }) (met tables v c fate)).view.next ≡ Flying f stage → (cond b (record { content = c; view = v; step = step.Over }) (met tables v c fate)).view.at ≡ v.at

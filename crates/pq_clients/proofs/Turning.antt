@@ -67,20 +67,26 @@ turn_is tables place before after c fate t is =
     ∙ sym (ap (turned tables r e) t.at)
 
 runs : (tables : List Table) (places : List ℕ) (before after : Moment) (c : Content) → before.spot.told ≡ Some c → Turns tables places before after → Runs tables places c before after
-runs tables [] before after c told same = ([], refl, record {
-  content = ap (λ (m : Moment). m.spot.told) (sym same) ∙ told;
-  views = ap (λ (m : Moment). m.clients) (sym same);
-  says = ap (λ (m : Moment). m.told) (sym same);
-  writes = ap (λ (m : Moment). m.puts) (sym same);
-})
+runs tables [] before after c told same = (
+  [],
+  refl,
+  record {
+    content = ap (λ (m : Moment). m.spot.told) (sym same) ∙ told;
+    views = ap (λ (m : Moment). m.clients) (sym same);
+    says = ap (λ (m : Moment). m.told) (sym same);
+    writes = ap (λ (m : Moment). m.puts) (sym same);
+  },
+)
 runs tables (p ∷ ps) before after c told turns =
     let between = turns.0 in
     let t = turns.1 in
     let leaves : (fate : Fate) × IsStep (stepped tables t.view c fate) between.spot.told t.left t.said =
-      subst (λ (o : Option Content). IfSome o (λ c. (fate : Fate) × IsStep (stepped tables t.view c fate) between.spot.told t.left t.said)) told t.leaves in
-    let rest = runs tables ps between after (stepped tables t.view c leaves.0).content leaves.1.content turns.2 in
-    (record { place = p; fate = leaves.0 } ∷ rest.0, ap (λ (l : List ℕ). p ∷ l) rest.1,
-    subst (λ (r : Run). IsRun (run tables r rest.0) after.spot.told after.clients after.told after.puts) (turn_is tables p before between c leaves.0 t leaves.1) rest.2)
+    subst (λ (o : Option Content). IfSome o (λ c. (fate : Fate) × IsStep (stepped tables t.view c fate) between.spot.told t.left t.said)) told t.leaves in
+    let rest = runs tables ps between after (stepped tables t.view c leaves.0).content leaves.1.content turns.2 in (
+      record { place = p; fate = leaves.0 } ∷ rest.0,
+      ap (λ (l : List ℕ). p ∷ l) rest.1,
+      subst (λ (r : Run). IsRun (run tables r rest.0) after.spot.told after.clients after.told after.puts) (turn_is tables p before between c leaves.0 t leaves.1) rest.2,
+    )
 
 pub leaves_run : (tables : List Table) (places : List ℕ) (before after : Moment) → Turns tables places before after → LeavesRun tables places before after
 leaves_run tables places before after turns = by_told before.spot.told refl
@@ -93,8 +99,9 @@ leaves_run tables places before after turns = by_told before.spot.told refl
 
 pub risen_later : (a b c : ℕ) → HasRisen a b → b ≤ c → a ≤ b → HasRisen a c
 risen_later a b c risen later before = elim risen [
-    inl less ↦ inl (omega arith)
-  | inr top ↦ elim (eq-or-lt_of_le {n = a} {m = c} (omega arith)) [ inl same ↦ inr (omega arith) | inr less ↦ inl less ] ]
+  | inl less ↦ inl (omega arith)
+  | inr top ↦ elim (eq-or-lt_of_le {n = a} {m = c} (omega arith)) [ inl same ↦ inr (omega arith) | inr less ↦ inl less ]
+]
 
 pub risen_before : (a b c : ℕ) → a ≤ b → HasRisen b c → HasRisen a c
 risen_before a b c before risen = elim risen [ inl less ↦ inl (omega arith) | inr top ↦ inr top ]
@@ -105,8 +112,9 @@ told_in told [] (step.Put wrote) is = absurd is
 told_in told [] (step.Tells other) is = elim is [ inl same ↦ inr (ap (λ (t : Told). t.outcome) same) | inr none ↦ absurd none ]
 told_in told [] step.Over is = absurd is
 told_in told (x ∷ xs) s is = elim is [
-    inl same ↦ inl (inl same)
-  | inr more ↦ elim (told_in told xs s more) [ inl there ↦ inl (inr there) | inr said ↦ inr said ] ]
+  | inl same ↦ inl (inl same)
+  | inr more ↦ elim (told_in told xs s more) [ inl there ↦ inl (inr there) | inr said ↦ inr said ]
+]
 
 one_call : (v left : View) (before after : Spot) (s : Step) → MakesCall v left before after s → after.used.ops ≤ before.used.ops + 1
 one_call v left before after s calls = by_over (is_over v) refl
@@ -127,11 +135,13 @@ makes_calls tables (p ∷ ps) before after turns =
       few = omega (arith, one_call t.view t.left before.spot between.spot t.said t.calls, rest.few);
       later = omega (arith, t.calls.later, rest.later);
       failed = λ told is failed. elim (rest.failed told is failed) [
-          inl there ↦ (elim (told_in told before.told t.said (subst (λ (l : List Told). In told l) t.tells there)) [
-              inl first ↦ inl first
-            | inr said ↦ inr (risen_later before.spot.faults between.spot.faults after.spot.faults
-                (t.calls.failed (subst (TellsOf t.said) failed said)) rest.later t.calls.later) ])
-        | inr risen ↦ inr (risen_before before.spot.faults between.spot.faults after.spot.faults t.calls.later risen) ];
+        | inl there ↦ (elim (told_in told before.told t.said (subst (λ (l : List Told). In told l) t.tells there)) [
+          | inl first ↦ inl first
+          | inr said ↦ inr (risen_later before.spot.faults between.spot.faults after.spot.faults
+              (t.calls.failed (subst (TellsOf t.said) failed said)) rest.later t.calls.later)
+        ])
+        | inr risen ↦ inr (risen_before before.spot.faults between.spot.faults after.spot.faults t.calls.later risen)
+      ];
       untold = λ e. rest.untold (t.calls.untold e);
     }
 

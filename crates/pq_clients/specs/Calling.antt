@@ -13,8 +13,10 @@ use Rattle.pq_clients.specs.Steps.{Then, On, Puts, Ends, is_just, damaged, refus
 abbrev pub taken_from : List Table → ℕ → ℕ → Flight → Content → Content × Then
 taken_from tables client number f c =
     if is_just f.read (get c (flight_key tables f))
-    then (written_content (flight_key tables f) (Some (held_value client number f.read)) c,
-        On (Flying f (checking tables f (flight_checks tables f))))
+    then (
+      written_content (flight_key tables f) (Some (held_value client number f.read)) c,
+      On (Flying f (checking tables f (flight_checks tables f))),
+    )
     else (c, On (Looking f))
 
 abbrev pub gone_from : List Table → ℕ → ℕ → Write → Next → Content → Content × Then

@@ -1,6 +1,6 @@
 -- The one call of a step, as data: a get, a count with its cap, or a write with its guard; what it answers and leaves, and
 -- how the write goes on behind each answer.
-use Rattle.std.specs.Prelude.{◌≡◌, ℕ, ◌+◌, Bool, true, false, ◌==◌, nat_le, List, [], length, Option, Some, None, is_some, if◌then◌else◌}
+use Rattle.std.specs.Prelude.{◌≡◌, ℕ, ◌+◌, Bool, true, false, ◌==◌, nat_le, List, [], Option, Some, None, is_some, if◌then◌else◌}
 use Rattle.std.specs.FinMap.{get}
 use Rattle.pq_schema.specs.declared.table.Table.{Table}
 use Rattle.pq_schema.specs.Tables.{table_at}
@@ -9,8 +9,8 @@ use Rattle.pq_index_keep.specs.declared.write.Write.{Write}
 use Rattle.pq_clients.specs.declared.outcome.Outcome.TheVariants as outcome
 use Rattle.pq_clients.specs.Held.{held_value, present_row}
 use Rattle.pq_clients.specs.Flights.{Flight, Check, Parent, Child, pair_key, flight_key, new_code, tested_front, tested_limit}
-use Rattle.pq_clients.specs.Clients.{Stage, Checking, Adding, Testing, Putting, Clearing, Freeing, Undoing, Releasing, Next, Reading, Taking, Looking, Flying, View, write_at, is_over}
-use Rattle.pq_clients.specs.Steps.{Then, On, Ends, is_just, counted, after_read, gone_on}
+use Rattle.pq_clients.specs.Clients.{Stage, Checking, Adding, Testing, Putting, Clearing, Freeing, Undoing, Releasing, Next, Reading, Taking, Looking, Flying, View, write_at}
+use Rattle.pq_clients.specs.Steps.{Then, Ends, is_just, counted, after_read, gone_on}
 use Rattle.pq_clients.specs.Calling.{way, taken_way}
 
 -- ---- calls
@@ -120,5 +120,7 @@ next_behind tables client w (Flying f stage) answer = way tables f stage (stage_
 abbrev pub MakesOneCall : List Table → View → Content → Type 0
 MakesOneCall tables v c = (w : Write) → write_at v.writes v.at ≡ Some w
     → gone_on tables v v.next c
-    ≡ (left_by (next_call tables v.number v.at w v.next) c,
-    next_behind tables v.number w v.next (answer_of (next_call tables v.number v.at w v.next) c))
+    ≡ (
+      left_by (next_call tables v.number v.at w v.next) c,
+      next_behind tables v.number w v.next (answer_of (next_call tables v.number v.at w v.next) c),
+    )

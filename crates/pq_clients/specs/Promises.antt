@@ -31,6 +31,7 @@ use Rattle.pq_clients.specs.Clients.{Stage, Checking, Testing, Putting, Freeing,
 use Rattle.pq_clients.specs.Steps.{is_just, is_held_by_other, Fate, Answers, NotDone, DoneUnseen, NoMemory, is_fault, stepped}
 use Rattle.pq_clients.specs.Runs.{Event, Run, begun, turn, run}
 use Rattle.pq_clients.specs.Invariant.{has_code_entry, Names, is_due, is_there}
+use Rattle.pq_clients.specs.Testing.{TestsInOrder}
 use Rattle.pq_clients.specs.Present.{present_at, present_rows, rows_after, rows_after_all, write_named, writes_named}
 
 -- ---- the beginning
@@ -422,5 +423,6 @@ pub record HoldsThroughout (tables : List Table) (rows : Rows) (others : List Pa
       → HasCauses tables v (reached tables rows others clients events).content fate
   pub said : SaysAll tables (begun (content_pairs tables rows others) clients) events
   pub shown : TellsShown tables (begun (content_pairs tables rows others) clients) events
+  pub tests : TestsInOrder tables (begun (content_pairs tables rows others) clients) events
   pub few : HasFewCalls tables (begun (content_pairs tables rows others) clients) events
   pub end : ComesToEnd tables (begun (content_pairs tables rows others) clients) events

@@ -95,8 +95,10 @@ fn write_pair<S: Store<L>, L: Ledger>(
     store: &mut S,
     meter: &mut Meter<L>,
 ) -> Result<bool, Halt>
-    ensures { Goes (λ done. done) (λ c. (after_write guard.entry key.now (option_copied new.entry) c,
-        admits guard.entry (value_at c key.now)))
+    ensures { Goes (λ done. done) (λ c. (
+      after_write guard.entry key.now (option_copied new.entry) c,
+      admits guard.entry (value_at c key.now),
+    ))
         (spot (S.content store.old) (S.faults store.old) meter.old)
         (spot (S.content store.new) (S.faults store.new) meter.new) result }
 {
@@ -115,8 +117,11 @@ pub(crate) fn write_over<S: Store<L>, L: Ledger>(
     store: &mut S,
     meter: &mut Meter<L>,
 ) -> Result<bool, Halt>
-    ensures { Goes (λ done. done) (λ c. (if is_just expected.now (value_at c key.now)
-        then written_content key.now new.now c else c, is_just expected.now (value_at c key.now)))
+    ensures { Goes (λ done. done) (λ c. (
+      if is_just expected.now (value_at c key.now)
+          then written_content key.now new.now c else c,
+      is_just expected.now (value_at c key.now),
+    ))
         (spot (S.content store.old) (S.faults store.old) meter.old)
         (spot (S.content store.new) (S.faults store.new) meter.new) result }
 {

@@ -23,8 +23,7 @@ use std::alloc::Global;
 pub(crate) fn known_write(catalog: &Catalog, write: &Write)
     requires { MayWrite catalog.now.tables write.now }
     ensures { HasColumns write.now }
-{
-}
+{}
 
 /// Whether the write gives one of these columns a value.
 fn gives(write: &Write, cols: &[u8]) -> bool

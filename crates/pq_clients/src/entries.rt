@@ -176,11 +176,7 @@ pub(crate) fn copy_keys(alloc: Global, keys: &[Bytes]) -> Result<List<Bytes>, No
 }
 
 /// The key in front of the others.
-pub(crate) fn with_front(
-    alloc: Global,
-    key: &Bytes,
-    keys: &[Bytes],
-) -> Result<List<Bytes>, NoMem>
+pub(crate) fn with_front(alloc: Global, key: &Bytes, keys: &[Bytes]) -> Result<List<Bytes>, NoMem>
     ensures { IfOk result (λ all. all ≡ key.now ∷ keys.now) }
 {
     let mut all = List::new(alloc);

@@ -26,7 +26,11 @@ fn copy_places(alloc: Global, places: &[usize]) -> Result<List<usize>, NoMem>
 }
 
 /// The place in front of the others.
-pub(crate) fn with_place(alloc: Global, place: usize, places: &[usize]) -> Result<List<usize>, NoMem>
+pub(crate) fn with_place(
+    alloc: Global,
+    place: usize,
+    places: &[usize],
+) -> Result<List<usize>, NoMem>
     ensures { IfOk result (λ all. all ≡ place ∷ places.now) }
 {
     let mut all = List::new(alloc);
@@ -38,11 +42,7 @@ pub(crate) fn with_place(alloc: Global, place: usize, places: &[usize]) -> Resul
 }
 
 /// The test of the first of these limits, or the put.
-pub(crate) fn testing(
-    alloc: Global,
-    left: &[usize],
-    passed: List<usize>,
-) -> Result<Stage, NoMem>
+pub(crate) fn testing(alloc: Global, left: &[usize], passed: List<usize>) -> Result<Stage, NoMem>
     ensures { IfOk result (λ stage. seen_stage stage ≡ testing left.now passed) }
 {
     match left.split_first() {
@@ -108,7 +108,14 @@ fn checked_all(
         (fresh_entries catalog.now.tables (flight write.now read.now)) []) }
 {
     let entries = fresh_entries(alloc, catalog, write, read)?;
-    adding(alloc, catalog, write, read, entries.items(), List::new(alloc))
+    adding(
+        alloc,
+        catalog,
+        write,
+        read,
+        entries.items(),
+        List::new(alloc),
+    )
 }
 
 /// The first of these tests of parents or children, or what comes behind.

@@ -282,8 +282,11 @@ pub(crate) fn look<S: Store<L>, L: Ledger>(
     meter: &mut Meter<L>,
 ) -> Result<Course, Halt>
     requires { MayWrite catalog.now.tables write.now }
-    ensures goes { (f : Flight) → Goes (seen_course f) (λ c. (c, Ends (Outcome.Conflict read.now
-        (get c (pair_key catalog.now.tables write.now)))))
+    ensures goes { (f : Flight) → Goes (seen_course f) (λ c. (
+      c,
+      Ends (Outcome.Conflict read.now
+          (get c (pair_key catalog.now.tables write.now))),
+    ))
         (spot (S.content store.old) (S.faults store.old) meter.old)
         (spot (S.content store.new) (S.faults store.new) meter.new) result }
     ensures way { (f : Flight) → IfOk result (λ course. (found : Option (Items ℕ))

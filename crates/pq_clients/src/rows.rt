@@ -40,8 +40,7 @@ fn decoded(alloc: Global, types: &[ColType], code: &[u8]) -> Result<Option<Row>,
 /// Tells a proof that the bytes are bytes.
 fn known_bytes(bytes: &[u8])
     ensures { IsBytes bytes.now }
-{
-}
+{}
 
 /// The number of the write's table.
 pub(crate) fn table_number(write: &Write) -> u8

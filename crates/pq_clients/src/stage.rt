@@ -6,7 +6,11 @@ use pq_store::Damage;
 #[derive(Drop)]
 pub enum Check {
     /// The row that the foreign key of this place names, by its table and the key of its pair.
-    Parent { place: usize, table: u8, at: Bytes },
+    Parent {
+        place: usize,
+        table: u8,
+        at: Bytes,
+    },
     /// The rows of a table that name the row by its foreign key of this place, by the beginning of their keys.
     Child {
         table: u8,
@@ -65,13 +69,19 @@ pub enum Phase {
 #[derive(Drop)]
 pub enum Ending {
     Done,
-    Refused { refusal: Refusal },
-    Busy { found: Bytes },
+    Refused {
+        refusal: Refusal,
+    },
+    Busy {
+        found: Bytes,
+    },
     Conflict {
         read: Option<Bytes>,
         found: Option<Bytes>,
     },
-    Damaged { damage: Damage },
+    Damaged {
+        damage: Damage,
+    },
 }
 
 /// How a write goes on behind a call.

@@ -316,9 +316,7 @@ fn test_step<S: Store<L>, L: Ledger>(
 {
     match has_room(alloc, catalog, write, read, place, store, meter) {
         Err(halt) => Err(halt),
-        Ok(room) => in_memory(test_led(
-            alloc, catalog, write, read, place, left, passed, room,
-        )),
+        Ok(room) => in_memory(test_led(alloc, catalog, write, read, place, left, passed, room)),
     }
 }
 
@@ -668,7 +666,9 @@ fn put_step<S: Store<L>, L: Ledger>(
 {
     match put_led(alloc, catalog, write, read) {
         Err(_) => Err(Halt::NoMem),
-        Ok(pass) => put_with(alloc, catalog, client, number, write, read, pass, store, meter),
+        Ok(pass) => put_with(
+            alloc, catalog, client, number, write, read, pass, store, meter,
+        ),
     }
 }
 
@@ -789,11 +789,30 @@ pub(crate) fn fly<S: Store<L>, L: Ledger>(
 {
     match stage {
         Stage::Checking { check, left } => {
-            check_step(alloc, catalog, write, read, check, left.items(), store, meter)
+            check_step(
+                alloc,
+                catalog,
+                write,
+                read,
+                check,
+                left.items(),
+                store,
+                meter,
+            )
         }
         Stage::Adding { entry, left, added } => {
             let left = left.items();
-            add_step(alloc, catalog, write, read, entry, left, added.items(), store, meter)
+            add_step(
+                alloc,
+                catalog,
+                write,
+                read,
+                entry,
+                left,
+                added.items(),
+                store,
+                meter,
+            )
         }
         Stage::Testing {
             place,
@@ -801,7 +820,17 @@ pub(crate) fn fly<S: Store<L>, L: Ledger>(
             passed,
         } => {
             let left = left.items();
-            test_step(alloc, catalog, write, read, *place, left, passed.items(), store, meter)
+            test_step(
+                alloc,
+                catalog,
+                write,
+                read,
+                *place,
+                left,
+                passed.items(),
+                store,
+                meter,
+            )
         }
         Stage::Putting => put_step(alloc, catalog, client, number, write, read, store, meter),
         Stage::Clearing { entry, left } => clear_step(alloc, entry, left.items(), store, meter),
@@ -942,6 +971,8 @@ pub(crate) fn take<S: Store<L>, L: Ledger>(
 {
     match take_led(alloc, catalog, write, read) {
         Err(_) => Err(Halt::NoMem),
-        Ok(pass) => take_with(alloc, catalog, client, number, write, read, pass, store, meter),
+        Ok(pass) => take_with(
+            alloc, catalog, client, number, write, read, pass, store, meter,
+        ),
     }
 }
