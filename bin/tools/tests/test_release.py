@@ -68,6 +68,11 @@ class ContentsTest(unittest.TestCase):
         found = release.contents(TOP, {}, GATE)
         self.assertEqual(release.pack(found, "a", 1), release.pack(dict(reversed(found.items())), "a", 1))
 
+    def test_the_first_page_leads_to_what_is_there(self) -> None:
+        for path in re.findall(r"\]\(([^)#:]*)", (self.release.top / "README.md").read_text()):
+            self.assertTrue((self.release.top / path).exists(), path)
+        self.assertTrue((self.release.top / "docs/scripts/board.piql").exists())
+
     def test_each_command_has_its_modules(self) -> None:
         for name in release.COMMANDS:
             run = self.release.run(f"bin/{name}", "--help")
