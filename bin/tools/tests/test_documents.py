@@ -15,8 +15,8 @@ from tools.tests.copies import Copy, built
 
 PIQL, PIQL_FILE = built("piql"), built("piql_file")
 PLACES = [str(pathlib.Path(sys.executable).parent), "/usr/bin", "/bin"]
-STATEMENT = re.compile(r"(CREATE|INSERT|UPDATE|DELETE|SELECT|PREPARE|RUN|EXPLAIN|SHOW|ALTER|DROP|TRUNCATE|COPY|BEGIN) ?")
-WHOLE = re.compile(r"(CREATE|INSERT|UPDATE|DELETE|PREPARE|RUN|EXPLAIN|SHOW) ?")
+WHOLE = re.compile(r"(CREATE|INSERT|UPDATE|DELETE|PREPARE|RUN|EXPLAIN|SHOW)\b")
+STATEMENT = re.compile(WHOLE.pattern + r"|(SELECT|ALTER|DROP|TRUNCATE|COPY|BEGIN)\b")
 CODE = re.compile(r"`([^`]*)`")
 END = re.compile(r"^(\d+) (ok|refused)", re.MULTILINE)
 

@@ -1,4 +1,4 @@
-"""Tests of a release: what it has, when there is none, and that it runs where there is neither sources nor toolchain."""
+"""Tests of a release: what it has, when there is none, and that it runs without sources and toolchain."""
 
 import hashlib
 import os
