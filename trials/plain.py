@@ -1,4 +1,4 @@
-"""Queries over the tables of users, their subscriptions and their thoughts, answered by a plain product and a filter."""
+"""Queries over users, their subscriptions and their thoughts, answered by a plain product and a filter."""
 
 import itertools
 import operator
@@ -203,7 +203,7 @@ def random_query(chance: random.Random, size: int) -> Query:
             predicates.append(Predicate(Column(alias, "ts"), "=", chance.choice(TIMES)))
         predicates += filters(chance, alias, table)
         relations[alias] = table
-    columns = [Column(alias, name) for alias, table in relations.items() for name in [*KEYS[table]]]
+    columns = [Column(alias, name) for alias, table in relations.items() for name in KEYS[table]]
     chance.shuffle(predicates)
     order = [(column, chance.random() < 0.5) for column in chance.sample(columns, chance.choice([0, 0, 1, 2]))]
     return Query(relations, chance.sample(columns, min(3, len(columns))), predicates[:16], order)
