@@ -4,6 +4,8 @@
 
 writes FOLDER/ground.piql, FOLDER/script.piql and the same two for SQLite, with the ending sql. The ground is what the
 timed statements stand on, and the script is the ground with them behind it. It prints how many they are, and what.
+Where the timed statements are runs of one query, FOLDER/query.sql has it with a parameter, FOLDER/values a value a line
+for each of them, and FOLDER/none nothing.
 
 SQLite has no limits on how many rows share values, so its tables have an index in place of each limit, and it checks
 less than the engine does.
@@ -30,8 +32,18 @@ class Workload:
     timed: list[str]
     # The timed statements of SQLite, where they are others.
     sql_timed: list[str] | None = None
+    # The query of the timed statements with a parameter, and its values, where they are runs of one.
+    query: str | None = None
+    values: list[str] | None = None
+
+    def write_prepared(self, folder):
+        pathlib.Path(folder, "query.sql").write_text(self.query)
+        pathlib.Path(folder, "values").write_text("\n".join(self.values) + "\n")
+        pathlib.Path(folder, "none").write_text("")
 
     def write(self, folder):
+        if self.query is not None:
+            self.write_prepared(folder)
         grounds = {"piql": self.tables + self.ground, "sql": self.sql_tables + self.ground}
         timed = {"piql": self.timed, "sql": self.timed if self.sql_timed is None else self.sql_timed}
         for ending, ground in grounds.items():
@@ -94,6 +106,8 @@ def indexes(count):
 
 def runs(count):
     """A query by the key, for each row of a table."""
+    keys = [scattered(row, FACTORS[0]) % count for row in range(count)]
+    query = "SELECT x.v FROM m AS x WHERE x.id = {};"
     return Workload(
         f"{count:,} RUNs of a query by its key",
         [
@@ -102,8 +116,10 @@ def runs(count):
         ],
         ["CREATE TABLE m (id INTEGER PRIMARY KEY, v INT);"],
         [f"INSERT INTO m VALUES ({row}, {scattered(row, FACTORS[0])});" for row in range(count)],
-        [f"RUN q ({scattered(row, FACTORS[0]) % count});" for row in range(count)],
-        [f"SELECT x.v FROM m AS x WHERE x.id = {scattered(row, FACTORS[0]) % count};" for row in range(count)],
+        [f"RUN q ({key});" for key in keys],
+        [query.format(key) for key in keys],
+        query.format("?"),
+        [str(key) for key in keys],
     )
 
 
@@ -146,14 +162,16 @@ def site_rows(users):
             yield f"INSERT INTO thoughts VALUES ('{name(user)}', {turn * users + user}, 'b');"
 
 
+SITE_QUERY = (
+    "SELECT t.owner, t.ts, t.body FROM subs s, thoughts t WHERE s.owner = {} AND s.approved = true"
+    " AND t.owner = s.target ORDER BY t.ts DESC LIMIT 10;"
+)
+
+
 def site_runs(users):
     """Its RUNs, and the same for SQLite."""
-    select = (
-        "SELECT t.owner, t.ts, t.body FROM subs s, thoughts t WHERE s.owner = '{}' AND s.approved = true"
-        " AND t.owner = s.target ORDER BY t.ts DESC LIMIT 10;"
-    )
     names = [name(user) for user in range(users)]
-    return [f"RUN home ('{user}');" for user in names], [select.format(user) for user in names]
+    return [f"RUN home ('{user}');" for user in names], [SITE_QUERY.format(f"'{user}'") for user in names]
 
 
 def fill(count):
@@ -167,7 +185,8 @@ def fill(count):
 def feed(count):
     """The RUNs of the same script alone: a page of ten, of whom a user follows."""
     asked, selects = site_runs(count)
-    return Workload(f"{count:,} RUNs of a follower's feed", SITE, SQL_SITE, list(site_rows(count)), asked, selects)
+    text, values = f"{count:,} RUNs of a follower's feed", [name(user) for user in range(count)]
+    return Workload(text, SITE, SQL_SITE, list(site_rows(count)), asked, selects, SITE_QUERY.format("?"), values)
 
 
 WORKLOADS = {"fill": fill, "inserts": inserts, "indexes": indexes, "runs": runs, "feed": feed}

@@ -72,11 +72,12 @@ def outcome_of(output: str, status: int) -> Outcome:
 
 def run_folder(folder: pathlib.Path, seconds: float) -> Outcome:
     """Runs the tests of one folder, for at most so many seconds."""
-    words = [sys.executable, "-B", "-m", "unittest", "discover", "-v", "-s", folder.name]
-    if (folder / "__init__.py").exists():
-        words += ["-t", "."]
+    top = folder
+    while (top / "__init__.py").exists():
+        top = top.parent
+    words = [sys.executable, "-B", "-m", "unittest", "discover", "-v", "-s", str(folder.relative_to(top)), "-t", "."]
     how = {"stdout": subprocess.PIPE, "stderr": subprocess.STDOUT, "text": True, "errors": "replace"}
-    run = subprocess.Popen(words, cwd=folder.parent, stdin=subprocess.DEVNULL, start_new_session=True, **how)
+    run = subprocess.Popen(words, cwd=top, stdin=subprocess.DEVNULL, start_new_session=True, **how)
     try:
         output = run.communicate(timeout=seconds)[0]
     except subprocess.TimeoutExpired:
@@ -119,8 +120,10 @@ def tell_stale() -> None:
 
 
 def main(words: list[str]) -> int:
+    if words == ["--browser"]:
+        return subprocess.run([sys.executable, "-B", str(TOP / "site" / "browse.py")]).returncode
     if words:
-        print("test: it takes no words", file=sys.stderr)
+        print("test: it takes no words but --browser", file=sys.stderr)
         return 2
     outcome = run_gate(["rt", "ci"])
     try:

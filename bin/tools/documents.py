@@ -1,0 +1,59 @@
+"""What documents show: their blocks by kinds, and the commands of a console with what they print."""
+
+import pathlib
+import re
+from collections.abc import Iterator
+from typing import NamedTuple
+
+from tools.repository import TOP
+
+BLOCK = re.compile(r"^```(\w+)\n(.*?)^```$", re.MULTILINE | re.DOTALL)
+LEFT_OUT = ".."
+
+
+class Block(NamedTuple):
+    """A block of a document, with the document's name and the line at which it begins."""
+
+    place: str
+    kind: str
+    text: str
+
+
+class Command(NamedTuple):
+    """A command, with the lines that it prints. A line `..` stands for any lines."""
+
+    place: str
+    command: str
+    output: list[str]
+
+
+def documents(top: pathlib.Path = TOP) -> list[pathlib.Path]:
+    """The documents at the top and in docs/."""
+    return [*sorted(top.glob("*.md")), *sorted((top / "docs").glob("*.md"))]
+
+
+def blocks(document: pathlib.Path, *kinds: str) -> Iterator[Block]:
+    """The blocks of these kinds."""
+    whole = document.read_text(encoding="utf-8")
+    for found in BLOCK.finditer(whole):
+        if found[1] in kinds:
+            line = whole.count("\n", 0, found.start()) + 1
+            yield Block(f"{document.relative_to(TOP)}:{line}", found[1], found[2])
+
+
+def commands(document: pathlib.Path) -> Iterator[Command]:
+    """The commands of all blocks of a console, in order."""
+    for block in blocks(document, "console"):
+        for part in re.split(r"^\$ ", block.text, flags=re.MULTILINE)[1:]:
+            command, *output = part.rstrip("\n").split("\n")
+            yield Command(block.place, command, output)
+
+
+def is_shown(shown: list[str], printed: list[str]) -> bool:
+    """Whether the lines are those that are shown, where `..` stands for any."""
+    if LEFT_OUT not in shown:
+        return shown == printed
+    at = shown.index(LEFT_OUT)
+    if printed[:at] != shown[:at]:
+        return False
+    return any(is_shown(shown[at + 1 :], printed[begin:]) for begin in range(at, len(printed) + 1))

@@ -1,0 +1,71 @@
+"""Tests of the token that a refusal speaks of."""
+
+import unittest
+
+from piql.scripts import tokens
+from tools.pointing import pointed
+
+TABLE = (
+    "CREATE TABLE t (a INT, b TEXT(1001), c INT, a INT, PRIMARY KEY (b, b),"
+    " CARDINALITY LIMIT 0 (c), FOREIGN KEY (c) REFERENCES u);"
+)
+QUERY = "PREPARE q AS SELECT x.a, b FROM t AS x JOIN u AS x, w WHERE x.a = 1 AND b = [1] ORDER BY a, a LIMIT 1001;"
+RUN = "RUN q (7, 'x') AFTER 'AQ';"
+INSERT = "INSERT INTO t VALUES (7, 'x', TRUE);"
+LISTED = "INSERT INTO t (c, a, b) VALUES (7, 'x', TRUE);"
+UPDATE = "UPDATE t SET b = 'x', b = 'y' WHERE a = 7;"
+# A statement, its refusal, and the place of the token, as what stands before it and the token.
+CASES = [
+    (TABLE, "E201 t", "CREATE TABLE |t"),
+    (TABLE, "E202 u", "REFERENCES |u"),
+    (TABLE, "E203 c", "TEXT(1001), |c"),
+    (TABLE, "E204 a", "c INT, |a"),
+    (TABLE, "E204 b", "KEY (b, |b"),
+    (TABLE, "E205 1", "(c), |FOREIGN"),
+    (TABLE, "E206 text", "TEXT(|1001"),
+    (TABLE, "E206 cardinality", "LIMIT |0"),
+    (TABLE, "E206 key", "a INT, |PRIMARY"),
+    (TABLE, "E208 b", "a INT, |b"),
+    (QUERY, "E202 w", "x, |w"),
+    (QUERY, "E203 b", "x.a, |b"),
+    (QUERY, "E204 a", "BY a, |a"),
+    (QUERY, "E206 stop", "LIMIT |1001"),
+    (QUERY, "E206 order", "[1] |ORDER"),
+    (QUERY, "E301 x", "u AS |x"),
+    (QUERY, "E302 2", "AND |b"),
+    (QUERY, "E303", "b = |["),
+    (QUERY, "E304 w", "x, |w"),
+    (RUN, "E401 q", "RUN |q"),
+    (RUN, "E402 0", "RUN |q"),
+    (RUN, "E402 2", "7, |'x'"),
+    (RUN, "E403", "AFTER |'AQ'"),
+    (RUN, "E404", ") |AFTER"),
+    (INSERT, "E501 t b", "7, |'x'"),
+    (INSERT, "E503 t", "INTO |t"),
+    (LISTED, "E501 t b", "'x', |TRUE"),
+    (UPDATE, "E204 b", "'x', |b"),
+    (UPDATE, "E501 t a", "a = |7"),
+    (UPDATE, "E504 t", "'y' |WHERE"),
+]
+
+
+class PointingTest(unittest.TestCase):
+    def test_each_refusal_has_its_token(self) -> None:
+        for statement, refusal, wanted in CASES:
+            with self.subTest(refusal=refusal, statement=statement[:20]):
+                code, *fields = refusal.split(" ")
+                token = pointed(code, tuple(fields), tokens(statement), ["a", "b", "c"])
+                before, text = wanted.split("|")
+                assert token is not None
+                self.assertEqual(token.text, text)
+                if code != "E208":
+                    self.assertTrue(statement[: token.start].endswith(before))
+
+    def test_what_names_no_token_has_none(self) -> None:
+        for refusal in ("E305 10101 1010100", "E506 t 1", "E207 t", "E302 9", "E205 9", "E206 limits", "E501 u z"):
+            code, *fields = refusal.split(" ")
+            self.assertIsNone(pointed(code, tuple(fields), tokens(QUERY), []), refusal)
+
+
+if __name__ == "__main__":
+    unittest.main()

@@ -1,0 +1,8 @@
+"""The version: the numbers of the language, of the file format and of the driver."""
+
+LANGUAGE = 2
+FILE_FORMAT = 2
+DRIVER = 1
+
+NUMBER = f"{LANGUAGE}.{FILE_FORMAT}.{DRIVER}"
+MEANING = f"language {LANGUAGE}, file format {FILE_FORMAT}, driver {DRIVER}"

@@ -1,0 +1,63 @@
+"""A board of links: python3 board.py FILE page [CURSOR] | vote LINK VOTER | serve"""
+
+import html
+import sys
+import urllib.parse
+from wsgiref.simple_server import make_server
+
+import piql
+
+TRIES = 5
+
+
+def vote(board, link, voter):
+    """Votes for a link, and gives its new score; None where the voter has voted for it already."""
+    for _ in range(TRIES):
+        last = board.execute("RUN last_vote (?)", (link,)).fetchone()
+        number = last[0] + 1 if last else 1
+        try:
+            board.execute("INSERT INTO votes VALUES (?, ?, ?)", (link, number, voter))
+        except piql.IntegrityError as error:
+            if error.number == "E503":  # another vote got this number
+                continue
+            if error.number == "E507":  # the limit: one vote for each link and voter
+                return None
+            raise
+        board.execute("UPDATE links SET score = ? WHERE id = ?", (number, link))
+        return number
+    raise piql.OperationalError("too many votes at once")
+
+
+def page(board, cursor=None):
+    """The newest links, as rows, with the cursor of the next page."""
+    found = board.execute("RUN newest", after=cursor)
+    return found.fetchall(), found.next_page
+
+
+def application(board):
+    """The board as a WSGI application."""
+
+    def answer(environ, start_response):
+        query = urllib.parse.parse_qs(environ.get("QUERY_STRING", ""))
+        links, following = page(board, query.get("after", [None])[0])
+        lines = [f"<li>{html.escape(title)} by {html.escape(owner)}: {score}" for _, title, owner, score in links]
+        more = f'<a href="?after={following}">older links</a>' if following else ""
+        start_response("200 OK", [("Content-Type", "text/html; charset=utf-8")])
+        return [f"<!doctype html><title>links</title><ul>{''.join(lines)}</ul>{more}".encode()]
+
+    return answer
+
+
+def main(file, command, *words):
+    with piql.connect(file) as board:
+        if command == "page":
+            links, following = page(board, *words)
+            print(*links, f"next page: {following}", sep="\n")
+        elif command == "vote":
+            print(vote(board, int(words[0]), words[1]))
+        elif command == "serve":
+            make_server("localhost", 8000, application(board)).serve_forever()
+
+
+if __name__ == "__main__":
+    main(*sys.argv[1:])

@@ -1,0 +1,127 @@
+"""The package's commands, `python -m piql WORD ..`. FILE is a file, or unix:SOCKET where a server has it.
+
+    migrate FILE SCHEMA              defines what the schema has and the file lacks; tells the bounds first
+    bounds FILE [--write|--check P]  prints each query's bound; writes bounds.lock, or fails where a bound rose
+    backup FILE COPY                 makes a whole copy
+    load FILE TABLE < CSV            inserts rows; the first line names the columns
+    rebuild OLD NEW SCHEMA           makes a new file with the old one's rows under another schema
+    shell [FILE]                     a prompt
+"""
+
+import argparse
+import os
+import sys
+
+from . import connect, shell
+from .bounds import BoundsRose, check_bounds, write_bounds
+from .errors import Error
+from .load import load
+from .migrate import migrate
+from .rebuild import Values, rebuild
+from .values import read_literal
+
+
+def run_migrate(given: argparse.Namespace) -> int:
+    """Grows a schema."""
+    with connect(given.file) as connection:
+        made = migrate(connection, given.schema)
+    print(f"{len(made)} definitions made")
+    return 0
+
+
+def run_bounds(given: argparse.Namespace) -> int:
+    """Prints, writes or compares the bounds."""
+    with connect(given.file) as connection:
+        if given.check:
+            check_bounds(connection, given.check)
+            return 0
+        bounds = write_bounds(connection, given.write) if given.write else connection.bounds()
+    for name, bound in bounds.items():
+        print(name, bound)
+    return 0
+
+
+def run_backup(given: argparse.Namespace) -> int:
+    """Copies a store."""
+    with connect(given.file) as connection:
+        connection.backup(given.copy)
+    return 0
+
+
+def run_load(given: argparse.Namespace) -> int:
+    """Loads a CSV file."""
+    mark = given.mark or f"{given.file.removeprefix('unix:')}.{given.table}.load"
+    # The lines of a CSV text end as its records say, so they are read as they are.
+    source = open(sys.stdin.fileno(), newline="", encoding="utf-8", closefd=False)
+    with source, connect(given.file) as connection:
+        try:
+            loaded = load(connection, given.table, source, mark, sys.stderr, given.null)
+        except (Error, KeyboardInterrupt) as error:
+            if os.path.exists(mark):
+                print("stopped; the same command goes on from there", file=sys.stderr)
+            raise error
+    return 1 if loaded.refused else 0
+
+
+def given_values(words: list[str]) -> Values:
+    """The values of the words TABLE.COLUMN=VALUE."""
+    values = {}
+    for word in words:
+        name, _, value = word.partition("=")
+        table, _, column = name.partition(".")
+        values[table.lower(), column.lower()] = read_literal(value)
+    return values
+
+
+def run_rebuild(given: argparse.Namespace) -> int:
+    """Rebuilds a store."""
+    done = rebuild(given.old, given.new, given.schema, sys.stderr, given_values(given.value))
+    return 1 if done.refused else 0
+
+
+def run_shell(given: argparse.Namespace) -> int:
+    """A prompt."""
+    return shell.main([given.file] if given.file else [])
+
+
+def parser() -> argparse.ArgumentParser:
+    """The words of the commands."""
+    as_written = argparse.RawTextHelpFormatter
+    top = argparse.ArgumentParser(prog="python -m piql", description=__doc__, formatter_class=as_written)
+    words = top.add_subparsers(required=True, metavar="WORD")
+
+    def command(name: str, run: object, *places: str) -> argparse.ArgumentParser:
+        made = words.add_parser(name)
+        made.set_defaults(run=run)
+        for place in places:
+            made.add_argument(place)
+        return made
+
+    command("migrate", run_migrate, "file", "schema")
+    bounds = command("bounds", run_bounds, "file")
+    bounds.add_argument("--write", metavar="PATH")
+    bounds.add_argument("--check", metavar="PATH")
+    command("backup", run_backup, "file", "copy")
+    loading = command("load", run_load, "file", "table")
+    loading.add_argument("--null", default="", help="what stands for NULL in nullable columns; an empty cell")
+    loading.add_argument("--mark", help="the file that keeps how far it came; FILE.TABLE.load")
+    rebuilding = command("rebuild", run_rebuild, "old", "new", "schema")
+    rebuilding.add_argument("--value", action="append", default=[], metavar="TABLE.COLUMN=VALUE")
+    command("shell", run_shell).add_argument("file", nargs="?")
+    return top
+
+
+def main(words: list[str] | None = None) -> int:
+    """The command."""
+    given = parser().parse_args(words)
+    try:
+        return int(given.run(given))
+    except KeyboardInterrupt:
+        return 130
+    except (Error, BoundsRose, OSError) as error:
+        print("\n".join([f"piql: {error}", *getattr(error, "__notes__", [])]), file=sys.stderr)
+        return 2
+
+
+if __name__ == "__main__":
+    sys.exit(main())

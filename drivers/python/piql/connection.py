@@ -1,0 +1,211 @@
+"""A connection: the statements that it sends, the definitions that it knows, and the queries that it prepares once."""
+
+import os
+import threading
+from collections.abc import Sequence
+from typing import TYPE_CHECKING
+
+from . import errors
+from .errors import InterfaceError, InternalError, NotSupportedError, ProgrammingError, refused
+from .links import Link
+from .refusals import refusal_of
+from .reports import Report, Work, read_report
+from .scripts import place_at
+from .schema import Query, Schema, read_schema
+from .statements import DEFINES, NUMBERED, READS, Kind, Sent, Statement, read_statement
+from .values import quoted, quoted_text
+
+if TYPE_CHECKING:
+    from .cursor import Cursor
+
+Parameters = Sequence[object]
+LISTS = (tuple, list)
+SHOW = read_statement("SHOW")
+UNPREPARED = "this SELECT isn't prepared in the store, and the connection was made with prepare=False: {text}"
+NO_ROLLBACK = "nothing is rolled back: each statement is made whole or not at all, at once"
+
+
+def fillings_of(statement: Statement, parameters: Parameters) -> tuple[str, ...]:
+    """The values as the statement writes them, one for each place."""
+    if type(parameters) not in LISTS and (isinstance(parameters, (str, bytes)) or not isinstance(parameters, Sequence)):
+        raise ProgrammingError(f"values come as a list or a tuple, and no {type(parameters).__name__}")
+    if len(parameters) != statement.params:
+        text = statement.text[:200]
+        raise ProgrammingError(f"{statement.params} values are wanted, {len(parameters)} are given: {text}")
+    return tuple([quoted(value) for value in parameters])
+
+
+class Connection:
+    """PEP 249's connection. Each statement is whole or not at all, at once: there is nothing to commit."""
+
+    Warning = errors.Warning
+    Error = errors.Error
+    InterfaceError = errors.InterfaceError
+    DatabaseError = errors.DatabaseError
+    DataError = errors.DataError
+    OperationalError = errors.OperationalError
+    IntegrityError = errors.IntegrityError
+    InternalError = errors.InternalError
+    ProgrammingError = errors.ProgrammingError
+    NotSupportedError = errors.NotSupportedError
+
+    def __init__(self, link: Link, prepare: bool = True) -> None:
+        self._link: Link | None = link
+        self._lock = threading.RLock()
+        self._prepare = prepare
+        self._schema: Schema | None = None
+        self._names: dict[str, str] = {}
+        self._sent = 0
+        self.schema()
+
+    @property
+    def autocommit(self) -> bool:
+        """True: each statement is whole or not at all, and stands once it is reported."""
+        return True
+
+    @property
+    def statements(self) -> int:
+        """How many statements this connection has sent, those among them that prepare a SELECT and read SHOW."""
+        return self._sent
+
+    def link(self) -> Link:
+        """What the statements are sent over."""
+        if self._link is None:
+            raise InterfaceError("the connection is closed")
+        return self._link
+
+    def report(self, sent: Sent) -> Report:
+        """The report of a statement; a refusal is raised."""
+        data, statement = sent.data(), sent.statement
+        with self._lock:
+            link = self._link or self.link()
+            text = link.exchange(data, statement.kind in READS)
+            self._sent += 1
+        try:
+            report = read_report(text)
+        except ValueError as error:
+            raise InternalError(str(error)) from error
+        if report.is_refused():
+            raise self.refusal(sent, report.end.refusal)
+        if statement.kind in DEFINES:
+            self._schema = None
+        return report
+
+    def refusal(self, sent: Sent, fields: tuple[str, ...]) -> errors.DatabaseError:
+        """The exception of a refusal; where the tokens spell nothing, with the place in the writer's text."""
+        text = sent.statement.text
+        if fields[0] != "E104":
+            return refused(refusal_of(fields, text))
+        at = sent.source_at(int(fields[1]))
+        return refused(refusal_of(("E104", str(len(text[:at].encode()))), text, place_at(text, at)))
+
+    def answer(self, statement: Statement, parameters: Parameters, after: str | None = None) -> Report:
+        """The report of a statement with its values, behind a cursor of pages; a SELECT is prepared where it isn't."""
+        values = fillings_of(statement, parameters)
+        behind = "" if after is None else f" AFTER {quoted_text(after)}"
+        if statement.kind is Kind.SELECT:
+            return self.answer_select(statement, values, behind)
+        if behind and statement.kind is not Kind.RUN:
+            raise ProgrammingError("only a SELECT or a RUN has pages")
+        return self.report(Sent(statement, "", statement.numbered() if statement.kind in NUMBERED else values, behind))
+
+    def answer_select(self, statement: Statement, values: tuple[str, ...], behind: str) -> Report:
+        """The report of the RUN of a SELECT. Where the file was changed for another, the definitions are read anew."""
+        with self._lock:
+            try:
+                return self.run_select(statement, values, behind)
+            except ProgrammingError as error:
+                if error.number != "E401":
+                    raise
+            self.refresh()
+            return self.run_select(statement, values, behind)
+
+    def run_select(self, statement: Statement, values: tuple[str, ...], behind: str) -> Report:
+        """The report of the RUN of a SELECT, which is prepared where it isn't."""
+        self.schema()
+        name = self._names.get(statement.name) or self.define(statement)
+        run = statement._replace(kind=Kind.RUN, template="%s")
+        return self.report(Sent(run, f"RUN {name} (", (", ".join(values),), ")" + behind))
+
+    def define(self, statement: Statement) -> str:
+        """Prepares a SELECT under the name of its tokens, unless another connection has done so meanwhile."""
+        if not self._prepare:
+            self.refresh()
+            if statement.name not in self._names:
+                raise ProgrammingError(UNPREPARED.format(text=statement.text))
+            return self._names[statement.name]
+        prepare = statement._replace(kind=Kind.PREPARE)
+        try:
+            self.report(Sent(prepare, f"PREPARE {statement.name} AS ", statement.numbered()))
+        except ProgrammingError as error:
+            if error.number != "E201":
+                raise
+            self.refresh()
+        return statement.name
+
+    def schema(self) -> Schema:
+        """The definitions of the store, as SHOW lists them."""
+        with self._lock:
+            if self._schema is None:
+                self._schema = read_schema(self.report(Sent(SHOW, "", ())).definitions())
+                queries = self._schema.queries()
+                self._names = {read_statement(query.select()).name: name for name, query in queries.items()}
+                self._names |= {name: name for name in queries}
+            return self._schema
+
+    def refresh(self) -> Schema:
+        """The definitions as they are now, those of other connections among them."""
+        self._schema = None
+        return self.schema()
+
+    def find_query(self, name: str) -> tuple[Schema, Query]:
+        """The query that a name or the name of a SELECT's tokens stands for, with the schema."""
+        for schema in (self.schema(), self.refresh()):
+            if query := schema.queries().get(self._names.get(name, name)):
+                return schema, query
+        raise ProgrammingError(f"no query has the name {name}")
+
+    def bounds(self) -> dict[str, Work]:
+        """Each query of the store with its bound, by an EXPLAIN of its text."""
+        found = {}
+        for name, query in self.refresh().queries().items():
+            report = self.report(Sent(read_statement(f"EXPLAIN {query.select()}"), "", ()))
+            found[name] = report.queries()[0].bound
+        return found
+
+    def backup(self, path: str | os.PathLike[str]) -> None:
+        """Makes a whole copy of the store's file between two statements. The copy has to be a new file."""
+        with self._lock:
+            self.link().backup(os.fspath(path))
+
+    def cursor(self) -> "Cursor":
+        """A new cursor."""
+        from .cursor import Cursor
+
+        self.link()
+        return Cursor(self)
+
+    def execute(self, operation: str, parameters: Parameters = (), *, after: str | None = None) -> "Cursor":
+        """A new cursor that has executed the statement."""
+        return self.cursor().execute(operation, parameters, after=after)
+
+    def commit(self) -> None:
+        """Does nothing: each statement that was reported stands."""
+        self.link()
+
+    def rollback(self) -> None:
+        """Refused: a statement that was reported can't be taken back."""
+        raise NotSupportedError(NO_ROLLBACK)
+
+    def close(self) -> None:
+        """Ends the run. A connection that is closed can't be used."""
+        with self._lock:
+            if self._link is not None:
+                self._link.close()
+            self._link = None
+
+    def __enter__(self) -> "Connection":
+        return self
+
+    def __exit__(self, *exception: object) -> None:
+        self.close()

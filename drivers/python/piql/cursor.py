@@ -1,0 +1,200 @@
+"""A cursor: executes statements and hands out the rows of the last one."""
+
+from collections.abc import Iterable, Iterator, Sequence
+from typing import TYPE_CHECKING, NamedTuple
+
+from .errors import InterfaceError, ProgrammingError
+from .reports import Report, Row, Work
+from .scripts import pieces
+from .statements import WRITES, Kind, Statement, read_statement
+
+if TYPE_CHECKING:
+    from .connection import Connection, Parameters
+
+ROWS = (Kind.SELECT, Kind.RUN)
+ANSWERS = (*ROWS, Kind.SHOW, Kind.EXPLAIN)
+
+
+class ColumnDescription(NamedTuple):
+    """PEP 249's seven items of a column. The sizes of a TEXT are its most bytes."""
+
+    name: str
+    type_code: str
+    display_size: int | None = None
+    internal_size: int | None = None
+    precision: int | None = None
+    scale: int | None = None
+    null_ok: bool | None = None
+
+
+SHOWN = (ColumnDescription("number", "INT", null_ok=False), ColumnDescription("definition", "TEXT", null_ok=False))
+EXPLAINED = (
+    ColumnDescription("way", "TEXT", null_ok=False),
+    ColumnDescription("operations", "INT", null_ok=False),
+    ColumnDescription("entries", "INT", null_ok=False),
+    ColumnDescription("index", "TEXT", null_ok=True),
+)
+
+
+def explained(report: Report) -> list[Row]:
+    """The one row of an EXPLAIN: the way, the bound, and the index that a PREPARE would make, or None."""
+    index = "".join(f"{it.table} ({', '.join(it.columns)})" for it in report.indexes())
+    return [(query.way, query.bound.operations, query.bound.entries, index or None) for query in report.queries()]
+
+
+class Cursor:
+    """PEP 249's cursor, with the bound, what was used and the next page."""
+
+    def __init__(self, connection: "Connection") -> None:
+        self.connection = connection
+        self.arraysize = 1
+        self.lastrowid: None = None
+        self._closed = False
+        self._forget()
+
+    def _forget(self) -> None:
+        """No statement was executed."""
+        self._statement: Statement | None = None
+        self._report: Report | None = None
+        self._rows: list[Row] | None = None
+        self._at = 0
+        self._made = -1
+        self._described: Sequence[ColumnDescription] | None = None
+
+    def _open(self) -> "Connection":
+        """The connection, unless the cursor is closed."""
+        if self._closed:
+            raise InterfaceError("the cursor is closed")
+        return self.connection
+
+    @property
+    def rowcount(self) -> int:
+        """How many rows the answer has, or how many were written; -1 where it is neither."""
+        return self._made if self._rows is None else len(self._rows)
+
+    @property
+    def bound(self) -> Work | None:
+        """What the last statement might use at most."""
+        return None if self._report is None else self._report.end.bound
+
+    @property
+    def used(self) -> Work | None:
+        """What the last statement used."""
+        return None if self._report is None else self._report.end.used
+
+    @property
+    def next_page(self) -> str | None:
+        """The cursor behind a full page, to be handed to execute as `after`."""
+        return None if self._report is None else self._report.end.cursor
+
+    def execute(self, operation: str, parameters: "Parameters" = (), *, after: str | None = None) -> "Cursor":
+        """Executes one statement with a value for each `?`; `after` is the next_page of the page before."""
+        connection = self._open()
+        self._forget()
+        statement = read_statement(operation)
+        report = self._report = connection.answer(statement, parameters, after)
+        self._statement = statement
+        if statement.kind in ROWS:
+            self._rows = report.rows
+        elif statement.kind in WRITES:
+            self._made = 1
+        elif statement.kind is Kind.SHOW:
+            self._rows = [(line.number, line.text) for line in report.definitions()]
+        elif statement.kind is Kind.EXPLAIN:
+            self._rows = explained(report)
+        return self
+
+    def executemany(self, operation: str, seq_of_parameters: Iterable["Parameters"]) -> "Cursor":
+        """Executes a write once for each list of values, until one is refused; rowcount is how many were made."""
+        connection = self._open()
+        self._forget()
+        statement = read_statement(operation)
+        if statement.kind in ANSWERS:
+            raise ProgrammingError("executemany is for statements without an answer")
+        self._made = 0
+        for parameters in seq_of_parameters:
+            self._report = connection.answer(statement, parameters)
+            self._made += 1
+        return self
+
+    def executescript(self, script: str) -> "Cursor":
+        """Executes each statement of a script, until one is refused. Beyond PEP 249."""
+        data = script.encode()
+        for piece in pieces(data):
+            self.execute(data[piece.start : piece.end].decode())
+        return self
+
+    def callproc(self, procname: str, parameters: "Parameters" = ()) -> "Parameters":
+        """Runs the prepared query of this name with its parameters."""
+        places = ", ".join("?" * len(parameters))
+        self.execute(f"RUN {procname} ({places})", parameters)
+        return parameters
+
+    @property
+    def description(self) -> Sequence[ColumnDescription] | None:
+        """The columns of the answer, or None for a statement without one."""
+        if self._described is None and self._statement is not None:
+            self._described = self._describe(self._statement)
+        return self._described
+
+    def _describe(self, statement: Statement) -> Sequence[ColumnDescription] | None:
+        if statement.kind not in ROWS:
+            return {Kind.SHOW: SHOWN, Kind.EXPLAIN: EXPLAINED}.get(statement.kind)
+        schema, query = self._open().find_query(statement.name)
+        return tuple(
+            ColumnDescription(name, it.type, it.size, it.size, null_ok=it.nullable)
+            for name, it in schema.columns_of(query)
+        )
+
+    @property
+    def rownumber(self) -> int | None:
+        """The place of the next row, from 0."""
+        return None if self._rows is None else self._at
+
+    def _answer(self) -> list[Row]:
+        """The rows of the last statement."""
+        self._open()
+        if self._rows is None:
+            raise ProgrammingError("the last statement of this cursor has no rows")
+        return self._rows
+
+    def fetchone(self) -> Row | None:
+        """The next row, or None."""
+        rows = self._answer()
+        if self._at >= len(rows):
+            return None
+        self._at += 1
+        return rows[self._at - 1]
+
+    def fetchmany(self, size: int | None = None) -> list[Row]:
+        """The next rows, so many or as arraysize says."""
+        rows = self._answer()
+        start, self._at = self._at, min(self._at + (self.arraysize if size is None else size), len(rows))
+        return rows[start : self._at]
+
+    def fetchall(self) -> list[Row]:
+        """All rows that are left."""
+        rows = self._answer()
+        start, self._at = self._at, len(rows)
+        return rows[start:]
+
+    def __iter__(self) -> Iterator[Row]:
+        while (row := self.fetchone()) is not None:
+            yield row
+
+    def setinputsizes(self, sizes: Sequence[object]) -> None:
+        """Does nothing."""
+
+    def setoutputsize(self, size: int, column: int | None = None) -> None:
+        """Does nothing."""
+
+    def close(self) -> None:
+        """Forgets the answer. A cursor that is closed can't be used."""
+        self._forget()
+        self._closed = True
+
+    def __enter__(self) -> "Cursor":
+        return self
+
+    def __exit__(self, *exception: object) -> None:
+        self.close()

@@ -1,0 +1,129 @@
+"""The exceptions of PEP 249. One that a refusal raises has the refusal; one that the end of a run raises its status."""
+
+from .refusals import Refusal
+from .scripts import Place
+
+STATUSES = {
+    2: "Usage: the program's words are of no form",
+    3: "ReadFault: a read of the statements failed",
+    4: "WriteFault: a write of the reports failed",
+    5: "StoreFault: a call of the store failed; the disk may be full",
+    6: "Damaged: the file has a pair that no run writes",
+    7: "NoMem: there was no memory",
+    8: "TooLong: more bytes came than a script may have",
+}
+
+
+class Warning(Exception):  # noqa: A001 - the name is the standard's
+    """Never raised: the engine has no warnings."""
+
+
+class Error(Exception):
+    """Any error of this package."""
+
+    refusal: Refusal | None = None
+    status: int | None = None
+
+    @property
+    def number(self) -> str | None:
+        """The refusal's code, as `E503`."""
+        return self.refusal and self.refusal.number
+
+    @property
+    def fields(self) -> dict[str, str]:
+        """The refusal's fields by their names, as table and column."""
+        return self.refusal.fields if self.refusal else {}
+
+    @property
+    def statement(self) -> str | None:
+        """The refused statement as it was given."""
+        return self.refusal and self.refusal.statement
+
+    @property
+    def place(self) -> Place | None:
+        """Line and column at which the statement spells nothing, from 1."""
+        return self.refusal and self.refusal.place
+
+    @property
+    def way_out(self) -> str | None:
+        """What to do instead."""
+        return self.refusal and self.refusal.way_out
+
+
+class InterfaceError(Error):
+    """The driver was used wrongly, as a cursor that is closed."""
+
+
+class DatabaseError(Error):
+    """Any error that has to do with the database."""
+
+
+class DataError(DatabaseError):
+    """A value that fits no column of its kind, or no cursor of a page."""
+
+
+class OperationalError(DatabaseError):
+    """The run ended, can't be begun, or reached a limit of what is stored."""
+
+
+class IntegrityError(DatabaseError):
+    """The rows that are there speak against a write."""
+
+
+class InternalError(DatabaseError):
+    """The file or a report is none that the engine writes."""
+
+
+class ProgrammingError(DatabaseError):
+    """The statement is wrong, or its values aren't as many as its places."""
+
+
+class NotSupportedError(DatabaseError):
+    """What isn't offered: rollback, and a query without a bound."""
+
+
+CLASSES: dict[str, type[DatabaseError]] = {
+    "E206": NotSupportedError,
+    "E207": OperationalError,
+    "E304": NotSupportedError,
+    "E305": NotSupportedError,
+    "E402": DataError,
+    "E403": DataError,
+    "E501": DataError,
+    "E503": IntegrityError,
+    "E504": IntegrityError,
+    "E505": IntegrityError,
+    "E506": IntegrityError,
+    "E507": IntegrityError,
+    "E508": DataError,
+}
+
+
+def class_of(refusal: Refusal) -> type[DatabaseError]:
+    """The class of a refusal's exception. A wrong number of values is the statement's fault, another value its own."""
+    if refusal.number == "E402" and refusal.fields.get("number") == "0":
+        return ProgrammingError
+    return CLASSES.get(refusal.number, ProgrammingError)
+
+
+def refused(refusal: Refusal) -> DatabaseError:
+    """The exception of a refusal."""
+    head = " ".join([refusal.number, *refusal.fields.values()])
+    place = f" at line {refusal.place.line}, column {refusal.place.column}" if refusal.place else ""
+    way = f" Way out: {refusal.way_out}" if refusal.way_out else ""
+    error = class_of(refusal)(f"{head}{place}: {refusal.headline}{way}")
+    error.refusal = refusal
+    return error
+
+
+def with_status(status: int | None, text: str) -> DatabaseError:
+    """The exception of a run that ended with a status, if there was one."""
+    error = (InternalError if status == 6 else OperationalError)(text)
+    error.status = status
+    return error
+
+
+def ended(status: int, stands: str) -> DatabaseError:
+    """The exception of a run that ended with a status, or by the signal of a negative one, with what stands then."""
+    why = STATUSES.get(status, f"signal {-status}" if status < 0 else "a status that the engine doesn't have")
+    return with_status(status, f"the run ended with status {status}, {why}. {stands}")

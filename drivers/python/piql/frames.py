@@ -1,0 +1,54 @@
+"""The frames that a client and piql-serve exchange over a socket.
+
+A frame is four bytes with the length of what follows, the higher byte first; then one byte that says what it is; then
+its text. A client sends STATEMENT and BACKUP, and the server answers each with one frame. HELLO is the server's first.
+"""
+
+import socket
+import struct
+
+HEAD = struct.Struct("!I")
+STATEMENT, BACKUP = b"S", b"B"
+HELLO, REPORT, COPIED, ENDED, BROKEN = b"H", b"R", b"C", b"E", b"X"
+GREETING = b"piql 1"
+REQUEST_BYTES = 65_536 + 1
+CHUNK = 1 << 20
+
+
+class FrameError(Exception):
+    """A frame that is none, or too long."""
+
+
+class Gone(Exception):
+    """The other side went away; `begun` says whether part of a frame was there."""
+
+    def __init__(self, begun: bool) -> None:
+        super().__init__("the other side went away" + (" within a frame" if begun else ""))
+        self.begun = begun
+
+
+def write_frame(to: socket.socket, kind: bytes, text: bytes) -> None:
+    """Sends a frame."""
+    to.sendall(HEAD.pack(len(text) + 1) + kind + text)
+
+
+def read_exactly(source: socket.socket, length: int, begun: bool) -> bytes:
+    """So many bytes."""
+    parts: list[bytes] = []
+    left = length
+    while left:
+        part = source.recv(min(left, CHUNK))
+        if not part:
+            raise Gone(begun or bool(parts))
+        parts.append(part)
+        left -= len(part)
+    return b"".join(parts)
+
+
+def read_frame(source: socket.socket, most: int | None = None) -> tuple[bytes, bytes]:
+    """A frame's kind and text. One of no bytes, or of more than `most`, is refused before it is read."""
+    (length,) = HEAD.unpack(read_exactly(source, HEAD.size, False))
+    if length == 0 or (most is not None and length > most):
+        raise FrameError(f"a frame of {length} bytes; it has 1 to {most}" if most else "a frame without a kind")
+    text = read_exactly(source, length, True)
+    return text[:1], text[1:]

@@ -1,0 +1,154 @@
+"""What a connection sends its statements over: a process of its own, or (socketlink) a server that many share."""
+
+import os
+import sqlite3
+import time
+from pathlib import Path
+from typing import Protocol
+
+from .backup import copy_whole
+from .engine import Engine, EngineEnded, find_program
+from .errors import Error, InterfaceError, OperationalError, ended
+
+STANDS_READ = (
+    "This statement changes nothing; all that was reported as ok before stands."
+    " The next statement opens the file anew."
+)
+STANDS_WRITE = (
+    "This statement was made whole or not at all; all that was reported as ok before stands."
+    " The next statement opens the file anew, which settles it."
+)
+KEEPS_NOTHING = (
+    "a store in memory can't outlive its run, which takes 16,777,216 bytes of statements: its rows are lost now;"
+    " connect to a file to keep them"
+)
+LOCKED = "another process has {path} open (a run, a server, or sqlite3); piql-serve hands one file to many"
+UNOPENED = "{path} can't be opened: it is no SQLite file of this engine, or its folder or the disk refuses it"
+
+
+class Link(Protocol):
+    """Takes one statement after the other. `reads` says that a statement changes nothing."""
+
+    def exchange(self, statement: bytes, reads: bool) -> str:
+        """The report of the statement."""
+
+    def backup(self, path: str) -> None:
+        """Copies the store between two statements."""
+
+    def close(self) -> None:
+        """Gives back what the link holds."""
+
+
+def is_locked(path: str) -> bool:
+    """Whether a process holds SQLite's lock on the file."""
+    try:
+        file = sqlite3.connect(Path(path).absolute().as_uri() + "?mode=ro", uri=True, timeout=0)
+        try:
+            file.execute("SELECT count(*) FROM sqlite_master").fetchone()
+        finally:
+            file.close()
+    except sqlite3.Error as error:
+        return "locked" in str(error)
+    return False
+
+
+class FileLink:
+    """A file, over one process at a time. The next one is begun before the script of the last one is too long."""
+
+    def __init__(self, path: str, program: str | os.PathLike[str] | None, timeout: float) -> None:
+        self.path, self.timeout = path, timeout
+        self.program = find_program("piql_file", program)
+        self.engine: Engine | None = None
+        self.owner = os.getpid()
+        self.begin()
+
+    def begin(self) -> Engine:
+        """Begins a process; where another one has the file, tries again until the time is over."""
+        until = time.monotonic() + self.timeout
+        while True:
+            try:
+                self.engine = Engine(self.program, [self.path, "run"])
+                return self.engine
+            except EngineEnded as end:
+                if end.status != 5 or not is_locked(self.path):
+                    raise self.unopened(end) from end
+                if time.monotonic() > until:
+                    raise OperationalError(LOCKED.format(path=self.path)) from end
+            time.sleep(0.05)
+
+    def unopened(self, end: EngineEnded) -> Error:
+        """Why no process could be begun."""
+        if end.status == 5:
+            return OperationalError(UNOPENED.format(path=self.path))
+        return ended(end.status, f"{self.path} isn't open. {end.written}".strip())
+
+    def running(self, statement: bytes) -> Engine:
+        """A process with room for the statement."""
+        if self.owner != os.getpid():
+            raise InterfaceError("this connection was made before a fork: each process needs one of its own")
+        engine = self.engine
+        if engine is not None and engine.has_room(statement):
+            return engine
+        self.close()
+        return self.begin()
+
+    def exchange(self, statement: bytes, reads: bool) -> str:
+        """The report of the statement."""
+        engine = self.running(statement)
+        try:
+            return engine.exchange(statement).decode()
+        except EngineEnded as end:
+            self.engine = None
+            stands = STANDS_READ if reads else STANDS_WRITE
+            raise ended(end.status, f"{stands} {end.written}".strip()) from end
+        except BaseException:
+            self.engine = None
+            raise
+
+    def backup(self, path: str) -> None:
+        """Copies the file between two statements."""
+        self.running(b"")
+        copy_whole(self.path, path, self.program)
+
+    def close(self) -> None:
+        """Ends the process."""
+        if self.engine is not None and self.owner == os.getpid():
+            self.engine.close()
+        self.engine = None
+
+
+class MemoryLink:
+    """A store in memory, over one process, which can't be begun anew."""
+
+    def __init__(self, program: str | os.PathLike[str] | None) -> None:
+        self.owner = os.getpid()
+        try:
+            self.engine: Engine | None = Engine(find_program("piql", program), ["run"])
+        except EngineEnded as end:
+            raise ended(end.status, f"The store isn't open. {end.written}".strip()) from end
+
+    def exchange(self, statement: bytes, reads: bool) -> str:
+        """The report of the statement."""
+        if self.owner != os.getpid():
+            raise InterfaceError("this connection was made before a fork: each process needs one of its own")
+        if self.engine is None or not self.engine.has_room(statement):
+            self.close()
+            raise OperationalError(KEEPS_NOTHING)
+        try:
+            return self.engine.exchange(statement).decode()
+        except EngineEnded as end:
+            self.engine = None
+            raise ended(end.status, f"The rows in memory are lost. {end.written}".strip()) from end
+        except BaseException:
+            self.engine = None
+            raise
+
+    def backup(self, path: str) -> None:
+        """There is no file to copy."""
+        raise OperationalError("a store in memory has no file that could be copied")
+
+    def close(self) -> None:
+        """Ends the process and with it the store."""
+        if self.engine is not None and self.owner == os.getpid():
+            self.engine.close()
+        self.engine = None

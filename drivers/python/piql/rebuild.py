@@ -1,0 +1,124 @@
+"""A new store with the rows of an old one under another schema: the one way to drop or to change a definition."""
+
+import os
+import sqlite3
+import time
+from collections.abc import Mapping
+from typing import NamedTuple, TextIO
+
+from .connection import Connection
+from .errors import DatabaseError, OperationalError, ProgrammingError
+from .links import FileLink
+from .load import QUIET
+from .migrate import migrate
+from .reports import Row, Value
+from .schema import Schema, Table
+from .stored import open_file, read_stored_schema, stored_rows
+
+Program = str | os.PathLike[str] | None
+# The values of columns that the old table lacks, by table and column.
+Values = Mapping[tuple[str, str], Value]
+
+
+class Rebuilt(NamedTuple):
+    """How many rows were taken over, and how many were refused."""
+
+    rows: int
+    refused: int
+
+
+class Source(NamedTuple):
+    """Where a column of the new table has its values from: a place in the old rows, or one value."""
+
+    place: int | None
+    value: Value
+
+
+def sources_of(old: Table, new: Table, values: Values) -> list[Source]:
+    """One source for each column of the new table."""
+    places = {column.name: place for place, column in enumerate(old.columns)}
+    lacking = [it.name for it in new.columns if it.name not in places and not it.nullable]
+    unknown = [name for name in lacking if (new.name, name) not in values]
+    if unknown:
+        way = f"give --value {new.name}.{unknown[0]}=.."
+        raise ProgrammingError(f"the old {new.name} has no {', '.join(unknown)}: {way}")
+    return [Source(places.get(it.name), values.get((new.name, it.name))) for it in new.columns]
+
+
+def tell_losses(old: Schema, new: Schema, tell: TextIO) -> None:
+    """Tells which tables and columns are left out."""
+    kept = new.tables()
+    for name, table in old.tables().items():
+        if name not in kept:
+            print(f"table {name} is left out", file=tell)
+            continue
+        for column in table.columns:
+            if column.name not in {it.name for it in kept[name].columns}:
+                print(f"column {name}.{column.name} is left out", file=tell)
+
+
+class Copying:
+    """Rows on their way from an old file to a new store."""
+
+    def __init__(self, file: sqlite3.Connection, connection: Connection, tell: TextIO) -> None:
+        self.file, self.connection, self.tell = file, connection, tell
+        self.rows, self.refused, self.told = 0, 0, time.monotonic()
+
+    def copy_table(self, number: int, old: Table, new: Table, sources: list[Source]) -> None:
+        """Inserts the rows of one table."""
+        insert = f"INSERT INTO {new.name} VALUES ({', '.join('?' * len(sources))})"
+        for row in stored_rows(self.file, number, old.columns):
+            self.copy_row(insert, row, [it.value if it.place is None else row[it.place] for it in sources])
+
+    def copy_row(self, insert: str, old: Row, new: list[Value]) -> None:
+        """Inserts a row; one that is refused is told."""
+        try:
+            self.connection.execute(insert, new)
+            self.rows += 1
+        except DatabaseError as error:
+            if error.number is None:
+                raise
+            self.refused += 1
+            print(f"row {old}: {error}", file=self.tell)
+        if time.monotonic() - self.told > QUIET:
+            self.told = time.monotonic()
+            print(f"{self.rows} rows, {self.refused} refused", file=self.tell, flush=True)
+
+
+def copy_rows(old_path: str, connection: Connection, values: Values, tell: TextIO) -> Rebuilt:
+    """Inserts the rows of all tables that both stores have, parents before those that refer to them."""
+    file = open_file(old_path)
+    try:
+        old, new = read_stored_schema(file), connection.schema()
+        numbers = {name: number for number, name in enumerate(old.tables(), 1)}
+        shared = [(table, old.tables()[name]) for name, table in new.tables().items() if name in numbers]
+        planned = [(after, before, sources_of(before, after, values)) for after, before in shared]
+        tell_losses(old, new, tell)
+        copying = Copying(file, connection, tell)
+        for after, before, sources in planned:
+            copying.copy_table(numbers[before.name], before, after, sources)
+    finally:
+        file.close()
+    print(f"{copying.rows} rows, {copying.refused} refused", file=tell)
+    return Rebuilt(copying.rows, copying.refused)
+
+
+def rebuild(
+    old: str, new: str, schema: str | os.PathLike[str], tell: TextIO, values: Values, program: Program = None
+) -> Rebuilt:
+    """Makes the file `new`, which may not be there yet, from the rows of the file `old` and from a schema."""
+    if os.path.exists(new) or not os.path.exists(old):
+        raise OperationalError(f"{old} has to be there, and {new} may not")
+    # An opening settles what a run that was cut off left, and its end brings all into the one file.
+    FileLink(old, program, 5.0).close()
+    part = new + ".part"
+    for path in (part, part + "-wal"):
+        if os.path.exists(path):
+            os.remove(path)
+    with Connection(FileLink(part, program, 5.0)) as connection:
+        migrate(connection, schema, program=program, out=tell)
+        done = copy_rows(old, connection, values, tell)
+    if os.path.exists(part + "-wal"):
+        os.remove(part + "-wal")
+    os.rename(part, new)
+    return done

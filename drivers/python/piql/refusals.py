@@ -1,0 +1,91 @@
+"""What each refusal means and the way out of it, read from REFUSALS.md, the document that lies in the package too."""
+
+import re
+from functools import cache
+from importlib.resources import files
+from typing import NamedTuple
+
+from .scripts import Place, character_of
+from .syntax import CODE, way_out_at
+
+RULE = re.compile(r"^\*\*(E\d\d\d)([A-Z ]*): ?(.*?)(?=^\*\*E\d|^#|\Z)", re.DOTALL | re.MULTILINE)
+ROW = re.compile(r"^\| (.*?) \| (.*?) \|$", re.MULTILINE)
+WAY = re.compile(r"\*Ways? out:?\*:?")
+WITHOUT_DROP = "; `python -m piql rebuild OLD NEW SCHEMA` makes one"
+# A headline with no more characters says too little alone.
+SHORT = 10
+REBUILDS = ("definitions", "tables", "indexes")
+
+
+class Rule(NamedTuple):
+    """A refusal in general: its fields by their names, its cause, its way out, and a way out for each word or case."""
+
+    code: str
+    fields: tuple[str, ...]
+    headline: str
+    cause: str
+    way_out: str
+    cases: tuple[tuple[str, str], ...]
+
+
+class Refusal(NamedTuple):
+    """A refusal of one statement. `place` is where its tokens spell nothing, or None."""
+
+    number: str
+    fields: dict[str, str]
+    statement: str
+    place: Place | None
+    headline: str
+    cause: str
+    way_out: str
+
+
+def one_line(text: str) -> str:
+    """A paragraph of the document as one line."""
+    return " ".join(text.replace("**", "").split())
+
+
+def read_rule(code: str, fields: str, text: str) -> Rule:
+    """A rule from its paragraphs: the first has the cause and mostly the way out, a table has ways for some cases."""
+    paragraph, _, rest = text.partition("\n\n")
+    cause, *ways = WAY.split(paragraph, maxsplit=1)
+    bold = one_line(cause.partition("**")[0])
+    headline = bold if bold.endswith(".") and len(bold) > SHORT else one_line(cause)
+    cases = tuple((case, way) for case, way in ROW.findall(text) if not set(case + way) <= set("- |"))
+    way_out = one_line(ways[0] if ways else "")
+    return Rule(code, tuple(fields.lower().split()), headline, one_line(cause), way_out, cases)
+
+
+@cache
+def rules() -> dict[str, Rule]:
+    """The rules of the document by their codes."""
+    text = files("piql").joinpath("REFUSALS.md").read_text(encoding="utf-8")
+    return {found[1]: read_rule(found[1], found[2], found[3]) for found in RULE.finditer(text)}
+
+
+def cases_with(rule: Rule, words: set[str]) -> str:
+    """The way out of the first case that names one of the words as code."""
+    for case, way in rule.cases:
+        if words & {word.split(" ")[0] for word in CODE.findall(case)}:
+            return one_line(way)
+    return ""
+
+
+def way_out_of(rule: Rule, fields: tuple[str, ...], statement: str, place: Place | None) -> str:
+    """The way out for these fields, or for the token at the place."""
+    if rule.code == "E206" and fields:
+        return cases_with(rule, {fields[0]}) + (WITHOUT_DROP if fields[0] in REBUILDS else "")
+    if place is not None:
+        return one_line(way_out_at(rule.cases, statement, character_of(statement, place))) or rule.way_out
+    if rule.code == "E304":
+        return "; ".join(f"{case}: {one_line(way)}" for case, way in rule.cases if case != "Cause")
+    return rule.way_out
+
+
+def refusal_of(fields: tuple[str, ...], statement: str, place: Place | None = None) -> Refusal:
+    """The refusal that a report's end line has, for the statement as its writer knows it."""
+    code, values = fields[0], fields[1:]
+    rule = rules().get(code) or Rule(code, tuple(f"field{i + 1}" for i in range(len(values))), "", "", "", ())
+    named = dict(zip(rule.fields, values))
+    way = way_out_of(rule, values, statement, place)
+    return Refusal(code, named, statement, place, rule.headline, rule.cause, way)

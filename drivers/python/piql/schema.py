@@ -1,0 +1,120 @@
+"""Tables and queries, read from the canonical texts that SHOW prints."""
+
+from typing import NamedTuple
+
+from .reports import DefinitionLine
+from .scripts import Token, tokens
+
+
+class Column(NamedTuple):
+    """A column: its type is INT, BOOL or TEXT, its size the most bytes of a TEXT."""
+
+    name: str
+    type: str
+    size: int | None
+    nullable: bool
+
+
+class Table(NamedTuple):
+    """A table with its key."""
+
+    name: str
+    columns: tuple[Column, ...]
+    key: tuple[str, ...]
+    text: str
+
+    def column(self, name: str) -> Column:
+        """The column of this name."""
+        return next(column for column in self.columns if column.name == name)
+
+
+class Query(NamedTuple):
+    """A query: the columns that it selects, as alias and column, its relations and how many parameters it has."""
+
+    name: str
+    selected: tuple[tuple[str, str], ...]
+    relations: tuple[tuple[str, str], ...]
+    params: int
+    pages: bool
+    text: str
+
+    def select(self) -> str:
+        """Its text behind `PREPARE name AS`."""
+        return self.text[len(f"PREPARE {self.name} AS ") :]
+
+
+class Schema(NamedTuple):
+    """All definitions of a store, in order."""
+
+    definitions: tuple[Table | Query, ...]
+
+    def tables(self) -> dict[str, Table]:
+        """The tables by their names."""
+        return {it.name: it for it in self.definitions if isinstance(it, Table)}
+
+    def queries(self) -> dict[str, Query]:
+        """The queries by their names."""
+        return {it.name: it for it in self.definitions if isinstance(it, Query)}
+
+    def columns_of(self, query: Query) -> list[tuple[str, Column]]:
+        """The selected columns with their names, which have the alias where two columns share theirs."""
+        tables, aliases = self.tables(), dict(query.relations)
+        names = [column for _, column in query.selected]
+        return [
+            (name if names.count(name) == 1 else f"{alias}.{name}", tables[aliases[alias]].column(name))
+            for alias, name in query.selected
+        ]
+
+
+def names_behind(found: list[Token], at: int) -> tuple[tuple[str, ...], int]:
+    """The names of a list in parentheses, and the place behind it."""
+    end = next(i for i in range(at, len(found)) if found[i].is_mark(")"))
+    return tuple(token.text for token in found[at:end] if token.kind == "word"), end + 1
+
+
+def read_column(found: list[Token], at: int) -> tuple[Column, int]:
+    """A column of CREATE TABLE, and the place behind it."""
+    name, type_name = found[at].text, found[at + 1].text
+    at += 2
+    size = None
+    if type_name == "TEXT":
+        size, at = int(found[at + 1].text), at + 3
+    nullable = found[at].text.upper() == "NULL"
+    return Column(name, type_name, size, nullable), at + nullable
+
+
+def read_table(text: str) -> Table:
+    """A table of its canonical text."""
+    found = tokens(text)
+    at, columns = 4, []
+    while not found[at].is_word("PRIMARY"):
+        column, at = read_column(found, at)
+        columns.append(column)
+        at += 1
+    key, _ = names_behind(found, at + 2)
+    return Table(found[2].text, tuple(columns), key, text)
+
+
+def place_of(found: list[Token], *words: str) -> int:
+    """The place of the first of these keywords, or the end."""
+    return next((i for i, token in enumerate(found) if token.is_word(*words)), len(found))
+
+
+def read_query(text: str) -> Query:
+    """A query of its canonical text."""
+    found = tokens(text)
+    begin, middle = place_of(found, "SELECT") + 1, place_of(found, "FROM")
+    end = place_of(found, "WHERE", "ORDER", "LIMIT", "PAGINATE")
+    dots = [i for i in range(begin, middle) if found[i].is_mark(".")]
+    selected = tuple((found[i - 1].text, found[i + 1].text) for i in dots)
+    ases = [i for i in range(middle, end) if found[i].is_word("AS")]
+    relations = tuple((found[i + 1].text, found[i - 1].text) for i in ases)
+    params = [int(b.text) for a, b in zip(found, found[1:]) if a.is_mark("[")]
+    pages = place_of(found, "PAGINATE") < len(found)
+    return Query(found[1].text, selected, relations, max(params, default=0), pages, text)
+
+
+def read_schema(definitions: list[DefinitionLine]) -> Schema:
+    """The schema that SHOW lists."""
+    texts = [line.text for line in definitions]
+    return Schema(tuple(read_table(it) if it.startswith("CREATE") else read_query(it) for it in texts))

@@ -1,0 +1,101 @@
+"""Reading scripts: their pieces, the tokens of a piece and places in a text, as docs/LANGUAGE.md has them."""
+
+import re
+from collections.abc import Iterator
+from typing import NamedTuple
+
+SCRIPT_BYTES = 16_777_216
+STATEMENT_BYTES = 65_536
+NAME_BYTES = 32
+KEYWORDS = frozenset(
+    "AFTER AND AS ASC BOOL BY CARDINALITY CREATE DELETE DESC EXPLAIN FALSE FOREIGN FROM INSERT INT INTO JOIN KEY LIMIT"
+    " ORDER PAGINATE PREPARE PRIMARY REFERENCES RUN SELECT SET SHOW TABLE TEXT TRUE UPDATE VALUES WHERE".split()
+)
+
+# Each repetition is possessive: it gives nothing back, so a text that doesn't match takes no longer than one that does.
+PIECE = re.compile(rb"(?:[^';-]++|-(?!-)|'[^']*+'|--[^\n]*+\n)*+;")
+WHITE_PIECE = re.compile(rb"(?:[ \t\r\n]++|--[^\n]*+\n)*+;")
+WHITE_REST = re.compile(rb"(?:[ \t\r\n]++|--[^\n]*+(?:\n|\Z))*+")
+TOKEN = re.compile(
+    r"(?P<white>(?:[ \t\r\n]++|--[^\n]*+(?:\n|\Z))++)|(?P<word>[A-Za-z_][A-Za-z0-9_]*)|(?P<number>-?[0-9]+)"
+    r"|(?P<text>'(?:[^']|'')*+')|(?P<mark><=|>=|<>|[(),;.\[\]:*=<>])|(?P<other>'.*|.)",
+    re.DOTALL,
+)
+
+
+class Piece(NamedTuple):
+    """A piece that isn't blank: its number, from 1, its place in the script's bytes, and whether it has a `;`."""
+
+    number: int
+    start: int
+    end: int
+    is_whole: bool
+
+
+class Token(NamedTuple):
+    """A token: its kind (`word`, `number`, `text`, `mark`, `other`), its letters, its place in the text."""
+
+    kind: str
+    text: str
+    start: int
+    end: int
+
+    def is_word(self, *words: str) -> bool:
+        """Whether the token is one of these words, which are given in capitals."""
+        return self.kind == "word" and self.text.upper() in words
+
+    def is_mark(self, mark: str) -> bool:
+        """Whether the token is this mark."""
+        return self.kind == "mark" and self.text == mark
+
+
+class Place(NamedTuple):
+    """A place in a text: line and column, both from 1, the column in characters."""
+
+    line: int
+    column: int
+
+
+def pieces(script: bytes) -> Iterator[Piece]:
+    """The pieces that aren't blank, in order; the last one may lack its `;`."""
+    start, number = 0, 0
+    while found := PIECE.match(script, start):
+        is_long = found.end() - start > STATEMENT_BYTES
+        if is_long or not WHITE_PIECE.fullmatch(script, start, found.end()):
+            number += 1
+            yield Piece(number, start, found.end(), True)
+        start = found.end()
+    if not WHITE_REST.fullmatch(script, start):
+        yield Piece(number + 1, start, len(script), False)
+
+
+def is_one_piece(statement: bytes) -> bool:
+    """Whether the bytes are exactly one piece that isn't blank, so that the engine answers them by one report."""
+    return PIECE.fullmatch(statement) is not None and WHITE_PIECE.fullmatch(statement) is None
+
+
+def tokens(text: str) -> list[Token]:
+    """The tokens of a text, without white bytes and comments."""
+    found = (Token(str(it.lastgroup), it.group(), it.start(), it.end()) for it in TOKEN.finditer(text))
+    return [token for token in found if token.kind != "white"]
+
+
+def place_at(text: str, at: int) -> Place:
+    """The place of a character of the text, from 0."""
+    return Place(text.count("\n", 0, at) + 1, at - text.rfind("\n", 0, at))
+
+
+def character_of(text: str, place: Place) -> int:
+    """The character of the text, from 0, that stands at a place."""
+    return sum(len(line) + 1 for line in text.split("\n")[: place.line - 1]) + place.column - 1
+
+
+def character_at(text: bytes, at: int) -> int:
+    """How many characters stand before a byte of a UTF-8 text."""
+    return len(text[:at].decode(errors="replace"))
+
+
+def first_token(piece: bytes) -> int:
+    """The byte at which the first token of a piece stands."""
+    found = WHITE_REST.match(piece)
+    return found.end() if found else 0

@@ -1,0 +1,220 @@
+"""piql-serve: hands the statements of many connections, one after the other, to one run of the engine over a file.
+
+    piql-serve FILE SOCKET     serves until SIGTERM or SIGINT; then it finishes the statement at hand and closes the file
+
+Clients connect by piql.connect("unix:SOCKET"). Only the owner of the server may. A second server on the file, or on the
+socket, ends at once. Each client has a thread; the engine is taken by one of them at a time.
+"""
+
+import argparse
+import contextlib
+import json
+import os
+import re
+import signal
+import socket
+import struct
+import sys
+import threading
+import time
+
+from .errors import Error, OperationalError
+from .frames import (
+    BACKUP,
+    BROKEN,
+    COPIED,
+    ENDED,
+    GREETING,
+    HELLO,
+    REPORT,
+    REQUEST_BYTES,
+    STATEMENT,
+    FrameError,
+    Gone,
+    read_frame,
+    write_frame,
+)
+from .links import FileLink
+from .scripts import first_token, is_one_piece
+
+CLIENTS = 256
+PEER = struct.Struct("iII")
+SOCKET_MODE = 0o600
+READING = re.compile(rb"(?:RUN|SHOW|EXPLAIN)\b", re.IGNORECASE)
+# For how many seconds a stop waits for reports on their way, and a file that another process has is tried again.
+PATIENCE = 5.0
+
+
+def is_reading(statement: bytes) -> bool:
+    """Whether a statement changes nothing."""
+    at = first_token(statement)
+    return READING.match(statement, at) is not None
+
+
+class Answers:
+    """The answers to frames, over one link that one thread has at a time."""
+
+    def __init__(self, link: FileLink) -> None:
+        self.link = link
+        self.lock = threading.Lock()
+
+    def answer(self, kind: bytes, text: bytes) -> tuple[bytes, bytes]:
+        """The kind and the text of the answer to a frame."""
+        if kind == BACKUP:
+            return self.copied(os.fsdecode(text))
+        if kind != STATEMENT or not is_one_piece(text):
+            raise FrameError("a frame has one whole statement, or the name of a copy")
+        with self.lock:
+            try:
+                return REPORT, self.link.exchange(text, is_reading(text)).encode()
+            except Error as error:
+                return ENDED, json.dumps({"status": error.status, "text": str(error)}).encode()
+
+    def copied(self, path: str) -> tuple[bytes, bytes]:
+        """A copy between two statements."""
+        with self.lock:
+            try:
+                self.link.backup(path)
+                return COPIED, b""
+            except (Error, OSError) as error:
+                return ENDED, json.dumps({"status": None, "text": str(error)}).encode()
+
+
+def is_owner(client: socket.socket) -> bool:
+    """Whether the other side is the server's own user."""
+    _, user, _ = PEER.unpack(client.getsockopt(socket.SOL_SOCKET, socket.SO_PEERCRED, PEER.size))
+    return bool(user == os.geteuid())
+
+
+def serve_client(client: socket.socket, answers: Answers) -> None:
+    """Answers the frames of one client until it goes away. One that sends what is no frame is told so, and is left."""
+    try:
+        write_frame(client, HELLO, GREETING)
+        while True:
+            kind, text = read_frame(client, REQUEST_BYTES)
+            write_frame(client, *answers.answer(kind, text))
+    except FrameError as error:
+        tell_broken(client, str(error))
+    except (Gone, OSError):
+        pass
+
+
+def tell_broken(client: socket.socket, why: str) -> None:
+    """Tells a client why it is left, if it still listens."""
+    with contextlib.suppress(OSError):
+        write_frame(client, BROKEN, why.encode())
+
+
+class Server:
+    """A socket with its clients."""
+
+    def __init__(self, path: str, answers: Answers) -> None:
+        self.path, self.answers = path, answers
+        self.clients: dict[socket.socket, threading.Thread] = {}
+        self.guard = threading.Lock()
+        self.listener = listening(path)
+
+    def run(self) -> None:
+        """Takes clients until the listener is closed."""
+        while True:
+            try:
+                client, _ = self.listener.accept()
+            except OSError:
+                return
+            self.take(client)
+
+    def take(self, client: socket.socket) -> None:
+        """Begins a thread for a client, if it may come and there is room."""
+        with self.guard:
+            is_full = len(self.clients) >= CLIENTS
+            if not is_full and is_owner(client):
+                self.clients[client] = threading.Thread(target=self.serve, args=(client,), daemon=True)
+                self.clients[client].start()
+                return
+        full = f"there are {CLIENTS} clients already"
+        tell_broken(client, full if is_full else "only the server's owner may connect")
+        client.close()
+
+    def serve(self, client: socket.socket) -> None:
+        """A client's thread."""
+        try:
+            serve_client(client, self.answers)
+        finally:
+            with self.guard:
+                self.clients.pop(client, None)
+            client.close()
+
+    def stop(self) -> None:
+        """Takes no more clients and no more frames, sends the reports that are on their way, and closes the file."""
+        with contextlib.suppress(FileNotFoundError):
+            os.unlink(self.path)
+        with self.guard:
+            clients = dict(self.clients)
+        for client in clients:
+            with contextlib.suppress(OSError):
+                client.shutdown(socket.SHUT_RD)
+        until = time.monotonic() + PATIENCE
+        for thread in clients.values():
+            thread.join(max(0.0, until - time.monotonic()))
+        with self.answers.lock:
+            self.answers.link.close()
+
+
+def answers_at(path: str) -> bool:
+    """Whether a server listens at a socket."""
+    probe = socket.socket(socket.AF_UNIX, socket.SOCK_STREAM)
+    try:
+        probe.connect(path)
+    except OSError:
+        return False
+    finally:
+        probe.close()
+    return True
+
+
+def listening(path: str) -> socket.socket:
+    """A socket that only the owner may open. One that a server left behind is taken over."""
+    if os.path.exists(path):
+        if answers_at(path):
+            raise OperationalError(f"a server listens at {path} already")
+        os.unlink(path)
+    listener = socket.socket(socket.AF_UNIX, socket.SOCK_STREAM)
+    before = os.umask(0o777 & ~SOCKET_MODE)
+    try:
+        listener.bind(path)
+    finally:
+        os.umask(before)
+    listener.listen(64)
+    return listener
+
+
+def main(words: list[str] | None = None) -> int:
+    """The command."""
+    parser = argparse.ArgumentParser(prog="piql-serve", description="One file for many connections.")
+    parser.add_argument("file", help="the SQLite file of the store")
+    parser.add_argument("socket", help="where clients connect, as unix:SOCKET")
+    parser.add_argument("--program", help="the program piql_file")
+    given = parser.parse_args(words)
+    try:
+        link = FileLink(given.file, given.program, PATIENCE)
+        try:
+            server = Server(given.socket, Answers(link))
+        except BaseException:
+            link.close()
+            raise
+    except (Error, OSError) as error:
+        print(f"piql-serve: {error}", file=sys.stderr)
+        return 1
+    # A signal only closes the listener's wait; the work of stopping is done outside the handler.
+    wake = threading.Event()
+    for number in (signal.SIGTERM, signal.SIGINT):
+        signal.signal(number, lambda _number, _frame: wake.set())
+    threading.Thread(target=server.run, daemon=True).start()
+    print(f"piql-serve: {given.file} at {given.socket}", flush=True)
+    wake.wait()
+    server.stop()
+    return 0
+
+
+if __name__ == "__main__":
+    sys.exit(main())

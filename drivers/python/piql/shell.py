@@ -1,0 +1,198 @@
+"""piql-shell: a prompt over a file, a server, or a store in memory.
+
+    piql-shell             a store in memory, which ends with the prompt
+    piql-shell FILE        a file, or unix:SOCKET of a piql-serve
+
+A statement ends with `;` and may go over several lines. Input from a pipe goes to the engine as it is, and its reports
+come out as `run` writes them.
+"""
+
+import argparse
+import os
+import readline
+import sys
+from pathlib import Path
+from typing import NoReturn
+
+from .connection import Connection
+from .cursor import Cursor
+from .engine import find_program
+from .errors import Error
+from .reports import Work
+from .scripts import Place, pieces
+from .statements import Kind, read_statement
+from .tables import table
+
+HISTORY = "~/.piql_history"
+HELP = """\
+A statement ends with ; and may go over several lines.
+.tables     the tables         .queries    the prepared queries
+.bounds     each query's bound .next       the next page of the last answer
+.help       this               .quit       the end, as Ctrl-D"""
+
+
+def numbers(bound: Work | None, used: Work | None) -> str:
+    """The bound and what was used, in words."""
+    if bound is None or used is None:
+        return ""
+    return (
+        f"bound {bound.operations} operations, {bound.entries} entries;"
+        f" used {used.operations} operations, {used.entries} entries"
+    )
+
+
+def underlined(statement: str, place: Place) -> str:
+    """The line of a statement with a mark under the place."""
+    line = statement.split("\n")[place.line - 1]
+    indent = "".join("\t" if letter == "\t" else " " for letter in line[: place.column - 1])
+    return f"  {line}\n  {indent}^"
+
+
+def told(error: Error) -> str:
+    """An error for a reader: what was refused, where, why, and the way out."""
+    refusal = error.refusal
+    if refusal is None:
+        return f"{type(error).__name__}: {error}"
+    lines = [" ".join([refusal.number, *refusal.fields.values()]) + f": {refusal.headline}"]
+    if refusal.place is not None:
+        lines.append(underlined(refusal.statement, refusal.place))
+    if refusal.way_out:
+        lines.append(f"way out: {refusal.way_out}")
+    return "\n".join(lines)
+
+
+def answer(cursor: Cursor) -> str:
+    """What a statement was answered: its rows, if it has any, and its numbers."""
+    lines = []
+    if cursor.description is not None:
+        rows = cursor.fetchall()
+        lines += [table([it.name for it in cursor.description], rows)] if rows else []
+        lines += [f"{len(rows)} row{'' if len(rows) == 1 else 's'}" + ("; .next has more" if cursor.next_page else "")]
+    else:
+        lines.append("ok")
+    return "\n".join([*lines, numbers(cursor.bound, cursor.used)])
+
+
+class Shell:
+    """A prompt's state: its connection, and the statement whose next page may be asked for."""
+
+    def __init__(self, connection: Connection) -> None:
+        self.connection = connection
+        self.paged: tuple[str, str] | None = None
+
+    def execute(self, text: str, after: str | None = None) -> str:
+        """What a statement is answered."""
+        try:
+            cursor = self.connection.execute(text, after=after)
+        except Error as error:
+            return told(error)
+        if read_statement(text).kind in (Kind.SELECT, Kind.RUN):
+            self.paged = (text, cursor.next_page) if cursor.next_page else None
+        return answer(cursor)
+
+    def next_page(self) -> str:
+        """The next page of the last answer."""
+        if self.paged is None:
+            return "the last answer has no further page"
+        return self.execute(*self.paged)
+
+    def command(self, word: str) -> str:
+        """What a word with a point is answered."""
+        if word == ".next":
+            return self.next_page()
+        if word == ".tables":
+            return "\n".join(it.text for it in self.connection.refresh().tables().values())
+        if word == ".queries":
+            return "\n".join(it.text for it in self.connection.refresh().queries().values())
+        if word == ".bounds":
+            rows = [(name, *bound) for name, bound in self.connection.bounds().items()]
+            return table(["query", "operations", "entries"], rows)
+        return HELP if word == ".help" else f"there is no {word}\n{HELP}"
+
+    def line(self, before: str, line: str) -> str:
+        """Takes a line behind those that are no whole statement yet; prints answers; what is left."""
+        if not before and line.strip().startswith("."):
+            try:
+                print(self.command(line.strip()))
+            except Error as error:
+                print(told(error))
+            return ""
+        text = before + line + "\n"
+        data = text.encode(errors="replace")
+        rest = ""
+        for piece in pieces(data):
+            part = data[piece.start : piece.end].decode().strip()
+            if piece.is_whole:
+                print(self.execute(part))
+            else:
+                rest = part + "\n"
+        return rest
+
+
+def prompt(shell: Shell) -> None:
+    """Reads lines until the end."""
+    history = Path(HISTORY).expanduser()
+    try:
+        readline.read_history_file(history)
+    except OSError:
+        pass
+    rest = ""
+    while True:
+        try:
+            line = input("    > " if rest else "piql> ")
+            if line.strip() == ".quit":
+                break
+            rest = shell.line(rest, line)
+        except EOFError:
+            print()
+            break
+        except KeyboardInterrupt:
+            print()
+            rest = ""
+    try:
+        readline.write_history_file(history)
+    except OSError:
+        pass
+
+
+def hand_over(file: str | None) -> NoReturn:
+    """Gives standard input to the engine as it is."""
+    program = find_program("piql" if file is None else "piql_file")
+    os.execv(program, [program, *([] if file is None else [file]), "run"])
+
+
+def through_server(file: str) -> int:
+    """Sends the statements of standard input to a server, and prints their reports."""
+    from . import connect
+
+    with connect(file) as connection:
+        data = sys.stdin.buffer.read()
+        for piece in pieces(data):
+            if piece.is_whole:
+                sys.stdout.write(connection.link().exchange(data[piece.start : piece.end], False))
+    return 0
+
+
+def main(words: list[str] | None = None) -> int:
+    """The command."""
+    from . import connect
+
+    parser = argparse.ArgumentParser(prog="piql-shell", description="A prompt over a store.")
+    parser.add_argument("file", nargs="?", help="a file, or unix:SOCKET; without it a store in memory")
+    file = parser.parse_args(words).file
+    try:
+        if not sys.stdin.isatty():
+            if file is not None and file.startswith("unix:"):
+                return through_server(file)
+            hand_over(file)
+        with connect(file or ":memory:") as connection:
+            print(f"{file or 'a store in memory'}; .help tells the commands")
+            prompt(Shell(connection))
+        return 0
+    except Error as error:
+        print(f"piql-shell: {error}", file=sys.stderr)
+        return 1
+
+
+if __name__ == "__main__":
+    sys.exit(main())

@@ -1,0 +1,168 @@
+"""A statement as its writer gives it: what kind it is, the places of its values, and how it is sent."""
+
+import hashlib
+from enum import Enum
+from functools import lru_cache
+from typing import NamedTuple
+
+from .errors import DatabaseError, DataError, ProgrammingError, refused
+from .refusals import refusal_of
+from .scripts import KEYWORDS, STATEMENT_BYTES, Token, character_at, place_at, tokens
+
+
+class Kind(Enum):
+    """What a statement does, by its first word."""
+
+    SELECT = "SELECT"
+    RUN = "RUN"
+    INSERT = "INSERT"
+    UPDATE = "UPDATE"
+    DELETE = "DELETE"
+    CREATE = "CREATE"
+    PREPARE = "PREPARE"
+    EXPLAIN = "EXPLAIN"
+    SHOW = "SHOW"
+    OTHER = "OTHER"
+
+
+READS = (Kind.RUN, Kind.EXPLAIN, Kind.SHOW)
+DEFINES = (Kind.CREATE, Kind.PREPARE)
+WRITES = (Kind.INSERT, Kind.UPDATE, Kind.DELETE)
+NUMBERED = (Kind.SELECT, Kind.PREPARE, Kind.EXPLAIN)
+
+
+class Statement(NamedTuple):
+    """A statement: its kind, the query that it runs or defines, its text cut at each `?`, and how many values it takes.
+
+    `template` is the parts with `%s` between them.
+    """
+
+    text: str
+    kind: Kind
+    name: str
+    parts: tuple[str, ...]
+    params: int
+    template: str
+
+    def numbered(self) -> tuple[str, ...]:
+        """What stands for each `?` in the text of a query."""
+        return tuple(f"[{i}]" for i in range(1, len(self.parts)))
+
+
+class Sent(NamedTuple):
+    """A statement as the engine gets it: a text before its own, what stands for each `?`, and a text behind."""
+
+    statement: Statement
+    before: str
+    fillings: tuple[str, ...]
+    behind: str = ""
+
+    def text(self) -> str:
+        """The statement with its end."""
+        return f"{self.before}{self.statement.template % self.fillings}{self.behind};"
+
+    def data(self) -> bytes:
+        """The bytes of the statement."""
+        try:
+            data = self.text().encode()
+        except UnicodeEncodeError as error:
+            raise DataError("a statement with half a surrogate pair is no UTF-8") from error
+        if len(data) > STATEMENT_BYTES:
+            raise misplaced("E103", self.statement.text)
+        return data
+
+    def source_at(self, at: int) -> int:
+        """The character of the writer's text that a byte of the statement stands for."""
+        sent = character_at(self.text().encode(), at) - len(self.before)
+        source = 0
+        for part, filling in zip(self.statement.parts, (*self.fillings, self.behind + ";")):
+            if sent < len(part):
+                return max(source + sent, 0)
+            if sent < len(part) + len(filling):
+                return source + len(part)
+            source, sent = source + len(part) + 1, sent - len(part) - len(filling)
+        return len(self.statement.text)
+
+
+def misplaced(number: str, text: str, at: int | None = None) -> DatabaseError:
+    """A refusal that the driver tells before anything is sent, under the engine's own number."""
+    return refused(refusal_of((number,), text, None if at is None else place_at(text, at)))
+
+
+def whole_tokens(text: str) -> list[Token]:
+    """The tokens of exactly one statement, without its `;`."""
+    found = tokens(text)
+    if found and found[-1].is_mark(";"):
+        found.pop()
+    if not found:
+        raise ProgrammingError("there is no statement in this text")
+    if found[-1].kind == "other" and found[-1].text.startswith("'"):
+        raise misplaced("E102", text, found[-1].start)
+    for token in found:
+        if token.is_mark(";"):
+            raise ProgrammingError(f"a cursor executes one statement at a time: {text[:200]!r}")
+    return found
+
+
+def normal(token: Token) -> str:
+    """A token as any spelling of it has it."""
+    if token.kind == "word":
+        return token.text.upper() if token.text.upper() in KEYWORDS else token.text.lower()
+    return str(int(token.text)) if token.kind == "number" else token.text
+
+
+def unlabelled(found: list[str]) -> list[str]:
+    """Normal tokens without the names of parameters, which are for readers alone."""
+    kept: list[str] = []
+    for i, text in enumerate(found):
+        is_label = text == ":" or (i > 0 and found[i - 1] == ":")
+        kept += [] if is_label else [text]
+    return kept
+
+
+def query_name(texts: list[str]) -> str:
+    """The name under which a SELECT of these normal tokens is prepared: the same in every process."""
+    return "q_" + hashlib.sha256(" ".join(unlabelled(texts)).encode()).hexdigest()[:30]
+
+
+def numbered_tokens(found: list[Token]) -> list[str]:
+    """Normal tokens, with the numbered parameter in place of each `?`."""
+    texts: list[str] = []
+    count = 0
+    for token in found:
+        count += token.text == "?"
+        texts += ["[", str(count), "]"] if token.text == "?" else [normal(token)]
+    return texts
+
+
+def param_count(texts: list[str]) -> int:
+    """How many parameters a query has: the greatest number behind a `[`."""
+    numbers = [int(b) for a, b in zip(texts, texts[1:]) if a == "[" and b.isdigit()]
+    return max(numbers, default=0)
+
+
+def name_in(kind: Kind, found: list[Token], texts: list[str]) -> str:
+    """The query that the statement runs or defines."""
+    if kind is Kind.SELECT:
+        return query_name(texts)
+    if kind in (Kind.RUN, Kind.PREPARE) and len(found) > 1:
+        return found[1].text.lower()
+    return ""
+
+
+@lru_cache(maxsize=1024)
+def read_statement(text: str) -> Statement:
+    """The statement that a text is. Its end may lack the `;`; a comment behind it is left out."""
+    found = whole_tokens(text)
+    first = found[0].text.upper()
+    kind = Kind(first) if first in Kind.__members__ and first != "OTHER" else Kind.OTHER
+    places = [token for token in found if token.text == "?"]
+    texts = numbered_tokens(found)
+    if places and kind in NUMBERED and any(token.is_mark("[") for token in found):
+        raise ProgrammingError("a statement has either ? or numbered parameters, and not both")
+    starts = [0, *(token.end for token in places)]
+    ends = [*(token.start for token in places), found[-1].end]
+    parts = tuple(text[start:end] for start, end in zip(starts, ends))
+    params = param_count(texts) if kind is Kind.SELECT else len(places) if kind not in NUMBERED else 0
+    template = "%s".join(part.replace("%", "%%") for part in parts)
+    return Statement(text, kind, name_in(kind, found, texts), parts, params, template)

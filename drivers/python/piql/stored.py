@@ -1,0 +1,70 @@
+"""The rows of a store's file, read by the bytes that docs/FORMATS.md gives, while no run is on."""
+
+import sqlite3
+from collections.abc import Iterator
+from pathlib import Path
+
+from .errors import InternalError, OperationalError
+from .reports import DefinitionLine, Row, Value
+from .schema import Column, Schema, read_schema
+
+DEFINITIONS, ROWS = 1, 2
+# A row with a NULL has this added to its number of columns, and then four bytes whose bit i is column i's.
+HAS_NULL = 0x40
+
+
+def open_file(path: str) -> sqlite3.Connection:
+    """The file for reading alone."""
+    file = sqlite3.connect(Path(path).absolute().as_uri() + "?mode=ro", uri=True, timeout=5)
+    try:
+        file.execute("SELECT k, v FROM kv LIMIT 1").fetchone()
+    except sqlite3.Error as error:
+        file.close()
+        raise OperationalError(f"{path} can't be read: {error}") from error
+    return file
+
+
+def pairs(file: sqlite3.Connection, first: int, *after: int) -> Iterator[tuple[bytes, bytes]]:
+    """The pairs whose key begins with these bytes, of which the last is below 255, in order."""
+    low = bytes([first, *after])
+    high = low[:-1] + bytes([low[-1] + 1])
+    yield from file.execute("SELECT k, v FROM kv WHERE k >= ? AND k < ? ORDER BY k", (low, high))
+
+
+def read_stored_schema(file: sqlite3.Connection) -> Schema:
+    """The definitions. A value begins with its format and its mark."""
+    found = [DefinitionLine(int.from_bytes(k[1:]), v[2:].decode()) for k, v in pairs(file, DEFINITIONS)]
+    return read_schema(found)
+
+
+def read_cell(column: Column, code: bytes, at: int) -> tuple[Value, int]:
+    """A value that is no NULL, and the place behind it."""
+    if column.type == "INT":
+        return int.from_bytes(code[at : at + 8], signed=True), at + 8
+    if column.type == "BOOL":
+        return code[at] == 1, at + 1
+    end = at + 2 + int.from_bytes(code[at : at + 2])
+    return code[at + 2 : end].decode(), end
+
+
+def read_row(columns: tuple[Column, ...], code: bytes) -> Row:
+    """The row that a code is."""
+    has_null = code[0] >= HAS_NULL
+    marks = int.from_bytes(code[1:5]) if has_null else 0
+    at, row = 5 if has_null else 1, []
+    if code[0] - has_null * HAS_NULL != len(columns):
+        raise InternalError(f"a row of {code[0]} columns, where the table has {len(columns)}")
+    for place, column in enumerate(columns):
+        value: Value = None
+        if not marks >> place & 1:
+            value, at = read_cell(column, code, at)
+        row.append(value)
+    if at != len(code):
+        raise InternalError("a row's code goes on behind its last column")
+    return tuple(row)
+
+
+def stored_rows(file: sqlite3.Connection, number: int, columns: tuple[Column, ...]) -> Iterator[Row]:
+    """The rows of the table of this number, from 1, in the order of their keys."""
+    for _, code in pairs(file, ROWS, number):
+        yield read_row(columns, code)

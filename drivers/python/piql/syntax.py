@@ -1,0 +1,56 @@
+"""What a syntax error mostly comes from: the row of a table of SQL's habits whose code is found at its place."""
+
+import re
+from collections.abc import Iterable, Sequence
+from typing import NamedTuple
+
+from .scripts import KEYWORDS, Token, tokens
+
+CODE = re.compile(r"`([^`]*)`")
+
+
+class Score(NamedTuple):
+    """How well a code fits around a place: more of each is better, the first ones before the others."""
+
+    words: int = 0
+    tokens: int = 0
+    own_tokens: int = 0
+    is_at_place: bool = False
+
+
+def stands_for_any(pattern: Token) -> bool:
+    """Whether a token of a code stands for others too: a number, a text, a name in small letters."""
+    return pattern.kind in ("number", "text") or pattern.kind == "word" and pattern.text.islower()
+
+
+def is_like(pattern: Token, token: Token) -> bool:
+    """Whether a token is one that the code's token stands for. A keyword in small letters stands for all keywords."""
+    if not stands_for_any(pattern):
+        return token.text.upper() == pattern.text
+    if pattern.kind != "word":
+        return token.kind == pattern.kind
+    is_keyword = pattern.text.upper() in KEYWORDS
+    return token.kind == "word" and (token.text.upper() in KEYWORDS) == is_keyword
+
+
+def score(pattern: Sequence[Token], found: Sequence[Token], at: int) -> Score:
+    """The score of a code whose tokens stand around a place."""
+    own = [token for token in pattern if not stands_for_any(token)]
+    size, words = len(pattern), sum(token.kind == "word" for token in own)
+    # What SQL means otherwise may be read as a name, and the token behind it is the first that fits nothing.
+    first = at - max(size - 1, 1 if own else 0)
+    for start in range(min(at, len(found) - size), max(first, 0) - 1, -1):
+        if all(map(is_like, pattern, found[start : start + size])):
+            return Score(words, size, len(own), start + size > at)
+    return Score()
+
+
+def way_out_at(cases: Iterable[tuple[str, str]], statement: str, character: int) -> str:
+    """The way out of the case whose code fits best around the token at a character, or nothing."""
+    found = tokens(statement)
+    at = next((i for i, token in enumerate(found) if token.start <= character < token.end), None)
+    if at is None:
+        return ""
+    fits = [(score(tokens(code), found, at), way) for case, way in cases for code in CODE.findall(case)]
+    best, way = max(fits, key=lambda fit: fit[0], default=(Score(), ""))
+    return way if best > Score() else ""

@@ -1,0 +1,231 @@
+"""Growing a schema, bounds.lock, copies, loads and rebuilt stores."""
+
+import contextlib
+import io
+import os
+import signal
+import subprocess
+import sys
+import unittest
+from pathlib import Path
+
+from helpers import TOP, needs_file, new_folder, piql
+from piql.__main__ import main
+from piql.load import Loaded, load
+from piql.rebuild import Rebuilt, rebuild
+from piql.schema import Column, read_query, read_table
+from piql.stored import read_row
+
+FIRST = """-- users and what they write
+CREATE TABLE users (name TEXT(20), town TEXT(30) NULL, PRIMARY KEY (name));
+PREPARE town AS SELECT u.town FROM users AS u WHERE u.name = [1: who];
+"""
+SECOND = FIRST + """
+CREATE TABLE notes (owner TEXT(20), stamp INT, hot BOOL, PRIMARY KEY (owner, stamp),
+  FOREIGN KEY (owner) REFERENCES users);
+PREPARE latest AS SELECT stamp, hot FROM notes WHERE owner = [1] ORDER BY stamp LIMIT 5;
+"""
+ROWS = 'name,town\nann,rome\n"b,o""b",\n"two\nlines",oslo\nann,lima\n' + "x" * 21 + ",lima\ncid,lima,7\n"
+REFUSED_LINES = ["line 6: E503 users", "line 7: E501 users name", "line 8: 3 cells, and not 2"]
+# Codes of rows, written by hand from docs/FORMATS.md.
+COLUMNS = (Column("a", "INT", None, False), Column("b", "TEXT", 9, True), Column("c", "BOOL", None, True))
+CODES = [
+    ("03 FFFFFFFFFFFFFFFE 0002 6869 01", (-2, "hi", True)),
+    ("43 00000002 0000000000000007 00", (7, None, False)),
+    ("43 00000006 0000000000000007", (7, None, None)),
+]
+
+
+class ReadingTest(unittest.TestCase):
+    """Canonical texts and stored rows, without an engine."""
+
+    def test_table(self) -> None:
+        text = (
+            "CREATE TABLE t (a INT, b TEXT(9) NULL, c BOOL NULL, PRIMARY KEY (a, c), CARDINALITY LIMIT 3 (b), "
+            "FOREIGN KEY (b) REFERENCES u);"
+        )
+        table = read_table(text)
+        self.assertEqual((table.name, table.columns, table.key), ("t", COLUMNS, ("a", "c")))
+
+    def test_query(self) -> None:
+        text = (
+            "PREPARE q AS SELECT x.a, y.b FROM t AS x JOIN t AS y WHERE x.a = [1] AND y.b = 'FROM [9]'"
+            " AND y.a = [2] ORDER BY y.a DESC PAGINATE 3;"
+        )
+        query = read_query(text)
+        self.assertEqual((query.name, query.selected), ("q", (("x", "a"), ("y", "b"))))
+        self.assertEqual((query.relations, query.params, query.pages), ((("x", "t"), ("y", "t")), 2, True))
+        self.assertTrue(query.select().startswith("SELECT x.a"))
+
+    def test_rows(self) -> None:
+        for code, wanted in CODES:
+            with self.subTest(code):
+                self.assertEqual(read_row(COLUMNS, bytes.fromhex(code)), wanted)
+        for code in ("02 0000000000000007", "03 0000000000000007 0000 01 00"):
+            with self.subTest(code), self.assertRaises(piql.InternalError):
+                read_row(COLUMNS, bytes.fromhex(code))
+
+
+@needs_file
+class SchemaTest(unittest.TestCase):
+    """Each test has a file and a schema of its own."""
+
+    def setUp(self) -> None:
+        self.folder = new_folder(self)
+        self.path = self.folder / "store.db"
+        self.schema = self.folder / "schema.piql"
+        self.schema.write_text(FIRST)
+
+    def open(self, path: Path | None = None) -> piql.Connection:
+        connection = piql.connect(path or self.path)
+        self.addCleanup(connection.close)
+        return connection
+
+    def test_migrate(self) -> None:
+        connection, out = self.open(), io.StringIO()
+        self.assertEqual(piql.migrate(connection, self.schema, out=out), ["users", "town"])
+        self.assertEqual(out.getvalue(), "table users\nquery town whole bound 1 1\n")
+        self.assertEqual(piql.migrate(connection, self.schema, out=out), [])
+        self.schema.write_text(SECOND)
+        self.assertEqual(piql.migrate(connection, self.schema, out=out), ["notes", "latest"])
+        self.assertIn("query latest stop 1 bound 1 5\n", out.getvalue())
+        self.assertEqual(len(connection.schema().definitions), 4)
+
+    def test_migrate_refuses_what_differs(self) -> None:
+        connection, out = self.open(), io.StringIO()
+        piql.migrate(connection, self.schema, out=out)
+        self.schema.write_text(SECOND.replace("TEXT(30)", "TEXT(31)"))
+        with self.assertRaises(piql.ProgrammingError) as caught:
+            piql.migrate(connection, self.schema, out=out)
+        self.assertIn("TEXT(31)", str(caught.exception))
+        self.assertIn("TEXT(30)", str(caught.exception))
+        self.assertEqual(len(connection.schema().definitions), 2)
+
+    def test_migrate_names_the_line(self) -> None:
+        connection = self.open()
+        for text in ("PREPARE town AS SELECT nothing FROM users WHERE name = [1];", "SHOW;"):
+            self.schema.write_text(FIRST.partition("PREPARE")[0] + "\n\n" + text)
+            with self.subTest(text), self.assertRaises(piql.ProgrammingError) as caught:
+                piql.migrate(connection, self.schema)
+            self.assertEqual(caught.exception.__notes__, [f"in {self.schema}, line 5"])
+
+    def test_bounds(self) -> None:
+        connection, lock = self.open(), self.folder / "bounds.lock"
+        self.schema.write_text(SECOND)
+        piql.migrate(connection, self.schema, out=io.StringIO())
+        piql.write_bounds(connection, lock)
+        self.assertEqual(piql.read_bounds(lock), {"town": (1, 1), "latest": (1, 5)})
+        piql.check_bounds(connection, lock)
+        for before, after in (("latest 1 5", "latest 1 4"), ("latest 1 5", "latest 0 9"), ("town 1 1\n", "")):
+            text = lock.read_text()
+            lock.write_text(text.replace(before, after))
+            with self.subTest(after), self.assertRaises(piql.BoundsRose):
+                piql.check_bounds(connection, lock)
+            lock.write_text(text)
+
+    def test_backup(self) -> None:
+        connection = self.open()
+        piql.migrate(connection, self.schema, out=io.StringIO())
+        connection.execute("INSERT INTO users VALUES ('ann', 'rome')")
+        connection.backup(self.folder / "copy.db")
+        connection.execute("INSERT INTO users VALUES ('bob', 'oslo')")
+        copy = self.open(self.folder / "copy.db")
+        self.assertEqual(copy.execute("RUN town ('ann')").fetchall(), [("rome",)])
+        self.assertEqual(copy.execute("RUN town ('bob')").fetchall(), [])
+        self.assertEqual(sorted(it.name for it in self.folder.glob("copy.db.part*")), [])
+
+    def test_load(self) -> None:
+        connection, tell, mark = self.open(), io.StringIO(), self.folder / "mark"
+        piql.migrate(connection, self.schema, out=io.StringIO())
+        self.assertEqual(load(connection, "users", io.StringIO(ROWS, newline=""), mark, tell), Loaded(6, 3))
+        lines = tell.getvalue().splitlines()
+        for line, wanted in zip(lines, REFUSED_LINES):
+            self.assertTrue(line.startswith(wanted), line)
+        self.assertEqual(lines[-1], "6 records, 3 refused")
+        self.assertEqual(connection.execute("RUN town ('b,o\"b')").fetchall(), [(None,)])
+        self.assertEqual(connection.execute("RUN town ('two\nlines')").fetchall(), [("oslo",)])
+        self.assertFalse(mark.exists())
+
+    def test_load_goes_on_where_it_stopped(self) -> None:
+        connection, tell, mark = self.open(), io.StringIO(), self.folder / "mark"
+        piql.migrate(connection, self.schema, out=io.StringIO())
+        text = "name,town\n" + "".join(f"n{i},x\n" for i in range(40))
+        for cut in (11, 25):
+            broken = "\n".join(text.split("\n")[: cut + 1]) + '\n"'
+            with self.assertRaises(piql.OperationalError):
+                load(connection, "users", io.StringIO(broken), mark, tell)
+            self.assertEqual(int(mark.read_text().split()[0]), cut)
+        connection.execute("INSERT INTO users VALUES ('n25', 'x')")
+        with self.assertRaises(piql.ProgrammingError):
+            load(connection, "users", io.StringIO(text.replace("n3,", "m3,")), mark, tell)
+        self.assertEqual(load(connection, "users", io.StringIO(text), mark, tell), Loaded(40, 0))
+        self.assertEqual(len(connection.execute("SELECT name FROM users ORDER BY name LIMIT 100").fetchall()), 40)
+
+    def test_load_of_wrong_columns(self) -> None:
+        connection = self.open()
+        piql.migrate(connection, self.schema, out=io.StringIO())
+        for head in ("", "town\n", "name,name\n", "name,other\n"):
+            with self.subTest(head), self.assertRaises(piql.ProgrammingError):
+                load(connection, "users", io.StringIO(head), self.folder / "mark", io.StringIO())
+
+    def test_a_killed_load(self) -> None:
+        with self.open() as connection:
+            piql.migrate(connection, self.schema, out=io.StringIO())
+        source = self.folder / "rows.csv"
+        source.write_text("name,town\n" + "".join(f"n{i},x\n" for i in range(300)))
+        words = [sys.executable, "-m", "piql", "load", str(self.path), "users"]
+        environment = {**os.environ, "PYTHONPATH": str(TOP / "drivers/python")}
+        mark = Path(f"{self.path}.users.load")
+        with source.open() as rows, subprocess.Popen(words, stdin=rows, env=environment) as first:
+            while first.poll() is None and not (mark.exists() and mark.read_text() >= f"{5:020}"):
+                pass
+            first.send_signal(signal.SIGKILL)
+        with source.open() as rows:
+            second = subprocess.run(words, stdin=rows, env=environment, capture_output=True)
+        self.assertEqual((second.returncode, second.stderr.splitlines()[-1]), (0, b"300 records, 0 refused"))
+
+    def test_commands(self) -> None:
+        lock, copy = self.folder / "bounds.lock", self.folder / "copy.db"
+        for words in (
+            ["migrate", self.path, self.schema],
+            ["bounds", self.path, "--write", lock],
+            ["bounds", self.path, "--check", lock],
+            ["backup", self.path, copy],
+        ):
+            with self.subTest(words), contextlib.redirect_stdout(io.StringIO()):
+                self.assertEqual(main([str(word) for word in words]), 0)
+        lock.write_text("")
+        with contextlib.redirect_stderr(io.StringIO()) as errors:
+            self.assertEqual(main(["bounds", str(self.path), "--check", str(lock)]), 2)
+        self.assertIn("town 1 1", errors.getvalue())
+
+    def rows_of_old(self) -> None:
+        """An old store with some rows."""
+        with self.open() as connection:
+            piql.migrate(connection, self.schema, out=io.StringIO())
+            rows = [("ann", "rome"), ("bob", None), ("c" * 20, "it's")]
+            connection.cursor().executemany("INSERT INTO users VALUES (?, ?)", rows)
+
+    def test_rebuild(self) -> None:
+        self.rows_of_old()
+        columns = "town TEXT(30) NULL, name TEXT(19), age INT, note TEXT(5) NULL"
+        self.schema.write_text(f"CREATE TABLE users ({columns}, PRIMARY KEY (name));")
+        new, tell = self.folder / "new.db", io.StringIO()
+        with self.assertRaises(piql.ProgrammingError):
+            rebuild(str(self.path), str(new), self.schema, tell, {})
+        self.assertFalse(new.exists())
+        done = rebuild(str(self.path), str(new), self.schema, tell, {("users", "age"): 30})
+        self.assertEqual(done, Rebuilt(2, 1))
+        self.assertIn("E501 users name", tell.getvalue())
+        rows = self.open(new).execute("SELECT * FROM users ORDER BY name LIMIT 9").fetchall()
+        self.assertEqual(rows, [("rome", "ann", 30, None), (None, "bob", 30, None)])
+        with self.assertRaises(piql.OperationalError):
+            rebuild(str(self.path), str(new), self.schema, tell, {})
+
+    def test_rebuild_leaves_out(self) -> None:
+        self.rows_of_old()
+        self.schema.write_text("CREATE TABLE people (name TEXT(20), PRIMARY KEY (name));")
+        tell = io.StringIO()
+        done = rebuild(str(self.path), str(self.folder / "new.db"), self.schema, tell, {})
+        self.assertEqual(done, Rebuilt(0, 0))
+        self.assertIn("table users is left out\n", tell.getvalue())

@@ -1,0 +1,108 @@
+"""The prompt: what it prints for answers, refusals and commands, and what it does with a pipe."""
+
+import contextlib
+import io
+import os
+import pty
+import subprocess
+import unittest
+
+from helpers import PIQL_FILE, TOP, StoreCase, needs_file, new_folder, piql
+from piql.shell import Shell, underlined
+from piql.scripts import Place
+from piql.tables import table
+
+SCRIPT = """
+CREATE TABLE t (a INT, b TEXT(50) NULL, PRIMARY KEY (a));
+INSERT INTO t VALUES (7, 'it''s');
+INSERT INTO t VALUES (12, NULL);
+INSERT INTO t VALUES (13, 'x');
+PREPARE page AS SELECT x.a, x.b FROM t AS x ORDER BY x.a PAGINATE 2;
+"""
+TABLE = """\
+ a | b
+---+-----
+ 7 | it's
+12 | NULL"""
+
+
+class TableTest(unittest.TestCase):
+    """Tables and marks, without an engine."""
+
+    def test_table(self) -> None:
+        self.assertEqual(table(["a", "b"], [(7, "it's"), (12, None)]), TABLE)
+        self.assertEqual(table(["a"], [("x\n\0y",), (True,)]), "a\n--------\nx\\n\\x00y\ntrue")
+
+    def test_underlined(self) -> None:
+        self.assertEqual(underlined("SELECT a\n\tFROM FROM t", Place(2, 7)), "  \tFROM FROM t\n  \t     ^")
+
+
+class ShellTest(StoreCase):
+    """A prompt's lines."""
+
+    script = SCRIPT
+
+    def said(self, *lines: str) -> str:
+        """What is printed for some lines."""
+        shell, rest = Shell(self.connection), ""
+        with contextlib.redirect_stdout(io.StringIO()) as out:
+            for line in lines:
+                rest = shell.line(rest, line)
+        self.assertEqual(rest, "")
+        return out.getvalue()
+
+    def test_an_answer(self) -> None:
+        numbers = "bound 1 operations, 2 entries; used 1 operations, 2 entries\n"
+        self.assertEqual(self.said("RUN page;"), f"{TABLE}\n2 rows; .next has more\n{numbers}")
+
+    def test_the_next_page(self) -> None:
+        said = self.said("RUN", "page", ";", ".next", ".next")
+        self.assertIn("13 | x\n1 row\n", said)
+        self.assertIn("no further page", said)
+
+    def test_several_statements_on_a_line(self) -> None:
+        said = self.said("SHOW; RUN nothing", "(';'", ");")
+        self.assertIn("definition", said)
+        self.assertIn("E401 nothing", said)
+
+    def test_a_refusal(self) -> None:
+        said = self.said("SELECT a FROM t", "WHERE a = 1 OR a = 2;")
+        self.assertIn("  WHERE a = 1 OR a = 2\n              ^\nway out: one query with a parameter", said)
+
+    def test_commands(self) -> None:
+        self.assertIn("CREATE TABLE t", self.said(".tables"))
+        self.assertIn("PREPARE page", self.said(".queries"))
+        self.assertIn("page  |          1 |       2", self.said(".bounds"))
+        self.assertIn(".next", self.said(".help"))
+        self.assertIn("there is no .x", self.said(".x"))
+
+
+@needs_file
+class ProgramTest(unittest.TestCase):
+    """The program itself."""
+
+    def setUp(self) -> None:
+        self.folder = new_folder(self)
+        self.words = [TOP / "bin/piql-shell", self.folder / "store.db"]
+
+    def test_a_pipe(self) -> None:
+        script = SCRIPT.encode() + b"RUN page; RUN nothing;"
+        piped = subprocess.run(self.words, input=script, capture_output=True)
+        plain = subprocess.run([str(PIQL_FILE), self.folder / "other.db", "run"], input=script, capture_output=True)
+        self.assertEqual((piped.stdout, piped.returncode), (plain.stdout, plain.returncode))
+        self.assertEqual(piped.returncode, 1)
+
+    def test_a_terminal(self) -> None:
+        terminal, inner = pty.openpty()
+        self.addCleanup(os.close, terminal)
+        environment = {**os.environ, "HOME": str(self.folder), "TERM": "dumb"}
+        process = subprocess.Popen(self.words, stdin=inner, stdout=inner, env=environment, start_new_session=True)
+        os.close(inner)
+        os.write(terminal, b"CREATE TABLE t (a INT,\nPRIMARY KEY (a));\n.tables\n.quit\n")
+        said = b""
+        with contextlib.suppress(OSError):
+            while part := os.read(terminal, 4096):
+                said += part
+        self.assertEqual(process.wait(), 0)
+        self.assertIn(b"CREATE TABLE t (a INT, PRIMARY KEY (a));", said)
+        self.assertIn(b".tables", (self.folder / ".piql_history").read_bytes())
