@@ -24,16 +24,20 @@ def tell(name: str, line: str) -> None:
     print(f"{name}: {line}", file=sys.stderr, flush=True)
 
 
-def end_with_parent() -> None:
+def begin_program() -> None:
     """Asks that this process is killed when the one that started it is, so that no program holds a file alone."""
     ctypes.CDLL(None).prctl(PARENT_DEATH_SIGNAL, signal.SIGKILL)
+    signal.pthread_sigmask(signal.SIG_UNBLOCK, PASSED_ON)
 
 
 def run_once(program: Program, words: list[str], script: BinaryIO | None) -> int:
     """Runs the program over a script or standard input. A signal that ends this process ends the program first."""
-    run = subprocess.Popen([program.path, *words], stdin=script, preexec_fn=end_with_parent)
+    # A signal that comes before there is a program waits until there is one.
+    signal.pthread_sigmask(signal.SIG_BLOCK, PASSED_ON)
+    run = subprocess.Popen([program.path, *words], stdin=script, preexec_fn=begin_program)
     for number in PASSED_ON:
         signal.signal(number, lambda given, _: run.send_signal(given))
+    signal.pthread_sigmask(signal.SIG_UNBLOCK, PASSED_ON)
     # An interrupt at the terminal reaches the program by itself.
     signal.signal(signal.SIGINT, lambda *_: None)
     return run.wait()

@@ -1,10 +1,13 @@
 """The layers of the crates as a picture: what each stands on directly, drawn from crates.txt."""
 
 import functools
+import pathlib
+import re
 
 from tools.repository import Repository
 
-TESTS = ("pq_tests_", "pq_test_", "piql_examples")
+TESTS = ("pq_test", "pq_cases", "piql_examples")
+BLOCK = re.compile(r"(?<=^```mermaid\n).*?(?=^```$)", re.MULTILINE | re.DOTALL)
 
 
 class Layers:
@@ -35,3 +38,9 @@ class Layers:
             below = self.direct(crate)
             lines.append(f"  {crate} --> {' & '.join(sorted(below))}" if below else f"  {crate}")
         return "\n".join(lines) + "\n"
+
+
+def write_picture(repository: Repository, document: pathlib.Path) -> None:
+    """Puts the picture into the document in place of the one that it has."""
+    picture = Layers(repository).picture()
+    document.write_text(BLOCK.sub(lambda _: picture, document.read_text(), count=1))

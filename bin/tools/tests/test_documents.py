@@ -28,11 +28,12 @@ class ShownTest(unittest.TestCase):
         for shown, printed in ((["a"], ["b"]), (["a", "..", "d"], ["a", "d", "e"]), ([".."], []), (["a"], [])):
             self.assertEqual(is_shown(shown, printed), shown == [".."])
 
-    def test_python_stands_in_a_file(self) -> None:
+    def test_the_tutorial_shows_its_program(self) -> None:
         files = [path.read_text() for path in (TOP / "docs/scripts").glob("*.py")]
-        for document in documents():
-            for block in blocks(document, "python"):
-                self.assertTrue(any(block.text in text for text in files), block.place)
+        found = list(blocks(TOP / "docs/TUTORIAL.md", "python"))
+        self.assertEqual(len(found), 2)
+        for block in found:
+            self.assertTrue(any(block.text in text for text in files), block.place)
 
     def test_a_worked_proof_stands_in_the_sources(self) -> None:
         parts = [path for part in ("src", "proofs") for path in (TOP / "crates/pq_base" / part).rglob("*.*t")]
@@ -98,9 +99,9 @@ class SqlTest(unittest.TestCase):
 
     def test_the_first_column_is_refused_and_the_second_is_made(self) -> None:
         statements: list[tuple[str, str]] = []
-        for line in (TOP / "docs/SQL.md").read_text().splitlines():
-            cells = line.strip("|").split("|")
-            if len(cells) == 3:
+        for table in (TOP / "docs/SQL.md").read_text().split("| In SQL | Here | To know |\n")[1:]:
+            for line in table.split("\n\n")[0].splitlines():
+                cells = line.strip("|").split("|")
                 statements += [(code, "refused") for code in CODE.findall(cells[0]) if STATEMENT.match(code)]
                 statements += [(code, "ok") for code in CODE.findall(cells[1]) if WHOLE.match(code)]
         tables = (TOP / "docs/scripts/sql.piql").read_text()

@@ -63,7 +63,7 @@ NAME:6: RUN all;
 NAME:7: statement 7 is refused: E102
      7 | SELECT b FROM t
        |                ^
-  the script ends within a statement. There is something behind the last ;. Mostly the ; is missing,
+  the script ends within a statement. There is something after the last ;. Mostly the ; is missing,
     or a text isn't closed and goes on to the end.
   way out: end it.
 
