@@ -24,7 +24,7 @@ PATHS = [FEED, f"/user/{USER}", f"/user/{USER}/following", f"/user/{USER}/follow
 FEW, MANY = 100, 10_000
 BROWSERS = ("chromium", "chromium-browser", "google-chrome")
 # A browser of its own profile, without a sandbox where root runs it, as in a container.
-FLAGS = ["--headless", "--disable-gpu", "--no-first-run", "--hide-scrollbars", "--window-size=760,1000"]
+FLAGS = ["--headless", "--disable-gpu", "--no-first-run", "--hide-scrollbars", "--window-size=760,1420"]
 
 
 @contextmanager

@@ -57,8 +57,8 @@ def connect(
     """Opens a store: a file, `unix:SOCKET` of a piql-serve, or `:memory:`.
 
     With prepare=False a SELECT that the store doesn't have is refused. The program is that of the argument, of the
-    environment (PIQL_FILE, or PIQL for a store in memory), or of the repository's bin/. `timeout` is for how many
-    seconds a file that another process has open, or a server that isn't there, is tried again.
+    environment (PIQL_FILE, or PIQL for a store in memory), or that which the repository or the release has. `timeout`
+    is for how many seconds a file that another process has open, or a server that isn't there, is tried again.
     """
     target = os.fspath(path)
     link: Link

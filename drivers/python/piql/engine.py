@@ -12,7 +12,9 @@ from .scripts import SCRIPT_BYTES
 CHUNK = 1 << 16
 END = re.compile(rb"\d+ (?:ok|refused) [^'\n]*used \d+ \d+\n")
 OPENING = re.compile(rb"open [^\n]*\n")
-BESIDE = Path(__file__).resolve().parents[3] / "bin"
+TOP = Path(__file__).resolve().parents[3]
+# Where a program stands in a release, and in the repository once it is built.
+BUILT = ("programs/{name}", "crates/{name}/out/{name}")
 
 
 class EngineEnded(Exception):
@@ -25,10 +27,12 @@ class EngineEnded(Exception):
 
 
 def find_program(name: str, given: str | os.PathLike[str] | None = None) -> str:
-    """The program of this name: the given one, that of the environment (PIQL_FILE, PIQL), or that of bin/ or PATH."""
-    found = given or os.environ.get(name.upper()) or shutil.which(name, path=str(BESIDE)) or shutil.which(name)
+    """The program of this name: the given one, that of the environment (PIQL_FILE, PIQL), the built one, or PATH's."""
+    built = [str(path) for place in BUILT if os.access(path := TOP / place.format(name=name), os.X_OK)]
+    found = given or os.environ.get(name.upper()) or next(iter(built), None) or shutil.which(name)
     if found is None:
-        raise InterfaceError(f"the program {name} isn't found: give program=, or set {name.upper()}")
+        way = f"bin/prove {name} builds it, and {name.upper()} or program= names it"
+        raise InterfaceError(f"the program {name} isn't found: {way}")
     return os.fspath(found)
 
 

@@ -52,18 +52,58 @@ def is_locked(path: str) -> bool:
     return False
 
 
-class FileLink:
-    """A file, over one process at a time. The next one is begun before the script of the last one is too long."""
+def check_owner(owner: int) -> None:
+    """Refuses a connection that was made before a fork."""
+    if owner != os.getpid():
+        raise InterfaceError("this connection was made before a fork: each process needs one of its own")
+
+
+class EngineLink:
+    """One run of the engine at a time."""
+
+    def __init__(self) -> None:
+        self.owner = os.getpid()
+        self.engine: Engine | None = None
+
+    def running(self, statement: bytes) -> Engine:
+        """A run with room for the statement."""
+        raise NotImplementedError
+
+    def stands(self, reads: bool) -> str:
+        """What stands where the run ended in mid-statement."""
+        raise NotImplementedError
+
+    def exchange(self, statement: bytes, reads: bool) -> str:
+        """The report of the statement."""
+        check_owner(self.owner)
+        engine = self.running(statement)
+        try:
+            return engine.exchange(statement).decode()
+        except EngineEnded as end:
+            self.engine = None
+            raise ended(end.status, f"{self.stands(reads)} {end.written}".strip()) from end
+        except BaseException:
+            self.engine = None
+            raise
+
+    def close(self) -> None:
+        """Ends the run."""
+        if self.engine is not None and self.owner == os.getpid():
+            self.engine.close()
+        self.engine = None
+
+
+class FileLink(EngineLink):
+    """A file. The next run is begun before the script of the last one is too long."""
 
     def __init__(self, path: str, program: str | os.PathLike[str] | None, timeout: float) -> None:
+        super().__init__()
         self.path, self.timeout = path, timeout
         self.program = find_program("piql_file", program)
-        self.engine: Engine | None = None
-        self.owner = os.getpid()
         self.begin()
 
     def begin(self) -> Engine:
-        """Begins a process; where another one has the file, tries again until the time is over."""
+        """Begins a run; where another process has the file, tries again until the time is over."""
         until = time.monotonic() + self.timeout
         while True:
             try:
@@ -77,78 +117,51 @@ class FileLink:
             time.sleep(0.05)
 
     def unopened(self, end: EngineEnded) -> Error:
-        """Why no process could be begun."""
+        """Why no run could be begun."""
         if end.status == 5:
             return OperationalError(UNOPENED.format(path=self.path))
         return ended(end.status, f"{self.path} isn't open. {end.written}".strip())
 
     def running(self, statement: bytes) -> Engine:
-        """A process with room for the statement."""
-        if self.owner != os.getpid():
-            raise InterfaceError("this connection was made before a fork: each process needs one of its own")
+        """A run with room for the statement."""
         engine = self.engine
         if engine is not None and engine.has_room(statement):
             return engine
         self.close()
         return self.begin()
 
-    def exchange(self, statement: bytes, reads: bool) -> str:
-        """The report of the statement."""
-        engine = self.running(statement)
-        try:
-            return engine.exchange(statement).decode()
-        except EngineEnded as end:
-            self.engine = None
-            stands = STANDS_READ if reads else STANDS_WRITE
-            raise ended(end.status, f"{stands} {end.written}".strip()) from end
-        except BaseException:
-            self.engine = None
-            raise
+    def stands(self, reads: bool) -> str:
+        """What stands where the run ended in mid-statement."""
+        return STANDS_READ if reads else STANDS_WRITE
 
     def backup(self, path: str) -> None:
         """Copies the file between two statements."""
+        check_owner(self.owner)
         self.running(b"")
         copy_whole(self.path, path, self.program)
 
-    def close(self) -> None:
-        """Ends the process."""
-        if self.engine is not None and self.owner == os.getpid():
-            self.engine.close()
-        self.engine = None
 
-
-class MemoryLink:
-    """A store in memory, over one process, which can't be begun anew."""
+class MemoryLink(EngineLink):
+    """A store in memory, which ends with its run."""
 
     def __init__(self, program: str | os.PathLike[str] | None) -> None:
-        self.owner = os.getpid()
+        super().__init__()
         try:
-            self.engine: Engine | None = Engine(find_program("piql", program), ["run"])
+            self.engine = Engine(find_program("piql", program), ["run"])
         except EngineEnded as end:
             raise ended(end.status, f"The store isn't open. {end.written}".strip()) from end
 
-    def exchange(self, statement: bytes, reads: bool) -> str:
-        """The report of the statement."""
-        if self.owner != os.getpid():
-            raise InterfaceError("this connection was made before a fork: each process needs one of its own")
+    def running(self, statement: bytes) -> Engine:
+        """The run, if it has room for the statement."""
         if self.engine is None or not self.engine.has_room(statement):
             self.close()
             raise OperationalError(KEEPS_NOTHING)
-        try:
-            return self.engine.exchange(statement).decode()
-        except EngineEnded as end:
-            self.engine = None
-            raise ended(end.status, f"The rows in memory are lost. {end.written}".strip()) from end
-        except BaseException:
-            self.engine = None
-            raise
+        return self.engine
+
+    def stands(self, reads: bool) -> str:
+        """What stands where the run ended in mid-statement."""
+        return "The rows in memory are lost."
 
     def backup(self, path: str) -> None:
         """There is no file to copy."""
         raise OperationalError("a store in memory has no file that could be copied")
-
-    def close(self) -> None:
-        """Ends the process and with it the store."""
-        if self.engine is not None and self.owner == os.getpid():
-            self.engine.close()
-        self.engine = None

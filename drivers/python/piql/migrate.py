@@ -7,8 +7,9 @@ from pathlib import Path
 from typing import NamedTuple, TextIO
 
 from .connection import Connection
-from .errors import Error, ProgrammingError
-from .links import FileLink
+from .engine import find_program
+from .errors import Error, InterfaceError, ProgrammingError
+from .links import FileLink, Link, MemoryLink
 from .reports import Report
 from .scripts import first_token, pieces, place_at
 from .statements import DEFINES, Sent, read_statement
@@ -50,11 +51,18 @@ def define_each(scratch: Connection, script: str, source: str) -> list[Report]:
     return reports
 
 
+def scratch_link(folder: str, program: str | os.PathLike[str] | None) -> Link:
+    """An empty store: a file of the folder, or one in memory where the program for files isn't there."""
+    try:
+        return FileLink(os.path.join(folder, "schema.db"), find_program("piql_file", program), 5.0)
+    except InterfaceError:
+        return MemoryLink(None)
+
+
 def read_wanted(path: str | os.PathLike[str], program: str | os.PathLike[str] | None = None) -> list[Wanted]:
     """The definitions of a schema in canonical text, from a store that is made for this alone."""
     with tempfile.TemporaryDirectory(prefix="piql-schema-") as folder:
-        link = FileLink(os.path.join(folder, "schema.db"), program, 5.0)
-        with Connection(link) as scratch:
+        with Connection(scratch_link(folder, program)) as scratch:
             reports = define_each(scratch, Path(path).read_text(), os.fspath(path))
             definitions = scratch.refresh().definitions
     return [Wanted(it.name, it.text, told_lines(it.name, report)) for it, report in zip(definitions, reports)]

@@ -7,6 +7,7 @@ import time
 
 from .errors import InterfaceError, OperationalError, ProgrammingError, with_status
 from .frames import BACKUP, BROKEN, ENDED, GREETING, HELLO, STATEMENT, FrameError, Gone, read_frame, write_frame
+from .links import check_owner
 
 LOST = (
     "the server went away before its report came: the statement was made or not made, and isn't sent again by itself."
@@ -25,8 +26,7 @@ class SocketLink:
 
     def reach(self) -> socket.socket:
         """The connected socket; where no server is there, tries again until the time is over."""
-        if self.owner != os.getpid():
-            raise InterfaceError("this connection was made before a fork: each process needs one of its own")
+        check_owner(self.owner)
         until = time.monotonic() + self.timeout
         while self.socket is None:
             try:

@@ -130,8 +130,10 @@ class MemoryLimitTest(unittest.TestCase):
     def test_what_memory_can_not_keep(self) -> None:
         connection = piql.connect(":memory:")
         self.addCleanup(connection.close)
+        connection.execute("CREATE TABLE t (a INT, PRIMARY KEY (a))")
+        connection.execute("PREPARE q AS SELECT a FROM t WHERE a = 1")
         with self.assertRaises(piql.OperationalError) as caught:
             for _ in range(300):
-                connection.execute("SHOW" + " " * 65_000)
+                connection.execute(f"RUN{' ' * 65_000}q")
         self.assertIn("16,777,216", str(caught.exception))
         self.assertIn("lost", str(caught.exception))

@@ -67,7 +67,7 @@ class ShellTest(StoreCase):
 
     def test_a_refusal(self) -> None:
         said = self.said("SELECT a FROM t", "WHERE a = 1 OR a = 2;")
-        self.assertIn("  WHERE a = 1 OR a = 2\n              ^\nway out: one query with a parameter", said)
+        self.assertIn("  WHERE a = 1 OR a = 2;\n              ^\nway out: one query with a parameter", said)
 
     def test_commands(self) -> None:
         self.assertIn("CREATE TABLE t", self.said(".tables"))
