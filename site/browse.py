@@ -1,9 +1,9 @@
 #!/usr/bin/env python3
 """Opens the microblog in headless Chromium, for few and for many users, and compares: site/browse.py [--picture FILE]
 
-It fills two stores, of 100 and of 10,000 users, serves each by site/run.py with four workers, and opens the pages of one
-user in both. The pages have to be the same, with the same bounds and the same numbers of what was used. Where there is no
-Chromium this is told, and nothing is tried.
+It fills two stores, of 100 and of 10,000 users, serves each by site/run.py with four workers, and opens the pages of
+one user in both. The pages have to be the same, with the same bounds and the same numbers of what was used. Where there
+is no Chromium this is told, and nothing is tried.
 """
 
 import argparse

@@ -13,7 +13,7 @@ from .load import QUIET
 from .migrate import migrate
 from .reports import Row, Value
 from .schema import Schema, Table
-from .stored import open_file, read_stored_schema, stored_rows
+from .stored import opened, read_stored_schema, stored_rows
 
 Program = str | os.PathLike[str] | None
 # The values of columns that the old table lacks, by table and column.
@@ -87,8 +87,7 @@ class Copying:
 
 def copy_rows(old_path: str, connection: Connection, values: Values, tell: TextIO) -> Rebuilt:
     """Inserts the rows of all tables that both stores have, parents before those that refer to them."""
-    file = open_file(old_path)
-    try:
+    with opened(old_path) as file:
         old, new = read_stored_schema(file), connection.schema()
         numbers = {name: number for number, name in enumerate(old.tables(), 1)}
         shared = [(table, old.tables()[name]) for name, table in new.tables().items() if name in numbers]
@@ -97,8 +96,6 @@ def copy_rows(old_path: str, connection: Connection, values: Values, tell: TextI
         copying = Copying(file, connection, tell)
         for after, before, sources in planned:
             copying.copy_table(numbers[before.name], before, after, sources)
-    finally:
-        file.close()
     print(f"{copying.rows} rows, {copying.refused} refused", file=tell)
     return Rebuilt(copying.rows, copying.refused)
 

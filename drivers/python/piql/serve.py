@@ -1,6 +1,6 @@
 """piql-serve: hands the statements of many connections, one after the other, to one run of the engine over a file.
 
-    piql-serve FILE SOCKET     serves until SIGTERM or SIGINT; then it finishes the statement at hand and closes the file
+    piql-serve FILE SOCKET     serves until SIGTERM or SIGINT; then it ends the statement at hand and closes the file
 
 Clients connect by piql.connect("unix:SOCKET"). Only the owner of the server may. A second server on the file, or on the
 socket, ends at once. Each client has a thread; the engine is taken by one of them at a time.

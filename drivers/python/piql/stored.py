@@ -1,5 +1,7 @@
 """The rows of a store's file, read by the bytes that docs/FORMATS.md gives, while no run is on."""
 
+import contextlib
+import os
 import sqlite3
 from collections.abc import Iterator
 from pathlib import Path
@@ -22,6 +24,21 @@ def open_file(path: str) -> sqlite3.Connection:
         file.close()
         raise OperationalError(f"{path} can't be read: {error}") from error
     return file
+
+
+@contextlib.contextmanager
+def opened(path: str) -> Iterator[sqlite3.Connection]:
+    """The same for a while. SQLite's own file for readers beside the log, which it would leave, is taken away."""
+    beside = path + "-shm"
+    was_there = os.path.exists(beside)
+    file = open_file(path)
+    try:
+        yield file
+    finally:
+        file.close()
+        if not was_there:
+            with contextlib.suppress(FileNotFoundError):
+                os.remove(beside)
 
 
 def pairs(file: sqlite3.Connection, first: int, *after: int) -> Iterator[tuple[bytes, bytes]]:

@@ -19,7 +19,8 @@ INSERT INTO users VALUES ('ann', 'rome');
 INSERT INTO users VALUES ('bob', 'oslo');
 """
 BY_KEY = "SELECT v.i, v.b, v.t FROM vals AS v WHERE v.id = ?"
-TEXTS = ["", "it's", "''", "a\0b", "\0", "\r\n", "x\n9 ok bound 1 1 used 1 1\n", "; --", "?", "[1]", "é" * 500, "x" * 1000]
+TEXTS = ["", "it's", "''", "a\0b", "\0", "\r\n", "x\n9 ok bound 1 1 used 1 1\n", "; --", "?", "[1]"]
+TEXTS += ["é" * 500, "x" * 1000]
 # A statement with its values, and the exception, the number and the fields of its refusal.
 REFUSED = [
     ("INSERT INTO users VALUES (?, ?)", ("ann", "pisa"), piql.IntegrityError, "E503", {"table": "users"}),

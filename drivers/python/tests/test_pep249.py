@@ -5,8 +5,8 @@ import unittest
 from helpers import StoreCase, needs_file, new_folder, piql
 
 MODULE = """apilevel threadsafety paramstyle connect Warning Error InterfaceError DatabaseError DataError
-OperationalError IntegrityError InternalError ProgrammingError NotSupportedError STRING BINARY NUMBER DATETIME ROWID Date Time Timestamp
-DateFromTicks TimeFromTicks TimestampFromTicks Binary"""
+OperationalError IntegrityError InternalError ProgrammingError NotSupportedError STRING BINARY NUMBER
+DATETIME ROWID Date Time Timestamp DateFromTicks TimeFromTicks TimestampFromTicks Binary"""
 CONNECTION = """close commit rollback cursor Warning Error InterfaceError DatabaseError DataError OperationalError
 IntegrityError InternalError ProgrammingError NotSupportedError autocommit"""
 CURSOR = """description rowcount callproc close execute executemany fetchone fetchmany fetchall arraysize setinputsizes

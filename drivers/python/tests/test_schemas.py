@@ -4,6 +4,7 @@ import contextlib
 import io
 import os
 import signal
+import sqlite3
 import subprocess
 import sys
 import unittest
@@ -14,7 +15,7 @@ from piql.__main__ import main
 from piql.load import Loaded, load
 from piql.rebuild import Rebuilt, rebuild
 from piql.schema import Column, read_query, read_table
-from piql.stored import read_row
+from piql.stored import opened, read_row, read_stored_schema, stored_rows
 
 FIRST = """-- users and what they write
 CREATE TABLE users (name TEXT(20), town TEXT(30) NULL, PRIMARY KEY (name));
@@ -64,6 +65,30 @@ class ReadingTest(unittest.TestCase):
         for code in ("02 0000000000000007", "03 0000000000000007 0000 01 00"):
             with self.subTest(code), self.assertRaises(piql.InternalError):
                 read_row(COLUMNS, bytes.fromhex(code))
+
+
+class StoredTest(unittest.TestCase):
+    """A store's file, written by hand from docs/FORMATS.md."""
+
+    def test_a_file(self) -> None:
+        path = new_folder(self) / "store.db"
+        text = "CREATE TABLE t (a INT, b TEXT(9) NULL, c BOOL NULL, PRIMARY KEY (a));"
+        query = "PREPARE q AS SELECT t.a FROM t AS t WHERE t.a = [1];"
+        rows = [bytes.fromhex(code) for code, _ in CODES]
+        keys = ["0201107FFFFFFFFFFFFFFE", "0201108000000000000007", "0201108000000000000008"]
+        texts = {"010001": text, "010002": query}
+        pairs = [(bytes.fromhex(key), b"\1\0" + it.encode()) for key, it in texts.items()]
+        with contextlib.closing(sqlite3.connect(path)) as file:
+            file.execute("CREATE TABLE kv(k BLOB PRIMARY KEY, v BLOB NOT NULL)")
+            file.executemany("INSERT INTO kv VALUES (?, ?)", [*pairs, *zip(map(bytes.fromhex, keys), rows)])
+            file.execute("PRAGMA journal_mode = wal")
+            file.commit()
+        with opened(str(path)) as file:
+            schema = read_stored_schema(file)
+            self.assertEqual(list(schema.queries()), ["q"])
+            found = list(stored_rows(file, 1, schema.tables()["t"].columns))
+        self.assertEqual(found, [row for _, row in CODES])
+        self.assertEqual([it.name for it in path.parent.glob("*-shm")], [])
 
 
 @needs_file
