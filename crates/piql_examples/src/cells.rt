@@ -23,6 +23,11 @@ pub fn number_or(cells: &[&str], name: &str, default: u64) -> u64 {
     }
 }
 
+/// The same of 32 bits, and their greatest number where it is greater.
+pub fn small_number_or(cells: &[&str], name: &str, default: u32) -> u32 {
+    u32::try_from(number_or(cells, name, default as u64)).unwrap_or(u32::MAX)
+}
+
 fn digit_of(byte: u8) -> u8 {
     match byte {
         b'0'..=b'9' => byte.wrapping_sub(b'0'),

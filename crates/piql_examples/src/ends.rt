@@ -1,5 +1,5 @@
 //! How runs of any words over a new store end, whose reads and writes may fail.
-use crate::cells::{bytes_of, cell, number_or};
+use crate::cells::{bytes_of, cell, number_or, small_number_or};
 use crate::texts::Texts;
 use pq_base::{Bytes, List, NoMem, PText};
 use pq_shell::{MemSink, MemSource, Status};
@@ -9,7 +9,7 @@ use std::alloc::Global;
 use std::sync::ledger::Ledger;
 
 // The bytes that a sink has room for, where no cell says so.
-const ROOM: u64 = 4096;
+const ROOM: u32 = 4096;
 
 /// Whether a run ends as the cells say, which wrote this text: all of what they name, or so many bytes of it.
 pub fn ends_so(cells: &[&str], out: &[u8], status: Status, text: &[u8]) -> bool {
@@ -63,7 +63,7 @@ fn source_of(alloc: Global, cells: &[&str], script: &[u8]) -> Result<MemSource, 
 }
 
 fn sink_of(alloc: Global, cells: &[&str]) -> Result<MemSink, NoMem> {
-    let room = number_or(cells, "room=", ROOM) as u32;
+    let room = small_number_or(cells, "room=", ROOM);
     MemSink::new(alloc, room, fails_of(alloc, cells, "write=")?)
 }
 
@@ -117,7 +117,7 @@ pub fn is_crowded<L: Ledger>(
     texts: &Texts,
     meter: &mut Meter<L>,
 ) -> Result<bool, NoMem> {
-    let rows = number_or(cells, "rows=", 0) as u32;
+    let rows = small_number_or(cells, "rows=", 0);
     let mut store = MiscountStore::new(MemStore::new(alloc), rows);
     let (status, text) = run_script(alloc, texts.script.as_slice(), &mut store, meter)?;
     Ok(ends_so(cells, texts.out.as_slice(), status, text.as_slice()))
