@@ -1,8 +1,8 @@
-"""What each refusal means and the way out of it, read from REFUSALS.md, the document that lies in the package too."""
+"""What each refusal means and the way out of it, read from REFUSALS.md, which an installed package has beside it."""
 
 import re
 from functools import cache
-from importlib.resources import files
+from pathlib import Path
 from typing import NamedTuple
 
 from .scripts import Place, character_of
@@ -56,10 +56,18 @@ def read_rule(code: str, fields: str, text: str) -> Rule:
     return Rule(code, tuple(fields.lower().split()), headline, one_line(cause), way_out, cases)
 
 
+def document() -> str:
+    """REFUSALS.md: that of the installed package, or that of the checkout or release in which the package lies."""
+    here = Path(__file__).resolve()
+    installed = here.with_name("REFUSALS.md")
+    found = installed if installed.exists() else here.parents[3] / "docs" / "REFUSALS.md"
+    return found.read_text(encoding="utf-8")
+
+
 @cache
 def rules() -> dict[str, Rule]:
     """The rules of the document by their codes."""
-    text = files("piql").joinpath("REFUSALS.md").read_text(encoding="utf-8")
+    text = document()
     return {found[1]: read_rule(found[1], found[2], found[3]) for found in RULE.finditer(text)}
 
 
