@@ -141,7 +141,9 @@ class ExamplesTest(unittest.TestCase):
         page = b"RUN feed ('ann', 10) AFTER '%s';" % cursor[1]
         over_old, over_new = self.run_script(old, page), self.run_script(new, page)
         self.assertEqual(over_new, over_old)
-        self.assertIn(b"row 14, 'lima', 'cid', 'still no clouds'\n1 ok rows 1 ", over_new)
+        # the script wrote the thought of 15 behind its pages
+        rows = b"row 14, 'lima', 'cid', 'still no clouds'\nrow 15, 'oslo', 'bob', 'the sun'\n1 ok rows 2 "
+        self.assertIn(rows, over_new)
 
 
 if __name__ == "__main__":
