@@ -201,7 +201,8 @@ class SchemaTest(unittest.TestCase):
         words = [sys.executable, "-m", "piql", "load", str(self.path), "users"]
         environment = {**os.environ, "PYTHONPATH": str(TOP / "drivers/python")}
         mark = Path(f"{self.path}.users.load")
-        with source.open() as rows, subprocess.Popen(words, stdin=rows, env=environment) as first:
+        quiet = subprocess.DEVNULL
+        with source.open() as rows, subprocess.Popen(words, stdin=rows, stderr=quiet, env=environment) as first:
             while first.poll() is None and not (mark.exists() and mark.read_text() >= f"{5:020}"):
                 pass
             first.send_signal(signal.SIGKILL)
