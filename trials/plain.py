@@ -205,5 +205,6 @@ def random_query(chance: random.Random, size: int) -> Query:
         relations[alias] = table
     columns = [Column(alias, name) for alias, table in relations.items() for name in KEYS[table]]
     chance.shuffle(predicates)
-    order = [(column, chance.random() < 0.5) for column in chance.sample(columns, chance.choice([0, 0, 1, 2]))]
+    ordered = chance.sample(columns, min(chance.choice([0, 0, 1, 2]), len(columns)))
+    order = [(column, chance.random() < 0.5) for column in ordered]
     return Query(relations, chance.sample(columns, min(3, len(columns))), predicates[:16], order)
