@@ -2,8 +2,8 @@
 
    prepared GROUND QUERY VALUES
 
-   GROUND is a script, QUERY a SELECT with one parameter, VALUES has a value a line: a number or a text. It prints how many
-   rows came. */
+   GROUND is a script, QUERY a SELECT with one parameter, VALUES has a value a line: a number or a text. It prints how
+   many rows came. */
 
 #include <sqlite3.h>
 #include <stdio.h>

@@ -1,7 +1,7 @@
 """A store's file as scripts that make it again: all definitions in their order, and then the rows of each table.
 
-A table refers to earlier ones alone, so each row's parents come before it. The definitions keep their numbers, and so do
-the indexes, which are filled by the rows that follow: the new file has the same pairs, and cursors are good for both.
+A table refers to earlier ones alone, so each row's parents come before it. The definitions keep their numbers, and so
+do the indexes, which the rows then fill: the new file has the same pairs, and cursors are good for both.
 """
 
 import argparse

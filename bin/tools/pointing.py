@@ -44,7 +44,8 @@ def is_name(token: Token, name: str) -> bool:
 def name_of_table(found: Tokens, fields: Fields) -> Token | None:
     """The name where it is no alias of a column."""
     ends = [*found[1:], found[-1]]
-    return next((token for token, then in zip(found, ends) if is_name(token, fields[0]) and not then.is_mark(".")), None)
+    pairs = zip(found, ends)
+    return next((token for token, then in pairs if is_name(token, fields[0]) and not then.is_mark(".")), None)
 
 
 def name_of_column(found: Tokens, fields: Fields) -> Token | None:
@@ -113,7 +114,7 @@ def assigned(found: Tokens, name: str) -> Token | None:
 
 
 def misfit(found: Tokens, fields: Fields, columns: Sequence[str]) -> Token | None:
-    """The value of a column, in an UPDATE or DELETE, or in an INSERT by its place in a list of columns or of the table."""
+    """The value of a column: in an INSERT by its place in the list of columns, or else in the table."""
     name = fields[1]
     if not found[0].is_word("INSERT"):
         return assigned(found, name)

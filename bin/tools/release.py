@@ -1,7 +1,7 @@
 """A release: a tar with the proved programs, the commands over them, the Python package, documents and examples.
 
-It is made of what passed the gate: the programs are those that the gate has built, newer than all their sources, and the
-log of the test command ends with no failure and is newer than the programs.
+It is made of what passed the gate: the programs are those that the gate has built, newer than all their sources, and
+the log of the test command ends with no failure and is newer than the programs.
 """
 
 import argparse
@@ -24,8 +24,8 @@ PROGRAMS = ("piql", "piql_file")
 COMMANDS = ("piql", "piql_file", "tell", "dump", "piql-serve", "piql-shell")
 # What the commands of a release stand on. The test runs each command from a release.
 MODULES = "__init__ dump kept launch pointing programs repository shapes statuses tell versions words".split()
-FOLDERS = {"docs": "*.md", "examples": "*.*", "drivers/python/piql": "*", "site": "**/*"}
-FILES = ("README.md", "CHANGES.md", "drivers/python/pyproject.toml", "drivers/python/package.py")
+FOLDERS = {"docs": "*.md", "docs/scripts": "*", "examples": "*.*", "drivers/python/piql": "*", "site": "**/*"}
+FILES = ("README.md", "CHANGES.md", "CONTRIBUTING.md", "drivers/python/pyproject.toml", "drivers/python/package.py")
 PASSED = re.compile(r"[1-9][0-9]* passed, 0 failed")
 Contents = dict[str, tuple[bytes, int]]
 
@@ -105,12 +105,13 @@ def proved_programs(top: pathlib.Path) -> dict[str, pathlib.Path]:
     found = {name: proved_build(repository, name) for name in PROGRAMS}
     lacking = [name for name, program in found.items() if program is None]
     if lacking:
-        raise NoRelease(f"there is no proved build of these sources of {' and '.join(lacking)}; bin/test makes both")
+        names = " and ".join(lacking)
+        raise NoRelease(f"there is no proved build of these sources of {names}; bin/test makes both")
     return {name: program for name, program in found.items() if program is not None}
 
 
 def main(words: list[str]) -> int:
-    parser = argparse.ArgumentParser(prog="bin/release", description="A tar with what passed the gate, in out/release/.")
+    parser = argparse.ArgumentParser(prog="bin/release", description="Packs what passed the gate, in out/release/.")
     parser.add_argument("log", metavar="LOG", type=pathlib.Path, help="what bin/test wrote")
     given = parser.parse_args(words)
     try:

@@ -4,7 +4,7 @@ import unittest
 
 from made import Family, row_sets
 from queries import Column, Item, Parameter, Predicate, Query, Relation, Stop, Table
-from values import component, cursor, holds, order, row_code, written
+from values import component, cursor, holds, order, written
 
 COLUMNS = {"id": "INT", "p": "INT NULL", "tag": "TEXT(8) NULL"}
 ROWS = [{"id": 1, "p": None, "tag": None}, {"id": 2, "p": None, "tag": None}, {"id": 3, "p": 1, "tag": "a"}]
@@ -32,7 +32,6 @@ class Values(unittest.TestCase):
         self.assertEqual(component("a", True).hex(), "109efffe")
         self.assertEqual(component(False, True).hex(), "10ff")
         self.assertEqual(component(-(2**63), False).hex(), "100000000000000000")
-        self.assertEqual(row_code([1, None, "a"]).hex(), "43000000020000000000000001000161")
         self.assertEqual(cursor(2, [7, 2], [False, False]), "AQACEIAAAAAAAAAHEIAAAAAAAAAC")
 
 

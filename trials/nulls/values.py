@@ -65,23 +65,6 @@ def key_code(values: Sequence[Value], descending: Sequence[bool]) -> bytes:
     return b"".join(map(component, values, descending))
 
 
-def field(value: Value) -> bytes:
-    """A column's bytes in the code of a row."""
-    if value is None:
-        return b""
-    if isinstance(value, bool):
-        return bytes([value])
-    if isinstance(value, int):
-        return value.to_bytes(8, "big", signed=True)
-    return len(value.encode()).to_bytes(2, "big") + value.encode()
-
-
-def row_code(values: Sequence[Value]) -> bytes:
-    marks = sum(2**place for place, value in enumerate(values) if value is None)
-    front = bytes([len(values) + 0x40]) + marks.to_bytes(4, "big") if marks else bytes([len(values)])
-    return front + b"".join(map(field, values))
-
-
 def cursor(definition: int, values: Sequence[Value], descending: Sequence[bool]) -> str:
     """The text that stands for a position of the query with this number among the definitions."""
     code = b"\1" + definition.to_bytes(2, "big") + key_code(values, descending)

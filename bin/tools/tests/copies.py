@@ -1,4 +1,4 @@
-"""What tests of the commands share: a copy of the commands in a folder of their own, beside programs that a test gives."""
+"""What tests of the commands share: the commands in a folder of their own, beside programs that a test gives."""
 
 import os
 import pathlib

@@ -18,7 +18,7 @@ STATEMENTS = [
     ("CREATE TABLE a (id INT, mail VARCHAR(40)" + KEY, "E104", "VARCHAR", "TEXT(n)"),
     ("CREATE TABLE a (id INT, mail TEXT, n INT" + KEY, "E104", ",", "TEXT(n)"),
     ("CREATE TABLE a (id INT, mail TEXT(40) UNIQUE" + KEY, "E104", "UNIQUE", "CARDINALITY LIMIT 1"),
-    ("CREATE TABLE a (id INT, mail TEXT(40), PRIMARY KEY (id), UNIQUE (mail))", "E104", "UNIQUE", "CARDINALITY LIMIT 1"),
+    ("CREATE TABLE a (id INT, mail TEXT(9), PRIMARY KEY (id), UNIQUE (mail))", "E104", "UNIQUE", "CARDINALITY LIMIT 1"),
     ("CREATE TABLE a (id INT, made TIMESTAMP" + KEY, "E104", "TIMESTAMP", "seconds"),
     ("CREATE TABLE a (id INT, ok BOOLEAN" + KEY, "E104", "BOOLEAN", "BOOL"),
     ("CREATE TABLE a (id INT, price NUMERIC(10, 2)" + KEY, "E104", "NUMERIC", "cents"),

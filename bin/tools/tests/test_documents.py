@@ -15,8 +15,8 @@ from tools.tests.copies import Copy, built
 
 PIQL, PIQL_FILE = built("piql"), built("piql_file")
 PLACES = [str(pathlib.Path(sys.executable).parent), "/usr/bin", "/bin"]
-STATEMENT = re.compile(r"(CREATE|INSERT|UPDATE|DELETE|SELECT|PREPARE|RUN|EXPLAIN|SHOW|ALTER|DROP|TRUNCATE|COPY|BEGIN) ?")
-WHOLE = re.compile(r"(CREATE|INSERT|UPDATE|DELETE|PREPARE|RUN|EXPLAIN|SHOW) ?")
+WHOLE = re.compile(r"(CREATE|INSERT|UPDATE|DELETE|PREPARE|RUN|EXPLAIN|SHOW)\b")
+STATEMENT = re.compile(WHOLE.pattern + r"|(SELECT|ALTER|DROP|TRUNCATE|COPY|BEGIN)\b")
 CODE = re.compile(r"`([^`]*)`")
 END = re.compile(r"^(\d+) (ok|refused)", re.MULTILINE)
 
@@ -28,10 +28,10 @@ class ShownTest(unittest.TestCase):
         for shown, printed in ((["a"], ["b"]), (["a", "..", "d"], ["a", "d", "e"]), ([".."], []), (["a"], [])):
             self.assertEqual(is_shown(shown, printed), shown == [".."])
 
-    def test_the_tutorial_shows_its_program(self) -> None:
+    def test_python_stands_in_a_file(self) -> None:
         files = [path.read_text() for path in (TOP / "docs/scripts").glob("*.py")]
-        found = list(blocks(TOP / "docs/TUTORIAL.md", "python"))
-        self.assertEqual(len(found), 2)
+        found = [block for document in documents() for block in blocks(document, "python")]
+        self.assertGreater(len(found), 2)
         for block in found:
             self.assertTrue(any(block.text in text for text in files), block.place)
 

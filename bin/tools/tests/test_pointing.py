@@ -5,7 +5,10 @@ import unittest
 from piql.scripts import tokens
 from tools.pointing import pointed
 
-TABLE = "CREATE TABLE t (a INT, b TEXT(1001), c INT, a INT, PRIMARY KEY (b, b), CARDINALITY LIMIT 0 (c), FOREIGN KEY (c) REFERENCES u);"
+TABLE = (
+    "CREATE TABLE t (a INT, b TEXT(1001), c INT, a INT, PRIMARY KEY (b, b),"
+    " CARDINALITY LIMIT 0 (c), FOREIGN KEY (c) REFERENCES u);"
+)
 QUERY = "PREPARE q AS SELECT x.a, b FROM t AS x JOIN u AS x, w WHERE x.a = 1 AND b = [1] ORDER BY a, a LIMIT 1001;"
 RUN = "RUN q (7, 'x') AFTER 'AQ';"
 INSERT = "INSERT INTO t VALUES (7, 'x', TRUE);"
@@ -59,7 +62,7 @@ class PointingTest(unittest.TestCase):
                     self.assertTrue(statement[: token.start].endswith(before))
 
     def test_what_names_no_token_has_none(self) -> None:
-        for refusal in ("E305 10101 1010100", "E506 t 1", "E207 t", "E302 9", "E205 9", "E206 limit_columns", "E501 u z"):
+        for refusal in ("E305 10101 1010100", "E506 t 1", "E207 t", "E302 9", "E205 9", "E206 limits", "E501 u z"):
             code, *fields = refusal.split(" ")
             self.assertIsNone(pointed(code, tuple(fields), tokens(QUERY), []), refusal)
 

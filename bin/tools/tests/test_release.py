@@ -1,4 +1,4 @@
-"""Tests of a release: what it has, when there is none, and that it runs where there is neither sources nor toolchain."""
+"""Tests of a release: what it has, when there is none, and that it runs without sources and toolchain."""
 
 import hashlib
 import os
@@ -67,6 +67,11 @@ class ContentsTest(unittest.TestCase):
     def test_the_same_is_packed_in_the_same_bytes(self) -> None:
         found = release.contents(TOP, {}, GATE)
         self.assertEqual(release.pack(found, "a", 1), release.pack(dict(reversed(found.items())), "a", 1))
+
+    def test_the_first_page_leads_to_what_is_there(self) -> None:
+        for path in re.findall(r"\]\(([^)#:]*)", (self.release.top / "README.md").read_text()):
+            self.assertTrue((self.release.top / path).exists(), path)
+        self.assertTrue((self.release.top / "docs/scripts/board.piql").exists())
 
     def test_each_command_has_its_modules(self) -> None:
         for name in release.COMMANDS:

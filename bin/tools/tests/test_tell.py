@@ -69,7 +69,9 @@ NAME:7: statement 7 is refused: E102
 
 7 statements, 2 refused
 """
-HEAD = re.compile(r"^\S+:(\d+): statement (\d+) is refused: (E\d\d\d)[^\n]*\n *\d+ \| ([^\n]*)\n {7}\| ( *)\^\n", re.MULTILINE)
+HEAD = re.compile(
+    r"^\S+:(\d+): statement \d+ is refused: (E\d\d\d)[^\n]*\n *\d+ \| ([^\n]*)\n {7}\| ( *)\^\n", re.MULTILINE
+)
 
 
 def run_tell(*words: pathlib.Path | str) -> subprocess.CompletedProcess[str]:
@@ -121,11 +123,12 @@ class PostgresTest(unittest.TestCase):
         line = TABLES.count("\n") + 1
         for head, end, (statement, code, token, way) in zip(heads, ends, STATEMENTS):
             with self.subTest(statement):
-                number, _, told_code, source, blanks = head.groups()
+                number, told_code, source, blanks = head.groups()
+                at_caret = source[len(blanks) :]
                 self.assertEqual(told_code, code)
                 self.assertIn(int(number), range(line, line + statement.count("\n") + 1))
                 self.assertIn(source, text.split("\n")[int(number) - 1].replace("\u00a0", "\ufffd"))
-                self.assertTrue(source[len(blanks) :].startswith(token.replace("\u00a0", "\ufffd")), source[len(blanks) :])
+                self.assertTrue(at_caret.startswith(token.replace("\u00a0", "\ufffd")), at_caret)
                 self.assertIn(way, " ".join(self.told[head.end() : end].partition("way out: ")[2].split()))
             line += statement.count("\n") + 1
         self.assertTrue(self.told.endswith(f"\n{len(STATEMENTS) + 2} statements, {len(STATEMENTS)} refused\n"))

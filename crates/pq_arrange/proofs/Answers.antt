@@ -1,6 +1,6 @@
 -- Without a stop an arranged query has the same rows for an answer.
-use Rattle.std.proofs.Common.{◌≡◌, ℕ, true, false, List, [], ◌∷◌, length, get_or, map, Option, IsPermutation, refl, sym, ap, ◌∙◌, subst, arith}
-use Rattle.std.specs.List.{range_with_len}
+use Rattle.std.proofs.Common.{◌≡◌, ℕ, zero, suc, true, false, List, [], ◌∷◌, ◌++◌, filter, flat_map, length, get_or, map, Option, IsPermutation, refl, sym, ap, ◌∙◌, subst, arith}
+use Rattle.std.specs.List.{range_with_len, list_all}
 use Rattle.std.proofs.lemmas.List.Sorted.{IsPermutation-refl, IsPermutation-sym, IsPermutation-trans, IsPermutation-map}
 use Rattle.pq_base.specs.declared.value.Value.{Value}
 use Rattle.pq_base.proofs.Sorts.{IsPermutation-sort_by}
@@ -9,17 +9,18 @@ use Rattle.pq_schema.specs.declared.query.Query.{Query}
 use Rattle.pq_schema.specs.declared.query.Stop.TheVariants as stop
 use Rattle.pq_schema.specs.Resolved.{IsResolved, IsColumnOf}
 use Rattle.pq_schema.specs.Candidates.{stop_size}
-use Rattle.pq_plan.specs.Answer.{Question, combos, row_of, no_value, values_at, selected_values, by_position, position, stopped, whole, answer}
+use Rattle.pq_schema.specs.declared.table.Table.{Table}
+use Rattle.pq_plan.specs.Answer.{Question, question, product, rows_at, holds, combos, row_of, no_value, values_at, selected_values, by_position, position, stopped, whole, answer}
 use Rattle.pq_base.proofs.Members.{range_in, all_member}
 use Rattle.pq_arrange.specs.Moves.{move, permuted_combo}
 use Rattle.pq_arrange.specs.Placing.{arranged_order}
-use Rattle.pq_arrange.specs.Arrange.{rearranged_query}
+use Rattle.pq_arrange.specs.Arrange.{rearranged_query, arranged_query}
 use Rattle.pq_arrange.specs.Laws.{IsOrderOf, SameAnswers}
 use Rattle.pq_arrange.proofs.Moved.{row_moved}
 use Rattle.pq_arrange.proofs.Products.{map_same}
 use Rattle.pq_arrange.proofs.Reordered.{in_permuted}
 use Rattle.pq_arrange.proofs.Placed.{is_order}
-use Rattle.pq_arrange.proofs.Arranges.{by_cases, same_rearranged}
+use Rattle.pq_arrange.proofs.Arranges.{by_cases, same_rearranged, arranged_resolved}
 
 map_map : {A B C : Type 0} (f : B → C) (g : A → B) (xs : List A) → map f (map g xs) ≡ map (λ x. f (g x)) xs
 map_map f g [] = refl
@@ -57,10 +58,42 @@ same_rows q r e after order p other same chosen h =
     (IsPermutation-sym rows (answer q.tables q.query q.rows q.params after) (answer_rows q e after))
     (IsPermutation-trans rows rows' (answer q.tables other q.rows q.params after) between (answer_rows q' (same ∙ e) after))
 
-pub same_answers : SameAnswers
-same_answers q r e after =
+-- over the tables of the question
+same_here : (q : Question) → IsResolved q.tables q.query → q.query.stop ≡ stop.All → (after : Option (List Value)) →
+    IsPermutation (answer q.tables q.query q.rows q.params after) (answer q.tables (arranged_query q.tables q.query) q.rows q.params after)
+same_here q r e after =
     by_cases (λ other. IsPermutation (answer q.tables q.query q.rows q.params after) (answer q.tables other q.rows q.params after)) q.tables q.query
     (λ _. IsPermutation-refl (answer q.tables q.query q.rows q.params after))
     (λ _ _. same_rows q r e after (arranged_order q.tables q.query false) (is_order q.tables q.query false) (rearranged_query q.tables q.query false) refl refl (same_rearranged q r false))
     (λ _ _ _. same_rows q r e after (arranged_order q.tables q.query true) (is_order q.tables q.query true) (rearranged_query q.tables q.query true) refl refl (same_rearranged q r true))
     (λ _ _ _. IsPermutation-refl (answer q.tables q.query q.rows q.params after))
+
+-- the rows of an answer are those of the combinations, in which the tables' columns and indexes play no part
+module _ (before now : List Table) (query : Query) (rows : List (ℕ × List Value)) (params : List Value) where
+  abbrev earlier : Question
+  earlier = question before query rows params
+
+  abbrev later : Question
+  later = question now query rows params
+
+  same_product : (n : ℕ) → product earlier n ≡ product later n
+  same_product zero = refl
+  same_product (suc n) = ap (flat_map (λ combo. map (λ row. combo ++ row ∷ []) (rows_at earlier (suc n)))) (same_product n)
+
+  same_combos : combos earlier ≡ combos later
+  same_combos = ap (filter (λ combo. list_all (holds params combo) query.preds)) (same_product (length query.relations))
+
+  same_anywhere : query.stop ≡ stop.All → (after : Option (List Value)) → IsPermutation (answer before query rows params after) (answer now query rows params after)
+  same_anywhere e after =
+      let found : List (List Value) = map (selected_values query) (combos later) in
+      let first : IsPermutation found (answer before query rows params after) = subst (λ (c : List (List (List Value))). IsPermutation (map (selected_values query) c) (answer before query rows params after)) same_combos (answer_rows earlier e after) in
+      IsPermutation-trans (answer before query rows params after) found (answer now query rows params after)
+      (IsPermutation-sym found (answer before query rows params after) first) (answer_rows later e after)
+
+pub same_answers : SameAnswers
+same_answers tables query r e now rows params after =
+    let taken : Query = arranged_query tables query in
+    let stop_is : taken.stop ≡ stop.All = (arranged_resolved tables query r).stop ∙ e in
+    IsPermutation-trans (answer now query rows params after) (answer tables query rows params after) (answer now taken rows params after) (same_anywhere now tables query rows params e after)
+    (IsPermutation-trans (answer tables query rows params after) (answer tables taken rows params after) (answer now taken rows params after) (same_here (question tables query rows params) r e after)
+    (same_anywhere tables now taken rows params stop_is after))

@@ -15,7 +15,8 @@ use Rattle.pq_base.proofs.Members.{in_filter, in_map, all_member, range_in}
 use Rattle.pq_arrange.specs.Moves.{permuted_combo, reordered_query, move_pred, order_place}
 use Rattle.pq_arrange.specs.Classes.{closed_query}
 use Rattle.pq_arrange.specs.Placing.{arranged_order}
-use Rattle.pq_arrange.specs.Arrange.{rearranged_query, has_candidate, arranged_query}
+use Rattle.pq_stop_push.specs.Having.{has_candidate}
+use Rattle.pq_arrange.specs.Arrange.{rearranged_query, arranged_query}
 use Rattle.pq_arrange.specs.Laws.{IsOrderOf, asked_in, SameRearranged, SameArranged, LeavesPlanned, FindsCandidate, ArrangedOnce, RowsByPlaces, IsSuccessor, RearrangedResolved, ArrangedResolved}
 use Rattle.pq_arrange.proofs.Assigned.{assigned}
 use Rattle.pq_arrange.proofs.Moved.{IsAmong, row_moved}

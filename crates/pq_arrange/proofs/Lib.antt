@@ -9,6 +9,7 @@ pub mod Chains
 pub mod Closes
 pub mod Arranges
 pub mod Answers
+pub mod Choosing
 pub mod Fewer
 pub mod Counted
 pub mod ClosedQuery

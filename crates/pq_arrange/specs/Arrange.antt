@@ -2,7 +2,7 @@
 use Rattle.std.specs.Prelude.{Bool, true, false, List, [], ◌∷◌, find, unwrap_or}
 use Rattle.pq_schema.specs.declared.table.Table.{Table}
 use Rattle.pq_schema.specs.declared.query.Query.{Query}
-use Rattle.pq_schema.specs.Candidates.{Candidate, candidates}
+use Rattle.pq_stop_push.specs.Having.{has_candidate}
 use Rattle.pq_arrange.specs.Moves.{reordered_query}
 use Rattle.pq_arrange.specs.Classes.{closed_query}
 use Rattle.pq_arrange.specs.Placing.{arranged_order}
@@ -11,13 +11,6 @@ use Rattle.pq_arrange.specs.Placing.{arranged_order}
 abbrev pub rearranged_query : List Table → Query → Bool → Query
 rearranged_query tables query false = reordered_query (arranged_order tables query false) query
 rearranged_query tables query true = closed_query tables (reordered_query (arranged_order tables query true) query)
-
-abbrev pub is_some_list : List Candidate → Bool
-is_some_list [] = false
-is_some_list (c ∷ cs) = true
-
-abbrev pub has_candidate : List Table → Query → Bool
-has_candidate tables query = is_some_list (candidates tables query)
 
 -- the first of the query, of it rearranged, and of it rearranged and closed, that has a candidate
 abbrev pub arranged_query : List Table → Query → Query

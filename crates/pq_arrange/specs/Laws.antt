@@ -15,7 +15,8 @@ use Rattle.pq_plan.specs.Answer.{Question, combos, row_of, answer}
 use Rattle.pq_arrange.specs.Moves.{reordered_query, permuted_combo, places}
 use Rattle.pq_arrange.specs.Classes.{class_of, closed_query}
 use Rattle.pq_arrange.specs.Placing.{arranged_order}
-use Rattle.pq_arrange.specs.Arrange.{rearranged_query, has_candidate, arranged_query}
+use Rattle.pq_stop_push.specs.Having.{has_candidate}
+use Rattle.pq_arrange.specs.Arrange.{rearranged_query, arranged_query}
 
 -- an order of the relations 1 to m
 abbrev pub IsOrderOf : Query → List ℕ → Type 0
@@ -121,9 +122,10 @@ abbrev pub ArrangedResolved : Type 0
 ArrangedResolved = (tables : List Table) (query : Query) → IsResolved tables query
     → IsSuccessor tables query (arranged_query tables query)
 
--- without LIMIT and PAGINATE the arranged query has the same rows for an answer, each as often
+-- without LIMIT and PAGINATE the arranged query has the same rows for an answer, each as often, also over the tables
+-- of later
 abbrev pub SameAnswers : Type 0
 SameAnswers =
-    (q : Question) → IsResolved q.tables q.query → q.query.stop ≡ stop.All → (after : Option (List Value)) →
-    IsPermutation (answer q.tables q.query q.rows q.params after)
-    (answer q.tables (arranged_query q.tables q.query) q.rows q.params after)
+    (tables : List Table) (query : Query) → IsResolved tables query → query.stop ≡ stop.All → (now : List Table)
+    (rows : List (ℕ × List Value)) (params : List Value) (after : Option (List Value)) →
+    IsPermutation (answer now query rows params after) (answer now (arranged_query tables query) rows params after)

@@ -1,7 +1,8 @@
 //! The query that is planned in place of a query.
-ghost use Rattle.std.specs.Prelude.{◌≡◌, ◌≤◌, All, IfOk, length};
+ghost use Rattle.std.specs.Prelude.{◌≡◌, ◌∷◌, [], ◌≤◌, All, IfOk, find, length, true, false};
 ghost use Rattle.pq_schema.specs.Resolved.{IsResolved};
-ghost use Rattle.pq_arrange.specs.Arrange.{rearranged_query};
+ghost use Rattle.pq_stop_push.specs.Having.{has_candidate};
+ghost use Rattle.pq_arrange.specs.Arrange.{arranged_query, rearranged_query};
 ghost use Rattle.pq_arrange.specs.Moves.{places};
 ghost use Rattle.pq_arrange.specs.Placing.{arranged_order};
 
@@ -11,6 +12,7 @@ use crate::moves::{places, reordered};
 use crate::placing::Placing;
 use pq_base::{List, NoMem};
 use pq_schema::{Catalog, Query};
+use pq_stop_push::has_candidate;
 use std::alloc::Global;
 
 /// A query with its relations in another order.
@@ -81,4 +83,47 @@ pub fn rearrange(
     let query = moved_by(alloc, catalog, query, order.items(), close)?;
     let places = places(alloc, order.items())?;
     Ok(Rearranged { query, places })
+}
+
+/// Whether a query that reading gives has a candidate.
+#[tactic(auto, using(pq_schema::proofs::Soundness::valid_query))]
+fn is_bounded(catalog: &Catalog, query: &Query) -> bool
+    requires { IsResolved catalog.now.tables query.now }
+    ensures { result ≡ has_candidate catalog.now.tables query.now }
+{
+    catalog.known();
+    has_candidate(catalog, query)
+}
+
+/// The query rearranged, or rearranged and closed: the first that has a candidate.
+fn bounded(alloc: Global, catalog: &Catalog, query: &Query) -> Result<Option<Query>, NoMem>
+    requires { IsResolved catalog.now.tables query.now }
+    ensures { IfOk result (λ found. found ≡ find (has_candidate catalog.now.tables)
+        (rearranged_query catalog.now.tables query.now false ∷ rearranged_query catalog.now.tables query.now true
+        ∷ [])) }
+{
+    let plain = rearrange(alloc, catalog, query, false)?.query;
+    if is_bounded(catalog, &plain) {
+        return Ok(Some(plain));
+    }
+    let closed = rearrange(alloc, catalog, query, true)?.query;
+    if is_bounded(catalog, &closed) {
+        return Ok(Some(closed));
+    }
+    Ok(None)
+}
+
+/// The query that is planned in place of a query: itself where it has a candidate, else it rearranged, else
+/// it rearranged and closed; and itself where none of these has one.
+pub fn arranged(alloc: Global, catalog: &Catalog, query: Query) -> Result<Query, NoMem>
+    requires { IsResolved catalog.now.tables query }
+    ensures { IfOk result (λ found. found ≡ arranged_query catalog.now.tables query) }
+{
+    if is_bounded(catalog, &query) {
+        return Ok(query);
+    }
+    match bounded(alloc, catalog, &query)? {
+        None => Ok(query),
+        Some(found) => Ok(found),
+    }
 }

@@ -9,4 +9,4 @@ mod moves;
 mod numbers;
 mod placing;
 
-pub use arrange::{Rearranged, rearrange};
+pub use arrange::{Rearranged, arranged, rearrange};

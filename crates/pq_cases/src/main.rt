@@ -83,6 +83,7 @@ fn put_over(alloc: Global, catalog: &Catalog, cells: &Cells, out: &mut Bytes) ->
         "query" | "rearranged" | "compiled" | "candidates" | "limit" => {
             queries::query(alloc, catalog, cells, out)
         }
+        "arranged" => queries::arranged(alloc, catalog, cells, out),
         _ => put_texts(alloc, cells, out),
     }
 }

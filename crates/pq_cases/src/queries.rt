@@ -79,6 +79,31 @@ fn put_rearranged(
     put_query(alloc, catalog, &found.query, out)
 }
 
+fn put_arranged(
+    alloc: Global,
+    catalog: &Catalog,
+    query: Query,
+    out: &mut Bytes,
+) -> Result<(), NoMem>
+    requires { IsResolved catalog.now.tables query }
+{
+    let found = pq_arrange::arranged(alloc, catalog, query)?;
+    put_query(alloc, catalog, &found, out)
+}
+
+/// The text of the query that is planned in place of the query.
+pub fn arranged(
+    alloc: Global,
+    catalog: &Catalog,
+    cells: &Cells,
+    out: &mut Bytes,
+) -> Result<(), NoMem> {
+    match read(alloc, catalog, cells.text(0)) {
+        Ok(query) => put_arranged(alloc, catalog, query, out),
+        Err(stopped) => put_stopped(alloc, stopped, out),
+    }
+}
+
 fn put_choice(alloc: Global, choice: Choice, out: &mut Bytes) -> Result<(), NoMem> {
     match choice {
         Choice::Whole => put_word(alloc, "whole", out),

@@ -16,7 +16,7 @@ use Rattle.pq_index_keep.specs.declared.write.Write.{Write}
 use Rattle.pq_query_read.specs.Trying.{◌>>=◌, passed_unless}
 use Rattle.pq_session.specs.Actions.{Action, Explains, Prepares, Writes, asked_by, action_from}
 use Rattle.pq_session.specs.Planned.{IsPlanned}
-use Rattle.pq_session.specs.Planning.{PlannedDefinition, plan_from, as_it_is, definable, prepared_from, explained_name, explained_from}
+use Rattle.pq_session.specs.Planning.{PlannedDefinition, arranged_from, as_it_is, definable, prepared_from, explained_name, explained_from}
 use Rattle.pq_session.specs.Requests.{IsDefinable, IsPlannedAs}
 use Rattle.pq_session.specs.declared.planning.PlannedQuery.{PlannedQuery}
 
@@ -48,11 +48,11 @@ module _ (schema : Schema) (name text : List ℕ) (tokens : List Token) (from : 
   free_plan : (plan : PlannedDefinition) → definition_refusal schema plan.query.name ≡ None → definable schema plan ≡ Ok plan
   free_plan plan free = ap (λ (o : Option Refusal). passed_unless o >>= as_it_is plan) free
 
-  prepared_free : (plan : PlannedDefinition) → plan_from schema name text tokens from ≡ Ok plan → definition_refusal schema plan.query.name ≡ None → prepared_from schema name text tokens from ≡ Ok plan
+  prepared_free : (plan : PlannedDefinition) → arranged_from schema name text tokens from ≡ Ok plan → definition_refusal schema plan.query.name ≡ None → prepared_from schema name text tokens from ≡ Ok plan
   unfolding prepared_from
   prepared_free plan is free = ap (λ (p : Result PlannedDefinition Refusal). p >>= definable schema) is ∙ free_plan plan free
 
-  pub prepares : (computed : PlannedQuery) → IsPlanned schema name text tokens from computed → definition_refusal schema computed.query.name ≡ None
+  pub prepares : (computed : PlannedQuery) → IsPlanned schema name (arranged_from schema name text tokens from) computed → definition_refusal schema computed.query.name ≡ None
       → IsPlannedAs Prepares (action_from Prepares (prepared_from schema name text tokens from)) computed
   prepares computed is free = record {
     plan = is.plan;
@@ -60,25 +60,25 @@ module _ (schema : Schema) (name text : List ℕ) (tokens : List Token) (from : 
     asks = ap (action_from Prepares) (prepared_free is.plan is.is (ap (λ (q : Query). definition_refusal schema q.name) is.plan_is.query ∙ free));
   }
 
-  pub may_be_defined : (computed : PlannedQuery) → IsName name → IsPlanned schema name text tokens from computed → definition_refusal schema computed.query.name ≡ None → IsDefinable schema computed
+  pub may_be_defined : (computed : PlannedQuery) → IsName name → IsPlanned schema name (arranged_from schema name text tokens from) computed → definition_refusal schema computed.query.name ≡ None → IsDefinable schema computed
   may_be_defined computed named is free = record { name = subst IsName (sym is.named) named; computed_is = is.computed_is; free = free }
 
   -- and one that is refused
-  definition_refused : (plan : PlannedDefinition) (why : Refusal) → plan_from schema name text tokens from ≡ Ok plan → definition_refusal schema plan.query.name ≡ Some why → prepared_from schema name text tokens from ≡ Err why
+  definition_refused : (plan : PlannedDefinition) (why : Refusal) → arranged_from schema name text tokens from ≡ Ok plan → definition_refusal schema plan.query.name ≡ Some why → prepared_from schema name text tokens from ≡ Err why
   unfolding prepared_from
   definition_refused plan why is refused =
       ap (λ (p : Result PlannedDefinition Refusal). p >>= definable schema) is ∙ ap (λ (o : Option Refusal). passed_unless o >>= as_it_is plan) refused
 
-  plan_refused : (why : Refusal) → plan_from schema name text tokens from ≡ Err why → prepared_from schema name text tokens from ≡ Err why
+  plan_refused : (why : Refusal) → arranged_from schema name text tokens from ≡ Err why → prepared_from schema name text tokens from ≡ Err why
   unfolding prepared_from
   plan_refused why is = ap (λ (p : Result PlannedDefinition Refusal). p >>= definable schema) is
 
   -- a call that stops for one of them
-  pub stopped_plan : (stopped : Stopped) → Refuses {A = PlannedDefinition} stopped (plan_from schema name text tokens from) → Refuses {A = PlannedDefinition} stopped (prepared_from schema name text tokens from)
+  pub stopped_plan : (stopped : Stopped) → Refuses {A = PlannedDefinition} stopped (arranged_from schema name text tokens from) → Refuses {A = PlannedDefinition} stopped (prepared_from schema name text tokens from)
   stopped_plan (Refused why) is = plan_refused why is
   stopped_plan NoMem is = tt
 
-  pub stopped_definition : (computed : PlannedQuery) → IsPlanned schema name text tokens from computed
+  pub stopped_definition : (computed : PlannedQuery) → IsPlanned schema name (arranged_from schema name text tokens from) computed
       → (stopped : Stopped) → Passes {A = Unit {0}} (Err stopped) (definition_refusal schema computed.query.name) → Refuses {A = PlannedDefinition} stopped (prepared_from schema name text tokens from)
   stopped_definition computed is (Refused why) refused =
       definition_refused is.plan why is.is (ap (λ (q : Query). definition_refusal schema q.name) is.plan_is.query ∙ refused)
@@ -87,10 +87,10 @@ module _ (schema : Schema) (name text : List ℕ) (tokens : List Token) (from : 
 -- ---- EXPLAIN
 
 module _ (schema : Schema) (text : List ℕ) (tokens : List Token) (from : ℕ) where
-  pub explains : (computed : PlannedQuery) → IsPlanned schema explained_name text tokens from computed → IsPlannedAs Explains (action_from Explains (explained_from schema text tokens from)) computed
+  pub explains : (computed : PlannedQuery) → IsPlanned schema explained_name (arranged_from schema explained_name text tokens from) computed → IsPlannedAs Explains (action_from Explains (explained_from schema text tokens from)) computed
   unfolding explained_from
   explains computed is = record { plan = is.plan; plan_is = is.plan_is; asks = ap (action_from Explains) is.is }
 
-  pub stopped_explained : (stopped : Stopped) → Refuses {A = PlannedDefinition} stopped (plan_from schema explained_name text tokens from) → Refuses {A = PlannedDefinition} stopped (explained_from schema text tokens from)
+  pub stopped_explained : (stopped : Stopped) → Refuses {A = PlannedDefinition} stopped (arranged_from schema explained_name text tokens from) → Refuses {A = PlannedDefinition} stopped (explained_from schema text tokens from)
   unfolding explained_from
   stopped_explained stopped is = is

@@ -1,3 +1,4 @@
+pub mod Arranging
 pub mod Asked
 pub mod Building
 pub mod Built
@@ -28,3 +29,4 @@ pub mod Texts
 pub mod Unique
 pub mod Writing
 pub mod Within
+pub mod Written

@@ -175,7 +175,7 @@ read_from r s ps a tells is blank =
     ap (λ (x : Schema). added_from (x, Ready) ps) (sym blank) ∙ at
 
 -- what a planned query adds
-pub planned_adds : (schema : Schema) (name text : List ℕ) (tokens : List Token) (from : ℕ) (computed : PlannedQuery) → IsPlanned schema name text tokens from computed
+pub planned_adds : (schema : Schema) (name text : List ℕ) (tokens : List Token) (from : ℕ) (computed : PlannedQuery) → IsPlanned schema name (plan_from schema name text tokens from) computed
     → with_planned schema (plan_from schema name text tokens from) ≡ result_ok (new_query schema computed.query computed.compiled.wanted)
 planned_adds schema name text tokens from computed is =
     ap (with_planned schema) is.is ∙ (λ i. result_ok (new_query schema (is.plan_is.query i) (is.plan_is.wanted i)))

@@ -21,7 +21,7 @@ use Rattle.pq_query_read.specs.declared.select.SelectDef.{SelectDef}
 use Rattle.pq_reread.specs.WholeStatements.{WholeStatement, Prepares as PreparesQuery, Explains as ExplainsQuery, SpellsWhole, with_query_read, whole_of}
 use Rattle.pq_reread.proofs.WholeStatements.{whole_is_spelled, spelled_is_whole, whole_stops}
 use Rattle.pq_session.specs.Actions.{Action, Prepares, Explains, action_from, asked_by, asked_text}
-use Rattle.pq_session.specs.Planning.{plan_of, definable, plan_from, prepared_from, explained_from, explained_name}
+use Rattle.pq_session.specs.Planning.{arranged_plan, definable, arranged_from, prepared_from, explained_from, explained_name}
 use Rattle.pq_session.specs.Spelling.{asked_whole, SpellsNone}
 use Rattle.pq_session.proofs.Statements.{asked_read, not_read}
 
@@ -41,14 +41,14 @@ module _ (schema : Schema) (text : List ℕ) where
   -- a query that was read is planned as its definition says, and one that was not gives the place
   prepared_select : (name : List ℕ) (read : Result SelectDef ℕ)
       → action_from Prepares (((or_syntax text tokens read >>= resolved_select schema name)
-      >>= plan_of schema.tables) >>= definable schema)
+      >>= arranged_plan schema.tables) >>= definable schema)
       ≡ asked_from (bind read (λ def. Ok (PreparesQuery name def)))
   prepared_select name (Ok def) = refl
   prepared_select name (Err left) = refl
 
   explained_select : (read : Result SelectDef ℕ)
       → action_from Explains ((or_syntax text tokens read >>= resolved_select schema explained_name)
-      >>= plan_of schema.tables)
+      >>= arranged_plan schema.tables)
       ≡ asked_from (bind read (λ def. Ok (ExplainsQuery def)))
   explained_select (Ok def) = refl
   explained_select (Err left) = refl
@@ -56,7 +56,7 @@ module _ (schema : Schema) (text : List ℕ) where
   -- a head asks for what it and the query behind it say
   asked_with : (read : Statement)
       → asked_by schema text tokens read ≡ asked_from (with_query_read (shapes_of text tokens) read)
-  unfolding prepared_from explained_from plan_from read_query_of
+  unfolding prepared_from explained_from arranged_from read_query_of
   asked_with (statement.Prepare name from) = prepared_select name (select_at (drop from (shapes_of text tokens)))
   asked_with (statement.Explain from) = explained_select (select_at (drop from (shapes_of text tokens)))
   asked_with (statement.Create def) = refl

@@ -21,3 +21,4 @@ pub mod Spelling
 pub mod Stands
 pub mod Step
 pub mod Within
+pub mod Written

@@ -1,12 +1,12 @@
 -- A query and its plan as they are computed.
-use Rattle.std.specs.Prelude.{◌≡◌, ℕ, List, Ok}
+use Rattle.std.specs.Prelude.{◌≡◌, ℕ, List, Result, Ok}
+use Rattle.pq_base.specs.declared.refusal.Refusal.{Refusal}
 use Rattle.pq_schema.specs.Resolved.{IsResolved}
 use Rattle.pq_schema.specs.Schema.{Schema}
 use Rattle.pq_schema.specs.declared.table.Table.{Table}
-use Rattle.pq_text.specs.declared.token.Token.{Token}
 use Rattle.pq_plan.specs.Cost.{cost}
 use Rattle.pq_compile.specs.Chosen.{IsCompiled}
-use Rattle.pq_session.specs.Planning.{PlannedDefinition, plan_from}
+use Rattle.pq_session.specs.Planning.{PlannedDefinition}
 use Rattle.pq_session.specs.declared.planning.PlannedQuery.{PlannedQuery}
 
 -- the query, its candidate with that one's bound, and the index that it wants, as the plan has them
@@ -21,11 +21,11 @@ pub record IsComputed (tables : List Table) (computed : PlannedQuery) : Type 0 w
   pub resolved : IsResolved tables computed.query
   pub compiled : IsCompiled tables computed.query computed.compiled
 
--- the query of this name that the tokens spell, with the plan of its least candidate
-pub record IsPlanned (schema : Schema) (name text : List ℕ) (tokens : List Token) (from : ℕ)
+-- a query of this name that was found, with the plan of its least candidate
+pub record IsPlanned (schema : Schema) (name : List ℕ) (found : Result PlannedDefinition Refusal)
     (computed : PlannedQuery) : Type 0 where
   pub named : computed.query.name ≡ name
   pub computed_is : IsComputed schema.tables computed
   pub plan : PlannedDefinition
   pub plan_is : IsPlanOf computed plan
-  pub is : plan_from schema name text tokens from ≡ Ok plan
+  pub is : found ≡ Ok plan

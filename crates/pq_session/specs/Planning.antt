@@ -1,5 +1,5 @@
 -- A query that a text spells, with the least of its candidates.
-use Rattle.std.specs.Prelude.{ℕ, List, codes, Option, Result, Ok}
+use Rattle.std.specs.Prelude.{◌≡◌, ℕ, false, true, List, codes, Option, Result, Ok}
 use Rattle.pq_base.specs.declared.refusal.Refusal.{Refusal}
 use Rattle.pq_schema.specs.Candidates.{Candidate}
 use Rattle.pq_schema.specs.Definitions.{definition_refusal}
@@ -11,6 +11,8 @@ use Rattle.pq_schema.specs.declared.table.Table.{Table}
 use Rattle.pq_text.specs.declared.token.Token.{Token}
 use Rattle.pq_query_read.specs.Queries.{read_query_of}
 use Rattle.pq_query_read.specs.Trying.{◌>>=◌, passed_unless}
+use Rattle.pq_stop_push.specs.Having.{has_candidate}
+use Rattle.pq_arrange.specs.Arrange.{rearranged_query, arranged_query}
 
 -- a query with its least candidate and the index that this wants
 pub record PlannedDefinition : Type 0 where
@@ -27,9 +29,24 @@ with_chosen query best = Ok (record { query = query; chosen = best })
 abbrev pub plan_of : List Table → Query → Result PlannedDefinition Refusal
 plan_of tables query = chosen_candidate tables query >>= with_chosen query
 
--- the query of this name that the tokens of a text spell from a place on, or the first refusal
+-- the query that is planned in its place, with its least candidate; where no order gives it one, why it has none as
+-- it is written
+abbrev pub arranged_plan : List Table → Query → Result PlannedDefinition Refusal
+arranged_plan tables query = plan_of tables (arranged_query tables query)
+
+-- neither the query has a candidate, nor it rearranged, nor it rearranged and closed
+abbrev pub HasNoCandidate : List Table → Query → Type 0
+HasNoCandidate tables query =
+    (has_candidate tables query ≡ false) × (has_candidate tables (rearranged_query tables query false) ≡ false)
+    × (has_candidate tables (rearranged_query tables query true) ≡ false)
+
+-- the query of this name that the tokens of a text spell from a place on, as it stands, or the first refusal
 unfoldable pub plan_from : Schema → List ℕ → List ℕ → List Token → ℕ → Result PlannedDefinition Refusal
 plan_from schema name text tokens from = read_query_of schema name text tokens from >>= plan_of schema.tables
+
+-- the same, arranged
+unfoldable pub arranged_from : Schema → List ℕ → List ℕ → List Token → ℕ → Result PlannedDefinition Refusal
+arranged_from schema name text tokens from = read_query_of schema name text tokens from >>= arranged_plan schema.tables
 
 -- ---- PREPARE
 
@@ -42,7 +59,7 @@ definable schema plan = passed_unless (definition_refusal schema plan.query.name
 
 -- what a PREPARE defines
 unfoldable pub prepared_from : Schema → List ℕ → List ℕ → List Token → ℕ → Result PlannedDefinition Refusal
-prepared_from schema name text tokens from = plan_from schema name text tokens from >>= definable schema
+prepared_from schema name text tokens from = arranged_from schema name text tokens from >>= definable schema
 
 -- ---- EXPLAIN
 
@@ -51,4 +68,4 @@ abbrev pub explained_name : List ℕ
 explained_name = codes "explain"
 
 unfoldable pub explained_from : Schema → List ℕ → List Token → ℕ → Result PlannedDefinition Refusal
-explained_from schema text tokens from = plan_from schema explained_name text tokens from
+explained_from schema text tokens from = arranged_from schema explained_name text tokens from

@@ -8,11 +8,11 @@ use Rattle.pq_query_read.specs.Trying.{◌>>=◌}
 use Rattle.pq_query_read.specs.declared.select.SelectDef.{SelectDef}
 use Rattle.pq_reread.specs.WholeStatements.{WholeStatement, Plain, Prepares as PreparesQuery, Explains as ExplainsQuery, SpellsWhole}
 use Rattle.pq_session.specs.Actions.{Action, Prepares, Explains, action_from, asked_by}
-use Rattle.pq_session.specs.Planning.{PlannedDefinition, plan_of, definable, explained_name}
+use Rattle.pq_session.specs.Planning.{PlannedDefinition, arranged_plan, definable, explained_name}
 
--- the query of this name, with its plan
+-- the query of this name, arranged, with its plan
 abbrev pub planned_select : Schema → List ℕ → SelectDef → Result PlannedDefinition Refusal
-planned_select schema name def = resolved_select schema name def >>= plan_of schema.tables
+planned_select schema name def = resolved_select schema name def >>= arranged_plan schema.tables
 
 -- a statement without a query asks for the same in every text
 abbrev pub asked_whole : Schema → WholeStatement → Result Action Refusal

@@ -1,5 +1,5 @@
 //! Statements as far as no store decides them: each is a step over tables without rows.
-ghost use Rattle.std.specs.Prelude.{◌≡◌, [], Result, IfOk};
+ghost use Rattle.std.specs.Prelude.{◌≡◌, [], false, Result, IfOk};
 ghost use Rattle.pq_base.specs.declared.refusal.Refusal.{Refusal};
 ghost use Rattle.pq_builds.specs.Bounds.{prepare_bound};
 ghost use Rattle.pq_schema.specs.Definitions.{new_table};
@@ -7,6 +7,9 @@ ghost use Rattle.pq_schema.specs.Names.{IsTableDef};
 ghost use Rattle.pq_session.specs.Actions.{Action, Creates, Prepares, action_from};
 ghost use Rattle.pq_session.specs.Checks.{IsChecked, check_step, without_rows};
 ghost use Rattle.pq_session.specs.Requests.{Asks, IsDefinable, IsPlannedAs, IsRequest};
+ghost use Rattle.pq_session.specs.Written.{IsPrepareOf, IsDefinedAs};
+ghost use Rattle.pq_print.specs.Report.{is_refusal};
+ghost use Rattle.pq_schema.specs.declared.query.Query.{Query};
 
 use crate::planning::{PlannedQuery, planned_lines};
 use crate::reports::{NOTHING_USED, done_report, unpaid_report, unread_report};
@@ -42,7 +45,10 @@ impl Session {
     ) -> Result<(Session, Report), NoMem>
         ensures report { IfOk result (λ p. p.1 ≡ (check_step (without_rows self) number piece.now).report) }
         ensures next { IfOk result (λ p. p.0 ≡ (check_step (without_rows self) number piece.now).model.schema) }
+        ensures arranged { IfOk result (λ p. (written : Query) → IsPrepareOf self written piece.now
+            → is_refusal p.1 ≡ false → IsDefinedAs self.tables written p.0) }
     {
+        self.known();
         match self.asked(alloc, piece) {
             Err(Stopped::NoMem) => Err(NoMem),
             Err(Stopped::Refused(why)) => Ok((self, unread_report(alloc, number, why))),

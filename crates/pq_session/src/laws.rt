@@ -1,7 +1,7 @@
 //! What the definitions promise by themselves: each law is the contract of a call that does nothing.
-ghost use Rattle.std.specs.Prelude.{◌≡◌, ◌+◌, ◌≤◌, ℕ, List, [], length, map, flat_map, Option, Some, None, Ok, Err, IsPermutation};
+ghost use Rattle.std.specs.Prelude.{◌≡◌, ◌+◌, ◌≤◌, ℕ, List, [], true, length, map, flat_map, Option, Some, None, Ok, Err, IsPermutation};
 ghost use Rattle.std.specs.FinMap.{empty};
-ghost use Rattle.pq_base.specs.declared.refusal.Refusal.TheVariants.{Syntax};
+ghost use Rattle.pq_base.specs.declared.refusal.Refusal.TheVariants.{NoBound, Syntax};
 ghost use Rattle.pq_base.specs.declared.value.Value.{Value};
 ghost use Rattle.pq_schema.specs.declared.definition.TableDef.{TableDef};
 ghost use Rattle.pq_schema.specs.declared.query.Query.{Query};
@@ -9,9 +9,13 @@ ghost use Rattle.pq_schema.specs.declared.table.NewIndex.{NewIndex};
 ghost use Rattle.pq_schema.specs.declared.table.Table.{Table};
 ghost use Rattle.pq_schema.specs.Definitions.{new_table};
 ghost use Rattle.pq_schema.specs.Names.{IsTableDef};
-ghost use Rattle.pq_schema.specs.Schema.{Schema, empty_schema, with_table, with_query};
+ghost use Rattle.pq_schema.specs.Schema.{Schema, IsQueryDefinition, definition_at, empty_schema, query_at, with_table, with_query};
 ghost use Rattle.pq_schema.specs.Valid.{IsValid, IsDefined};
+ghost use Rattle.pq_schema.specs.Wanted.{no_bound};
+ghost use Rattle.pq_stop_push.specs.Having.{has_candidate};
+ghost use Rattle.pq_arrange.specs.Arrange.{arranged_query};
 ghost use Rattle.pq_text.specs.Tokens.{tokens_of};
+ghost use Rattle.pq_text.specs.declared.token.Token.{Token};
 ghost use Rattle.pq_grammar.specs.Language.{IsFaultPlace};
 ghost use Rattle.pq_shape.specs.Faults.{offset_at};
 ghost use Rattle.pq_shape.specs.Shapes.{shapes_of};
@@ -23,6 +27,7 @@ ghost use Rattle.pq_plan.specs.Answer.{selected_values, whole};
 ghost use Rattle.pq_session.specs.Actions.{asked_text};
 ghost use Rattle.pq_session.specs.Model.{Model};
 ghost use Rattle.pq_session.specs.Opening.{text_defines};
+ghost use Rattle.pq_session.specs.Planning.{HasNoCandidate, PlannedDefinition, arranged_from, arranged_plan, plan_from, plan_of};
 ghost use Rattle.pq_session.specs.Pages.{ArePages, IsPaged, question_of};
 ghost use Rattle.pq_session.specs.Spelling.{asked_whole, SpellsNone};
 ghost use Rattle.pq_session.specs.Stands.{Opens};
@@ -39,6 +44,32 @@ pub fn spelling_law()
         → SpellsNone (shapes_of text (tokens_of text))
         → (place : ℕ) × IsFaultPlace SpellsWhole (shapes_of text (tokens_of text)) place
         × (asked_text schema text ≡ Err (Syntax (offset_at text (tokens_of text) place))) }
+{}
+
+/// A PREPARE and an EXPLAIN take a query arranged, and an opening takes it as it stands.
+pub fn arranging_law()
+    // A query that has a candidate is planned as it is written, also where its bound is too large.
+    ensures kept { (tables : List Table) (query : Query) → has_candidate tables query ≡ true
+        → arranged_plan tables query ≡ plan_of tables query }
+
+    // A query is refused for want of a bound exactly where none of the three has a candidate. The alias is that for
+    // the query as it is written.
+    ensures unbounded { (tables : List Table) (query : Query) → HasNoCandidate tables query
+        → arranged_plan tables query ≡ Err (no_bound tables query) }
+    ensures bounded { (tables : List Table) (query : Query) (alias : List ℕ)
+        → arranged_plan tables query ≡ Err (NoBound alias) → HasNoCandidate tables query }
+
+    // What may be defined is its own arrangement, and stays so over all later definitions.
+    ensures own { (schema : Schema) (query : Query) (wanted : Option NewIndex) → IsDefined schema query wanted
+        → arranged_query schema.tables query ≡ query }
+    ensures stays { (schema : Schema) (n : ℕ) → IsValid schema → IsQueryDefinition (definition_at schema n)
+        → arranged_query schema.tables (query_at schema n) ≡ query_at schema n }
+
+    // So each catalog is read as it was before queries were arranged: what an opening finds in a text is what a
+    // PREPARE finds in it.
+    ensures read { (schema : Schema) (name text : List ℕ) (tokens : List Token) (from : ℕ)
+        (plan : PlannedDefinition) → plan_from schema name text tokens from ≡ Ok plan
+        → arranged_from schema name text tokens from ≡ Ok plan }
 {}
 
 /// The canonical text of a definition, read over the definitions before it, defines it again.

@@ -1,13 +1,14 @@
-//! A query of a text, with the plan of its least candidate.
+//! A query of a text, as it stands or arranged, with the plan of its least candidate.
 ghost use Rattle.std.specs.Prelude.{◌≡◌, ◌≤◌, length, IfOk, IfErr};
 ghost use Rattle.pq_base.specs.Answers.{Refuses};
 ghost use Rattle.pq_plan.specs.Cost.{cost};
 ghost use Rattle.pq_text.specs.Tokens.{tokens_of};
 ghost use Rattle.pq_session.specs.Planned.{IsPlanned};
-ghost use Rattle.pq_session.specs.Planning.{plan_from};
+ghost use Rattle.pq_session.specs.Planning.{arranged_from, plan_from};
 ghost use Rattle.pq_session.specs.Lines.{IsLined, planned_lines};
 
 use crate::lines::put_wanted_line;
+use pq_arrange::arranged;
 use pq_base::{List, NoMem, PText, Stopped};
 use pq_compile::{Compiled, compile};
 use pq_print::Line;
@@ -23,8 +24,8 @@ pub(crate) struct PlannedQuery {
     pub compiled: Compiled,
 }
 
-/// The query of this name that the tokens of the text spell from a place on, with its plan, or the first
-/// refusal of the two.
+/// The query of this name that the tokens of the text spell from a place on, as it stands, with its plan, or
+/// the first refusal of the two.
 pub(crate) fn plan_query(
     alloc: Global,
     catalog: &Catalog,
@@ -35,11 +36,35 @@ pub(crate) fn plan_query(
 ) -> Result<PlannedQuery, Stopped>
     requires tokens { tokens.now ≡ tokens_of text.now }
     requires within { from ≤ length tokens.now }
-    ensures planned { IfOk result (IsPlanned catalog.now name text.now tokens.now from) }
+    ensures planned { IfOk result (IsPlanned catalog.now name
+        (plan_from catalog.now name text.now tokens.now from)) }
     ensures refused { IfErr result (λ stopped. Refuses stopped (plan_from catalog.now name text.now tokens.now from)) }
 {
     catalog.known();
     let query = read_query(alloc, catalog, name, text, tokens, from)?;
+    let compiled = compile(alloc, catalog, &query)?;
+    Ok(PlannedQuery { query, compiled })
+}
+
+/// The same of the query that is planned in its place.
+pub(crate) fn plan_arranged(
+    alloc: Global,
+    catalog: &Catalog,
+    name: PText,
+    text: &PText,
+    tokens: &List<Token>,
+    from: u32,
+) -> Result<PlannedQuery, Stopped>
+    requires tokens { tokens.now ≡ tokens_of text.now }
+    requires within { from ≤ length tokens.now }
+    ensures planned { IfOk result (IsPlanned catalog.now name
+        (arranged_from catalog.now name text.now tokens.now from)) }
+    ensures refused { IfErr result
+        (λ stopped. Refuses stopped (arranged_from catalog.now name text.now tokens.now from)) }
+{
+    catalog.known();
+    let written = read_query(alloc, catalog, name, text, tokens, from)?;
+    let query = arranged(alloc, catalog, written)?;
     let compiled = compile(alloc, catalog, &query)?;
     Ok(PlannedQuery { query, compiled })
 }

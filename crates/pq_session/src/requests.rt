@@ -7,10 +7,10 @@ ghost use Rattle.pq_text.specs.Tokens.{tokens_of};
 ghost use Rattle.pq_session.specs.Actions.{action_of, asked_by, asked_text};
 ghost use Rattle.pq_session.specs.Names.{IsNamedStatement};
 ghost use Rattle.pq_session.specs.Planned.{IsPlanned};
-ghost use Rattle.pq_session.specs.Planning.{explained_name, prepared_from};
+ghost use Rattle.pq_session.specs.Planning.{arranged_from, explained_name, prepared_from};
 ghost use Rattle.pq_session.specs.Requests.{Asks, RunsAs};
 
-use crate::planning::{PlannedQuery, plan_query};
+use crate::planning::{PlannedQuery, plan_arranged};
 use crate::session::Session;
 use pq_base::{List, NoMem, PText, Refusal, Row, Stopped, count_word};
 use pq_def_read::{Statement, read_statement};
@@ -101,7 +101,7 @@ impl Session {
             }
             Statement::Explain { from } => {
                 let name = explained_name(alloc)?;
-                let plan = plan_query(alloc, &self.catalog, name, text, tokens, from)?;
+                let plan = plan_arranged(alloc, &self.catalog, name, text, tokens, from)?;
                 Ok(Request::Explain(plan))
             }
             Statement::Run {
@@ -122,7 +122,8 @@ impl Session {
         }
     }
 
-    /// The query of this name that the tokens from a place on spell, with its plan, where it may be defined.
+    /// The query of this name that the tokens from a place on spell, arranged, with its plan, where it may be
+    /// defined.
     fn definable(
         &self,
         alloc: Global,
@@ -133,12 +134,13 @@ impl Session {
     ) -> Result<PlannedQuery, Stopped>
         requires spelled { tokens.now ≡ tokens_of text.now }
         requires within { from ≤ length tokens.now }
-        ensures planned { IfOk result (IsPlanned self.now name text.now tokens.now from) }
+        ensures planned { IfOk result (IsPlanned self.now name
+            (arranged_from self.now name text.now tokens.now from)) }
         ensures free { IfOk result (λ plan. definition_refusal self.now plan.query.name ≡ None) }
         ensures refused { IfErr result
             (λ stopped. Refuses stopped (prepared_from self.now name text.now tokens.now from)) }
     {
-        let plan = plan_query(alloc, &self.catalog, name, text, tokens, from)?;
+        let plan = plan_arranged(alloc, &self.catalog, name, text, tokens, from)?;
         self.check_definition(alloc, &plan.query.name)?;
         Ok(plan)
     }

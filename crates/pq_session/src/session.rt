@@ -1,5 +1,5 @@
 //! The session: the view of a store's definitions.
-ghost use Rattle.std.specs.Prelude.{◌≡◌, ◌≤◌, ◌<◌, ◌+◌, ◌^◌, ◌⊎◌, length, IfOk, IfErr, IfSome, IsSome, OnOk, OnErr, Ok, None, Result};
+ghost use Rattle.std.specs.Prelude.{◌≡◌, ◌≤◌, ◌<◌, ◌+◌, ◌^◌, ◌⊎◌, length, IfOk, IfErr, IfSome, IsSome, OnOk, OnErr, Ok, None, Result, false};
 ghost use Rattle.pq_builds.specs.Stages.{Takes, IsWithinBuild as BuildsWithin, left_ops};
 ghost use Rattle.pq_intent.specs.Spending.{TakesAtMost};
 ghost use Rattle.pq_store.specs.Content.{HasBrokeCause};
@@ -20,6 +20,9 @@ ghost use Rattle.pq_session.specs.Stands.{HoldsModel, Stands, Opens, last_made};
 ghost use Rattle.pq_builds.specs.Bounds.{bound};
 ghost use Rattle.pq_session.specs.Step.{report_of, step, unread_report};
 ghost use Rattle.pq_session.specs.Lines.{show_lines};
+ghost use Rattle.pq_session.specs.Written.{IsPrepareOf, IsDefinedAs};
+ghost use Rattle.pq_print.specs.Report.{is_refusal};
+ghost use Rattle.pq_schema.specs.declared.query.Query.{Query};
 
 use crate::format::Mark;
 use crate::last::complete;
@@ -117,6 +120,13 @@ impl Session {
             catalog: Catalog::new(alloc),
             plans: List::new(alloc),
         }
+    }
+
+    /// Tells a proof that the definitions are valid.
+    pub(crate) fn known(&self)
+        ensures { IsValid self.now }
+    {
+        self.catalog.known();
     }
 
     /// The catalog of its definitions.
@@ -269,6 +279,10 @@ impl Session {
         ensures number { IfOk result (λ p. p.1.number ≡ number) }
         ensures unread { IfOk result (λ p. IfErr (action_of self piece.now) (λ why. p.1 ≡ unread_report number why)) }
         ensures next { IfOk result (λ p. p.0 ≡ schema_after self piece.now p.1) }
+        // What a PREPARE defines is its query, arranged: without LIMIT and PAGINATE it answers the same rows as the
+        // query as it is written.
+        ensures arranged { IfOk result (λ p. (written : Query) → IsPrepareOf self written piece.now
+            → is_refusal p.1 ≡ false → IsDefinedAs self.tables written p.0) }
         ensures stopped { OnErr result ((m : Tables) → Stands (S.content store.old) self m
             → Opens (S.content store.new) m ⊎ Opens (S.content store.new) (step m number piece.now).model) }
         ensures damage { IfErr result (λ broke. (m : Tables) → Stands (S.content store.old) self m
@@ -280,6 +294,7 @@ impl Session {
             (λ content. TellsEvidence self content broke)) }
         ensures cause { HasBrokeCause (S.faults store.old) (S.faults store.new) result }
     {
+        self.known();
         self.piece(alloc, number, piece, store, meter)
     }
 

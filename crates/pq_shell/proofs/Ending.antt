@@ -73,14 +73,14 @@ items_all TooLong {told = told} fed = append-nil (cut_items told) ∙ ap cut_ite
 -- the rest is an item that is refused, whatever the form
 rest_made : (f : Form) → ReadsSource f → (n : ℕ) (s : Schema) (content : Option Content) (counts : Counts) → MakesItem f Rest n s s content content counts counts (rest_report n)
 rest_made Run read n s content counts = record {
-  is = record { number_is = refl; bound_is = refl; few_ops = omega arith; few_entries = omega arith };
+  is = record { number_is = refl; bound_is = refl; few_ops = omega arith; few_entries = omega arith; defined_is = tt };
   next_is = refl;
   matches = λ m is. record { same = refl; ops = omega arith; entries = omega arith };
   stands = λ m is. is;
   rises = record { ops = omega arith; entries = omega arith };
 }
 rest_made Check read n s content counts = record {
-  is = record { number_is = refl; bound_is = refl; few_ops = omega arith; few_entries = omega arith };
+  is = record { number_is = refl; bound_is = refl; few_ops = omega arith; few_entries = omega arith; defined_is = tt };
   next_is = refl;
   matches = λ m is. record { same = refl; ops = omega arith; entries = omega arith };
   stands = λ m is. ap (λ (x : Model). without_rows x.schema) is;

@@ -1,5 +1,5 @@
 -- One item, made over the store or for a check.
-use Rattle.std.proofs.Common.{◌≡◌, ℕ, ◌+◌, ◌≤◌, ◌⊎◌, List, [], ◌∷◌, Option, refl, sym, ap, ◌∙◌, subst, arith, inl}
+use Rattle.std.proofs.Common.{◌≡◌, ℕ, false, ◌+◌, ◌≤◌, ◌⊎◌, List, [], ◌∷◌, Option, refl, sym, ap, ◌∙◌, subst, arith, inl}
 use Rattle.std.specs.Prelude.{IfSome}
 use Rattle.std.specs.Io.KnownBytes.{append_known}
 use Rattle.pq_base.specs.declared.number.Bound.{Bound}
@@ -7,13 +7,14 @@ use Rattle.pq_base.specs.declared.number.Used.{Used}
 use Rattle.pq_fill.specs.declared.words.Form.{Form}
 use Rattle.pq_fill.specs.declared.words.Form.TheVariants.{Run, Check, Fill}
 use Rattle.pq_schema.specs.Schema.{Schema}
+use Rattle.pq_schema.specs.declared.query.Query.{Query}
 use Rattle.pq_store.specs.Breaks.{IsUndamaged}
 use Rattle.pq_store.specs.Content.{Content}
 use Rattle.pq_store.specs.Counts.{Counts}
 use Rattle.pq_store.specs.declared.damage.Broke.{Broke}
 use Rattle.pq_store.specs.declared.damage.Broke.TheVariants as broke
 use Rattle.pq_text.specs.declared.piece.Piece.{Piece}
-use Rattle.pq_print.specs.Report.{printed_report}
+use Rattle.pq_print.specs.Report.{printed_report, is_refusal}
 use Rattle.pq_print.specs.declared.report.Report.{Report}
 use Rattle.pq_session.specs.Actions.{action_of, schema_after, statement_bound}
 use Rattle.pq_session.specs.Checks.{checked_as, check_step, without_rows}
@@ -23,8 +24,10 @@ use Rattle.pq_session.specs.Model.{Model}
 use Rattle.pq_session.specs.Promise.{IsBound, IsWithinFixed}
 use Rattle.pq_session.specs.Stands.{Opens, Stands}
 use Rattle.pq_session.specs.Step.{Step, step}
+use Rattle.pq_session.specs.Written.{IsPrepareOf, IsDefinedAs}
 use Rattle.pq_session.proofs.Checked.{check_by, is_check_step}
 use Rattle.pq_session.proofs.Promises.{within_none}
+use Rattle.pq_shell.specs.Fold.{DefinesAsWritten}
 use Rattle.pq_shell.specs.Forms.{HasOpening, StandsIn, OpensAt, item_step, shown_report}
 use Rattle.pq_shell.specs.Items.{Cut}
 use Rattle.pq_shell.specs.Making.{BreaksAt, ReadsSource, MakesItem, moment}
@@ -53,10 +56,14 @@ module _ (number : ℕ) (piece : Piece) (s : Schema) (old now : Option Content) 
   module _ (next : Schema) (report : Report) (numbered : report.number ≡ number) (bound : IsBound (statement_bound s piece) report.bound)
       (few_ops : report.used.ops ≤ report.bound.ops) (few_entries : report.used.entries ≤ report.bound.entries) (next_is : next ≡ schema_after s piece report)
       (matches : (m : Model) → Stands old s m → Matches (step m number piece).report report) (made : (m : Model) → Stands old s m → Stands now next (step m number piece).model)
-      (ops : after.ops ≡ before.ops + report.used.ops) (entries : after.entries ≡ before.entries + report.used.entries) where
+      (ops : after.ops ≡ before.ops + report.used.ops) (entries : after.entries ≡ before.entries + report.used.entries)
+      (defined : (written : Query) → IsPrepareOf s written piece → is_refusal report ≡ false → IsDefinedAs s.tables written next) where
+    defined_behind : DefinesAsWritten s (Cut piece) report
+    defined_behind written is accepted = subst (IsDefinedAs s.tables written) next_is (defined written is accepted)
+
     pub made_over : (f : Form) → HasOpening f → MakesItem f (Cut piece) number s next old now before after report
     made_over Run some = record {
-      is = record { number_is = numbered; bound_is = bound; few_ops = few_ops; few_entries = few_entries };
+      is = record { number_is = numbered; bound_is = bound; few_ops = few_ops; few_entries = few_entries; defined_is = defined_behind };
       next_is = next_is;
       matches = matches;
       stands = made;
@@ -64,7 +71,7 @@ module _ (number : ℕ) (piece : Piece) (s : Schema) (old now : Option Content) 
     }
     made_over Check some = absurd some
     made_over (Fill n) some = record {
-      is = record { number_is = numbered; bound_is = bound; few_ops = few_ops; few_entries = few_entries };
+      is = record { number_is = numbered; bound_is = bound; few_ops = few_ops; few_entries = few_entries; defined_is = defined_behind };
       next_is = next_is;
       matches = matches;
       stands = made;
@@ -96,8 +103,9 @@ module _ (number : ℕ) (piece : Piece) (s : Schema) (content : Option Content) 
   made_step = check_step (without_rows s) number piece
 
   -- its report has the bound of what is asked for, and tells nothing as used
-  pub made_checked : (next : Schema) (report : Report) → report ≡ made_step.report → next ≡ made_step.model.schema → MakesItem Check (Cut piece) number s next content content counts counts report
-  made_checked next report report_is next_is =
+  pub made_checked : (next : Schema) (report : Report) → report ≡ made_step.report → next ≡ made_step.model.schema
+      → ((written : Query) → IsPrepareOf s written piece → is_refusal report ≡ false → IsDefinedAs s.tables written next) → MakesItem Check (Cut piece) number s next content content counts counts report
+  made_checked next report report_is next_is defined =
       let by = check_by s number piece (action_of s piece) refl in
       let facts = is_check_step s number (action_of s piece) in
       let same : report ≡ (checked_as s number (action_of s piece)).report = report_is ∙ ap (λ (x : Step). x.report) by in
@@ -105,6 +113,8 @@ module _ (number : ℕ) (piece : Piece) (s : Schema) (content : Option Content) 
       let no_ops : report.used.ops ≡ 0 = ap (λ (u : Used). u.ops) used in
       let no_entries : report.used.entries ≡ 0 = ap (λ (u : Used). u.entries) used in
       let model_is = ap (λ (x : Step). x.model) by ∙ facts.model in
+      let behind : next ≡ schema_after s piece report =
+      next_is ∙ ap (λ (x : Step). x.model.schema) by ∙ ap (λ (m : Model). m.schema) facts.model ∙ ap (λ (r : Report). schema_after s piece r) (sym same) in
       let model : made_step.model ≡ without_rows next = model_is ∙ ap without_rows (sym (next_is ∙ ap (λ (m : Model). m.schema) model_is)) in
       record {
         is = record {
@@ -112,8 +122,9 @@ module _ (number : ℕ) (piece : Piece) (s : Schema) (content : Option Content) 
           bound_is = subst (λ (r : Report). IsBound (statement_bound s piece) r.bound) (sym same) facts.bound;
           few_ops = omega (arith, no_ops);
           few_entries = omega (arith, no_entries);
+          defined_is = λ written is accepted. subst (IsDefinedAs s.tables written) behind (defined written is accepted);
         };
-        next_is = next_is ∙ ap (λ (x : Step). x.model.schema) by ∙ ap (λ (m : Model). m.schema) facts.model ∙ ap (λ (r : Report). schema_after s piece r) (sym same);
+        next_is = behind;
         matches = λ m is. subst (λ (x : Model). Matches (check_step x number piece).report report) (sym is)
             (subst (λ (r : Report). Matches r report) report_is (record { same = refl; ops = omega (arith, no_ops); entries = omega (arith, no_entries) }));
         stands = λ m is. ap (λ (x : Model). (check_step x number piece).model) is ∙ model;

@@ -1,10 +1,11 @@
 -- The fold of the steps over the items of a script, and what is written of their reports.
-use Rattle.std.specs.Prelude.{◌≡◌, ℕ, ◌+◌, ◌≤◌, ◌⊎◌, Option, IfSome, Bool, ◌||◌, List, [], ◌∷◌, ◌++◌, length, if◌then◌else◌}
+use Rattle.std.specs.Prelude.{◌≡◌, ℕ, ◌+◌, ◌≤◌, ◌⊎◌, Option, IfSome, Bool, false, ◌||◌, List, [], ◌∷◌, ◌++◌, length, if◌then◌else◌}
 use Rattle.std.specs.List.{flat_map, sum_by, list_any}
 use Rattle.std.specs.Io.KnownBytes.{append_known}
 use Rattle.pq_base.specs.declared.number.Bound.{Bound}
 use Rattle.pq_fill.specs.declared.words.Form.{Form}
 use Rattle.pq_schema.specs.Schema.{Schema}
+use Rattle.pq_schema.specs.declared.query.Query.{Query}
 use Rattle.pq_store.specs.Content.{Content}
 use Rattle.pq_store.specs.Counts.{Counts}
 use Rattle.pq_print.specs.declared.report.Report.{Report}
@@ -14,8 +15,9 @@ use Rattle.pq_session.specs.Evidence.{IsEvidence}
 use Rattle.pq_session.specs.Model.{Model}
 use Rattle.pq_session.specs.Matches.{Matches}
 use Rattle.pq_session.specs.Promise.{IsBound, IsWithinFixed}
+use Rattle.pq_session.specs.Written.{IsPrepareOf, IsDefinedAs}
 use Rattle.pq_shell.specs.Forms.{item_step, asked_item, shown_report, HasOpening, StandsIn, OpensAt}
-use Rattle.pq_shell.specs.Items.{Item}
+use Rattle.pq_shell.specs.Items.{Item, Cut, Rest}
 use Rattle.pq_shell.specs.Outside.{IsCut}
 use Rattle.pq_shell.specs.declared.stop.Stop.{Stop}
 use Rattle.pq_shell.specs.declared.stop.Stop.TheVariants as stops
@@ -28,16 +30,24 @@ pub record Moment : Type 0 where
 
 -- ---- over every store
 
+-- the definitions behind a report: a refusal leaves them
+abbrev pub schema_behind : Schema → Item → Report → Schema
+schema_behind schema item report = if is_refusal report then schema else asked_schema schema (asked_item schema item)
+
+-- what a PREPARE defines answers as the query that it has as it is written
+abbrev pub DefinesAsWritten : Schema → Item → Report → Type 0
+DefinesAsWritten schema (Cut piece) report =
+    (written : Query) → IsPrepareOf schema written piece → is_refusal report ≡ false →
+    IsDefinedAs schema.tables written (schema_behind schema (Cut piece) report)
+DefinesAsWritten schema Rest report = Unit {0}
+
 -- a report with this number, on the bound of what the item asks for, that tells at most this bound as used
 pub record IsReport (schema : Schema) (number : ℕ) (item : Item) (report : Report) : Type 0 where
   pub number_is : report.number ≡ number
   pub bound_is : IsBound (asked_bound schema (asked_item schema item)) report.bound
   pub few_ops : report.used.ops ≤ report.bound.ops
   pub few_entries : report.used.entries ≤ report.bound.entries
-
--- the definitions behind a report: a refusal leaves them
-abbrev pub schema_behind : Schema → Item → Report → Schema
-schema_behind schema item report = if is_refusal report then schema else asked_schema schema (asked_item schema item)
+  pub defined_is : DefinesAsWritten schema item report
 
 -- a report for each item, numbered on from here; and the definitions from the first to the last
 abbrev pub Reports : Schema → ℕ → List Item → List Report → Schema → Type 0

@@ -1,3 +1,4 @@
+pub mod Having
 pub mod Orders
 pub mod Ranges
 pub mod Tables

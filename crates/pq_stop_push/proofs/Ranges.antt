@@ -1,7 +1,7 @@
 -- Numbers from one to another.
-use Rattle.std.proofs.Common.{◌≡◌, ℕ, zero, suc, ◌+◌, ◌-◌, ◌<◌, ◌≤◌, Bool, ◌&&◌, [], ◌∷◌, ◌++◌, ap, ◌∙◌, arith}
+use Rattle.std.proofs.Common.{◌≡◌, ℕ, zero, suc, ◌+◌, ◌-◌, ◌<◌, ◌≤◌, Bool, ◌&&◌, ◌||◌, [], ◌∷◌, ◌++◌, ap, ◌∙◌, arith}
 use Rattle.std.specs.Prelude.{fold}
-use Rattle.std.specs.List.{list_all, range_with_len}
+use Rattle.std.specs.List.{list_all, list_any, range_with_len}
 use Rattle.std.proofs.lemmas.List.Sums.{fold_push}
 
 pub all_after : (p : ℕ → Bool) (a b : ℕ) → a < b → list_all p (range_with_len a (b - a)) ≡ (p a && list_all p (range_with_len (a + 1) (b - (a + 1))))
@@ -16,3 +16,6 @@ fold_next f s b one =
     let n : b + 1 - 1 ≡ suc (b - 1) = omega arith in
     let e : 1 + (b - 1) ≡ b = omega arith in
     ap (λ m. fold f s (range_with_len 1 m)) n ∙ ap (fold f s) (range_push 1 (b - 1)) ∙ fold_push f s (range_with_len 1 (b - 1)) (1 + (b - 1)) ∙ ap (f (fold f s (range_with_len 1 (b - 1)))) e
+
+pub any_after : (p : ℕ → Bool) (a b : ℕ) → a < b → list_any p (range_with_len a (b - a)) ≡ (p a || list_any p (range_with_len (a + 1) (b - (a + 1))))
+any_after p a b lt = let e : b - a ≡ suc (b - (a + 1)) = omega arith in rw e

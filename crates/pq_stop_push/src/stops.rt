@@ -1,10 +1,11 @@
 //! Where a query can stop, and what a stop there costs.
 
 ghost use Rattle.std.specs.Prelude.{◌≡◌, ◌+◌, ◌-◌, ◌≤◌, length, nat_le};
-ghost use Rattle.std.specs.List.{list_all, range_with_len};
+ghost use Rattle.std.specs.List.{list_all, list_any, range_with_len};
 ghost use Rattle.pq_schema.specs.Sound.{IsQuery};
 ghost use Rattle.pq_schema.specs.Relations.{is_total};
 ghost use Rattle.pq_schema.specs.Candidates.{is_served, can_stop_at, stop_cost, stop_size};
+ghost use Rattle.pq_stop_push.specs.Having.{has_candidate};
 ghost use Rattle.pq_stop_push.specs.Pushes.{stop_there};
 
 use crate::costs::{are_bounded, reached_after};
@@ -115,5 +116,35 @@ pub fn stop_there(catalog: &Catalog, query: &Query, p: u8) -> Option<u16>
                 None
             }
         }
+    }
+}
+
+/// Whether the query can stop at one of its relations.
+#[tactic(auto, using(crate::proofs::Ranges::any_after))]
+fn can_stop(catalog: &Catalog, query: &Query) -> bool
+    requires { IsQuery catalog.now.tables query.now }
+    ensures { result ≡ list_any (can_stop_at catalog.now.tables query.now)
+        (range_with_len 1 (length query.now.relations)) }
+{
+    for p in 1..query.relations.items().len() as u8 + 1 {
+        if can_stop_at(catalog, query, p) {
+            return true;
+        }
+    }
+    false
+}
+
+/// Whether the query has a candidate.
+#[tactic(auto, using(crate::proofs::Having::has_whole, crate::proofs::Having::has_none, crate::proofs::Having::has_stop))]
+pub fn has_candidate(catalog: &Catalog, query: &Query) -> bool
+    requires { IsQuery catalog.now.tables query.now }
+    ensures { result ≡ has_candidate catalog.now.tables query.now }
+{
+    if are_bounded(catalog, query, query.relations.items().len() as u8) {
+        return true;
+    }
+    match stop_size(query.stop) {
+        None => false,
+        Some(_) => can_stop(catalog, query),
     }
 }

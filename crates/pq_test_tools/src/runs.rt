@@ -83,16 +83,16 @@ pub fn run_piql_words<S: Store<L>, L: Ledger>(
     Ok(run_piql(alloc, words.items(), source, store, sink, meter))
 }
 
-/// The same, and what it writes but for the used numbers.
+/// The same of words as they were read, and what the run writes but for the used numbers.
 pub fn run_words<S: Store<L>, L: Ledger>(
     alloc: Global,
-    words: &[&str],
+    words: &[PText],
     source: &mut MemSource,
     store: &mut S,
     sink: &mut MemSink,
     meter: &mut Meter<L>,
 ) -> Result<(Status, Vec<u8>), NoMem> {
-    let status = run_piql_words(alloc, words, source, store, sink, meter)?;
+    let status = run_piql(alloc, words, source, store, sink, meter);
     let text = without_used(alloc, sink.held())?;
     Ok((status, text))
 }
@@ -106,7 +106,8 @@ pub fn run_script<S: Store<L>, L: Ledger>(
 ) -> Result<(Status, Vec<u8>), NoMem> {
     let mut source = MemSource::new(Bytes::of_bytes(alloc, script)?, List::new(alloc));
     let mut sink = MemSink::new(alloc, 65_536, List::new(alloc))?;
-    run_words(alloc, &["run"], &mut source, store, &mut sink, meter)
+    let words = words_of(alloc, &["run"])?;
+    run_words(alloc, words.items(), &mut source, store, &mut sink, meter)
 }
 
 /// Whether the run of the script writes the text, but for the used numbers.

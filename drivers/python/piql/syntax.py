@@ -1,4 +1,4 @@
-"""What a syntax error mostly comes from: the row of a table of SQL's habits whose code stands at the place of the error."""
+"""What a syntax error mostly comes from: the row of a table of SQL's habits whose code is found at its place."""
 
 import re
 from collections.abc import Iterable, Sequence

@@ -5,10 +5,25 @@ use Rattle.pq_shell.proofs.serving.make.Goals as goal
 
 pub returns-in-Ok-clause-ok : goal.returns-in-Ok-clause-ok
 returns-in-Ok-clause-ok g c =
-    rw c.in-Check.is (made_checked c.args.number c.args.piece.now c.args.session _ _ c.in-Ok.made.0 c.in-Ok.made.1 c.in-Ok.ensures.report c.in-Ok.ensures.next)
+    rw c.in-Check.is (made_checked c.args.number c.args.piece.now c.args.session _ _ c.in-Ok.made.0 c.in-Ok.made.1 c.in-Ok.ensures.report c.in-Ok.ensures.next c.in-Ok.ensures.arranged)
 
 pub returns-in-Err-clause-err : goal.returns-in-Err-clause-err
 returns-in-Err-clause-err g c = rw c.in-Check.is (lost_checked c.args.number c.args.piece.now c.args.session _ _)
+
+pub returns-in-Ok-statement : goal.returns-in-Ok-statement
+returns-in-Ok-statement g c =
+    let some : HasOpening c.args.form = elim c.in-Run.is [
+      | inl is ↦ subst HasOpening (sym is) tt
+      | inr is ↦ subst HasOpening (sym is.1) tt
+    ] in
+    let e = c.in-Ok-statement.ensures in
+    record {
+      ok = made_over c.args.number c.args.piece.now c.args.session _ _ _ _ c.in-Ok-statement.made.0 c.in-Ok-statement.made.1 e.number e.bound e.few_ops e.few_entries e.next e.matches e.made e.ops e.entries
+          e.arranged c.args.form some;
+      err = tt;
+      unmoved = λ check. absurd (subst HasOpening check some);
+      causes = search rules;
+    }
 
 pub returns-in-Err-statement : goal.returns-in-Err-statement
 returns-in-Err-statement g c =

@@ -6,7 +6,7 @@ use Rattle.pq_pages.specs.Running.{Running, running_of}
 use Rattle.pq_session.specs.Actions.{Creates, Explains, Prepares, Runs, Writes, action_from}
 use Rattle.pq_session.specs.Names.{IsNamedStatement}
 use Rattle.pq_session.specs.Planned.{IsPlanned}
-use Rattle.pq_session.specs.Planning.{PlannedDefinition, explained_name, plan_from}
+use Rattle.pq_session.specs.Planning.{PlannedDefinition, arranged_from, explained_name}
 use Rattle.pq_session.specs.Requests.{RunsAs}
 use Rattle.pq_session.proofs.Asked.{answer_refused, asking_refused, explains, may_be_defined, prepares, stopped_explained, writes_asked}
 use Rattle.pq_session.proofs.session.Session.asked_by.Goals as goal
@@ -31,13 +31,13 @@ returns-in_ok-plan-in-Prepare-clause-asks c =
 pub returns-in_err-plan-in-Explain-clause-refused : goal.returns-in_err-plan-in-Explain-clause-refused
 returns-in_err-plan-in-Explain-clause-refused c =
     let p = err_from_is_err_and c.from_residual-in_err-plan-in-Explain.result c.from_residual-in_err-plan-in-Explain.ensures.1 in
-    let refused : Refuses {A = PlannedDefinition} c.in_err-plan-in-Explain.field-0.0 (plan_from c.args.self.now explained_name c.args.text.now c.args.tokens.now c.in-Explain.from) =
+    let refused : Refuses {A = PlannedDefinition} c.in_err-plan-in-Explain.field-0.0 (arranged_from c.args.self.now explained_name c.args.text.now c.args.tokens.now c.in-Explain.from) =
     rw (← c.self.view_is, ← c.in_ok-name-in-Explain.ensures) c.in_err-plan-in-Explain.ensures.refused in
     rw (p.1, p.2, c.in-Explain.is) (asking_refused Explains _ _ (stopped_explained c.args.self.now c.args.text.now c.args.tokens.now c.in-Explain.from _ refused))
 
 pub returns-in_ok-plan-in-Explain-clause-asks : goal.returns-in_ok-plan-in-Explain-clause-asks
 returns-in_ok-plan-in-Explain-clause-asks c =
-    let planned : IsPlanned c.args.self.now explained_name c.args.text.now c.args.tokens.now c.in-Explain.from c.in_ok-plan-in-Explain.plan =
+    let planned : IsPlanned c.args.self.now explained_name (arranged_from c.args.self.now explained_name c.args.text.now c.args.tokens.now c.in-Explain.from) c.in_ok-plan-in-Explain.plan =
     rw (← c.self.view_is, ← c.in_ok-name-in-Explain.ensures) c.in_ok-plan-in-Explain.ensures.planned in
     rw c.in-Explain.is (planned.computed_is, explains c.args.self.now c.args.text.now c.args.tokens.now c.in-Explain.from _ planned)
 

@@ -4,6 +4,7 @@ use Rattle.pq_base.specs.Answers.{Refuses}
 use Rattle.pq_base.specs.declared.refusal.Stopped.{Stopped}
 use Rattle.pq_session.specs.Actions.{Action, action_of}
 use Rattle.pq_session.proofs.Checked.{checked_next, checked_report}
+use Rattle.pq_session.proofs.Written.{checked_defined}
 use Rattle.pq_session.proofs.session.Session.check.Goals as goal
 
 pub returns-in-Err-Refused-clause-report : goal.returns-in-Err-Refused-clause-report
@@ -23,3 +24,12 @@ returns-in-Ok-clause-report c =
 pub returns-in-Ok-clause-next : goal.returns-in-Ok-clause-next
 returns-in-Ok-clause-next c =
     IfOk-weaker c.check_request.result _ _ (λ p done. checked_next c.args.self c.args.number c.args.piece.now (action_of c.args.self c.args.piece.now) p.0 p.1 refl (done (action_of c.args.self c.args.piece.now) c.in-Ok.ensures.asks)) c.check_request.ensures
+
+pub returns-in-Err-Refused-clause-arranged : goal.returns-in-Err-Refused-clause-arranged
+returns-in-Err-Refused-clause-arranged c =
+    let why : action_of c.args.self c.args.piece.now ≡ Err c.in-Err-Refused.why = subst (λ (s : Stopped). Refuses {A = Action} s (action_of c.args.self c.args.piece.now)) c.in-Err-Refused.field-0-is c.in-Err-Refused.ensures.refused in
+    checked_defined c.args.self c.known.ensures c.args.number c.args.piece.now (Err c.in-Err-Refused.why) c.args.self _ why (record { next_is = refl; report_is = c.unread_report.ensures })
+
+pub returns-in-Ok-clause-arranged : goal.returns-in-Ok-clause-arranged
+returns-in-Ok-clause-arranged c =
+    IfOk-weaker c.check_request.result _ _ (λ p done. checked_defined c.args.self c.known.ensures c.args.number c.args.piece.now (action_of c.args.self c.args.piece.now) p.0 p.1 refl (done (action_of c.args.self c.args.piece.now) c.in-Ok.ensures.asks)) c.check_request.ensures

@@ -1,4 +1,5 @@
 use Rattle.pq_session.proofs.Promises.{promised_made, promised_matches, promised_next, promised_shown, promised_lasting, promised_stopped, promised_unread, promised_within}
+use Rattle.pq_session.proofs.Written.{promised_as}
 use Rattle.pq_session.proofs.session.Session.statement.Goals as goal
 
 pub returns-clause-matches : goal.returns-clause-matches
@@ -24,3 +25,7 @@ returns-clause-stopped g c = promised_stopped c.args.number c.args.piece.now _ _
 
 pub returns-clause-unread : goal.returns-clause-unread
 returns-clause-unread g c = promised_unread c.args.number c.args.piece.now _ _ c.args.self _ _ c.piece.result c.piece.ensures.step
+
+pub returns-clause-arranged : goal.returns-clause-arranged
+returns-clause-arranged g c =
+    promised_as c.args.number c.args.piece.now _ _ c.args.self _ _ c.known.ensures c.piece.result c.piece.ensures.step

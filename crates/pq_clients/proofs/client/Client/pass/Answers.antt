@@ -1,0 +1,6 @@
+use Rattle.std.proofs.Common.{◌∙◌, ap, refl}
+use Rattle.pq_clients.specs.Stepping.{view_of}
+use Rattle.pq_clients.proofs.client.Client.pass.Goals as goal
+
+pub returns : goal.returns
+returns c = record { view = ap view_of c.set_next.ensures ∙ rw c.requires.fault refl; step = c.tells-step.ensures }

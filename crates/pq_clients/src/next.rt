@@ -1,0 +1,219 @@
+//! From one kind of step to the next one that there is.
+ghost use Rattle.std.specs.Prelude.{◌≡◌, ◌∷◌, [], map, IfOk, List as Items};
+ghost use Rattle.std.specs.List.{AllByRecursion};
+ghost use Rattle.pq_clients.specs.Fitting.{MayWrite, FitsStage, IsCheck, IsTest, IsLate};
+ghost use Rattle.pq_clients.specs.Seen.{flight, seen_check, seen_stage};
+ghost use Rattle.pq_clients.specs.Steps.{testing, adding, checking, clearing, undoing};
+ghost use Rattle.pq_clients.specs.Flights.{fresh_entries, stale_entries, flight_checks, flight_tests};
+
+use crate::checks::{copy_check, copy_checks, flight_checks};
+use crate::entries::{copy_key, copy_keys, fresh_entries, stale_entries};
+use crate::limits::flight_tests;
+use crate::stage::{Check, Stage};
+use pq_base::{Bytes, List, NoMem, Refusal};
+use pq_index_keep::Write;
+use pq_schema::Catalog;
+use std::alloc::Global;
+
+fn copy_places(alloc: Global, places: &[usize]) -> Result<List<usize>, NoMem>
+    ensures { IfOk result (λ copy. copy ≡ places.now) }
+{
+    let mut copy = List::new(alloc);
+    for place in places {
+        copy.push(alloc, *place)?;
+    }
+    Ok(copy)
+}
+
+/// The place in front of the others.
+pub(crate) fn with_place(
+    alloc: Global,
+    place: usize,
+    places: &[usize],
+) -> Result<List<usize>, NoMem>
+    ensures { IfOk result (λ all. all ≡ place ∷ places.now) }
+{
+    let mut all = List::new(alloc);
+    all.push(alloc, place)?;
+    for other in places {
+        all.push(alloc, *other)?;
+    }
+    Ok(all)
+}
+
+/// The test of the first of these limits, or the put.
+pub(crate) fn testing(alloc: Global, left: &[usize], passed: List<usize>) -> Result<Stage, NoMem>
+    ensures { IfOk result (λ stage. seen_stage stage ≡ testing left.now passed) }
+{
+    match left.split_first() {
+        None => Ok(Stage::Putting),
+        Some((place, rest)) => {
+            let left = copy_places(alloc, rest)?;
+            Ok(Stage::Testing {
+                place: *place,
+                left,
+                passed,
+            })
+        }
+    }
+}
+
+/// The first step behind the adds.
+fn added_all(
+    alloc: Global,
+    catalog: &Catalog,
+    write: &Write,
+    read: &Option<Bytes>,
+) -> Result<Stage, NoMem>
+    requires { MayWrite catalog.now.tables write.now }
+    ensures { IfOk result (λ stage. seen_stage stage
+        ≡ testing (flight_tests catalog.now.tables (flight write.now read.now)) []) }
+{
+    let places = flight_tests(alloc, catalog, write, read)?;
+    testing(alloc, places.items(), List::new(alloc))
+}
+
+/// The add of the first of these entries, or what comes behind.
+pub(crate) fn adding(
+    alloc: Global,
+    catalog: &Catalog,
+    write: &Write,
+    read: &Option<Bytes>,
+    left: &[Bytes],
+    added: List<Bytes>,
+) -> Result<Stage, NoMem>
+    requires { MayWrite catalog.now.tables write.now }
+    ensures { IfOk result (λ stage. seen_stage stage
+        ≡ adding catalog.now.tables (flight write.now read.now) left.now added) }
+{
+    match left.split_first() {
+        None => added_all(alloc, catalog, write, read),
+        Some((entry, rest)) => {
+            let entry = copy_key(alloc, entry)?;
+            let left = copy_keys(alloc, rest)?;
+            Ok(Stage::Adding { entry, left, added })
+        }
+    }
+}
+
+/// The first step behind the tests of parents and children.
+fn checked_all(
+    alloc: Global,
+    catalog: &Catalog,
+    write: &Write,
+    read: &Option<Bytes>,
+) -> Result<Stage, NoMem>
+    requires { MayWrite catalog.now.tables write.now }
+    ensures { IfOk result (λ stage. seen_stage stage ≡ adding catalog.now.tables (flight write.now read.now)
+        (fresh_entries catalog.now.tables (flight write.now read.now)) []) }
+{
+    let entries = fresh_entries(alloc, catalog, write, read)?;
+    adding(
+        alloc,
+        catalog,
+        write,
+        read,
+        entries.items(),
+        List::new(alloc),
+    )
+}
+
+/// The first of these tests of parents or children, or what comes behind.
+pub(crate) fn checking(
+    alloc: Global,
+    catalog: &Catalog,
+    write: &Write,
+    read: &Option<Bytes>,
+    left: &[Check],
+) -> Result<Stage, NoMem>
+    requires { MayWrite catalog.now.tables write.now }
+    ensures { IfOk result (λ stage. seen_stage stage
+        ≡ checking catalog.now.tables (flight write.now read.now) (map seen_check left.now)) }
+{
+    match left.split_first() {
+        None => checked_all(alloc, catalog, write, read),
+        Some((check, rest)) => {
+            let check = copy_check(alloc, check)?;
+            let left = copy_checks(alloc, rest)?;
+            Ok(Stage::Checking { check, left })
+        }
+    }
+}
+
+/// The first step behind the take.
+pub(crate) fn taken(
+    alloc: Global,
+    catalog: &Catalog,
+    write: &Write,
+    read: &Option<Bytes>,
+) -> Result<Stage, NoMem>
+    requires { MayWrite catalog.now.tables write.now }
+    ensures { IfOk result (λ stage. seen_stage stage ≡ checking catalog.now.tables (flight write.now read.now)
+        (flight_checks catalog.now.tables (flight write.now read.now))) }
+{
+    let checks = flight_checks(alloc, catalog, write, read)?;
+    checking(alloc, catalog, write, read, checks.items())
+}
+
+/// The removal of the first of these entries, or the free.
+pub(crate) fn clearing(alloc: Global, left: &[Bytes]) -> Result<Stage, NoMem>
+    ensures { IfOk result (λ stage. seen_stage stage ≡ clearing left.now) }
+{
+    match left.split_first() {
+        None => Ok(Stage::Freeing),
+        Some((entry, rest)) => {
+            let entry = copy_key(alloc, entry)?;
+            let left = copy_keys(alloc, rest)?;
+            Ok(Stage::Clearing { entry, left })
+        }
+    }
+}
+
+/// The first step behind the put.
+pub(crate) fn put(
+    alloc: Global,
+    catalog: &Catalog,
+    write: &Write,
+    read: &Option<Bytes>,
+) -> Result<Stage, NoMem>
+    requires { MayWrite catalog.now.tables write.now }
+    ensures { IfOk result (λ stage. seen_stage stage
+        ≡ clearing (stale_entries catalog.now.tables (flight write.now read.now))) }
+{
+    let entries = stale_entries(alloc, catalog, write, read)?;
+    clearing(alloc, entries.items())
+}
+
+/// After a refusal the removal of the first of these entries, or the free with the old row.
+pub(crate) fn undoing(alloc: Global, left: &[Bytes], refusal: Refusal) -> Result<Stage, NoMem>
+    ensures { IfOk result (λ stage. seen_stage stage ≡ undoing left.now refusal) }
+{
+    match left.split_first() {
+        None => Ok(Stage::Releasing { refusal }),
+        Some((entry, rest)) => {
+            let entry = copy_key(alloc, entry)?;
+            let left = copy_keys(alloc, rest)?;
+            Ok(Stage::Undoing {
+                entry,
+                left,
+                refusal,
+            })
+        }
+    }
+}
+
+/// After the refusal of a test the first step that undoes.
+pub(crate) fn refused(
+    alloc: Global,
+    catalog: &Catalog,
+    write: &Write,
+    read: &Option<Bytes>,
+    refusal: Refusal,
+) -> Result<Stage, NoMem>
+    requires { MayWrite catalog.now.tables write.now }
+    ensures { IfOk result (λ stage. seen_stage stage
+        ≡ undoing (fresh_entries catalog.now.tables (flight write.now read.now)) refusal) }
+{
+    let entries = fresh_entries(alloc, catalog, write, read)?;
+    undoing(alloc, entries.items(), refusal)
+}

@@ -1,0 +1,206 @@
+//! The rows of a write: the one that was read, and the one that is to be put.
+ghost use Rattle.std.specs.Prelude.{◌≡◌, length, IfOk, IfSome, option_map};
+ghost use Rattle.pq_base.specs.Values.{AllFit};
+ghost use Rattle.pq_content.specs.Tables.{types_of, stored_code};
+ghost use Rattle.pq_key_code.specs.KeyCode.{IsBytes};
+ghost use Rattle.pq_row_code.specs.RowReading.{row_decoded};
+ghost use Rattle.pq_index_keep.specs.Tested.{with_sets};
+ghost use Rattle.pq_clients.specs.Fitting.{MayWrite, IsMadeTable, IsUpdateOf};
+ghost use Rattle.pq_clients.specs.Flights.{table_of, table_number, pair_key, row_made, old_row, new_row, new_code};
+ghost use Rattle.pq_clients.specs.Held.{stored_row};
+ghost use Rattle.pq_clients.specs.Seen.{flight};
+
+use pq_base::{Bytes, ColType, List, NoMem, Row, known_types};
+use pq_calls::types_of;
+use pq_index_keep::{SetCol, Write, key_at, with_sets};
+use pq_key_code::row_key;
+use pq_row_code::{decode_row, encode_row, row_code_len};
+use pq_schema::{Catalog, Table};
+use std::alloc::Global;
+
+/// The row of a table that has this code.
+pub(crate) fn stored_row(alloc: Global, table: &Table, code: &[u8]) -> Result<Option<Row>, NoMem>
+    ensures row { IfOk result (λ row. row ≡ stored_row table.now code.now) }
+    ensures fits { IfOk result (λ row. IfSome row (AllFit (types_of table.now))) }
+{
+    let types = types_of(alloc, table)?;
+    decoded(alloc, types.items(), code)
+}
+
+/// The row of these types that has this code.
+fn decoded(alloc: Global, types: &[ColType], code: &[u8]) -> Result<Option<Row>, NoMem>
+    ensures row { IfOk result (λ row. row ≡ row_decoded types.now code.now) }
+    ensures fits { IfOk result (λ row. IfSome row (AllFit types.now)) }
+{
+    known_types(types);
+    known_bytes(code);
+    decode_row(alloc, code, types)
+}
+
+/// Tells a proof that the bytes are bytes.
+fn known_bytes(bytes: &[u8])
+    ensures { IsBytes bytes.now }
+{}
+
+/// The number of the write's table.
+pub(crate) fn table_number(write: &Write) -> u8
+    ensures { result ≡ table_number write.now }
+{
+    match write {
+        Write::Insert { table, .. } | Write::Update { table, .. } | Write::Delete { table, .. } => {
+            *table
+        }
+    }
+}
+
+/// The table of a write.
+pub(crate) fn table_of<'a>(catalog: &'a Catalog, write: &Write) -> &'a Table
+    requires { MayWrite catalog.now.tables write.now }
+    ensures table { result.now ≡ table_of catalog.now.tables write.now }
+    ensures made { IsMadeTable result.now }
+{
+    pq_index_keep::table_of(catalog, table_number(write))
+}
+
+/// The key of the pair of the row that is written.
+#[tactic(auto, unfolding(crate::specs::Flights::pair_key))]
+pub(crate) fn pair_key(alloc: Global, catalog: &Catalog, write: &Write) -> Result<Bytes, NoMem>
+    requires { MayWrite catalog.now.tables write.now }
+    ensures { IfOk result (λ key. key ≡ pair_key catalog.now.tables write.now) }
+{
+    match write {
+        Write::Insert { table, row } => key_at(
+            alloc,
+            *table,
+            table_of(catalog, write).key.items(),
+            row.items(),
+        ),
+        Write::Update { table, key, .. } | Write::Delete { table, key } => {
+            row_key(alloc, *table, key)
+        }
+    }
+}
+
+/// The row that was read.
+#[tactic(auto, unfolding(crate::specs::Flights::old_row))]
+pub(crate) fn old_row(
+    alloc: Global,
+    catalog: &Catalog,
+    write: &Write,
+    read: &Option<Bytes>,
+) -> Result<Option<Row>, NoMem>
+    requires { MayWrite catalog.now.tables write.now }
+    ensures row { IfOk result (λ row. row ≡ old_row catalog.now.tables (flight write.now read.now)) }
+    ensures fits { IfOk result (λ row. IfSome row (AllFit (types_of (table_of catalog.now.tables write.now)))) }
+{
+    match read {
+        None => Ok(None),
+        Some(code) => stored_row(alloc, table_of(catalog, write), code.items()),
+    }
+}
+
+/// The row with the values that an UPDATE sets.
+pub(crate) fn updated(
+    alloc: Global,
+    catalog: &Catalog,
+    write: &Write,
+    sets: &List<SetCol>,
+    old: &Row,
+) -> Result<Row, NoMem>
+    requires write { MayWrite catalog.now.tables write.now }
+    requires update { IsUpdateOf write.now sets.now }
+    requires fits { AllFit (types_of (table_of catalog.now.tables write.now)) old.now }
+    ensures row { IfOk result (λ new. new ≡ with_sets sets.now old.now) }
+    ensures fits { IfOk result (AllFit (types_of (table_of catalog.now.tables write.now))) }
+{
+    with_sets(alloc, old, sets.items())
+}
+
+/// The row that the write makes of one that it found, or of none.
+pub(crate) fn row_made(
+    alloc: Global,
+    catalog: &Catalog,
+    write: &Write,
+    old: &Option<Row>,
+) -> Result<Option<Row>, NoMem>
+    requires write { MayWrite catalog.now.tables write.now }
+    requires old { IfSome old.now (AllFit (types_of (table_of catalog.now.tables write.now))) }
+    ensures row { IfOk result (λ row. row ≡ row_made write.now old.now) }
+    ensures fits { IfOk result (λ row. IfSome row (AllFit (types_of (table_of catalog.now.tables write.now)))) }
+{
+    match write {
+        Write::Insert { row, .. } => Ok(Some(row.copy(alloc)?)),
+        Write::Update { sets, .. } => match old {
+            None => Ok(None),
+            Some(old) => Ok(Some(updated(alloc, catalog, write, sets, old)?)),
+        },
+        Write::Delete { .. } => Ok(None),
+    }
+}
+
+/// The row that is to be put.
+#[tactic(auto, unfolding(crate::specs::Flights::new_row))]
+pub(crate) fn new_row(
+    alloc: Global,
+    catalog: &Catalog,
+    write: &Write,
+    read: &Option<Bytes>,
+) -> Result<Option<Row>, NoMem>
+    requires { MayWrite catalog.now.tables write.now }
+    ensures row { IfOk result (λ row. row ≡ new_row catalog.now.tables (flight write.now read.now)) }
+    ensures fits { IfOk result (λ row. IfSome row (AllFit (types_of (table_of catalog.now.tables write.now)))) }
+{
+    let old = old_row(alloc, catalog, write, read)?;
+    row_made(alloc, catalog, write, &old)
+}
+
+/// The code of a row that fits its table.
+fn encoded(alloc: Global, catalog: &Catalog, write: &Write, row: &Row) -> Result<Bytes, NoMem>
+    requires write { MayWrite catalog.now.tables write.now }
+    requires fits { AllFit (types_of (table_of catalog.now.tables write.now)) row.now }
+    ensures { IfOk result (λ code. code ≡ stored_code (table_of catalog.now.tables write.now) row.now) }
+{
+    encode_row(alloc, row)
+}
+
+/// The number of bytes of such a code.
+pub(crate) fn code_len(catalog: &Catalog, write: &Write, row: &Row) -> u32
+    requires write { MayWrite catalog.now.tables write.now }
+    requires fits { AllFit (types_of (table_of catalog.now.tables write.now)) row.now }
+    ensures { result ≡ length (stored_code (table_of catalog.now.tables write.now) row.now) }
+{
+    row_code_len(row)
+}
+
+/// The code of a row that fits its table, or nothing of none.
+fn code_of(
+    alloc: Global,
+    catalog: &Catalog,
+    write: &Write,
+    row: &Option<Row>,
+) -> Result<Option<Bytes>, NoMem>
+    requires write { MayWrite catalog.now.tables write.now }
+    requires fits { IfSome row.now (AllFit (types_of (table_of catalog.now.tables write.now))) }
+    ensures { IfOk result (λ code. code
+        ≡ option_map (stored_code (table_of catalog.now.tables write.now)) row.now) }
+{
+    match row {
+        None => Ok(None),
+        Some(row) => Ok(Some(encoded(alloc, catalog, write, row)?)),
+    }
+}
+
+/// The code of the row that is to be put.
+#[tactic(auto, unfolding(crate::specs::Flights::new_code))]
+pub(crate) fn new_code(
+    alloc: Global,
+    catalog: &Catalog,
+    write: &Write,
+    read: &Option<Bytes>,
+) -> Result<Option<Bytes>, NoMem>
+    requires { MayWrite catalog.now.tables write.now }
+    ensures { IfOk result (λ code. code ≡ new_code catalog.now.tables (flight write.now read.now)) }
+{
+    let new = new_row(alloc, catalog, write, read)?;
+    code_of(alloc, catalog, write, &new)
+}
