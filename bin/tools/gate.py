@@ -1,4 +1,4 @@
-"""The test command: the gate, then the tests of the tools."""
+"""The gate, then the tests of the tools."""
 
 import dataclasses
 import os
