@@ -44,17 +44,20 @@ def take_over(kept: pathlib.Path, out: pathlib.Path) -> None:
         shutil.copytree(kept / "incremental", out / "incremental")
 
 
-def gather(copy: Repository, crate: str) -> int:
-    """Puts all edits of a crate where the toolchain looks for them, and returns how many they are."""
+def gather(copy: Repository, crate: str, only: list[str]) -> int:
+    """Puts the edits of a crate, all or those of these names, where the toolchain looks for them, and counts them."""
     folder = copy.folder(crate) / "must-fail"
     folder.mkdir(exist_ok=True)
     edits = copy.edits(crate)
     if len({path.name for path in edits}) < len(edits):
         raise SystemExit(f"mutants: two edits of {crate} have one name")
+    wanted = [path for path in edits if not only or path.stem in only]
     for path in edits:
-        if path.parent != folder:
+        if path not in wanted:
+            path.unlink()
+        elif path.parent != folder:
             shutil.copy2(path, folder)
-    return len(edits)
+    return len(wanted)
 
 
 def is_proved(crate: str, room: pathlib.Path) -> bool:
@@ -84,27 +87,28 @@ def refused_of(crate: str, room: pathlib.Path) -> int:
     return refused
 
 
-def try_crate(crate: str, toolchain: str) -> results.Result:
-    """Tries the edits of a crate in a copy of the checkout, which takes over what is kept of it and of those below."""
+def try_crate(crate: str, toolchain: str, only: list[str]) -> results.Result:
+    """Tries edits of a crate in a copy of the checkout, which takes over what is kept of it and of those below."""
     with tempfile.TemporaryDirectory(prefix="mutants-") as name:
         room = pathlib.Path(name)
         copy_sources(TOP, room)
         copy = Repository(room)
         for low in {crate, *copy.below(crate)}:
             take_over(TOP / "crates" / low / "out", room / "crates" / low / "out")
-        sources, tried = copy.source_sum(crate), gather(copy, crate)
+        sources, tried = copy.source_sum(crate), gather(copy, crate, only)
         refused = refused_of(crate, room) if is_proved(crate, room) else 0
     when = datetime.datetime.now(datetime.UTC).strftime("%Y-%m-%dT%H:%MZ")
     return results.Result(crate, refused, tried, sources, when, toolchain)
 
 
-def try_all(repository: Repository, crates: list[str]) -> int:
-    """Tries the edits of these crates, and keeps what it found of each as soon as it is known."""
+def try_all(repository: Repository, crates: list[str], only: list[str]) -> int:
+    """Tries the edits of these crates, and keeps what it found of each whole crate as soon as it is known."""
     toolchain = subprocess.run(["rt", "version"], capture_output=True, text=True, check=True).stdout.strip()
     failed = []
     for crate in crates:
-        result = try_crate(crate, toolchain)
-        results.keep(RESULTS, result, repository.crates_with_edits())
+        result = try_crate(crate, toolchain, only)
+        if not only:
+            results.keep(RESULTS, result, repository.crates_with_edits())
         print(result.line(), flush=True)
         if result.refused < result.tried:
             failed.append(crate)
@@ -119,8 +123,15 @@ def main(words: list[str]) -> int:
         lines = results.stale(repository, results.read(RESULTS))
         print(*lines, sep="\n", end="\n" if lines else "")
         return 1 if lines else 0
-    crates = repository.crates_with_edits()
+    crates, only = repository.crates_with_edits(), []
+    if "--only" in words:
+        place = words.index("--only")
+        words, only = words[:place], words[place + 1 :]
+        names = [path.stem for crate in words if crate in crates for path in repository.edits(crate)]
+        if len(words) != 1 or not only or any(name not in names for name in only):
+            print("mutants: --only stands behind one crate, and before names of its wrong bodies", file=sys.stderr)
+            return 2
     if strange := [word for word in words if word not in crates]:
         print("mutants: no crate with wrong bodies:", *strange, file=sys.stderr)
         return 2
-    return try_all(repository, words or crates)
+    return try_all(repository, words or crates, only)

@@ -105,6 +105,16 @@ class MutantsTest(unittest.TestCase):
         status, said = self.run_main("low", "high")
         self.assertEqual((status, "high" in said), (2, True))
 
+    def test_some_alone_are_tried_and_not_kept(self) -> None:
+        self.edit("low", "one", "good")
+        self.edit("low", "two", "weak")
+        status, said = self.run_main("low", "--only", "one")
+        self.assertEqual((status, "low/one: refused" in said, "low/two" in said), (0, True, False))
+        self.assertEqual(results.read(self.path), {})
+        self.assertEqual(self.run_main("low", "--only", "two")[0], 1)
+        for words in (["low", "--only"], ["--only", "one"], ["low", "--only", "three"]):
+            self.assertEqual(self.run_main(*words)[0], 2, words)
+
     def test_one_name_stands_once(self) -> None:
         self.edit("low", "one", "good")
         self.write(self.top / "crates/low/must-fail/one.edit", "good\n")
