@@ -79,7 +79,10 @@ def write_folder(parts: Iterable[bytes], folder: Path) -> int:
 
 def write(path: str, folder: str | None) -> int:
     """Writes the scripts of a file."""
-    file = open_file(path)
+    try:
+        file = open_file(path)
+    except sqlite3.OperationalError as error:
+        raise OperationalError(f"it can't be opened: {error}") from error
     try:
         check_whole(file)
         parts = scripts(statements(file), SCRIPT_BYTES)

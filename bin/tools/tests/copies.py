@@ -29,13 +29,13 @@ class Copy:
 
     def __init__(self, case: unittest.TestCase) -> None:
         self.top = new_folder(case)
-        shutil.copytree(TOP / "bin", self.top / "bin", ignore=shutil.ignore_patterns("tests", "__pycache__"))
+        ignored = shutil.ignore_patterns("tests", "__pycache__")
+        shutil.copytree(TOP / "bin", self.top / "bin", ignore=ignored)
+        shutil.copytree(TOP / "drivers", self.top / "drivers", ignore=ignored, symlinks=True)
         (self.top / "programs").mkdir()
 
-    def put_package(self) -> None:
-        """The Python package with the document that it reads."""
-        ignored = shutil.ignore_patterns("tests", "__pycache__")
-        shutil.copytree(TOP / "drivers", self.top / "drivers", ignore=ignored, symlinks=True)
+    def put_documents(self) -> None:
+        """The documents. The Python package reads one of them."""
         shutil.copytree(TOP / "docs", self.top / "docs")
 
     def put_program(self, name: str, program: pathlib.Path) -> None:

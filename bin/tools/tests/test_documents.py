@@ -71,7 +71,7 @@ class ConsoleTest(unittest.TestCase):
     def run_document(self, document: pathlib.Path) -> None:
         copy = Copy(self)
         assert PIQL is not None and PIQL_FILE is not None
-        copy.put_package()
+        copy.put_documents()
         copy.put_program("piql", PIQL)
         copy.put_program("piql_file", PIQL_FILE)
         shutil.copytree(TOP / "examples", copy.top / "examples")

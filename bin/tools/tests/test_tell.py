@@ -110,7 +110,7 @@ class PostgresTest(unittest.TestCase):
         copy = Copy(self)
         assert PIQL is not None
         copy.put_program("piql", PIQL)
-        copy.put_package()
+        copy.put_documents()
         self.script = copy.top / "postgres.piql"
         self.script.write_text(TABLES + "".join(f"{statement};\n" for statement, *_ in STATEMENTS), encoding="utf-8")
         self.told = copy.run("tell", "postgres.piql").stdout.decode()

@@ -2,16 +2,7 @@
 
 from .refusals import Refusal
 from .scripts import Place
-
-STATUSES = {
-    2: "Usage: the program's words are of no form",
-    3: "ReadFault: a read of the statements failed",
-    4: "WriteFault: a write of the reports failed",
-    5: "StoreFault: a call of the store failed; the disk may be full",
-    6: "Damaged: the file has a pair that no run writes",
-    7: "NoMem: there was no memory",
-    8: "TooLong: more bytes came than a script may have",
-}
+from .statuses import MEANINGS
 
 
 class Warning(Exception):  # noqa: A001 - the name is the standard's
@@ -125,5 +116,5 @@ def with_status(status: int | None, text: str) -> DatabaseError:
 
 def ended(status: int, stands: str) -> DatabaseError:
     """The exception of a run that ended with a status, or by the signal of a negative one, with what stands then."""
-    why = STATUSES.get(status, f"signal {-status}" if status < 0 else "a status that the engine doesn't have")
-    return with_status(status, f"the run ended with status {status}, {why}. {stands}")
+    why = MEANINGS.get(status, f"signal {-status}" if status < 0 else "a status that the engine doesn't have")
+    return with_status(status, f"the run ended with status {status}: {why}. {stands}")
