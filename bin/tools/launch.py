@@ -1,7 +1,6 @@
 """Running a program: its words are looked at first, then the program is found, and what its end says is told."""
 
 import ctypes
-import os
 import signal
 import subprocess
 import sys
@@ -9,7 +8,7 @@ from typing import BinaryIO
 
 from tools.kept import NotBuilt
 from tools.programs import Program, find_program, proved_program
-from tools.statuses import NO_PROGRAM, STORE_FAULT, USAGE, WRITE_FAULT, meaning
+from tools.statuses import NO_PROGRAM, STORE_FAULT, USAGE, meaning
 from tools.versions import MEANING, NUMBER
 from tools.words import Asked, Wrong, help_of, read_words, shown, usage
 
@@ -87,16 +86,6 @@ def run_asked(name: str, asked: Asked) -> int:
 
 
 def main(name: str, words: list[str]) -> int:
-    """Runs a command. A reader who has gone, as `head`, gets no traceback."""
-    try:
-        return run_words(name, words)
-    except BrokenPipeError:
-        # What is still kept for standard output goes nowhere.
-        os.dup2(os.open(os.devnull, os.O_WRONLY), sys.stdout.fileno())
-        return WRITE_FAULT
-
-
-def run_words(name: str, words: list[str]) -> int:
     if "--help" in words:
         print(help_of(name))
         return 0

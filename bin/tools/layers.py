@@ -3,8 +3,10 @@
 import functools
 import pathlib
 import re
+import sys
 
-from tools.repository import Repository
+from tools.repository import TOP, Repository
+from tools.statuses import USAGE
 
 TESTS = ("pq_test", "pq_cases", "piql_examples")
 BLOCK = re.compile(r"(?<=^```mermaid\n).*?(?=^```$)", re.MULTILINE | re.DOTALL)
@@ -44,3 +46,14 @@ def write_picture(repository: Repository, document: pathlib.Path) -> None:
     """Puts the picture into the document in place of the one that it has."""
     picture = Layers(repository).picture()
     document.write_text(BLOCK.sub(lambda _: picture, document.read_text(), count=1))
+
+
+def main(words: list[str]) -> int:
+    if words == ["--write"]:
+        write_picture(Repository(), TOP / "docs/ARCHITECTURE.md")
+        return 0
+    if words:
+        print("layers: it takes no word but --write", file=sys.stderr)
+        return USAGE
+    print(Layers(Repository()).picture(), end="")
+    return 0

@@ -18,6 +18,7 @@ PLACES = [str(pathlib.Path(sys.executable).parent), "/usr/bin", "/bin"]
 WHOLE = re.compile(r"(CREATE|INSERT|UPDATE|DELETE|PREPARE|RUN|EXPLAIN|SHOW)\b")
 STATEMENT = re.compile(WHOLE.pattern + r"|(SELECT|ALTER|DROP|TRUNCATE|COPY|BEGIN)\b")
 CODE = re.compile(r"`([^`]*)`")
+TOOLCHAIN = re.compile(r"`(rattle-kit-\w+ logic [0-9a-f]+)`")
 END = re.compile(r"^(\d+) (ok|refused)", re.MULTILINE)
 
 
@@ -52,6 +53,13 @@ class ShownTest(unittest.TestCase):
             for block in blocks(document, "sh"):
                 for name in re.findall(r"\bbin/([\w-]+)", block.text):
                     self.assertTrue(os.access(TOP / "bin" / name, os.X_OK), f"{block.place}: bin/{name}")
+
+    @unittest.skipUnless(shutil.which("rt"), "the toolchain isn't on the PATH")
+    def test_the_toolchain_is_the_one_at_hand(self) -> None:
+        version = subprocess.run(["rt", "version"], capture_output=True, text=True, check=True).stdout.strip()
+        for name in ("README.md", "docs/PROVED.md"):
+            told = TOOLCHAIN.findall((TOP / name).read_text())
+            self.assertEqual(told, [version], name)
 
     def test_links_lead_to_files_and_headings(self) -> None:
         for document in documents():

@@ -55,6 +55,13 @@ def pairs_of(path: pathlib.Path) -> list[tuple[bytes, bytes]]:
         database.close()
 
 
+class NoFileTest(unittest.TestCase):
+    def test_it_is_told(self) -> None:
+        run = run_dump(new_folder(self) / "nowhere.db")
+        self.assertEqual(run.returncode, 1)
+        self.assertRegex(run.stderr, rb"^dump: /\S*nowhere\.db: it can't be opened: ")
+
+
 class BytesTest(unittest.TestCase):
     def setUp(self) -> None:
         self.folder = new_folder(self)
