@@ -9,7 +9,7 @@ use std::marker::Model;
 /// One row for each of the first relations of a query.
 #[derive(Debug, Drop)]
 pub struct Combo {
-    rows: List<Row>,
+    pub rows: List<Row>,
 }
 
 impl Model for Combo {
