@@ -57,7 +57,7 @@ def connect(
     reader: bool = False,
     step: float = 60.0,
 ) -> Connection:
-    """Opens a store: a file, `unix:SOCKET` of a piql-serve, `etcd://..` or `:memory:`.
+    """Opens a store: a file, `unix:SOCKET` of a piql-serve, `etcd://..`, `postgresql://..` or `:memory:`.
 
     With prepare=False a SELECT that the store doesn't have is refused. The program is that of the argument, of the
     environment (PIQL_FILE, PIQL_HOST for a cluster, PIQL for a store in memory), or that which the repository or the

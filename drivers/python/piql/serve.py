@@ -221,7 +221,7 @@ def opened(store: str, program: str | None, is_standby: bool) -> FileLink | Host
 def read_words(words: list[str] | None) -> argparse.Namespace:
     """The words of the command."""
     parser = argparse.ArgumentParser(prog="piql-serve", description="One store for many connections.")
-    parser.add_argument("store", help="the SQLite file of the store, or etcd://..")
+    parser.add_argument("store", help="the SQLite file of the store, or etcd://.. or postgresql://..")
     parser.add_argument("socket", help="where clients connect, as unix:SOCKET")
     parser.add_argument("--program", help="the program piql_file, or piql_host for a cluster")
     parser.add_argument("--standby", action="store_true", help="wait until no other server has the cluster's store")

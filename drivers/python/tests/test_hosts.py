@@ -34,6 +34,7 @@ from piql.hosts import (
 from piql.hosts.etcd import Fence, read_fence
 from piql.hosts.etcd_client import Stored
 from piql.hosts.etcd_reading import EtcdReading
+from piql.hosts.postgres_client import places_of
 from piql.hosts.urls import etcd_parts, is_url, times_of
 from piql.hosts.wire import FAILURE, Request, answer, read_range, read_request, read_write
 
@@ -295,9 +296,17 @@ class LinkTest(unittest.TestCase):
         self.assertRaises(NotSupportedError, link.exchange, b"PUT k v;", False)
         self.assertEqual(set(reading.pins), {0, 2})
         with self.assertRaises(OperationalError) as caught:
-            link.exchange(b"PUT k v;", True)
+            link.exchange(b"PUT k w;", True)
         self.assertEqual(caught.exception.status, 5)
         self.assertEqual(store.values[b"k"], b"v")
+
+    def test_a_reader_whose_revision_is_gone_takes_another(self) -> None:
+        reading = Pinned(MemoryStore())
+        link = ReaderLink("the store", reading, STUB, 0.2)
+        self.addCleanup(link.close)
+        reading.get = unittest.mock.Mock(side_effect=[Fault("compacted"), b"v"])  # type: ignore[method-assign]
+        self.assertIn("x01v", link.exchange(b"GET k;", True))
+        self.assertEqual(len(reading.pins), 2)
 
     def test_nodes(self) -> None:
         link = NodesLink("nodes", [MemoryStore(), MemoryStore()], [b"", b"m"], STUB)
@@ -311,8 +320,16 @@ class UrlTest(unittest.TestCase):
     def test_urls(self) -> None:
         self.assertEqual(etcd_parts("etcd://a:1,b/shop"), (["a:1", "b:2379"], "shop"))
         self.assertEqual(times_of("etcd://a/shop?lease=3"), ("etcd://a/shop", (3.0, 10.0)))
-        self.assertTrue(is_url("etcd://a/db"))
+        kept = "postgresql://u@a,b:1/db?sslmode=require"
+        self.assertEqual(times_of(kept + "&patience=2"), (kept, (10.0, 2.0)))
+        self.assertTrue(is_url("postgresql://a/db"))
         self.assertFalse(is_url("etcd.db") or is_url("unix:etcd://x"))
+
+    def test_hosts_of_a_database(self) -> None:
+        words = {"user": "u", "host": "a,b", "port": "1,2"}
+        self.assertEqual([(it["host"], it["port"]) for it in places_of(words)], [("a", "1"), ("b", "2")])
+        self.assertEqual(places_of({"host": "a,b", "port": "5"})[1], {"host": "b", "port": "5"})
+        self.assertEqual(places_of({"dbname": "d"}), [{"dbname": "d"}])
 
     def test_what_is_no_url(self) -> None:
         for url in ("etcd://a:1", "etcd:///shop", "etcd://a:x/shop", "etcd://a/shop?leese=3"):

@@ -10,7 +10,7 @@ forty lines. It owes the engine this:
 3. A write that was answered stays. One that has no answer is decided before the call returns or raises: it was made, or
    it wasn't and can be made no more. Where nothing decides it, the call raises Fault, and so does each call behind it.
 4. Nobody else writes between `begin` and the first Fault. A store that others can reach needs a fence for this: a value
-   of the store that each call compares, reads too, in the same step (etcd.py has one).
+   of the store that each call compares, reads too, in the same step (etcd.py and postgres.py have one each).
 5. A call ends by itself: what waits for a network has a limit of time of its own.
 
 A fault ends the run of the engine. The next run begins with `begin`, and settles what was left half made. Whether a

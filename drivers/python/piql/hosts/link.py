@@ -15,6 +15,7 @@ from .wire import BadRequest
 Program = str | os.PathLike[str] | None
 # For how long it is waited between two looks at a store that another engine has, in seconds.
 PAUSE = 1.0
+STORE_FAULT = 5
 STANDS_READ = "This statement changes nothing. The next one opens the store anew."
 STANDS_WRITE = (
     "This statement was made whole or not at all; all that was reported as ok before stands."
@@ -170,4 +171,10 @@ class ReaderLink(HostLink):
         """The report of a statement that changes nothing."""
         if not reads:
             raise NotSupportedError("this connection only reads; the one that writes is made without reader=True")
+        try:
+            return super().exchange(statement, reads)
+        except OperationalError as error:
+            if error.status != STORE_FAULT:
+                raise
+        # What was pinned may be gone, as a snapshot that the server ended, or a revision that was compacted.
         return super().exchange(statement, reads)

@@ -1,6 +1,7 @@
 """The links of stores that a URL names.
 
     etcd://a:2379,b:2379/name             a store in a cluster of etcd, under this name
+    postgresql://user@a,b/database        a store in a database of PostgreSQL, on whichever host takes writes
 
 `?lease=S` and `?patience=S` (seconds) say how long the store stays with an engine that makes no calls, and for how long
 a call is made again where a member doesn't answer; both are 10 where nothing is said.
@@ -16,7 +17,7 @@ from .etcd_client import EtcdClient
 from .etcd_reading import EtcdReading
 from .link import HostLink, Program, ReaderLink
 
-SCHEMES = ("etcd",)
+SCHEMES = ("etcd", "postgresql")
 ETCD_PORT = 2379
 NO_ETCD = "a store in etcd is named etcd://HOST:PORT,HOST:PORT/NAME, and not {url}"
 
@@ -62,15 +63,23 @@ def etcd_client(endpoints: list[str], times: Times) -> EtcdClient:
 def open_store(url: str) -> Backend:
     """The backend of an engine that has the store for itself."""
     bare, times = times_of(url)
-    endpoints, name = etcd_parts(bare)
-    return EtcdStore(etcd_client(endpoints, times), name, times.lease, times.patience)
+    if bare.startswith("etcd:"):
+        endpoints, name = etcd_parts(bare)
+        return EtcdStore(etcd_client(endpoints, times), name, times.lease, times.patience)
+    from .postgres import PostgresStore
+
+    return PostgresStore(bare, times.lease, times.patience)
 
 
 def open_reading(url: str) -> Reading:
     """The backend of an engine that only reads."""
     bare, times = times_of(url)
-    endpoints, name = etcd_parts(bare)
-    return EtcdReading(etcd_client(endpoints, times), name, times.patience)
+    if bare.startswith("etcd:"):
+        endpoints, name = etcd_parts(bare)
+        return EtcdReading(etcd_client(endpoints, times), name, times.patience)
+    from .postgres_reading import PostgresReading
+
+    return PostgresReading(bare, times.patience)
 
 
 def open_link(
