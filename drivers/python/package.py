@@ -31,9 +31,9 @@ def metadata() -> str:
 
 def contents(info: str) -> dict[str, bytes]:
     """The files of the wheel by their names. The document of refusals goes in with the modules."""
-    paths = sorted(path for pattern in FILES for path in (HERE / "piql").glob(pattern))
-    paths.append(HERE.parents[1] / "docs" / "REFUSALS.md")
-    found = {f"piql/{path.name}": path.read_bytes() for path in paths}
+    paths = sorted(path for pattern in FILES for path in (HERE / "piql").rglob(pattern))
+    found = {str(path.relative_to(HERE)): path.read_bytes() for path in paths}
+    found["piql/REFUSALS.md"] = (HERE.parents[1] / "docs" / "REFUSALS.md").read_bytes()
     found[f"{info}/METADATA"] = metadata().encode()
     found[f"{info}/WHEEL"] = b"Wheel-Version: 1.0\nGenerator: package\nRoot-Is-Purelib: true\nTag: py3-none-any\n"
     return found

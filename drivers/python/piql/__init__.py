@@ -23,6 +23,7 @@ from .errors import (
     ProgrammingError,
     Warning,
 )
+from .hosts.urls import is_url, open_link
 from .links import FileLink, Link, MemoryLink
 from .migrate import migrate
 from .reports import Row, Value, Work
@@ -53,23 +54,31 @@ def connect(
     prepare: bool = True,
     program: str | os.PathLike[str] | None = None,
     timeout: float = 5.0,
+    reader: bool = False,
+    step: float = 60.0,
 ) -> Connection:
-    """Opens a store: a file, `unix:SOCKET` of a piql-serve, or `:memory:`.
+    """Opens a store: a file, `unix:SOCKET` of a piql-serve, `etcd://..`, `postgresql://..` or `:memory:`.
 
     With prepare=False a SELECT that the store doesn't have is refused. The program is that of the argument, of the
-    environment (PIQL_FILE, or PIQL for a store in memory), or that which the repository or the release has. `timeout`
-    is for how many seconds a file that another process has open, or a server that isn't there, is tried again.
+    environment (PIQL_FILE, PIQL_HOST for a cluster, PIQL for a store in memory), or that which the repository or the
+    release has. `timeout` is for how many seconds a store that another process has, or a server that isn't there, is
+    tried again. Over a cluster, any number of connections with reader=True read beside the one that writes; and one
+    step of a statement, as a call of the store, may take `step` seconds before the run is ended.
     """
     target = os.fspath(path)
+    if reader and not is_url(target):
+        raise InterfaceError(f"{target} has no readers beside its writer: reader=True is for the store of a cluster")
     link: Link
     if target == ":memory:":
         link = MemoryLink(program)
+    elif is_url(target):
+        link = open_link(target, program, timeout, step, reader)
     elif target.startswith("unix:"):
         link = SocketLink(target[len("unix:") :], timeout)
     else:
         link = FileLink(target, program, timeout)
     try:
-        return Connection(link, prepare)
+        return Connection(link, prepare and not reader)
     except BaseException:
         link.close()
         raise

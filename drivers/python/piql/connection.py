@@ -7,6 +7,7 @@ from typing import TYPE_CHECKING
 
 from . import errors
 from .errors import InterfaceError, InternalError, NotSupportedError, ProgrammingError, refused
+from .hosts.link import ReaderLink
 from .links import Link
 from .refusals import refusal_of
 from .reports import Report, Work, read_report
@@ -67,6 +68,19 @@ class Connection:
     def statements(self) -> int:
         """How many statements this connection has sent, those among them that prepare a SELECT and read SHOW."""
         return self._sent
+
+    @property
+    def revision(self) -> int:
+        """That of the store behind the last statement, for the `wait_for` of a reader; 0 where a store has none."""
+        found: int = getattr(self.link(), "revision", 0)
+        return found
+
+    def wait_for(self, revision: int) -> None:
+        """Has a reader (`connect(.., reader=True)`) read at least what a writer's revision has, from now on."""
+        link = self.link()
+        if not isinstance(link, ReaderLink):
+            raise NotSupportedError("only a reader waits for a revision: another connection reads what stands")
+        link.wait_for(revision)
 
     def link(self) -> Link:
         """What the statements are sent over."""

@@ -56,7 +56,7 @@ class Engine:
         self.into, self.out_of = self.process.stdin.fileno(), self.process.stdout.fileno()
         self.sent = 0
         try:
-            self.opening = self.read_until(lambda text: OPENING.fullmatch(text) is not None)
+            self.opening = self.opened()
         except BaseException:
             self.kill()
             raise
@@ -69,11 +69,19 @@ class Engine:
         """The report of one statement. Whatever stops this ends the process: a report would be left in the pipe."""
         try:
             self.sent += len(statement)
-            self.write(statement)
-            return self.read_until(is_report)
+            return self.answered(statement)
         except BaseException:
             self.kill()
             raise
+
+    def opened(self) -> bytes:
+        """The opening line."""
+        return self.read_until(lambda text: OPENING.fullmatch(text) is not None)
+
+    def answered(self, statement: bytes) -> bytes:
+        """The report of one statement."""
+        self.write(statement)
+        return self.read_until(is_report)
 
     def write(self, text: bytes) -> None:
         """Writes all of it, if the process reads on. If not, the read that follows tells how it ended."""

@@ -58,14 +58,27 @@ def check_owner(owner: int) -> None:
         raise InterfaceError("this connection was made before a fork: each process needs one of its own")
 
 
+class Run(Protocol):
+    """A run of the engine, wherever its store is."""
+
+    def has_room(self, statement: bytes) -> bool:
+        """Whether the script is no longer than it may be with the statement."""
+
+    def exchange(self, statement: bytes) -> bytes:
+        """The report of one statement."""
+
+    def close(self) -> int:
+        """Ends the run; its status."""
+
+
 class EngineLink:
     """One run of the engine at a time."""
 
     def __init__(self) -> None:
         self.owner = os.getpid()
-        self.engine: Engine | None = None
+        self.engine: Run | None = None
 
-    def running(self, statement: bytes) -> Engine:
+    def running(self, statement: bytes) -> Run:
         """A run with room for the statement."""
         raise NotImplementedError
 
@@ -102,7 +115,7 @@ class FileLink(EngineLink):
         self.program = find_program("piql_file", program)
         self.begin()
 
-    def begin(self) -> Engine:
+    def begin(self) -> Run:
         """Begins a run; where another process has the file, tries again until the time is over."""
         until = time.monotonic() + self.timeout
         while True:
@@ -122,7 +135,7 @@ class FileLink(EngineLink):
             return OperationalError(UNOPENED.format(path=self.path))
         return ended(end.status, f"{self.path} isn't open. {end.written}".strip())
 
-    def running(self, statement: bytes) -> Engine:
+    def running(self, statement: bytes) -> Run:
         """A run with room for the statement."""
         engine = self.engine
         if engine is not None and engine.has_room(statement):
@@ -151,7 +164,7 @@ class MemoryLink(EngineLink):
         except EngineEnded as end:
             raise ended(end.status, f"The store isn't open. {end.written}".strip()) from end
 
-    def running(self, statement: bytes) -> Engine:
+    def running(self, statement: bytes) -> Run:
         """The run, if it has room for the statement."""
         if self.engine is None or not self.engine.has_room(statement):
             self.close()

@@ -1,14 +1,18 @@
-"""piql-serve: hands the statements of many connections, one after the other, to one run of the engine over a file.
+"""piql-serve: hands the statements of many connections, one after the other, to one run of the engine over one store.
 
-    piql-serve FILE SOCKET     serves until SIGTERM or SIGINT; then it ends the statement at hand and closes the file
+    piql-serve STORE SOCKET    serves until SIGTERM or SIGINT; then it ends the statement at hand and closes the store
 
-Clients connect by piql.connect("unix:SOCKET"). Only the owner of the server may. A second server on the file, or on the
-socket, ends at once. Each client has a thread; the engine is taken by one of them at a time.
+The store is a file, or the URL of one in a cluster, as piql.connect takes it. Clients connect by
+piql.connect("unix:SOCKET"). Only the owner of the server may. A second server on the store, or on the socket, ends at
+once; with --standby one on the store of a cluster waits until it is free. Each client has a thread; the engine is taken
+by one of them at a time. A server keeps the lease of its cluster while it is idle, but not while its engine stands still
+in the middle of a statement.
 """
 
 import argparse
 import contextlib
 import json
+import math
 import os
 import re
 import signal
@@ -34,6 +38,8 @@ from .frames import (
     read_frame,
     write_frame,
 )
+from .hosts.link import HostLink
+from .hosts.urls import is_url, open_link
 from .links import FileLink
 from .scripts import first_token, is_one_piece
 
@@ -43,6 +49,8 @@ SOCKET_MODE = 0o600
 READING = re.compile(rb"(?:RUN|SHOW|EXPLAIN)\b", re.IGNORECASE)
 # For how many seconds a stop waits for reports on their way, and a file that another process has is tried again.
 PATIENCE = 5.0
+# How often an idle server looks whether its lease is to be renewed, in seconds.
+BEAT = 1.0
 
 
 def is_reading(statement: bytes) -> bool:
@@ -54,9 +62,17 @@ def is_reading(statement: bytes) -> bool:
 class Answers:
     """The answers to frames, over one link that one thread has at a time."""
 
-    def __init__(self, link: FileLink) -> None:
+    def __init__(self, link: FileLink | HostLink) -> None:
         self.link = link
         self.lock = threading.Lock()
+
+    def keep(self) -> None:
+        """Keeps the lease of a cluster, if no statement is at work: the calls of one keep it themselves."""
+        if isinstance(self.link, HostLink) and self.lock.acquire(blocking=False):
+            try:
+                self.link.keep()
+            finally:
+                self.lock.release()
 
     def answer(self, kind: bytes, text: bytes) -> tuple[bytes, bytes]:
         """The kind and the text of the answer to a frame."""
@@ -188,15 +204,40 @@ def listening(path: str) -> socket.socket:
     return listener
 
 
+def opened(store: str, program: str | None, is_standby: bool) -> FileLink | HostLink:
+    """The store with a run over it. A standby waits until nobody has it; it holds nothing meanwhile."""
+    if not is_url(store):
+        return FileLink(store, program, PATIENCE)
+    link = open_link(store, program, math.inf if is_standby else PATIENCE)
+    try:
+        link.begin()
+    except BaseException:
+        link.close()
+        raise
+    link.timeout = PATIENCE
+    return link
+
+
+def read_words(words: list[str] | None) -> argparse.Namespace:
+    """The words of the command."""
+    parser = argparse.ArgumentParser(prog="piql-serve", description="One store for many connections.")
+    parser.add_argument("store", help="the SQLite file of the store, or etcd://.. or postgresql://..")
+    parser.add_argument("socket", help="where clients connect, as unix:SOCKET")
+    parser.add_argument("--program", help="the program piql_file, or piql_host for a cluster")
+    parser.add_argument("--standby", action="store_true", help="wait until no other server has the cluster's store")
+    given = parser.parse_args(words)
+    if given.standby and not is_url(given.store):
+        parser.error("only the store of a cluster has a standby")
+    return given
+
+
 def main(words: list[str] | None = None) -> int:
     """The command."""
-    parser = argparse.ArgumentParser(prog="piql-serve", description="One file for many connections.")
-    parser.add_argument("file", help="the SQLite file of the store")
-    parser.add_argument("socket", help="where clients connect, as unix:SOCKET")
-    parser.add_argument("--program", help="the program piql_file")
-    given = parser.parse_args(words)
+    given = read_words(words)
     try:
-        link = FileLink(given.file, given.program, PATIENCE)
+        if given.standby:
+            print(f"piql-serve: waits for {given.store}", flush=True)
+        link = opened(given.store, given.program, given.standby)
         try:
             server = Server(given.socket, Answers(link))
         except BaseException:
@@ -210,8 +251,9 @@ def main(words: list[str] | None = None) -> int:
     for number in (signal.SIGTERM, signal.SIGINT):
         signal.signal(number, lambda _number, _frame: wake.set())
     threading.Thread(target=server.run, daemon=True).start()
-    print(f"piql-serve: {given.file} at {given.socket}", flush=True)
-    wake.wait()
+    print(f"piql-serve: {given.store} at {given.socket}", flush=True)
+    while not wake.wait(BEAT):
+        server.answers.keep()
     server.stop()
     return 0
 

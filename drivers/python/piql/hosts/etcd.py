@@ -1,0 +1,242 @@
+"""Pairs in a cluster of etcd, under a fence: one engine writes, and whoever lost the fence reads and writes nothing.
+
+The key NAME/fence lives as long as its owner's lease, and has the value OWNER/WRITES/TURNS. Each call is one transaction
+that compares this value. A write also changes it, to WRITES + 1, in the same transaction. So the value of the fence tells
+of each write whether it was made. Where the answer of a write is lost, the fence is taken from OWNER/w/t to OWNER/w/t+1
+by a compare-and-set: once that has been told, the lost write can land no more, for it compares OWNER/w/t; and where it
+isn't possible since the fence is OWNER/w+1/t, the write has landed. So a write is told as made, or made once more.
+
+The lease is renewed by the calls themselves, so an engine that is stopped loses it.
+"""
+
+import os
+import socket
+import time
+from typing import NamedTuple
+
+from .backend import Fault, Guard, Held
+from .etcd_client import (
+    Body,
+    EtcdClient,
+    Refused,
+    Stored,
+    coded,
+    found_by,
+    has_value,
+    is_absent,
+    looking,
+    pairs_of,
+    putting,
+    removing,
+    revision_of,
+)
+from .etcd_pairs import EtcdPairs
+
+TXN = "/v3/kv/txn"
+GONE = "the fence is another engine's, or gone"
+
+
+class Fence(NamedTuple):
+    """What the fence's value says: who has it, how many writes he made, and how often it was taken from lost calls."""
+
+    owner: str
+    writes: int = 0
+    turns: int = 0
+
+    def value(self) -> bytes:
+        return f"{self.owner}/{self.writes}/{self.turns}".encode()
+
+    def behind_write(self) -> "Fence":
+        return self._replace(writes=self.writes + 1)
+
+    def next_turn(self) -> "Fence":
+        return self._replace(turns=self.turns + 1)
+
+
+def read_fence(value: bytes) -> Fence:
+    """The fence of a value."""
+    owner, writes, turns = value.decode().rsplit("/", 2)
+    return Fence(owner, int(writes), int(turns))
+
+
+class EtcdStore(EtcdPairs):
+    """The pairs under NAME/kv/. `lease` is in seconds, and so is `patience`, for which a call goes on asking members."""
+
+    def __init__(self, client: EtcdClient, name: str, lease: float = 10.0, patience: float = 10.0) -> None:
+        super().__init__(client, name, patience)
+        self.lease, self.fence_key = lease, f"{name}/fence".encode()
+        self.fence = Fence(f"{socket.gethostname()}:{os.getpid()}:{os.urandom(8).hex()}")
+        self.lease_id = ""
+        self.renewed = 0.0
+        # Why no more calls are made until the next `begin`.
+        self.lost: str | None = "the store isn't begun"
+        # How many writes had no answer and were decided.
+        self.settled = 0
+
+    # The fence
+
+    def begin(self) -> None:
+        """Has the fence: it is still there, or it is taken."""
+        if self.lost is None and self.is_begun():
+            return
+        self.revoke()
+        self.check_free(pairs_of(self.client.post("/v3/kv/range", {"key": coded(self.fence_key)}, self.patience)))
+        granted = self.client.post("/v3/lease/grant", {"TTL": str(max(1, round(self.lease)))}, self.patience)
+        self.lease_id, self.renewed = granted["ID"], time.monotonic()
+        self.take()
+        self.lost = None
+
+    def take(self) -> None:
+        """Makes the fence, or takes it from a run of this store's own that ended."""
+        found: list[Stored] = []
+        while True:
+            wanted = self.fence.next_turn()
+            compare = has_value(self.fence_key, found[0].value) if found else is_absent(self.fence_key)
+            body = {"compare": [compare], "success": [self.put_fence(wanted)], "failure": [looking(self.fence_key)]}
+            told = self.client.post(TXN, body, self.patience)
+            self.fence, self.revision = wanted, revision_of(told)
+            found = [] if told.get("succeeded") else found_by(told)
+            # This request itself may have been made before, without an answer.
+            if told.get("succeeded") or found and found[0].value == wanted.value():
+                return
+            self.check_free(found)
+
+    def check_free(self, found: list[Stored]) -> None:
+        """Raises Held where another has the fence. One of this store's own is gone on from."""
+        if not found:
+            return
+        held = read_fence(found[0].value)
+        if held.owner != self.fence.owner:
+            # So that what was asked for can't be made later either.
+            self.revoke()
+            raise Held(f"{held.owner} has it")
+        self.fence = held._replace(turns=max(held.turns, self.fence.turns))
+
+    def put_fence(self, fence: Fence) -> Body:
+        """The part of a transaction that writes the fence."""
+        return putting(self.fence_key, fence.value(), lease=self.lease_id)
+
+    def compare_fence(self) -> Body:
+        """The comparison that each call makes."""
+        return has_value(self.fence_key, self.fence.value())
+
+    def is_begun(self) -> bool:
+        """Whether the lease can't have ended, or the fence is still there."""
+        if self.lost is None and time.monotonic() - self.renewed > self.lease / 2:
+            try:
+                self.renewed = 0.0
+                self.renew()
+                self.look(self.fence_key)
+            except Fault:
+                return False
+        return self.lost is None
+
+    def renew(self) -> None:
+        """Renews the lease where a third of it is over."""
+        now = time.monotonic()
+        if now - self.renewed <= self.lease / 3:
+            return
+        told = self.client.post("/v3/lease/keepalive", {"ID": self.lease_id}, self.patience)
+        if int(told.get("result", told).get("TTL", 0)) <= 0:
+            self.give_up(GONE)
+        self.renewed = now
+
+    def keep(self) -> None:
+        """Renews the lease of an idle engine. The next call tells where that fails."""
+        try:
+            if self.lost is None:
+                self.renew()
+        except Fault as fault:
+            self.lost = str(fault)
+
+    def give_up(self, why: str) -> None:
+        """All calls from now on are faults."""
+        self.lost = why
+        raise Fault(why)
+
+    def revoke(self) -> None:
+        """Gives the lease back, and the fence with it, if a member takes it within a second."""
+        if self.lease_id:
+            try:
+                self.client.post("/v3/lease/revoke", {"ID": self.lease_id}, 1.0)
+            except Fault:
+                pass
+        self.lease_id = ""
+
+    # Reads
+
+    def look(self, key: bytes, **more: object) -> list[Stored]:
+        """What a read under the fence tells. Members are asked until one answers, for a read may be made twice."""
+        if self.lost is not None:
+            raise Fault(self.lost)
+        self.renew()
+        body = {"compare": [self.compare_fence()], "success": [looking(key, **more)]}
+        told = self.client.post(TXN, body, self.patience)
+        if not told.get("succeeded"):
+            self.give_up(GONE)
+        return found_by(told)
+
+    # Writes
+
+    def write(self, key: bytes, guard: Guard, held: bytes, new: bytes | None) -> bool:
+        if self.lost is not None:
+            raise Fault(self.lost)
+        self.renew()
+        until = time.monotonic() + self.patience
+        while True:
+            try:
+                return self.tried(self.front + key, guard, held, new)
+            except Refused:
+                raise
+            except Fault as fault:
+                if self.lost is not None:
+                    raise
+                if self.settle():
+                    return True
+                if time.monotonic() >= until:
+                    raise Fault(f"a write wasn't made: {fault}") from fault
+
+    def tried(self, key: bytes, guard: Guard, held: bytes, new: bytes | None) -> bool:
+        """Asks one member for a write, once. A Fault says that there was no answer."""
+        guards = {Guard.ANY: [], Guard.ABSENT: [is_absent(key)], Guard.IS: [has_value(key, held)]}[guard]
+        behind = self.fence.behind_write()
+        change = removing(key) if new is None else putting(key, new)
+        body = {"compare": [self.compare_fence(), *guards], "success": [change, self.put_fence(behind)]}
+        told = self.client.once(TXN, body | {"failure": [looking(self.fence_key)]})
+        if told.get("succeeded"):
+            self.fence, self.revision = behind, revision_of(told)
+            return True
+        self.check_fence(told, self.fence)
+        return False
+
+    def check_fence(self, told: Body, wanted: Fence) -> None:
+        """Gives up where a transaction found another fence."""
+        found = found_by(told)
+        if not found or found[0].value != wanted.value():
+            self.give_up(GONE)
+
+    def settle(self) -> bool:
+        """Takes the fence from a write without an answer; whether that write was made. It can be made no more."""
+        made, taken = self.fence.behind_write(), self.fence.next_turn()
+        body = {"compare": [self.compare_fence()], "success": [self.put_fence(taken)]}
+        try:
+            told = self.client.post(TXN, body | {"failure": [looking(self.fence_key)]}, self.patience)
+        except Fault as fault:
+            # Undecided. The next fence decides it, and until then there is no further call.
+            self.give_up(f"no member decides a write without an answer: {fault}")
+        self.settled += 1
+        self.revision = revision_of(told)
+        if not told.get("succeeded") and (found := found_by(told)) and found[0].value == made.value():
+            self.fence = made
+            return True
+        if not told.get("succeeded"):
+            # This request itself may have been made before, without an answer.
+            self.check_fence(told, taken)
+        self.fence = taken
+        return False
+
+    def close(self) -> None:
+        """Gives the fence back."""
+        self.revoke()
+        self.client.close()
+        self.lost = "the store is closed"

@@ -1,0 +1,117 @@
+"""The host of one engine: it answers each request of a run from backends, and counts what it answered."""
+
+import subprocess
+from collections import Counter
+from collections.abc import Callable, Sequence
+from typing import IO
+
+from .backend import Backend, Fault
+from .wire import (
+    ANSWER_MOST,
+    CALLS,
+    FAILURE,
+    BadRequest,
+    Op,
+    Request,
+    answer,
+    done_body,
+    length_of,
+    number_body,
+    pairs_body,
+    places_body,
+    read_range,
+    read_request,
+    read_room,
+    read_write,
+    value_body,
+)
+
+Read = Callable[[int], bytes]
+Report = Callable[[bytes], object]
+
+
+class Host:
+    """The store of a run: a backend for each node, and where the keys of each begin."""
+
+    def __init__(self, backends: Sequence[Backend], places: Sequence[bytes] = (b"",)) -> None:
+        self.backends, self.places = backends, places
+        self.calls: Counter[Op] = Counter()
+        self.entries = self.faults = 0
+        # Why the last call that failed has no answer.
+        self.why = ""
+
+    def answer(self, request: Request) -> bytes:
+        """The frame that answers PLACES or a call of the store."""
+        try:
+            body = self.body(request)
+            if len(body) > ANSWER_MOST:
+                raise Fault("the answer has more than 64 MiB")
+        except Fault as fault:
+            self.faults += 1
+            self.why = str(fault)
+            return FAILURE
+        return answer(body)
+
+    def body(self, request: Request) -> bytes:
+        """What answers a request."""
+        op, node, body = request
+        if op is Op.PLACES:
+            return places_body(self.places)
+        if op not in CALLS or node >= len(self.backends):
+            raise BadRequest(f"request {op} of node {node}")
+        self.calls[op] += 1
+        return self.called(op, self.backends[node], body)
+
+    def called(self, op: Op, backend: Backend, body: bytes) -> bytes:
+        """What answers a call of a backend, each of whose pairs is an entry."""
+        if op is Op.GET:
+            value = backend.get(body)
+            self.entries += value is not None
+            return value_body(value)
+        if op is Op.RANGE:
+            pairs = backend.range(*read_range(body))
+            self.entries += len(pairs)
+            return pairs_body(pairs)
+        if op is Op.COUNT:
+            number = backend.count(*read_range(body))
+            self.entries += number
+            return number_body(number)
+        return done_body(backend.write(*read_write(body)))
+
+
+def read_exactly(requests: IO[bytes], length: int) -> bytes:
+    """So many bytes of a request."""
+    data = requests.read(length)
+    if len(data) < length:
+        raise BadRequest("half a request")
+    return data
+
+
+def serve(host: Host, requests: IO[bytes], answers: IO[bytes], read: Read, report: Report) -> None:
+    """Answers requests until the engine has closed its end. The script is what `read` gives for so many bytes."""
+    while head := requests.read(4):
+        request = read_request(read_exactly(requests, length_of(head.ljust(4, b"\0"))))
+        if request.op is Op.READ:
+            told = answer(read(read_room(request.body)))
+        elif request.op is Op.REPORT:
+            report(request.body)
+            told = answer(b"")
+        else:
+            told = host.answer(request)
+        answers.write(told)
+        answers.flush()
+
+
+def run(program: str, host: Host, read: Read, report: Report) -> int:
+    """Runs an engine over a script to its end; its status, below 0 where a signal ended it."""
+    with subprocess.Popen([program, "run"], stdin=subprocess.PIPE, stdout=subprocess.PIPE) as process:
+        assert process.stdin is not None and process.stdout is not None
+        try:
+            serve(host, process.stdout, process.stdin, read, report)
+            process.stdin.close()
+        except BrokenPipeError:
+            pass
+        except BaseException:
+            process.kill()
+            raise
+        return process.wait()

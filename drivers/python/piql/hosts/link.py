@@ -1,0 +1,180 @@
+"""A connection's way to a store behind a host: a run of the engine that this process answers from a backend."""
+
+import os
+import time
+from collections.abc import Sequence
+
+from ..engine import EngineEnded, find_program
+from ..errors import DatabaseError, NotSupportedError, OperationalError, ended
+from ..links import EngineLink, check_owner
+from .backend import Backend, Fault, Held, Reading
+from .host import Host
+from .hosted import HostedEngine, Stalled
+from .wire import BadRequest
+
+Program = str | os.PathLike[str] | None
+# For how long it is waited between two looks at a store that another engine has, in seconds.
+PAUSE = 1.0
+STORE_FAULT = 5
+STANDS_READ = "This statement changes nothing. The next one opens the store anew."
+STANDS_WRITE = (
+    "This statement was made whole or not at all; all that was reported as ok before stands."
+    " The next statement opens the store anew, which settles it."
+)
+HELD = "another engine has the store: {why}"
+NO_COPY = "the copies of {name} are those of its database, as docs/SCALING.md tells"
+
+
+class HostLink(EngineLink):
+    """A store that one engine has for itself. `seconds` is for how long one step of a statement may take."""
+
+    def __init__(
+        self, name: str, backend: Backend, program: Program = None, timeout: float = 5.0, seconds: float = 60.0
+    ) -> None:
+        super().__init__()
+        self.name, self.backends, self.places = name, [backend], [b""]
+        self.program, self.timeout, self.seconds = find_program("piql_host", program), timeout, seconds
+        self.why = ""
+
+    @property
+    def revision(self) -> int:
+        """That of the store behind the last statement."""
+        return self.backends[0].revision
+
+    def begin(self) -> HostedEngine:
+        """Begins a run; where another engine has the store, tries again until the time is over."""
+        until = time.monotonic() + self.timeout
+        while True:
+            try:
+                for backend in self.backends:
+                    backend.begin()
+                self.engine = HostedEngine(self.program, Host(self.backends, self.places), self.seconds)
+                return self.engine
+            except Held as held:
+                if time.monotonic() > until:
+                    raise OperationalError(HELD.format(why=held)) from held
+            except (Fault, Stalled, BadRequest) as error:
+                raise OperationalError(f"{self.name} isn't open: {error}") from error
+            except EngineEnded as end:
+                raise ended(end.status, f"{self.name} isn't open. {end.written}".strip()) from end
+            time.sleep(min(PAUSE, self.timeout / 50))
+
+    def running(self, statement: bytes) -> HostedEngine:
+        """A run with room for the statement, over a store that nobody else had meanwhile."""
+        engine = self.engine
+        if engine is not None and engine.has_room(statement) and all(backend.is_begun() for backend in self.backends):
+            return engine
+        self.end_run()
+        return self.begin()
+
+    def exchange(self, statement: bytes, reads: bool) -> str:
+        """The report of the statement."""
+        check_owner(self.owner)
+        engine = self.running(statement)
+        try:
+            return engine.exchange(statement).decode()
+        except EngineEnded as end:
+            why = f"{engine.host.why} {end.written}".strip()
+            raise ended(end.status, f"{self.stands(reads)} {why}".strip()) from end
+        except (Stalled, BadRequest) as error:
+            raise self.stopped(error, reads) from error
+        finally:
+            if engine.process.returncode is not None:
+                self.engine = None
+
+    def stopped(self, error: Exception, reads: bool) -> DatabaseError:
+        """What is raised where the driver has ended the run."""
+        return OperationalError(f"{error}, so the run was ended. {self.stands(reads)}")
+
+    def stands(self, reads: bool) -> str:
+        """What stands where the run ended in mid-statement."""
+        return STANDS_READ if reads else STANDS_WRITE
+
+    def keep(self) -> None:
+        """Keeps the store while no statement is at work, for who wants to."""
+        if self.engine is not None:
+            for backend in self.backends:
+                backend.keep()
+
+    def backup(self, path: str) -> None:
+        """A cluster is copied by its own means."""
+        raise OperationalError(NO_COPY.format(name=self.name))
+
+    def end_run(self) -> None:
+        """Ends the run, and keeps the store."""
+        super().close()
+
+    def close(self) -> None:
+        """Ends the run, and gives the store back."""
+        self.end_run()
+        if self.owner == os.getpid():
+            for backend in self.backends:
+                backend.close()
+
+
+class NodesLink(HostLink):
+    """Several stores, each with the keys of one range. `places` has where each begins: the empty key, then rising."""
+
+    def __init__(
+        self,
+        name: str,
+        backends: Sequence[Backend],
+        places: Sequence[bytes],
+        program: Program = None,
+        timeout: float = 5.0,
+        seconds: float = 60.0,
+    ) -> None:
+        super().__init__(name, backends[0], find_program("piql_nodes", program), timeout, seconds)
+        self.backends, self.places = list(backends), list(places)
+
+
+class ReaderLink(HostLink):
+    """A store beside its writer: each statement is answered at one revision that stands still.
+
+    A statement sees all that was told before it began, or, over a copy that lags behind, a moment before that; with
+    `wait_for` at least the writer's revision. What would write is refused before it is sent.
+    """
+
+    def __init__(
+        self, name: str, backend: Reading, program: Program = None, timeout: float = 5.0, seconds: float = 60.0
+    ) -> None:
+        super().__init__(name, backend, program, timeout, seconds)
+        self.reading = backend
+        self.least = 0
+        self.definitions: object = None
+
+    def wait_for(self, revision: int) -> None:
+        """No statement from now on reads less than what this revision of the writer has."""
+        self.least = max(self.least, revision)
+
+    def running(self, statement: bytes) -> HostedEngine:
+        """A run at a new revision. Where the definitions are others there, it is a new one, since a run keeps them."""
+        engine = self.engine
+        if engine is not None and engine.has_room(statement):
+            self.pin()
+            if self.reading.definitions == self.definitions:
+                return engine
+        self.end_run()
+        self.pin()
+        engine = self.begin()
+        self.definitions = self.reading.definitions
+        return engine
+
+    def pin(self) -> None:
+        """Takes a new revision."""
+        try:
+            self.reading.pin(self.least)
+        except Fault as fault:
+            raise OperationalError(f"{self.name} can't be read: {fault}") from fault
+
+    def exchange(self, statement: bytes, reads: bool) -> str:
+        """The report of a statement that changes nothing."""
+        if not reads:
+            raise NotSupportedError("this connection only reads; the one that writes is made without reader=True")
+        try:
+            return super().exchange(statement, reads)
+        except OperationalError as error:
+            if error.status != STORE_FAULT:
+                raise
+        # What was pinned may be gone, as a snapshot that the server ended, or a revision that was compacted.
+        return super().exchange(statement, reads)
