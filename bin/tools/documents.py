@@ -7,8 +7,23 @@ from typing import NamedTuple
 
 from tools.repository import TOP
 
-BLOCK = re.compile(r"^```(\w+)\n(.*?)^```$", re.MULTILINE | re.DOTALL)
+BLOCK = re.compile(r"^```(\w*)\n(.*?)^```$", re.MULTILINE | re.DOTALL)
 LEFT_OUT = ".."
+# The kinds of blocks: what each is compared with, or why it is run by no test.
+KINDS = {
+    "piql": "bin/examples: it stands in an example or in a script of docs/scripts/",
+    "report": "bin/examples: it stands in the output of an example",
+    "console": "each command is run and prints what is shown",
+    "python": "it stands in a file of docs/scripts/",
+    "rattle": "it stands in the sources",
+    "antt": "it stands in the sources",
+    "mermaid": "bin/layers draws it",
+    "ebnf": "its keywords are those of the language",
+    "edit": "it is one of the wrong bodies",
+    "sh": "not run: it installs, serves, or takes an hour; its commands are there",
+    "ini": "not run: a service of systemd; its command is there",
+    "text": "not run: a form, a picture or what a prover says",
+}
 
 
 class Block(NamedTuple):
@@ -28,8 +43,8 @@ class Command(NamedTuple):
 
 
 def documents(top: pathlib.Path = TOP) -> list[pathlib.Path]:
-    """The documents at the top and in docs/."""
-    return [*sorted(top.glob("*.md")), *sorted((top / "docs").glob("*.md"))]
+    """The documents at the top, in docs/, and of the site and the trials."""
+    return [path for folder in (".", "docs", "site", "trials") for path in sorted((top / folder).glob("*.md"))]
 
 
 def blocks(document: pathlib.Path, *kinds: str) -> Iterator[Block]:

@@ -45,12 +45,16 @@ def job_of(process: Process) -> Job | None:
 
 
 class Sampler:
-    """Looks at a gate's processes again and again. A process counts with what it had when it was last seen."""
+    """Looks at a gate's processes again and again. A process counts with what it had when it was last seen.
+
+    The gate itself counts all that it has waited for, so the whole is told also of what ended between two looks.
+    """
 
     def __init__(self, gate: int) -> None:
         self.gate = gate
         self.jobs: dict[tuple[int, int], tuple[Job, float]] = {}
         self.own = 0.0
+        self.whole = 0.0
 
     def look(self) -> bool:
         """Takes a sample. False where the gate has ended."""
@@ -60,6 +64,7 @@ class Sampler:
         children = processes.children_of(found)
         self.own = 0.0
         self.walk(found[self.gate], children)
+        self.whole = max(self.whole, processes.seconds_of(found[self.gate], children))
         return True
 
     def walk(self, process: Process, children: dict[int, list[Process]]) -> None:
@@ -98,7 +103,8 @@ def table(seconds: dict[Job, float]) -> list[str]:
     """The seconds by crate, the dearest first, with a last line of sums."""
     by_crate: dict[str, dict[str, float]] = collections.defaultdict(dict)
     for job, cost in seconds.items():
-        by_crate[job.crate][job.kind] = cost
+        if cost:
+            by_crate[job.crate][job.kind] = cost
     lines = [f"{'crate':18}" + "".join(f"{kind:>9}" for kind in (*KINDS, "all"))]
     for crate in sorted(by_crate, key=lambda name: -sum(by_crate[name].values())):
         costs = [by_crate[crate].get(kind, 0.0) for kind in KINDS]
@@ -120,7 +126,9 @@ def tell(sampler: Sampler, passed: float) -> None:
     seconds = sampler.seconds()
     print(*table(seconds), sep="\n")
     chain, crates = longest_chain(Repository(), seconds)
-    print(f"the gate's own {sampler.own:.0f}; by the clock {passed:.0f}")
+    unseen = sampler.whole - sampler.own - sum(seconds.values())
+    print(f"the gate's own {sampler.own:.0f}; of processes that weren't seen to their end {unseen:.0f}")
+    print(f"the whole gate {sampler.whole:.0f}; by the clock, as long as it was looked at, {passed:.0f}")
     print(f"longest chain {chain:.0f}: {' > '.join(crates)}")
 
 

@@ -1,91 +1,31 @@
-"""Statements as somebody writes them who knows Postgres, over the two tables that stand first.
+"""Statements as somebody writes them who knows Postgres, over the tables and the query that stand first.
 
-Of each: the statement, the code of its refusal, the token at which a caret has to stand, and words of its way out.
+Each line of postgres.tsv is a statement, the code of its refusal, the token at which a caret has to stand, and words of
+its way out. A character that isn't printed is written as in a Python text.
 """
+
+import pathlib
+from typing import NamedTuple
 
 TABLES = """\
 CREATE TABLE users (name TEXT(20), town TEXT(20), karma INT, PRIMARY KEY (name));
 CREATE TABLE posts (id INT, owner TEXT(20), line TEXT(200), PRIMARY KEY (id), FOREIGN KEY (owner) REFERENCES users);
+PREPARE q AS SELECT u.town FROM users AS u WHERE u.name = [1];
 """
-KEY = ", PRIMARY KEY (id))"
-STATEMENTS = [
-    ("BEGIN", "E104", "BEGIN", "whole or not at all"),
-    ("CREATE TABLE IF NOT EXISTS a (id INT" + KEY, "E104", "NOT", "E201"),
-    ("CREATE TABLE a (id SERIAL" + KEY, "E104", "SERIAL", "counts up"),
-    ("CREATE TABLE a (id INTEGER" + KEY, "E104", "INTEGER", "INT"),
-    ("CREATE TABLE a (id INT PRIMARY KEY)", "E104", "PRIMARY", "after the columns"),
-    ("CREATE TABLE a (id INT NOT NULL" + KEY, "E104", "NOT", "takes no NULL"),
-    ("CREATE TABLE a (id INT, mail VARCHAR(40)" + KEY, "E104", "VARCHAR", "TEXT(n)"),
-    ("CREATE TABLE a (id INT, mail TEXT, n INT" + KEY, "E104", ",", "TEXT(n)"),
-    ("CREATE TABLE a (id INT, mail TEXT(40) UNIQUE" + KEY, "E104", "UNIQUE", "CARDINALITY LIMIT 1"),
-    ("CREATE TABLE a (id INT, mail TEXT(9), PRIMARY KEY (id), UNIQUE (mail))", "E104", "UNIQUE", "CARDINALITY LIMIT 1"),
-    ("CREATE TABLE a (id INT, made TIMESTAMP" + KEY, "E104", "TIMESTAMP", "seconds"),
-    ("CREATE TABLE a (id INT, ok BOOLEAN" + KEY, "E104", "BOOLEAN", "BOOL"),
-    ("CREATE TABLE a (id INT, price NUMERIC(10, 2)" + KEY, "E104", "NUMERIC", "cents"),
-    ("CREATE TABLE a (id INT, data JSONB" + KEY, "E104", "JSONB", "a table with the same key"),
-    ("CREATE TABLE a (id INT, owner TEXT(20) REFERENCES users" + KEY, "E104", "REFERENCES", "FOREIGN KEY (owner)"),
-    (
-        "CREATE TABLE a (id INT, owner TEXT(20), PRIMARY KEY (id), FOREIGN KEY (owner) REFERENCES users (name))",
-        "E104",
-        "(",
-        "always names the key",
-    ),
-    (
-        "CREATE TABLE a (id INT, owner TEXT(20), PRIMARY KEY (id),\n"
-        "  FOREIGN KEY (owner) REFERENCES users ON DELETE CASCADE)",
-        "E104",
-        "ON",
-        "each row that refers",
-    ),
-    ("CREATE TABLE a (id INT, n INT DEFAULT 0" + KEY, "E104", "DEFAULT", "in each INSERT"),
-    ("CREATE TABLE a (id INT, n INT CHECK (n > 0)" + KEY, "E104", "CHECK", "test in the site"),
-    ("CREATE TABLE order (id INT" + KEY, "E104", "order", "another name"),
-    ("CREATE TABLE users (id INT" + KEY, "E201", "users", "another name"),
-    ("CREATE TABLE a (id INT NULL" + KEY, "E208", "id", "leave its NULL out"),
-    ("CREATE INDEX by_town ON users (town)", "E104", "INDEX", "make the indexes"),
-    ("CREATE UNIQUE INDEX by_town ON users (town)", "E104", "UNIQUE", "CARDINALITY LIMIT 1"),
-    ("CREATE VIEW v AS SELECT name FROM users", "E104", "VIEW", "a query has a name"),
-    ("ALTER TABLE users ADD COLUMN mail TEXT", "E104", "ALTER", "a new table"),
-    ("DROP TABLE posts", "E104", "DROP", "a new table"),
-    ("TRUNCATE posts", "E104", "TRUNCATE", "a new table"),
-    ("INSERT INTO users VALUES ('ann', 'rome', 1), ('bob', 'oslo', 2)", "E104", ",", "one INSERT for each row"),
-    ("INSERT INTO users (name, town) VALUES ('ann', 'rome')", "E502", "users", "find the keys"),
-    ("INSERT INTO users VALUES ('ann', NULL, 1)", "E501", "NULL", "cut or refuse"),
-    ("INSERT INTO posts VALUES (1, 'ann', 'it rains')", "E505", "posts", "insert that row first"),
-    ("INSERT INTO users VALUES ('ann', 'rome', 1) ON CONFLICT DO NOTHING", "E104", "ON", "E503"),
-    ("INSERT INTO users VALUES ('ann', 'rome', 1) RETURNING name", "E104", "RETURNING", "has read"),
-    ("INSERT INTO users SELECT owner, line, 1 FROM posts", "E104", "SELECT", "has read"),
-    ("INSERT OR REPLACE INTO users VALUES ('ann', 'rome', 1)", "E104", "OR", "E503"),
-    ("SELECT * FROM users", "E104", "SELECT", "PREPARE name AS"),
-    ("PREPARE a AS SELECT COUNT(*) FROM posts", "E104", "(", "has the number"),
-    ("PREPARE a AS SELECT MAX(id) FROM posts", "E104", "(", "DESC LIMIT 1"),
-    ("PREPARE a AS SELECT DISTINCT town FROM users LIMIT 10", "E104", "town", "has the number"),
-    ("PREPARE a AS SELECT town FROM users GROUP BY town", "E104", "BY", "has the number"),
-    ("PREPARE a AS SELECT name AS label FROM users LIMIT 10", "E104", "AS", "keeps its name"),
-    ("PREPARE a AS SELECT name FROM users WHERE town = 'rome' OR town = 'oslo'", "E104", "OR", "for each value"),
-    ("PREPARE a AS SELECT name FROM users WHERE town IN ('rome', 'oslo')", "E104", "IN", "for each value"),
-    ("PREPARE a AS SELECT name FROM users WHERE karma BETWEEN 1 AND 5", "E104", "BETWEEN", "two comparisons"),
-    ("PREPARE a AS SELECT name FROM users WHERE name LIKE 'a%'", "E104", "LIKE", "a range"),
-    ("PREPARE a AS SELECT name FROM users WHERE town != 'rome'", "E104", "!", "<>"),
-    ("PREPARE a AS SELECT name FROM users WHERE town IS NOT NULL", "E104", "NOT", "from the least value"),
-    ("PREPARE a AS SELECT name FROM users WHERE town = $1 LIMIT 10", "E104", "$", "[1] in PREPARE"),
-    ("PREPARE a AS SELECT name FROM users WHERE lower(town) = 'rome'", "E104", "(", "has worked out"),
-    ("PREPARE a AS SELECT name FROM users WHERE name = \"ann\"", "E104", '"', "'..' for a text"),
-    ("PREPARE a AS SELECT name FROM users WHERE karma = 1.5", "E104", ".", "smallest unit"),
-    ("PREPARE a AS SELECT name FROM users WHERE town = [1: from] LIMIT 10", "E104", "from", "another name"),
-    ("PREPARE a AS\u00a0SELECT name FROM users LIMIT 10", "E104", "\u00a0", "a plain space"),
-    (
-        "PREPARE a AS SELECT u.name\n  FROM posts AS p\n  JOIN users AS u ON u.name = p.owner\n  LIMIT 10",
-        "E104",
-        "ON",
-        "after WHERE",
-    ),
-    ("PREPARE a AS SELECT p.id FROM posts p LEFT JOIN users USING (owner)", "E104", "LEFT", "a second query"),
-    ("PREPARE a AS SELECT name FROM users ORDER BY name LIMIT 10 OFFSET 20", "E104", "OFFSET", "PAGINATE"),
-    ("PREPARE a AS SELECT name FROM users WHERE town = 'rome'", "E304", "users", "LIMIT or PAGINATE"),
-    ("UPDATE users SET karma = karma + 1 WHERE name = 'ann'", "E104", "karma", "the new number"),
-    ("UPDATE users SET karma = 0", "E104", ";", "one statement for each row"),
-    ("DELETE FROM posts WHERE id < 10", "E104", "<", "one statement for each row"),
-    ("/* the end */ SHOW", "E104", "/", "--"),
-    ("COMMIT", "E104", "COMMIT", "whole or not at all"),
-]
+
+
+class Habit(NamedTuple):
+    """A statement of SQL, and how it is refused here."""
+
+    statement: str
+    code: str
+    token: str
+    way_out: str
+
+
+def read_habits() -> list[Habit]:
+    lines = pathlib.Path(__file__).with_name("postgres.tsv").read_text(encoding="ascii").splitlines()
+    return [Habit(*line.encode().decode("unicode_escape").split("\t")) for line in lines]
+
+
+STATEMENTS = read_habits()

@@ -8,7 +8,9 @@ import subprocess
 import sys
 import unittest
 
-from tools.documents import blocks, commands, documents, is_shown
+from piql.scripts import KEYWORDS
+
+from tools.documents import KINDS, blocks, commands, documents, is_shown
 from tools.layers import Layers
 from tools.repository import TOP, Repository
 from tools.tests.copies import Copy, built
@@ -48,11 +50,31 @@ class ShownTest(unittest.TestCase):
         (block,) = blocks(TOP / "docs/ARCHITECTURE.md", "mermaid")
         self.assertEqual(block.text, Layers(Repository()).picture())
 
+    def test_each_block_is_of_a_kind_that_is_compared_or_says_why_not(self) -> None:
+        for document in documents():
+            for block in blocks(document, *KINDS, ""):
+                self.assertIn(block.kind, KINDS, block.place)
+            fences = re.findall(r"^ *```", document.read_text(), re.MULTILINE)
+            self.assertEqual(len(fences), 2 * len(list(blocks(document, *KINDS))), document.name)
+
     def test_commands_that_are_not_run_are_there(self) -> None:
         for document in documents():
-            for block in blocks(document, "sh"):
-                for name in re.findall(r"\bbin/([\w-]+)", block.text):
-                    self.assertTrue(os.access(TOP / "bin" / name, os.X_OK), f"{block.place}: bin/{name}")
+            for block in blocks(document, "sh", "ini"):
+                for name in re.findall(r"\b(bin/[\w-]+|site/\w+\.py)", block.text):
+                    self.assertTrue(os.access(TOP / name, os.X_OK), f"{block.place}: {name}")
+
+    def test_the_grammar_has_the_keywords(self) -> None:
+        (block,) = (block for document in documents() for block in blocks(document, "ebnf"))
+        self.assertEqual(set(re.findall(r"\b[A-Z]+\b", block.text)), KEYWORDS | {"IS", "NULL"})
+
+    def test_a_wrong_body_is_one_that_is_tried(self) -> None:
+        edits = [path.read_text() for folder in ("crates", "mutants") for path in (TOP / folder).rglob("*.edit")]
+        (block,) = (block for document in documents() for block in blocks(document, "edit"))
+        self.assertTrue(any(block.text in text for text in edits), block.place)
+
+    def test_names_stand_where_the_documents_say(self) -> None:
+        run = subprocess.run([TOP / "bin/names"], capture_output=True, text=True)
+        self.assertEqual((run.stdout, run.returncode), ("", 0))
 
     @unittest.skipUnless(shutil.which("rt"), "the toolchain isn't on the PATH")
     def test_the_toolchain_is_the_one_at_hand(self) -> None:
@@ -99,6 +121,15 @@ class ConsoleTest(unittest.TestCase):
         for document in documents():
             if any(commands(document)):
                 self.run_document(document)
+
+
+@unittest.skipUnless(PIQL, "crates/piql is not built")
+class ExamplesTest(unittest.TestCase):
+    """Over the engine: the examples, and the documents' blocks from them."""
+
+    def test_the_examples_and_the_blocks_are_as_written(self) -> None:
+        run = subprocess.run([TOP / "bin/examples", str(PIQL)], capture_output=True, text=True)
+        self.assertEqual(run.returncode, 0, run.stdout)
 
 
 @unittest.skipUnless(PIQL, "crates/piql is not built")

@@ -1,6 +1,9 @@
 """Tests of what is told of the gate's processes."""
 
+import os
 import pathlib
+import subprocess
+import sys
 import tempfile
 import unittest
 
@@ -39,6 +42,15 @@ class JobTest(unittest.TestCase):
         sampler.walk(top, {1: [job], 2: [child]})
         sampler.walk(top, {1: [job]})
         self.assertEqual(sampler.seconds(), {Job("low", "proof"): 3.0})
+
+
+    def test_the_whole_has_what_was_not_seen(self) -> None:
+        sampler = gate_cost.Sampler(os.getpid())
+        words = [sys.executable, "-c", "while __import__('time').process_time() < 0.3: pass"]
+        subprocess.run(words, check=True)
+        self.assertTrue(sampler.look())
+        self.assertEqual(sampler.seconds(), {})
+        self.assertGreaterEqual(sampler.whole, sampler.own + 0.25)
 
 
 class TableTest(unittest.TestCase):

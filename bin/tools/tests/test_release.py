@@ -12,6 +12,7 @@ import unittest
 from collections.abc import Mapping
 
 from tools import release
+from tools.documents import blocks
 from tools.repository import TOP
 from tools.tests.copies import built, new_folder
 from tools.versions import NUMBER
@@ -127,6 +128,11 @@ class RunTest(unittest.TestCase):
         assert wanted is not None
         run = self.release.run("bin/piql", "run", "examples/first.piql")
         self.assertEqual((run.stdout.decode(), run.stderr, run.returncode), (wanted[1], b"", 0))
+        block = next(blocks(TOP / "README.md", "sh"))
+        how = {"cwd": self.release.tar.parent, "env": {"PATH": os.pathsep.join(PLACES)}, "capture_output": True}
+        typed = subprocess.run(["sh", "-e", "-c", block.text], text=True, **how)
+        shown = f"{self.release.tar.name}: OK\n{wanted[1]}"
+        self.assertEqual((typed.stdout, typed.returncode), (shown, 0), typed.stderr)
         piped = self.release.run("bin/piql", "run", script=(self.release.top / "examples/first.piql").read_bytes())
         self.assertEqual(piped.stdout, run.stdout)
 

@@ -5,11 +5,13 @@ from functools import cache
 from pathlib import Path
 from typing import NamedTuple
 
-from .scripts import Place, character_of
-from .syntax import CODE, way_out_at
+from .scripts import Place, character_of, tokens
+from .syntax import CODE, has_cause, way_out_at
 
 RULE = re.compile(r"^\*\*(E\d\d\d)([A-Z ]*): ?(.*?)(?=^\*\*E\d|^#|\Z)", re.DOTALL | re.MULTILINE)
 ROW = re.compile(r"^\| (.*?) \| (.*?) \|$", re.MULTILINE)
+# In a table's cell.
+PIPE = "\\|"
 WAY = re.compile(r"\*Ways? out:?\*:?")
 WITHOUT_DROP = "; `python -m piql rebuild OLD NEW SCHEMA` makes one"
 # A headline with no more characters says too little alone.
@@ -51,9 +53,9 @@ def read_rule(code: str, fields: str, text: str) -> Rule:
     cause, *ways = WAY.split(paragraph, maxsplit=1)
     bold = one_line(cause.partition("**")[0])
     headline = bold if bold.endswith(".") and len(bold) > SHORT else one_line(cause)
-    cases = tuple((case, way) for case, way in ROW.findall(text) if not set(case + way) <= set("- |"))
+    rows = ((case.replace(PIPE, "|"), way) for case, way in ROW.findall(text) if not set(case + way) <= set("- |"))
     way_out = one_line(ways[0] if ways else "")
-    return Rule(code, tuple(fields.lower().split()), headline, one_line(cause), way_out, cases)
+    return Rule(code, tuple(fields.lower().split()), headline, one_line(cause), way_out, tuple(rows))
 
 
 def document() -> str:
@@ -79,14 +81,23 @@ def cases_with(rule: Rule, words: set[str]) -> str:
     return ""
 
 
+def unbounded(rule: Rule, statement: str) -> str:
+    """The ways out of the causes that a query without a bound may have."""
+    causes = [(case, way) for case, way in rule.cases if CODE.search(case)]
+    likely = [(case, way) for case, way in causes if has_cause(case, statement)]
+    return "; ".join(f"{case}: {one_line(way)}" for case, way in likely or causes)
+
+
 def way_out_of(rule: Rule, fields: tuple[str, ...], statement: str, place: Place | None) -> str:
     """The way out for these fields, or for the token at the place."""
     if rule.code == "E206" and fields:
         return cases_with(rule, {fields[0]}) + (WITHOUT_DROP if fields[0] in REBUILDS else "")
     if place is not None:
         return one_line(way_out_at(rule.cases, statement, character_of(statement, place))) or rule.way_out
+    if rule.code == "E502":
+        return cases_with(rule, {token.text.upper() for token in tokens(statement)[:1]})
     if rule.code == "E304":
-        return "; ".join(f"{case}: {one_line(way)}" for case, way in rule.cases if case != "Cause")
+        return unbounded(rule, statement)
     return rule.way_out
 
 

@@ -7,6 +7,8 @@ from typing import NamedTuple
 from .scripts import KEYWORDS, Token, tokens
 
 CODE = re.compile(r"`([^`]*)`")
+# In a code it divides the words with which the statement begins from the tokens around the place.
+DIVIDER = " .."
 
 
 class Score(NamedTuple):
@@ -16,6 +18,7 @@ class Score(NamedTuple):
     tokens: int = 0
     own_tokens: int = 0
     is_at_place: bool = False
+    head: int = 0
 
 
 def stands_for_any(pattern: Token) -> bool:
@@ -45,12 +48,33 @@ def score(pattern: Sequence[Token], found: Sequence[Token], at: int) -> Score:
     return Score()
 
 
+def score_of(code: str, found: Sequence[Token], at: int) -> Score:
+    """The score of a code. One with a divider fits only statements that begin with the words before it."""
+    before, divider, after = code.partition(DIVIDER)
+    if not divider:
+        return score(tokens(code), found, at)
+    head, rest = tokens(before), tokens(after)
+    if len(head) > len(found) or not all(map(is_like, head, found)):
+        return Score()
+    if not rest:
+        return Score(head=len(head))
+    inner = score(rest, found, at)
+    return inner._replace(head=len(head)) if inner > Score() else inner
+
+
 def way_out_at(cases: Iterable[tuple[str, str]], statement: str, character: int) -> str:
     """The way out of the case whose code fits best around the token at a character, or nothing."""
     found = tokens(statement)
     at = next((i for i, token in enumerate(found) if token.start <= character < token.end), None)
     if at is None:
         return ""
-    fits = [(score(tokens(code), found, at), way) for case, way in cases for code in CODE.findall(case)]
+    fits = [(score_of(code, found, at), way) for case, way in cases for code in CODE.findall(case)]
     best, way = max(fits, key=lambda fit: fit[0], default=(Score(), ""))
     return way if best > Score() else ""
+
+
+def has_cause(case: str, statement: str) -> bool:
+    """Whether a statement has a token of a case's codes. A case that begins with `no` wants that it has none."""
+    found = tokens(statement)
+    codes = {token.text for code in CODE.findall(case) for token in tokens(code)}
+    return any(token.text.upper() in codes for token in found) != case.startswith("no ")

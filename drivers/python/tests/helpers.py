@@ -16,10 +16,11 @@ from piql.links import FileLink  # noqa: E402
 
 
 def built(name: str) -> str | None:
-    """The program of this name: that of the environment, or that which was built last, or None."""
+    """The program of this name: that of the environment, the proved build, the kept one without proofs, or None."""
     given = os.environ.get(name.upper())
-    path = Path(given) if given else TOP / "crates" / name / "out" / name
-    return str(path) if os.access(path, os.X_OK) else None
+    kept = sorted((TOP / "out" / "unproved").glob(f"{name}-????????????????"))
+    found = [Path(given)] if given else [TOP / "crates" / name / "out" / name, *kept]
+    return next((str(path) for path in found if os.access(path, os.X_OK)), None)
 
 
 PIQL_FILE = built("piql_file")

@@ -92,6 +92,19 @@ class StatementTest(unittest.TestCase):
         for word in ("relations", "stop", "key", "cardinality", "text"):
             self.assertTrue(refusal_of(("E206", word), text).way_out, word)
 
+    def test_ways_out_by_the_statement(self) -> None:
+        unbounded = refusal_of(("E304", "t"), "PREPARE q AS SELECT a FROM t WHERE a <> 1 LIMIT 9").way_out
+        self.assertIn("`<>`: ", unbounded)
+        self.assertNotIn("JOIN", unbounded)
+        self.assertNotIn("no `LIMIT`", unbounded)
+        self.assertIn("no `LIMIT`", refusal_of(("E304", "t"), "PREPARE q AS SELECT a FROM t").way_out)
+        self.assertIn("each column", refusal_of(("E502", "t"), "INSERT INTO t (a) VALUES (1)").way_out)
+        self.assertIn("whole key", refusal_of(("E502", "t"), "delete from t where b = 1").way_out)
+        for text, at in (("DELETE FROM t WHERE a < 1;", 22), ("DELETE FROM t;", 13), ("UPDATE t SET a = 1;", 18)):
+            self.assertIn("for each row", refusal_of(("E104", str(at)), text, Place(1, at + 1)).way_out, text)
+        self.assertIn("the form is", refusal_of(("E104", "4"), "RUN 7;", Place(1, 5)).way_out)
+        self.assertIn("begin with", refusal_of(("E104", "0"), "HELLO;", Place(1, 1)).way_out)
+
     def test_the_message(self) -> None:
         error = refused(refusal_of(("E503", "users"), "INSERT ..", None))
         self.assertIsInstance(error, piql.IntegrityError)
