@@ -64,8 +64,6 @@ pub enum Refusal {
     Cardinality { table: PText, number: u8, n: u32 },
     /// E508: the row's code is too long.
     RowLong { table: PText, length: u32 },
-    /// E100: the statement is none of the forms that are built yet, with their conditions.
-    NotBuilt,
 }
 
 /// Why a call that may refuse gave no answer.

@@ -34,7 +34,6 @@ fn plain_refusal(what: &str) -> Option<Refusal> {
         "param_value" => Some(Refusal::ParamValue { number: 0 }),
         "cursor" => Some(Refusal::Cursor),
         "not_paged" => Some(Refusal::NotPaged),
-        "not_built" => Some(Refusal::NotBuilt),
         _ => None,
     }
 }

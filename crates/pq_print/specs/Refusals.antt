@@ -34,7 +34,6 @@ refusal_number (refusal.NoParent table number) = codes "E505"
 refusal_number (refusal.Referenced table number) = codes "E506"
 refusal_number (refusal.Cardinality table number n) = codes "E507"
 refusal_number (refusal.RowLong table length) = codes "E508"
-refusal_number refusal.NotBuilt = codes "E100"
 
 abbrev pub refusal_field : List ℕ → List ℕ
 refusal_field text = codes " " ++ text
@@ -71,7 +70,6 @@ refusal_fields (refusal.Referenced table number) = refusal_field table ++ refusa
 refusal_fields (refusal.Cardinality table number n) =
     refusal_field table ++ refusal_field (decimal number) ++ refusal_field (decimal n)
 refusal_fields (refusal.RowLong table length) = refusal_field table ++ refusal_field (decimal length)
-refusal_fields refusal.NotBuilt = []
 
 abbrev pub refusal_text : Refusal → List ℕ
 refusal_text why = refusal_number why ++ refusal_fields why

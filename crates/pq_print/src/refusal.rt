@@ -59,7 +59,6 @@ fn number_of(refusal: &Refusal) -> &'static str
         Refusal::Referenced { .. } => number_at(refusal_place::REFERENCED),
         Refusal::Cardinality { .. } => number_at(refusal_place::CARDINALITY),
         Refusal::RowLong { .. } => number_at(refusal_place::ROW_LONG),
-        Refusal::NotBuilt => "E100",
     }
 }
 
@@ -92,8 +91,7 @@ fn put_fields(refusal: &Refusal, out: &mut String) -> Result<(), AllocError>
         | Refusal::StatementLong
         | Refusal::Params
         | Refusal::Cursor
-        | Refusal::NotPaged
-        | Refusal::NotBuilt => Ok(()),
+        | Refusal::NotPaged => Ok(()),
         Refusal::Syntax { at } => put_count(*at, out),
         Refusal::NameTaken { name }
         | Refusal::NoTable { name }
