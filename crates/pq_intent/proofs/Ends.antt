@@ -164,3 +164,8 @@ pub changes_stopped : (old mid new : Option Content) (found : Option (List ℕ))
     → (settled : Content) → Settles old settled → Settles new settled
 changes_stopped None mid new found value cs read some intent same p settled s = absurd (none-some s.pairs s.told)
 changes_stopped (Some c) mid new found value cs read some intent same p settled s = settle_stopped c value cs (sym read.answer ∙ some) intent mid new settled same p (subst (λ (o : Option Content). Settles o settled) (sym same) s)
+
+-- where a value was read at the intent's key, there is an intent
+pub read_rests : (old new : Option Content) (found : Option (List ℕ)) (value : List ℕ) → IsRead old found → found ≡ Some value → IfSome old (λ pairs. get pairs intent_key ≡ None → new ≡ old)
+read_rests None new found value read some = tt
+read_rests (Some c) new found value read some = λ none. absurd (none-some value (sym none ∙ sym read.answer ∙ some))

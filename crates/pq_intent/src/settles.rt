@@ -1,5 +1,6 @@
 //! Settling: the changes of an intent that was left are made, and it is removed.
 ghost use Rattle.std.specs.Prelude.{◌≡◌, ◌⊎◌, ◌+◌, ◌≤◌, ◌<◌, ◌^◌, ◌++◌, ◌∷◌, [], None, Some, length, map, IfOk, IfErr, IfSome, OnOk, OnErr};
+ghost use Rattle.std.specs.FinMap.{get};
 ghost use Rattle.pq_row_code.specs.declared.changes.Change.{Change as Coded};
 ghost use Rattle.pq_content.specs.Standing.{change_of};
 ghost use Rattle.pq_key_code.specs.KeyCode.{intent_key};
@@ -89,6 +90,9 @@ pub fn settle<S: Store<L>, L: Ledger>(
     // Nothing is changed then.
     ensures damage { IfErr result (λ broke. IfSome (S.content store.old) (λ pairs. ShowsNoIntent pairs broke)) }
     ensures kept { IfErr result (λ broke. IsUndamaged broke ⊎ (S.content store.new ≡ S.content store.old)) }
+    // Where there is no intent, nothing is changed, whatever is answered.
+    ensures rests { IfSome (S.content store.old) (λ pairs. get pairs intent_key ≡ None
+        → S.content store.new ≡ S.content store.old) }
     ensures counts { IfOk result (λ settled. IfSome (S.content store.old) (λ pairs. CountsChanges pairs settled)) }
     // Over every store, told or not.
     ensures numbers { IfOk result HasNumbers }

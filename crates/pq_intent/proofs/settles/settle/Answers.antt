@@ -4,7 +4,7 @@ use Rattle.pq_content.specs.Pairs.{Change}
 use Rattle.pq_intent.specs.Changing.{content_after, IsPartway}
 use Rattle.pq_intent.specs.Counting.{settled_changes, HasNumbers}
 use Rattle.pq_intent.specs.Settling.{IsIntentOf, IsNoIntent}
-use Rattle.pq_intent.proofs.Ends.{steps_are, is_read, none_made, is_made, never_settles, changes_made, changes_stopped}
+use Rattle.pq_intent.proofs.Ends.{read_rests, steps_are, is_read, none_made, is_made, never_settles, changes_made, changes_stopped}
 use Rattle.pq_intent.proofs.settles.settle.Goals as goal
 
 pub returns-in-Ok-None-clause-settles : goal.returns-in-Ok-None-clause-settles
@@ -47,3 +47,12 @@ pub returns-in-Some-clause-numbers : goal.returns-in-Some-clause-numbers
 returns-in-Some-clause-numbers g c =
     let intent = rw c.in-Some.is at c.in_ok-intent_of.ensures.found in
     IfOk-weaker c.settle_changes.result (λ settled. settled ≡ settled_changes (length c.in-Some.changes)) HasNumbers (λ settled counts. record { changes = Some (length c.in-Some.changes); few = intent.coded.few; is = counts }) c.settle_changes.ensures.counts
+
+pub returns-in_err-intent_of-clause-rests : goal.returns-in_err-intent_of-clause-rests
+returns-in_err-intent_of-clause-rests g c = read_rests (g.S.Store.content c.args.store.now) (g.S.Store.content c.get.new.self) c.in-Ok-Some.field-0 c.in-Ok-Some.value (is_read (g.S.Store.content c.args.store.now) c.in-Ok-Some.field-0 c.items.result.now c.in_ok-key.key c.items.ensures c.in_ok-key.ensures c.in-Ok-Some.ensures.answer) c.in-Ok-Some.field-0-is
+
+pub returns-in-None-clause-rests : goal.returns-in-None-clause-rests
+returns-in-None-clause-rests g c = read_rests (g.S.Store.content c.args.store.now) (g.S.Store.content c.get.new.self) c.in-Ok-Some.field-0 c.in-Ok-Some.value (is_read (g.S.Store.content c.args.store.now) c.in-Ok-Some.field-0 c.items.result.now c.in_ok-key.key c.items.ensures c.in_ok-key.ensures c.in-Ok-Some.ensures.answer) c.in-Ok-Some.field-0-is
+
+pub returns-in-Some-clause-rests : goal.returns-in-Some-clause-rests
+returns-in-Some-clause-rests g c = read_rests (g.S.Store.content c.args.store.now) (g.S.Store.content c.settle_changes.new.store) c.in-Ok-Some.field-0 c.in-Ok-Some.value (is_read (g.S.Store.content c.args.store.now) c.in-Ok-Some.field-0 c.items.result.now c.in_ok-key.key c.items.ensures c.in_ok-key.ensures c.in-Ok-Some.ensures.answer) c.in-Ok-Some.field-0-is
