@@ -1,0 +1,274 @@
+//! The store at the host.
+ghost use Rattle.std.specs.Prelude.{◌≡◌, ◌≤◌, IfOk, IsErrOf, map, length};
+ghost use Rattle.std.specs.Option.{option_copied};
+ghost use Rattle.std.specs.Int.{w32, to_be_bytes};
+ghost use Rattle.pq_store.specs.Content.{HasRisen, IsPartOf, entry};
+ghost use Rattle.pq_host.specs.Ends.{HasExchanged};
+ghost use Rattle.pq_host.specs.Frames.{number, answer, get_request, range_request, count_request, write_request, value_body, pairs_body, done_body};
+
+use crate::answer::{read_done, read_pairs, read_value};
+use crate::link::Link;
+use crate::part_check::is_part;
+use crate::request::{Op, range_body, write_body};
+use pq_base::{Bytes, List};
+use pq_store::{Guard, Meter, Pair, Store, StoreErr};
+use std::alloc::Global;
+use std::io::{Read, Write};
+use std::marker::Model;
+use std::sync::ledger::Ledger;
+
+/// The store of one node of the host. Each call is one request.
+///
+/// A request that the host says has failed is a fault that is counted, and so is what is no answer, and an answer that
+/// no store gives. The count stands still at its type's end.
+#[derive(Drop)]
+pub struct HostStore<'a, R: Read, W: Write> {
+    link: Link<'a, R, W>,
+    node: u8,
+    faults: u64,
+}
+
+impl<'a, R: Read, W: Write> Model for HostStore<'a, R, W> {
+    ghost use Rattle.pq_host.specs.Ends.{HostedNode};
+
+    ghost Value = { HostedNode };
+
+    ghost view = { λ s. record { link = s.link; node = s.node; faults = s.faults } };
+}
+
+impl<'a, R: Read, W: Write> HostStore<'a, R, W> {
+    /// The store of this node at the other end of the link, before its first fault.
+    pub fn new(link: Link<'a, R, W>, node: u8) -> HostStore<'a, R, W>
+        ensures { result ≡ record { link = link.entry; node = node; faults = 0 } }
+    {
+        HostStore {
+            link,
+            node,
+            faults: 0,
+        }
+    }
+
+    // Each error but want of memory is a fault.
+    fn refused(&mut self, error: StoreErr) -> StoreErr
+        ensures error { result ≡ error }
+        ensures later { self.old.faults ≤ self.new.faults }
+        ensures risen { error ≡ StoreErr.Failed → HasRisen self.old.faults self.new.faults }
+        ensures link { self.new.link ≡ self.old.link }
+        ensures node { self.new.node ≡ self.old.node }
+    {
+        if matches!(error, StoreErr::Failed) {
+            self.faults = self.faults.saturating_add(1);
+        }
+        error
+    }
+
+    fn value_at(&mut self, alloc: Global, key: &[u8]) -> Result<Option<Bytes>, StoreErr>
+        ensures exchanged { IfOk result (λ found. HasExchanged self.old.link self.new.link
+            (get_request self.old.node key.now) (answer (value_body found))) }
+        ensures faults { self.new.faults ≡ self.old.faults }
+        ensures node { self.new.node ≡ self.old.node }
+    {
+        let body = self.link.ask_body(alloc, Op::Get, self.node, key)?;
+        match read_value(alloc, body.items()) {
+            Ok(found) => Ok(found),
+            Err(error) => Err(self.link.unread(error)),
+        }
+    }
+
+    fn pairs_within(
+        &mut self,
+        alloc: Global,
+        low: &[u8],
+        high: &[u8],
+        limit: u32,
+    ) -> Result<List<Pair>, StoreErr>
+        ensures part { IfOk result (λ found. IsPartOf low.now high.now limit (map entry found)) }
+        ensures exchanged { IfOk result (λ found. HasExchanged self.old.link self.new.link
+            (range_request self.old.node low.now high.now limit) (answer (pairs_body (map entry found)))) }
+        ensures faults { self.new.faults ≡ self.old.faults }
+        ensures node { self.new.node ≡ self.old.node }
+    {
+        let body = range_body(alloc, low, high, limit)?;
+        let body = self
+            .link
+            .ask_body(alloc, Op::Range, self.node, body.items())?;
+        match read_pairs(alloc, body.items(), limit) {
+            Ok(pairs) if is_part(low, high, limit, pairs.items()) => Ok(pairs),
+            Ok(_) => Err(self.link.lost()),
+            Err(error) => Err(self.link.unread(error)),
+        }
+    }
+
+    fn number_within(
+        &mut self,
+        alloc: Global,
+        low: &[u8],
+        high: &[u8],
+        cap: u32,
+    ) -> Result<u32, StoreErr>
+        ensures few { IfOk result (λ n. n ≤ cap) }
+        ensures exchanged { IfOk result (λ n. HasExchanged self.old.link self.new.link
+            (count_request self.old.node low.now high.now cap) (answer (number n))) }
+        ensures faults { self.new.faults ≡ self.old.faults }
+        ensures node { self.new.node ≡ self.old.node }
+    {
+        let body = range_body(alloc, low, high, cap)?;
+        let number = self
+            .link
+            .ask_exact::<4>(Op::Count, self.node, body.items())?;
+        let n = u32::from_be_bytes(number);
+        if n > cap {
+            return Err(self.link.lost());
+        }
+        Ok(n)
+    }
+
+    // No memory is wanted once the request is sent.
+    fn change(
+        &mut self,
+        alloc: Global,
+        key: &[u8],
+        guard: Guard,
+        new: Option<&[u8]>,
+    ) -> Result<bool, StoreErr>
+        ensures exchanged { IfOk result (λ done. HasExchanged self.old.link self.new.link
+            (write_request self.old.node key.now guard.entry (option_copied new.entry))
+            (answer (done_body done))) }
+        ensures unsent { IsErrOf result StoreErr.NoMem → self.new.link ≡ self.old.link }
+        ensures faults { self.new.faults ≡ self.old.faults }
+        ensures node { self.new.node ≡ self.old.node }
+    {
+        let body = write_body(alloc, key, guard, new)?;
+        let answer = self
+            .link
+            .ask_exact::<1>(Op::Write, self.node, body.items())?;
+        match read_done(guard, answer) {
+            Some(done) => Ok(done),
+            None => Err(self.link.lost()),
+        }
+    }
+}
+
+impl<'a, L: Ledger, R: Read, W: Write> Store<L> for HostStore<'a, R, W> {
+    ghost use Rattle.std.specs.Prelude.{◌≡◌, ◌≤◌, ◌⊎◌, ℕ, None, Option, IfSome, IfOk, OnOk, IsErrOf, map, take, length, min};
+    ghost use Rattle.std.specs.Option.{option_map, option_copied};
+    ghost use Rattle.std.specs.FinMap.{get as value_at};
+    ghost use Rattle.pq_store.specs.Counts.{charged_counts};
+    ghost use Rattle.pq_store.specs.Content.{Content, entry, pairs_within, after_write, admits, got_entries, ranged_entries, counted_entries, IsPartOf, HasCause};
+    ghost use Rattle.pq_host.specs.Ends.{HasExchanged};
+    ghost use Rattle.pq_host.specs.Frames.{number, answer, get_request, range_request, count_request, write_request, value_body, pairs_body, done_body};
+
+    ghost content = { λ _. None };
+
+    ghost faults = { λ s. s.faults };
+
+    /// One exchange: what is answered is just what the host says.
+    fn get(
+        &mut self,
+        alloc: Global,
+        key: &[u8],
+        meter: &mut Meter<L>,
+    ) -> Result<Option<Bytes>, StoreErr>
+        ensures cause { HasCause self.old.faults self.new.faults result }
+        ensures meter { meter.new ≡ charged_counts meter.old (got_entries result) }
+        ensures exchanged { IfOk result (λ found. HasExchanged self.old.link self.new.link
+            (get_request self.old.node key.now) (answer (value_body found))) }
+        ensures node { self.new.node ≡ self.old.node }
+    {
+        match self.value_at(alloc, key) {
+            Ok(Some(value)) => {
+                meter.charge(1);
+                Ok(Some(value))
+            }
+            Ok(None) => {
+                meter.charge(0);
+                Ok(None)
+            }
+            Err(error) => {
+                meter.charge(0);
+                Err(self.refused(error))
+            }
+        }
+    }
+
+    /// One exchange: what is answered is just what the host says, where a store may say it.
+    fn range(
+        &mut self,
+        alloc: Global,
+        low: &[u8],
+        high: &[u8],
+        limit: u32,
+        meter: &mut Meter<L>,
+    ) -> Result<List<Pair>, StoreErr>
+        requires { 1 ≤ limit }
+        ensures part { IfOk result (λ found. IsPartOf low.now high.now limit (map entry found)) }
+        ensures cause { HasCause self.old.faults self.new.faults result }
+        ensures meter { meter.new ≡ charged_counts meter.old (ranged_entries result) }
+        ensures exchanged { IfOk result (λ found. HasExchanged self.old.link self.new.link
+            (range_request self.old.node low.now high.now limit) (answer (pairs_body (map entry found)))) }
+        ensures node { self.new.node ≡ self.old.node }
+    {
+        match self.pairs_within(alloc, low, high, limit) {
+            Ok(pairs) => {
+                meter.charge(pairs.items().len() as u32);
+                Ok(pairs)
+            }
+            Err(error) => {
+                meter.charge(0);
+                Err(self.refused(error))
+            }
+        }
+    }
+
+    /// One exchange: what is answered is just what the host says, where it is at most `cap`.
+    fn count(
+        &mut self,
+        alloc: Global,
+        low: &[u8],
+        high: &[u8],
+        cap: u32,
+        meter: &mut Meter<L>,
+    ) -> Result<u32, StoreErr>
+        ensures few { IfOk result (λ n. n ≤ cap) }
+        ensures cause { HasCause self.old.faults self.new.faults result }
+        ensures meter { meter.new ≡ charged_counts meter.old (counted_entries result) }
+        ensures exchanged { IfOk result (λ n. HasExchanged self.old.link self.new.link
+            (count_request self.old.node low.now high.now cap) (answer (number n))) }
+        ensures node { self.new.node ≡ self.old.node }
+    {
+        match self.number_within(alloc, low, high, cap) {
+            Ok(n) => {
+                meter.charge(n);
+                Ok(n)
+            }
+            Err(error) => {
+                meter.charge(0);
+                Err(self.refused(error))
+            }
+        }
+    }
+
+    /// One exchange: what is answered is just what the host says. Where there is no memory nothing was sent.
+    fn write(
+        &mut self,
+        alloc: Global,
+        key: &[u8],
+        guard: Guard,
+        new: Option<&[u8]>,
+        meter: &mut Meter<L>,
+    ) -> Result<bool, StoreErr>
+        ensures cause { HasCause self.old.faults self.new.faults result }
+        ensures meter { meter.new ≡ charged_counts meter.old 0 }
+        ensures exchanged { IfOk result (λ done. HasExchanged self.old.link self.new.link
+            (write_request self.old.node key.now guard.entry (option_copied new.entry))
+            (answer (done_body done))) }
+        ensures unsent { IsErrOf result StoreErr.NoMem → self.new.link ≡ self.old.link }
+        ensures node { self.new.node ≡ self.old.node }
+    {
+        meter.charge(0);
+        match self.change(alloc, key, guard, new) {
+            Ok(done) => Ok(done),
+            Err(error) => Err(self.refused(error)),
+        }
+    }
+}

@@ -1,0 +1,18 @@
+//! A store, a reader and a writer whose other end is a host: a program that answers framed requests over two streams.
+//!
+//! The store is a store as any other that tells no content: what the host keeps is no fact of a proof. Proved is what
+//! every store promises of the form of its answers, of its costs and of its faults, whatever bytes come; and of each
+//! call that is answered, which bytes were sent, and that its answer is what the bytes that were read say. The frames
+//! are those of docs/HOST.md.
+#![tactic(auto)]
+
+mod answer;
+mod host_store;
+mod link;
+mod part_check;
+mod request;
+mod streams;
+
+pub use host_store::HostStore;
+pub use link::{Line, Link};
+pub use streams::{HostReader, HostWriter};
