@@ -39,6 +39,8 @@ from plain import (
 )
 
 READERS, SECONDS = 3, 20
+# The status of a run that took what it read for damage.
+DAMAGED = 6
 # One statement in so many makes an index over all rows, or a table.
 BUILDS = 40
 
@@ -74,6 +76,8 @@ QUERIES = {
         "u.city, u.name",
     ),
     "user": query({"u": "users"}, "u.city", [("u.name", "=", "me")], "u.name"),
+    # By an index, whose entries and rows are read apart.
+    "town": query({"u": "users"}, "u.name", [("u.city", "=", "me")], "u.name"),
 }
 # Each makes an index over all thoughts or subscriptions.
 INDEXES = [
@@ -194,7 +198,8 @@ class Reader:
     def __init__(self, url: str, engine: str, seed: int, is_loose: bool) -> None:
         self.url, self.engine, self.chance, self.is_loose = url, engine, random.Random(seed), is_loose
         self.answers: list[Answer] = []
-        self.errors: list[str] = []
+        # What was raised, with the status of the run.
+        self.errors: list[tuple[int | None, str]] = []
         self.runs = 0
 
     def run(self, writer: HostLink, is_over: threading.Event) -> None:
@@ -206,20 +211,21 @@ class Reader:
             link.backends = [link.reading]
         engine: object = None
         while not is_over.is_set():
-            name, me = self.chance.choice(list(QUERIES)), self.chance.choice(NAMES)
+            name = self.chance.choice(list(QUERIES))
+            me = self.chance.choice(CITIES if name == "town" else NAMES)
             asked_for = writer.revision if self.chance.random() < 0.5 else 0
             if asked_for:
                 link.wait_for(asked_for)
             try:
                 told = link.exchange(f"RUN {name} ({literal(me)});".encode(), True)
             except Error as error:
-                self.errors.append(str(error))
+                self.errors.append((error.status, str(error)))
                 continue
             if link.engine is not engine:
                 engine, self.runs = link.engine, self.runs + 1
             lines = told.split("\n")
             if " ok rows " not in lines[-2]:
-                self.errors.append(told)
+                self.errors.append((None, told))
             self.answers.append(Answer(name, me, lines[:-2], link.reading.revision, link.least))
         link.close()
 
@@ -273,11 +279,11 @@ def beside(trial: Trial, kind: str, url: str, reading: str, seconds: float, is_l
     errors = [error for reader in readers for error in reader.errors]
     found = [what for reader in readers for told in reader.answers if (what := wrong(writer, told))]
     if is_loose:
-        damaged = sum("Damaged" in error for error in errors)
+        damaged = sum(status == DAMAGED for status, _ in errors)
         trial.expect(bool(errors or found), f"{kind}: all was right, so this trial shows nothing")
         trial.tell(f"{kind}: {damaged} ends with Damaged, {len(errors) - damaged} with a fault, {len(found)} wrong answers")
     else:
-        for what in (errors + found)[:20]:
+        for what in ([text for _, text in errors] + found)[:20]:
             trial.expect(False, f"{kind}: {what:.500}")
     made = ", ".join(f"{number} {what}" for what, number in sorted(writer.counts.items()))
     answers = sum(len(reader.answers) for reader in readers)
