@@ -1,10 +1,11 @@
-"""The package's commands, `python -m piql WORD ..`. FILE is a file, or unix:SOCKET where a server has it.
+"""The package's commands, `python -m piql WORD ..`. FILE is a file, the URL of a cluster's store, or unix:SOCKET.
 
     migrate FILE SCHEMA              defines what the schema has and the file lacks; tells the bounds first
     bounds FILE [--write|--check P]  prints each query's bound; writes bounds.lock, or fails where a bound rose
     backup FILE COPY                 makes a whole copy
     load FILE TABLE < CSV            inserts rows; the first line names the columns
     rebuild OLD NEW SCHEMA           makes a new file with the old one's rows under another schema
+    run URL < SCRIPT                 runs a whole script over the store of a cluster; the status is the engine's
     shell [FILE]                     a prompt
 """
 
@@ -15,6 +16,7 @@ import sys
 from . import connect, shell
 from .bounds import BoundsRose, check_bounds, write_bounds
 from .errors import Error
+from .hosts.script import run_url
 from .load import load
 from .migrate import migrate
 from .rebuild import Values, rebuild
@@ -79,6 +81,11 @@ def run_rebuild(given: argparse.Namespace) -> int:
     return 1 if done.refused else 0
 
 
+def run_run(given: argparse.Namespace) -> int:
+    """Runs a script."""
+    return run_url(given.url)
+
+
 def run_shell(given: argparse.Namespace) -> int:
     """A prompt."""
     return shell.main([given.file] if given.file else [])
@@ -107,6 +114,7 @@ def parser() -> argparse.ArgumentParser:
     loading.add_argument("--mark", help="the file that keeps how far it came; FILE.TABLE.load")
     rebuilding = command("rebuild", run_rebuild, "old", "new", "schema")
     rebuilding.add_argument("--value", action="append", default=[], metavar="TABLE.COLUMN=VALUE")
+    command("run", run_run, "url")
     command("shell", run_shell).add_argument("file", nargs="?")
     return top
 

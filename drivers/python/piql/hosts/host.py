@@ -1,5 +1,6 @@
 """The host of one engine: it answers each request of a run from backends, and counts what it answered."""
 
+import contextlib
 import subprocess
 from collections import Counter
 from collections.abc import Callable, Sequence
@@ -108,10 +109,13 @@ def run(program: str, host: Host, read: Read, report: Report) -> int:
         assert process.stdin is not None and process.stdout is not None
         try:
             serve(host, process.stdout, process.stdin, read, report)
-            process.stdin.close()
         except BrokenPipeError:
             pass
         except BaseException:
             process.kill()
             raise
+        finally:
+            # What an engine that was killed doesn't read is lost with it.
+            with contextlib.suppress(BrokenPipeError):
+                process.stdin.close()
         return process.wait()

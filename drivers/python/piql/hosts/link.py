@@ -34,12 +34,8 @@ class HostLink(EngineLink):
         super().__init__()
         self.name, self.backends, self.places = name, [backend], [b""]
         self.program, self.timeout, self.seconds = find_program("piql_host", program), timeout, seconds
-        self.why = ""
-
-    @property
-    def revision(self) -> int:
-        """That of the store behind the last statement."""
-        return self.backends[0].revision
+        # That of the store behind the last statement that was told.
+        self.revision = 0
 
     def begin(self) -> HostedEngine:
         """Begins a run; where another engine has the store, tries again until the time is over."""
@@ -72,7 +68,9 @@ class HostLink(EngineLink):
         check_owner(self.owner)
         engine = self.running(statement)
         try:
-            return engine.exchange(statement).decode()
+            report = engine.exchange(statement).decode()
+            self.revision = self.backends[0].revision
+            return report
         except EngineEnded as end:
             why = f"{engine.host.why} {end.written}".strip()
             raise ended(end.status, f"{self.stands(reads)} {why}".strip()) from end
