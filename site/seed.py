@@ -91,4 +91,7 @@ def main() -> None:
 
 
 if __name__ == "__main__":
-    main()
+    try:
+        main()
+    except piql.Error as error:
+        sys.exit(f"seed: {error}")

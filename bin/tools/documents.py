@@ -64,6 +64,13 @@ def commands(document: pathlib.Path) -> Iterator[Command]:
             yield Command(block.place, command, output)
 
 
+def paragraphs(document: pathlib.Path) -> Iterator[str]:
+    """The paragraphs and items of lists, without blocks and tables."""
+    text = BLOCK.sub("", document.read_text(encoding="utf-8"))
+    parts = re.split(r"\n\s*\n|\n(?=[-*|] |\d+\. )", text)
+    yield from (part for part in parts if part and not part.startswith("|"))
+
+
 def is_shown(shown: list[str], printed: list[str]) -> bool:
     """Whether the lines are those that are shown, where `..` stands for any."""
     if LEFT_OUT not in shown:

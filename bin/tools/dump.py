@@ -103,7 +103,8 @@ def main(words: list[str]) -> int:
     try:
         return write(given.file, given.folder)
     except Error as error:
-        tell(NAME, f"{given.file}: {error}")
+        said = str(error)
+        tell(NAME, said if said.startswith(given.file) else f"{given.file}: {said}")
         return REFUSED
     except OSError as error:
         tell(NAME, str(error))

@@ -10,7 +10,7 @@ import unittest
 
 from piql.scripts import KEYWORDS
 
-from tools.documents import KINDS, blocks, commands, documents, is_shown
+from tools.documents import KINDS, blocks, commands, documents, is_shown, paragraphs
 from tools.layers import Layers
 from tools.repository import TOP, Repository
 from tools.tests.copies import Copy, built
@@ -21,6 +21,8 @@ WHOLE = re.compile(r"(CREATE|INSERT|UPDATE|DELETE|PREPARE|RUN|EXPLAIN|SHOW)\b")
 STATEMENT = re.compile(WHOLE.pattern + r"|(SELECT|ALTER|DROP|TRUNCATE|COPY|BEGIN)\b")
 CODE = re.compile(r"`([^`]*)`")
 TOOLCHAIN = re.compile(r"`(rattle-kit-\w+ logic [0-9a-f]+)`")
+# Of a paragraph, and of the first page.
+MOST_WORDS, MOST_LINES = 120, 150
 END = re.compile(r"^(\d+) (ok|refused)", re.MULTILINE)
 
 
@@ -62,6 +64,12 @@ class ShownTest(unittest.TestCase):
             for block in blocks(document, "sh", "ini"):
                 for name in re.findall(r"\b(bin/[\w-]+|site/\w+\.py)", block.text):
                     self.assertTrue(os.access(TOP / name, os.X_OK), f"{block.place}: {name}")
+
+    def test_paragraphs_are_short(self) -> None:
+        for document in documents():
+            for paragraph in paragraphs(document):
+                self.assertLessEqual(len(paragraph.split()), MOST_WORDS, f"{document.name}: {paragraph[:60]}")
+        self.assertLess(len((TOP / "README.md").read_text().splitlines()), MOST_LINES)
 
     def test_the_grammar_has_the_keywords(self) -> None:
         (block,) = (block for document in documents() for block in blocks(document, "ebnf"))
