@@ -1,3 +1,4 @@
 pub mod ChangeLists
+pub mod Fronts
 pub mod Rows
 pub mod Widths

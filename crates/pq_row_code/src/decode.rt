@@ -3,7 +3,7 @@ ghost use Rattle.std.specs.Prelude.{◌≡◌, List, length, IfOk, IfSome, IfNon
 ghost use Rattle.std.specs.Option.{option_map};
 ghost use Rattle.std.specs.Int.{w16, w64};
 ghost use Rattle.pq_base.specs.declared.value.Value.{Value};
-ghost use Rattle.pq_base.specs.Values.{AllFit};
+ghost use Rattle.pq_base.specs.Values.{AllFit, kind_of_type, room_of};
 ghost use Rattle.pq_row_code.specs.RowCode.{row_code};
 ghost use Rattle.pq_row_code.specs.RowReading.{bits_at, flag_at, string_at, field_at, cell_at, fields_at, marks_at, front_at, row_decoded};
 
@@ -66,24 +66,20 @@ fn string_of(alloc: Global, most: u16, bytes: &[u8]) -> Result<Option<(PText, &[
 }
 
 #[tactic(auto, unfolding(crate::specs::RowReading::field_at))]
-fn field_of(
-    alloc: Global,
-    kind: DataKind,
-    most: u16,
-    bytes: &[u8],
-) -> Result<Option<(Value, &[u8])>, NoMem>
-    ensures { IfOk result (λ read. option_map (λ x. (x.0, x.1.now)) read ≡ field_at kind most bytes.now) }
+fn field_of(alloc: Global, ty: ColType, bytes: &[u8]) -> Result<Option<(Value, &[u8])>, NoMem>
+    ensures { IfOk result (λ read. option_map (λ x. (x.0, x.1.now)) read
+        ≡ field_at (kind_of_type ty) (room_of ty) bytes.now) }
 {
-    match kind {
-        DataKind::Int => match u64_of(bytes) {
+    match ty {
+        ColType::Int | ColType::NullInt => match u64_of(bytes) {
             Some((bits, rest)) => Ok(Some((Value::Int(bits.cast_signed()), rest))),
             None => Ok(None),
         },
-        DataKind::Bool => match flag_of(bytes) {
+        ColType::Bool | ColType::NullBool => match flag_of(bytes) {
             Some((truth, rest)) => Ok(Some((Value::Bool(truth), rest))),
             None => Ok(None),
         },
-        DataKind::Text => match string_of(alloc, most, bytes)? {
+        ColType::Text(most) | ColType::NullText(most) => match string_of(alloc, most, bytes)? {
             Some((text, rest)) => Ok(Some((Value::Text(text), rest))),
             None => Ok(None),
         },
@@ -100,7 +96,7 @@ fn cell_of(
     ensures { IfOk result (λ read. option_map (λ x. (x.0, x.1.now)) read ≡ cell_at ty mark bytes.now) }
 {
     if mark != 1 {
-        return field_of(alloc, ty.kind(), ty.room(), bytes);
+        return field_of(alloc, ty, bytes);
     }
     if ty.is_nullable() {
         Ok(Some((Value::Null, bytes)))

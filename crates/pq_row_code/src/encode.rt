@@ -1,6 +1,7 @@
 //! From rows to row codes.
-ghost use Rattle.std.specs.Prelude.{◌≡◌, ◌++◌, ◌≤◌, ◌<◌, ◌^◌, length, All, OnOk, IfOk};
-ghost use Rattle.pq_row_code.specs.RowCode.{field, null_marks, row_front, row_code, IsShort};
+ghost use Rattle.std.specs.Prelude.{◌≡◌, ◌++◌, ◌≤◌, ◌<◌, ◌^◌, length, All, OnOk, IfOk, if◌then◌else◌};
+ghost use Rattle.pq_base.specs.Values.{is_null, has_null};
+ghost use Rattle.pq_row_code.specs.RowCode.{field, fields, null_marks, row_front, row_code, IsShort};
 
 use pq_base::{Bytes, NoMem, Row, Value};
 use std::alloc::Global;
@@ -33,6 +34,30 @@ fn field_len(value: &Value) -> u32
     }
 }
 
+// The number of bytes of a row's front, with this value too.
+fn front_with(front: u32, value: &Value) -> u32
+    ensures { result ≡ (if is_null value.now then 5 else front) }
+{
+    if value.is_null() { 5 } else { front }
+}
+
+// How many bytes the front has, which tells whether some value is NULL, and how many the fields have.
+fn lens(values: &[Value]) -> (u32, u32)
+    requires columns { length values.now ≤ 32 }
+    requires texts { All IsShort values.now }
+    ensures front { result.0 ≡ (if has_null values.now then 5 else 1) }
+    ensures fields { result.1 ≡ length (fields values.now) }
+    ensures small { result.1 ≤ 32064 }
+{
+    let mut front = 1;
+    let mut fields = 0;
+    for value in values {
+        front = front_with(front, value);
+        fields += field_len(value);
+    }
+    (front, fields)
+}
+
 fn null_marks(values: &[Value]) -> u32
     requires { length values.now ≤ 32 }
     ensures marks { result ≡ null_marks values.now }
@@ -42,6 +67,19 @@ fn null_marks(values: &[Value]) -> u32
         [] => 0,
         [first, rest @ ..] => u32::from(first.is_null()) + 2 * null_marks(rest),
     }
+}
+
+// The marks of a row whose front has so many bytes: one alone where no value is NULL.
+#[tactic(auto, using(crate::proofs::Fronts::plain_marks))]
+fn marks_of(values: &[Value], front: u32) -> u32
+    requires columns { length values.now ≤ 32 }
+    requires front { front ≡ (if has_null values.now then 5 else 1) }
+    ensures { result ≡ null_marks values.now }
+{
+    if front == 1 {
+        return 0;
+    }
+    null_marks(values)
 }
 
 fn put_front(alloc: Global, out: &mut Bytes, columns: u8, marks: u32) -> Result<(), NoMem>
@@ -56,19 +94,14 @@ fn put_front(alloc: Global, out: &mut Bytes, columns: u8, marks: u32) -> Result<
 }
 
 /// The number of bytes of the row's code.
+#[tactic(auto, using(crate::proofs::Fronts::code_len))]
 pub fn row_code_len(row: &Row) -> u32
     requires columns { length row.now ≤ 32 }
     requires texts { All IsShort row.now }
     ensures { result ≡ length (row_code row.now) }
 {
-    let mut len = match null_marks(row.items()) {
-        0 => 1,
-        _ => 5,
-    };
-    for value in row.items() {
-        len += field_len(value);
-    }
-    len
+    let (front, fields) = lens(row.items());
+    front + fields
 }
 
 /// The row code: the number of columns in one byte, and then each column. A number has eight bytes
@@ -80,13 +113,10 @@ pub fn encode_row(alloc: Global, row: &Row) -> Result<Bytes, NoMem>
     requires texts { All IsShort row.now }
     ensures { IfOk result (λ code. code ≡ row_code row.now) }
 {
-    let mut code = Bytes::with_room(alloc, row_code_len(row) as usize)?;
-    put_front(
-        alloc,
-        &mut code,
-        row.items().len() as u8,
-        null_marks(row.items()),
-    )?;
+    let (front, fields) = lens(row.items());
+    let mut code = Bytes::with_room(alloc, (front + fields) as usize)?;
+    let marks = marks_of(row.items(), front);
+    put_front(alloc, &mut code, row.items().len() as u8, marks)?;
     for value in row.items() {
         put_field(alloc, &mut code, value)?;
     }
