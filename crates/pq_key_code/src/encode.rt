@@ -1,5 +1,5 @@
 //! From values to key codes.
-ghost use Rattle.std.specs.Prelude.{◌≡◌, ◌++◌, ◌∷◌, [], length, map, OnOk, IfOk};
+ghost use Rattle.std.specs.Prelude.{◌≡◌, ◌++◌, ◌∷◌, [], length, map, take, OnOk, OnErr, IfOk};
 ghost use Rattle.pq_base.specs.declared.value.Value.TheVariants as values;
 ghost use Rattle.pq_key_code.specs.KeyCode.{above_least, payload, turned_byte, escaped_text, null_marker, marker, component, code_of};
 
@@ -23,7 +23,8 @@ fn above_least_of(number: i64) -> u64
 }
 
 fn put_each_turned(alloc: Global, out: &mut Bytes, dir: Dir, bytes: &[u8]) -> Result<(), NoMem>
-    ensures { OnOk result (out.new ≡ out.old ++ map (turned_byte dir) bytes.now) }
+    ensures ok { OnOk result (out.new ≡ out.old ++ map (turned_byte dir) bytes.now) }
+    ensures kept { OnErr result (take (length out.old) out.new ≡ out.old) }
 {
     for byte in bytes {
         out.push(alloc, turn(dir, *byte))?;
@@ -34,7 +35,8 @@ fn put_each_turned(alloc: Global, out: &mut Bytes, dir: Dir, bytes: &[u8]) -> Re
 // Ascending bytes stay as they are.
 #[tactic(auto, using(crate::proofs::Escapes::ascending))]
 fn put_turned(alloc: Global, out: &mut Bytes, dir: Dir, bytes: &[u8]) -> Result<(), NoMem>
-    ensures { OnOk result (out.new ≡ out.old ++ map (turned_byte dir) bytes.now) }
+    ensures ok { OnOk result (out.new ≡ out.old ++ map (turned_byte dir) bytes.now) }
+    ensures kept { OnErr result (take (length out.old) out.new ≡ out.old) }
 {
     match dir {
         Dir::Asc => out.extend(alloc, bytes),
@@ -42,9 +44,10 @@ fn put_turned(alloc: Global, out: &mut Bytes, dir: Dir, bytes: &[u8]) -> Result<
     }
 }
 
-#[tactic(auto, using(crate::proofs::Escapes::escaped_one))]
+#[tactic(auto, using(crate::proofs::Escapes::escaped_one, crate::proofs::Fronts::front_stays))]
 fn put_text_byte(alloc: Global, out: &mut Bytes, dir: Dir, byte: u8) -> Result<(), NoMem>
-    ensures { OnOk result (out.new ≡ out.old ++ map (turned_byte dir) (escaped_text (byte ∷ []))) }
+    ensures ok { OnOk result (out.new ≡ out.old ++ map (turned_byte dir) (escaped_text (byte ∷ []))) }
+    ensures kept { OnErr result (take (length out.old) out.new ≡ out.old) }
 {
     out.push(alloc, turn(dir, byte))?;
     if byte == 0 {
@@ -54,7 +57,8 @@ fn put_text_byte(alloc: Global, out: &mut Bytes, dir: Dir, byte: u8) -> Result<(
 }
 
 fn put_escaped(alloc: Global, out: &mut Bytes, dir: Dir, bytes: &[u8]) -> Result<(), NoMem>
-    ensures { OnOk result (out.new ≡ out.old ++ map (turned_byte dir) (escaped_text bytes.now)) }
+    ensures ok { OnOk result (out.new ≡ out.old ++ map (turned_byte dir) (escaped_text bytes.now)) }
+    ensures kept { OnErr result (take (length out.old) out.new ≡ out.old) }
 {
     for byte in bytes {
         put_text_byte(alloc, out, dir, *byte)?;
@@ -65,7 +69,8 @@ fn put_escaped(alloc: Global, out: &mut Bytes, dir: Dir, bytes: &[u8]) -> Result
 // A text without zeros has nothing to escape.
 #[tactic(auto, using(crate::proofs::Escapes::escaped_plain))]
 fn put_text_bytes(alloc: Global, out: &mut Bytes, dir: Dir, bytes: &[u8]) -> Result<(), NoMem>
-    ensures { OnOk result (out.new ≡ out.old ++ map (turned_byte dir) (escaped_text bytes.now)) }
+    ensures ok { OnOk result (out.new ≡ out.old ++ map (turned_byte dir) (escaped_text bytes.now)) }
+    ensures kept { OnErr result (take (length out.old) out.new ≡ out.old) }
 {
     if bytes.contains(&0) {
         put_escaped(alloc, out, dir, bytes)
@@ -74,8 +79,10 @@ fn put_text_bytes(alloc: Global, out: &mut Bytes, dir: Dir, bytes: &[u8]) -> Res
     }
 }
 
+#[tactic(auto, using(crate::proofs::Fronts::front_kept))]
 fn put_text(alloc: Global, out: &mut Bytes, dir: Dir, bytes: &[u8]) -> Result<(), NoMem>
-    ensures { OnOk result (out.new ≡ out.old ++ map (turned_byte dir) (payload (values.Text bytes.now))) }
+    ensures ok { OnOk result (out.new ≡ out.old ++ map (turned_byte dir) (payload (values.Text bytes.now))) }
+    ensures kept { OnErr result (take (length out.old) out.new ≡ out.old) }
 {
     put_text_bytes(alloc, out, dir, bytes)?;
     out.push(alloc, turn(dir, 0))?;
@@ -101,11 +108,10 @@ fn marker(dir: Dir, value: &Value) -> u8
     }
 }
 
-/// Puts a value's component behind what is there: the marker, and the payload in its direction.
-pub fn put_component(alloc: Global, out: &mut Bytes, dir: Dir, value: &Value) -> Result<(), NoMem>
-    ensures { OnOk result (out.new ≡ out.old ++ component dir value.now) }
+fn put_payload(alloc: Global, out: &mut Bytes, dir: Dir, value: &Value) -> Result<(), NoMem>
+    ensures ok { OnOk result (out.new ≡ out.old ++ map (turned_byte dir) (payload value.now)) }
+    ensures kept { OnErr result (take (length out.old) out.new ≡ out.old) }
 {
-    out.push(alloc, marker(dir, value))?;
     match value {
         Value::Null => Ok(()),
         Value::Int(number) => {
@@ -114,6 +120,22 @@ pub fn put_component(alloc: Global, out: &mut Bytes, dir: Dir, value: &Value) ->
         Value::Bool(truth) => put_turned(alloc, out, dir, &[u8::from(*truth)]),
         Value::Text(text) => put_text(alloc, out, dir, text.bytes()),
     }
+}
+
+/// Puts a value's component behind what is there: the marker, and the payload in its direction.
+/// After `NoMem` the bytes are as before.
+#[tactic(auto, using(crate::proofs::Fronts::front_kept))]
+pub fn put_component(alloc: Global, out: &mut Bytes, dir: Dir, value: &Value) -> Result<(), NoMem>
+    ensures ok { OnOk result (out.new ≡ out.old ++ component dir value.now) }
+    ensures err { OnErr result (out.new ≡ out.old) }
+{
+    let len = out.items().len();
+    out.push(alloc, marker(dir, value))?;
+    let put = put_payload(alloc, out, dir, value);
+    if put.is_err() {
+        out.truncate(len);
+    }
+    put
 }
 
 // Most keys have no more bytes than this.
