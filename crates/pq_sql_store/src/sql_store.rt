@@ -1,12 +1,12 @@
 //! The store over a connection.
-ghost use Rattle.std.specs.Prelude.{◌≡◌, ◌≤◌, true, IsTrue, All, map};
-ghost use Rattle.pq_store.specs.Content.{HasRisen, IsPartOf, is_within, is_rising, entry};
+ghost use Rattle.std.specs.Prelude.{◌≡◌, ◌≤◌};
+ghost use Rattle.pq_store.specs.Content.{HasRisen};
 
 use crate::statements::{
     Shape, change, make_table, number_within, pairs_within, read_shape, value_at,
 };
 use pq_base::{Bytes, List};
-use pq_store::{Guard, Meter, Pair, Store, StoreErr};
+use pq_store::{Guard, Meter, Pair, Store, StoreErr, is_part};
 use sqlite::{Alter, Connection, Error, ErrorCode};
 use std::alloc::Global;
 use std::sync::ledger::Ledger;
@@ -39,49 +39,6 @@ fn have_table<D: Alter>(connection: &mut Connection<D>) -> Result<bool, Error> {
             Ok(true)
         }
     }
-}
-
-// Whether the key lies in the range.
-fn lies_within(low: &[u8], high: &[u8], pair: &Pair) -> bool
-    ensures { result ≡ is_within low.now high.now (entry pair.now) }
-{
-    low.cmp(pair.key.items()).is_le() && pair.key.items().cmp(high).is_lt()
-}
-
-fn are_within(low: &[u8], high: &[u8], pairs: &[Pair]) -> bool
-    ensures { IsTrue result → All (λ pair. is_within low.now high.now (entry pair) ≡ true) pairs.now }
-{
-    pairs.iter().all(|pair| lies_within(low, high, pair))
-}
-
-// Whether the keys strictly rise.
-fn rise(pairs: &[Pair]) -> bool
-    ensures { result ≡ is_rising (map entry pairs.now) }
-{
-    let Some((first, rest)) = pairs.split_first() else {
-        return true;
-    };
-    let mut last = first;
-    for pair in rest {
-        if !last.key.items().cmp(pair.key.items()).is_lt() {
-            return false;
-        }
-        last = pair;
-    }
-    true
-}
-
-// Whether the pairs are what a store may answer to a range.
-fn is_part(low: &[u8], high: &[u8], limit: u32, pairs: &[Pair]) -> bool
-    ensures { IsTrue result → IsPartOf low.now high.now limit (map entry pairs.now) }
-{
-    if pairs.len() > limit as usize {
-        return false;
-    }
-    if !are_within(low, high, pairs) {
-        return false;
-    }
-    rise(pairs)
 }
 
 // Whether a write that changed so many rows was made; None where no write changes as many.

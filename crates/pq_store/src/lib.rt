@@ -11,11 +11,15 @@ mod failing;
 mod held;
 mod mem;
 mod meter;
+mod part_check;
 mod store;
+mod switch;
 
 pub use allowance::Allowance;
 pub use damage::{Broke, Damage};
 pub use failing::{Fail, FailingStore};
 pub use mem::{MemStore, NotPairs};
 pub use meter::{Meter, Opening};
+pub use part_check::is_part;
 pub use store::{Guard, Pair, Store, StoreErr};
+pub use switch::SwitchStore;

@@ -1,5 +1,5 @@
 //! A store in memory: an ordered set of pairs, each in one piece of memory, seen as its content.
-ghost use Rattle.std.specs.Prelude.{◌≡◌, ◌↔◌, IsTrue, IfOk, IfErr, IsOk, OnOk, OnErr, map, take, length, min, if◌then◌else◌};
+ghost use Rattle.std.specs.Prelude.{◌≡◌, IsTrue, IfOk, IfErr, IsOk, OnOk, OnErr, map, take, length, min, if◌then◌else◌};
 ghost use Rattle.std.specs.Option.{option_map, option_copied};
 ghost use Rattle.std.specs.FinMap.{empty, entries, get as value_at, insert, remove};
 ghost use Rattle.std.specs.Ordering.{eq_by_cmp, is_lt};
@@ -8,6 +8,7 @@ ghost use Rattle.pq_store.specs.NotPairs.{GivesBack};
 
 use crate::held::HeldPair;
 use crate::meter::Meter;
+use crate::part_check::rise;
 use crate::store::{Guard, Pair, Store, StoreErr};
 use pq_base::{Bytes, List, NoMem};
 use std::alloc::Global;
@@ -76,7 +77,7 @@ impl MemStore {
         ensures rising { IsOk result → IsTrue (is_rising (map entry pairs)) }
         ensures unordered { IfErr result (λ e. GivesBack e pairs) }
     {
-        if !rises(pairs.items()) {
+        if !rise(pairs.items()) {
             return Err(NotPairs::Unordered(pairs));
         }
         match held_of(alloc, pairs) {
@@ -193,23 +194,6 @@ fn copy_of(alloc: Global, pair: &HeldPair) -> Result<Pair, NoMem>
     let key = Bytes::of_bytes(alloc, pair.key())?;
     let value = Bytes::of_bytes(alloc, pair.value())?;
     Ok(Pair { key, value })
-}
-
-// Whether the keys strictly rise.
-fn rises(pairs: &[Pair]) -> bool
-    ensures { IsTrue result ↔ IsTrue (is_rising (map entry pairs.now)) }
-{
-    let Some((first, rest)) = pairs.split_first() else {
-        return true;
-    };
-    let mut last = first;
-    for pair in rest {
-        if !last.key.items().cmp(pair.key.items()).is_lt() {
-            return false;
-        }
-        last = pair;
-    }
-    true
 }
 
 // The set of pairs whose keys strictly rise.

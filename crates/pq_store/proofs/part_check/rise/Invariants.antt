@@ -1,6 +1,6 @@
 use Rattle.std.proofs.Common.{◌≡◌, map, drop, ◌∷◌}
 use Rattle.pq_store.specs.Content.{entry, is_rising}
-use Rattle.pq_sql_store.proofs.sql_store.rise.Given as goal
+use Rattle.pq_store.proofs.part_check.rise.Given as goal
 
 -- all rise exactly if those from the last one on do
 abbrev pub invariant-loop-pair : goal.invariant-loop-pair

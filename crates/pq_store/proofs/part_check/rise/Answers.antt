@@ -3,7 +3,7 @@ use Rattle.std.proofs.lemmas.Grind.{common_steps}
 use Rattle.std.specs.declared.cmp.Ordering.TheVariants.{Less}
 use Rattle.pq_store.specs.Content.{entry, is_rising, key_cmp}
 use Rattle.pq_store.proofs.Places.{rising_more}
-use Rattle.pq_store.proofs.mem.rises.Goals as goal
+use Rattle.pq_store.proofs.part_check.rise.Goals as goal
 
 pub loop-pair-preserved : goal.loop-pair-preserved
 loop-pair-preserved c =
