@@ -4,3 +4,4 @@ pub mod Held
 pub mod NotPairs
 pub mod Faults
 pub mod Breaks
+pub mod Switching
