@@ -1,9 +1,8 @@
 -- What shows damage in a build shows it still where the build stopped.
 use Rattle.std.proofs.Common.{◌≡◌, ℕ, false, inl, inr, List, take, Option, Some, None, refl, sym, ◌∙◌, subst}
 use Rattle.std.specs.Prelude.{IfSome}
-use Rattle.std.specs.FinMap.{get, insert}
+use Rattle.std.specs.FinMap.{insert}
 use Rattle.std.proofs.lemmas.Option.{none-some}
-use Rattle.pq_store.specs.Breaks.{IsPresent}
 use Rattle.pq_store.specs.Content.{Content}
 use Rattle.pq_store.specs.declared.damage.Broke.{Broke}
 use Rattle.pq_store.specs.declared.damage.Broke.TheVariants.{Failed, NoMem, Damaged}
@@ -12,8 +11,8 @@ use Rattle.pq_content.specs.Pairs.{Pair, is_of_rows}
 use Rattle.pq_intent.specs.Changing.{StaysUntold}
 use Rattle.pq_builds.specs.declared.target.NewQuery.{NewQuery}
 use Rattle.pq_builds.specs.declared.target.Target.{Target}
-use Rattle.pq_builds.specs.Filling.{entered_rows, first_key, past_key, row_pairs_in, Enters, IsNoRowAmong}
-use Rattle.pq_builds.specs.Stages.{IsReady, ShowsBuild, StopsBuilding, StopsFilling, building_value, marked_content, ready_value}
+use Rattle.pq_builds.specs.Filling.{first_key, past_key, row_pairs_in, Enters, IsNoRowAmong}
+use Rattle.pq_builds.specs.Stages.{ShowsBuild, StopsBuilding, StopsFilling, building_value, marked_content, ready_value}
 use Rattle.pq_builds.proofs.Entering.{range_entered}
 use Rattle.pq_builds.proofs.Ranges.{range_insert, no_row_key}
 

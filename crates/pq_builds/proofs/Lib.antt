@@ -3,6 +3,7 @@ pub mod Filled
 pub mod Finals
 pub mod Following
 pub mod Lasting
+pub mod Own
 pub mod Standing
 pub mod Ranges
 pub mod Reading

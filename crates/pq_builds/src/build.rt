@@ -5,7 +5,7 @@ ghost use Rattle.pq_store.specs.Breaks.{IfDamaged, IsPresent, IsUndamaged};
 ghost use Rattle.pq_store.specs.Content.{HasBrokeCause, Content};
 ghost use Rattle.pq_intent.specs.Spending.{TakesAtMost};
 ghost use Rattle.pq_intent.specs.Changing.{StaysUntold};
-ghost use Rattle.pq_builds.specs.Bounds.{left_bound};
+ghost use Rattle.pq_builds.specs.Bounds.{build_bound, left_bound};
 ghost use Rattle.pq_builds.specs.Filling.{row_pairs_in, IsNoRowAmong, NamesKey, fill_ops};
 ghost use Rattle.pq_builds.specs.Stages.{marked_value, IsMarked, IsReady, IsBuilt, StopsFilling, StopsBuilding, ShowsBuild, ShowsLeft, RanBuild, Takes, TakesBuild, IsFew, IsWithinBuild, build_ops, left_ops};
 ghost use Rattle.pq_builds.specs.Standing.{Origin, HoldsOrigin, HoldsFilling, IsMarkedOrReady, Makes, Leaves, rows_in};
@@ -123,6 +123,8 @@ fn build_rows<S: Store<L>, L: Ledger>(
     ensures takes { OnOk result (Takes (fill_ops count + 2) count meter.old meter.new) }
     ensures few_ops { meter.new.ops ≤ meter.old.ops + (fill_ops count + 2) }
     ensures few_entries { meter.new.entries ≤ meter.old.entries + (count + 256) }
+    ensures told { OnErr result (IfSome (S.content store.old) (λ c.
+        length (row_pairs_in target.now.table c) ≡ count → meter.new.entries ≤ meter.old.entries + count)) }
     ensures untold { StaysUntold (S.content store.old) (S.content store.new) }
     ensures cause { HasBrokeCause (S.faults store.old) (S.faults store.new) result }
 {
@@ -150,6 +152,8 @@ fn run_build<S: Store<L>, L: Ledger>(
     ensures few { IfOk result IsFew }
     ensures takes { IfOk result (λ built. TakesBuild built meter.old meter.new) }
     ensures within { OnErr result (IsWithinBuild build_ops meter.old meter.new) }
+    ensures within_own { OnErr result (IfSome (S.content store.old) (λ c.
+        TakesAtMost (build_bound (length (row_pairs_in target.now.table c))) meter.old meter.new)) }
     ensures untold { StaysUntold (S.content store.old) (S.content store.new) }
     ensures cause { HasBrokeCause (S.faults store.old) (S.faults store.new) result }
 {
@@ -212,6 +216,8 @@ pub fn build_index<S: Store<L>, L: Ledger>(
         → Leaves origin target.now query.now (S.content store.new)) }
     ensures sound { IfErr result (λ broke. (origin : Origin)
         → HoldsOrigin origin target.now query.now (S.content store.old) → IsUndamaged broke) }
+    ensures bounded { OnErr result ((origin : Origin) → HoldsOrigin origin target.now query.now (S.content store.old)
+        → TakesAtMost (build_bound (rows_in origin target.now)) meter.old meter.new) }
     // Over any content that is told.
     ensures ran { IfOk result (λ built. IfSome (S.content store.old) (λ c.
         RanBuild target.now query.now built c (S.content store.new))) }
@@ -219,6 +225,8 @@ pub fn build_index<S: Store<L>, L: Ledger>(
         StopsBuilding target.now query.now c (S.content store.new))) }
     ensures shown { IfErr result (λ broke. IfSome (S.content store.old) (λ c.
         ShowsBuild target.now query.now c broke)) }
+    ensures within_own { OnErr result (IfSome (S.content store.old) (λ c.
+        TakesAtMost (build_bound (length (row_pairs_in target.now.table c))) meter.old meter.new)) }
     // Over every store, told or not. Damage that has no value names the definition's key: it was there,
     // or the ranges gave another number of rows than the count.
     ensures names { IfErr result (NamesKey query.now.key) }

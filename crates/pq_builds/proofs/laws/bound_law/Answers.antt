@@ -1,6 +1,4 @@
-use Rattle.std.proofs.Common.{◌≡◌, ℕ, ◌≤◌, ◌<◌, ◌*◌, true, false, cond, Option, Some, None, refl, sym, subst, arith}
-use Rattle.std.specs.Prelude.{nat_le}
-use Rattle.std.proofs.lemmas.Bool.{leb-true, leb-false}
+use Rattle.std.proofs.Common.{◌≡◌, ℕ, ◌*◌, Option, Some, None, sym, subst}
 use Rattle.std.proofs.lemmas.Option.{none-some, same_Some}
 use Rattle.pq_base.specs.declared.number.Bound.{Bound}
 use Rattle.pq_store.specs.Content.{Content}
@@ -11,26 +9,15 @@ use Rattle.pq_builds.specs.declared.build.Built.{Built}
 use Rattle.pq_builds.specs.declared.build.Built.TheVariants as built
 use Rattle.pq_builds.specs.declared.target.NewQuery.{NewQuery}
 use Rattle.pq_builds.specs.declared.target.Target.{Target}
-use Rattle.pq_builds.specs.Bounds.{bound, build_bound, prepare_bound, fixed_bound}
+use Rattle.pq_builds.specs.Bounds.{build_bound, prepare_bound, fixed_bound}
 use Rattle.pq_builds.specs.Standing.{Origin, Makes, rows_in}
 use Rattle.pq_builds.specs.Stages.{Takes, TakesBuild, build_ops}
+use Rattle.pq_builds.proofs.Own.{few_bound, many_bound}
 use Rattle.pq_builds.proofs.laws.bound_law.Goals as goal
 
 fixed_is : (wanted : Option NewIndex) (most : Bound) (rows : Rows) → fixed_bound wanted ≡ Some most → prepare_bound wanted rows ≡ most
 fixed_is None most rows is = same_Some _ _ is
 fixed_is (Some new) most rows is = absurd (none-some most is)
-
-few_bound : (n : ℕ) → n ≤ 1000000 → build_bound n ≡ bound (build_ops n) (2 * n)
-few_bound n few = elim (nat_le n 1000000) as (λ b. nat_le n 1000000 ≡ b → cond b (bound (build_ops n) (2 * n)) (bound 1 1000001) ≡ bound (build_ops n) (2 * n)) [
-  | true ↦ λ _. refl
-  | false ↦ λ is. let more : 1000000 < n = leb-false n 1000000 is in absurd (omega arith)
-] refl
-
-many_bound : (n : ℕ) → 1000000 < n → build_bound n ≡ bound 1 1000001
-many_bound n many = elim (nat_le n 1000000) as (λ b. nat_le n 1000000 ≡ b → cond b (bound (build_ops n) (2 * n)) (bound 1 1000001) ≡ bound 1 1000001) [
-  | true ↦ λ is. let few : n ≤ 1000000 = leb-true n 1000000 is in absurd (omega arith)
-  | false ↦ λ _. refl
-] refl
 
 pub returns-clause-fixed : goal.returns-clause-fixed
 returns-clause-fixed c = fixed_is
