@@ -80,9 +80,13 @@ class ShownTest(unittest.TestCase):
         (block,) = (block for document in documents() for block in blocks(document, "edit"))
         self.assertTrue(any(block.text in text for text in edits), block.place)
 
-    def test_names_stand_where_the_documents_say(self) -> None:
-        run = subprocess.run([TOP / "bin/names"], capture_output=True, text=True)
-        self.assertEqual((run.stdout, run.returncode), ("", 0))
+    def test_each_crate_is_told(self) -> None:
+        names = ("README.md", "docs/PROVED.md", "docs/ARCHITECTURE.md")
+        page, proved, map_of = ((TOP / name).read_text() for name in names)
+        for crate in Repository().uses:
+            self.assertIn(f"`{crate}`", page, crate)
+            self.assertIn(f"`{crate}`", proved, crate)
+            self.assertIn(f"\n| {crate} | ", map_of, crate)
 
     @unittest.skipUnless(shutil.which("rt"), "the toolchain isn't on the PATH")
     def test_the_toolchain_is_the_one_at_hand(self) -> None:
@@ -129,15 +133,6 @@ class ConsoleTest(unittest.TestCase):
         for document in documents():
             if any(commands(document)):
                 self.run_document(document)
-
-
-@unittest.skipUnless(PIQL, "crates/piql is not built")
-class ExamplesTest(unittest.TestCase):
-    """Over the engine: the examples, and the documents' blocks from them."""
-
-    def test_the_examples_and_the_blocks_are_as_written(self) -> None:
-        run = subprocess.run([TOP / "bin/examples", str(PIQL)], capture_output=True, text=True)
-        self.assertEqual(run.returncode, 0, run.stdout)
 
 
 @unittest.skipUnless(PIQL, "crates/piql is not built")

@@ -31,6 +31,8 @@ for name, program in (("PIQL_FILE", PIQL_FILE), ("PIQL", PIQL)):
 
 needs_file = unittest.skipUnless(PIQL_FILE, "crates/piql_file is not built")
 needs_memory = unittest.skipUnless(PIQL, "crates/piql is not built")
+# A build without proofs checks each step, and takes minutes where a proved one takes seconds.
+needs_speed = unittest.skipIf("unproved" in f"{PIQL} {PIQL_FILE}", "it takes long over a build without proofs")
 
 
 def make_folder() -> Path:
@@ -71,4 +73,15 @@ class StoreCase(unittest.TestCase):
         cls.connection.cursor().executescript(cls.script)
 
 
-__all__ = ["PIQL", "PIQL_FILE", "StoreCase", "TOP", "engine_of", "needs_file", "needs_memory", "new_folder", "piql"]
+__all__ = [
+    "PIQL",
+    "PIQL_FILE",
+    "StoreCase",
+    "TOP",
+    "engine_of",
+    "needs_file",
+    "needs_memory",
+    "needs_speed",
+    "new_folder",
+    "piql",
+]

@@ -7,12 +7,13 @@ import subprocess
 import threading
 import unittest
 
-from helpers import engine_of, needs_file, needs_memory, new_folder, piql
+from helpers import engine_of, needs_file, needs_memory, needs_speed, new_folder, piql
 
 COUNT = "SELECT a FROM t ORDER BY a LIMIT 1000"
 
 
 @needs_file
+@needs_speed
 class LastingTest(unittest.TestCase):
     """Each test has a file of its own."""
 
@@ -124,6 +125,7 @@ class FullDiskTest(unittest.TestCase):
 
 
 @needs_memory
+@needs_speed
 class MemoryLimitTest(unittest.TestCase):
     """A store in memory ends with its run."""
 

@@ -10,7 +10,7 @@ import unittest
 import urllib.request
 from pathlib import Path
 
-from helpers import TOP, StoreCase, needs_file, new_folder, piql
+from helpers import TOP, StoreCase, needs_file, needs_speed, new_folder, piql
 
 sys.path.insert(0, str(TOP / "site"))
 
@@ -63,6 +63,7 @@ def pages_of(connection: piql.Connection) -> list[str]:
 
 
 @needs_file
+@needs_speed
 class PagesTest(unittest.TestCase):
     """Few users and many."""
 
