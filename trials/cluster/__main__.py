@@ -1,8 +1,8 @@
 """Trials of the engine over clusters: they start servers on loopback, and end them by their process ids.
 
-    python3 trials/cluster feed             examples/feed.piql over three members of etcd, and over PostgreSQL with a standby
-    python3 trials/cluster TRIAL..          some of the trials below
-    python3 trials/cluster all              all of them; some twenty minutes
+    python3 trials/cluster feed      examples/feed.piql over three members of etcd, over PostgreSQL with a standby
+    python3 trials/cluster TRIAL..   some of the trials below
+    python3 trials/cluster all       all of them; some twenty minutes on an idle machine
 
 They install nothing. `apt-get install etcd-server postgresql python3-psycopg2` (Debian) has all that they want; what
 isn't there is told and skipped. The programs are those of --engine and --nodes, else the proved builds of piql_host and
@@ -20,7 +20,8 @@ import time
 sys.dont_write_bytecode = True
 
 DEBIAN = "/usr/bin/python3"
-if not importlib.util.find_spec("psycopg2") and os.access(DEBIAN, os.X_OK) and os.path.realpath(sys.executable) != os.path.realpath(DEBIAN):
+is_debians = os.path.realpath(sys.executable) == os.path.realpath(DEBIAN)
+if not is_debians and not importlib.util.find_spec("psycopg2") and os.access(DEBIAN, os.X_OK):
     # Debian's packages are seen by Debian's Python.
     os.execv(DEBIAN, [DEBIAN, *sys.argv])
 
@@ -61,12 +62,13 @@ def read_words() -> argparse.Namespace:
     """The words of the command."""
     lines = [f"    {name:10} {trial.__doc__}" for name, trial in TRIALS.items()]
     text = "\n".join([__doc__ or "", *lines])
-    parser = argparse.ArgumentParser(prog="trials/cluster", description=text, formatter_class=argparse.RawTextHelpFormatter)
+    as_written = argparse.RawTextHelpFormatter
+    parser = argparse.ArgumentParser(prog="trials/cluster", description=text, formatter_class=as_written)
     parser.add_argument("trials", nargs="+", choices=[*TRIALS, "all"], metavar="TRIAL")
     parser.add_argument("--engine", default=os.environ.get("PIQL_HOST"), help="the program piql_host")
     parser.add_argument("--nodes", default=os.environ.get("PIQL_NODES"), help="the program piql_nodes")
     parser.add_argument("--times", type=int, help="how often what is random is tried")
-    parser.add_argument("--only", choices=["etcd", "postgres", "none"], help="start the servers of one kind alone, or none")
+    parser.add_argument("--only", choices=["etcd", "postgres", "none"], help="the servers of one kind alone, or none")
     return parser.parse_args()
 
 

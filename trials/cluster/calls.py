@@ -34,7 +34,7 @@ def compare(trial: Trial, kind: str, store: Backend, times: int, chance: random.
         found = pairs.get(key)
         holds = {Guard.ANY: True, Guard.ABSENT: found is None, Guard.IS: found == held}[guard]
         done = store.write(key, guard, held, new)
-        trial.expect(done is holds, f"{kind} write {number}: {done} of {guard.name}, {found!r} stands, {held!r} is asked")
+        trial.expect(done is holds, f"{kind} write {number}: {done} of {guard.name} {held!r}, where {found!r} stands")
         if holds and new is not None:
             pairs[key] = new
         elif holds:

@@ -1,4 +1,4 @@
-"""PostgreSQL on loopback, one server and a synchronous standby: they are ended by their process ids, and leave nothing."""
+"""PostgreSQL on loopback, a server and a synchronous standby: they are ended by their process ids, and leave nothing."""
 
 import contextlib
 import os

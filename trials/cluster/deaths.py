@@ -104,7 +104,8 @@ def kill_over(trial: Trial, kind: str, store: Backend, times: int) -> None:
         possible = states[accepted : accepted + 2]
         trial.expect(rows in possible and status == 0, f"{kind} {turn}: {accepted} told, then {found!r:.300}")
         trial.expect(read_rows(by_town) == rows, f"{kind} {turn}: the index has other rows")
-        counts["killed at a write" if host.killed_at is Op.WRITE else "killed at a read" if host.killed_at else "whole"] += 1
+        what = "killed at a write" if host.killed_at is Op.WRITE else "killed at a read"
+        counts[what if host.killed_at else "whole"] += 1
         counts["one statement further"] += rows != possible[0]
         opening = OPENING.match(found)
         counts["settled by the opening"] += opening is None or int(opening[1]) > QUIET

@@ -51,8 +51,9 @@ def feed(trial: Trial) -> None:
         store.close()
         check(trial, kind, path, done)
         print(done.output.decode())
-        calls = f"{done.host.calls.total()} calls, {done.host.entries} entries, {done.seconds:.2f} s"
-        trial.tell(f"{kind}: the whole of examples/{path.name}: {calls}, as examples/{path.stem}.out: {not trial.strange}")
+        served = f"{done.host.calls.total()} calls, {done.host.entries} entries, {done.seconds:.2f} s"
+        same = "differs from" if trial.strange else "as"
+        trial.tell(f"{kind}: the whole of examples/{path.name}: {served}; {same} examples/{path.stem}.out")
 
 
 def nodes(trial: Trial) -> None:

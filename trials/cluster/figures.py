@@ -1,4 +1,4 @@
-"""What a call costs over each store: by the clock, in processor time of engine, host and store, and beside its range."""
+"""What a call costs over each store: by the clock, in processor time of engine, host and store, by its range."""
 
 import pathlib
 import resource
@@ -89,7 +89,8 @@ def fill(store: Backend, begin: int, end: int) -> None:
         from piql.hosts.etcd_client import putting
 
         for first in numbers[::100]:
-            puts = [putting(store.front + b"z%08d" % number, b"v") for number in range(first, min(end, first + 100))]
+            few = range(first, min(end, first + 100))
+            puts = [putting(store.front + b"z%08d" % number, b"v") for number in few]
             client.post("/v3/kv/txn", {"success": puts}, 10.0)
     else:
         values = f"convert_to('z' || lpad(n::text, 8, '0'), 'UTF8'), 'v' FROM generate_series({begin}, {end - 1}) n"
@@ -97,7 +98,7 @@ def fill(store: Backend, begin: int, end: int) -> None:
 
 
 def ranges(trial: Trial, kind: str, url: str) -> None:
-    """A range with a limit, beside the number of keys that it spans; and one that ends behind the last key it answers."""
+    """A range with a limit, beside the number of keys that it spans; and one that ends behind its last answer."""
     store, size = open_store(url), 0
     store.begin()
     store.write(b"z", Guard.ANY, b"", b"")

@@ -99,7 +99,12 @@ def kill_two(trial: Trial, times: int) -> None:
     assert members is not None
     leader = members.leader()
     two = [leader, (leader + 1) % 3]
-    writing = Writing(trial, trial.url("etcd", "patience=6"), times, lambda: [members.kill(each) for each in two] and None)
+
+    def strike() -> None:
+        for each in two:
+            members.kill(each)
+
+    writing = Writing(trial, trial.url("etcd", "patience=6"), times, strike)
     writing.run()
     trial.expect(0 < len(writing.told) < times, f"two of three killed: {len(writing.told)} told")
     for each in two:

@@ -1,4 +1,4 @@
-"""Who has a store: a second engine, one that was stopped past its lease, a host that is killed, a server with a standby."""
+"""Who has a store: a second engine, one stopped past its lease, a host that is killed, a server with a standby."""
 
 import os
 import pathlib

@@ -281,7 +281,8 @@ def beside(trial: Trial, kind: str, url: str, reading: str, seconds: float, is_l
     if is_loose:
         damaged = sum(status == DAMAGED for status, _ in errors)
         trial.expect(bool(errors or found), f"{kind}: all was right, so this trial shows nothing")
-        trial.tell(f"{kind}: {damaged} ends with Damaged, {len(errors) - damaged} with a fault, {len(found)} wrong answers")
+        faults = len(errors) - damaged
+        trial.tell(f"{kind}: {damaged} ends with Damaged, {faults} with a fault, {len(found)} wrong answers")
     else:
         for what in ([text for _, text in errors] + found)[:20]:
             trial.expect(False, f"{kind}: {what:.500}")

@@ -1,4 +1,4 @@
-"""What stands still: an engine, a store behind a host, and servers in the middle of writes. The driver's limits end it."""
+"""What stands still: an engine, a store behind a host, servers in the middle of writes. The driver's limits end it."""
 
 import os
 import signal
@@ -54,7 +54,8 @@ def stopped_in_mid_statement(trial: Trial) -> None:
                 except OperationalError as error:
                     trial.expect("run was ended" in str(error), f"a slow store: {error}")
                     break
-            check(trial, f"a store that is slow at write {slow_at}, {time.monotonic() - begun:.1f} s", connection, told, number)
+            what = f"a store that is slow at write {slow_at}, {time.monotonic() - begun:.1f} s"
+            check(trial, what, connection, told, number)
     with Connection(HostLink("memory", MemoryStore(), trial.engine, seconds=STEP)) as connection:
         connection.execute(SCHEMA)
         engine = connection.link().engine  # type: ignore[attr-defined]
@@ -103,7 +104,7 @@ def stopped_servers(trial: Trial, kind: str) -> None:
 
 
 def stalls(trial: Trial) -> None:
-    """An engine, a store and servers that stand still: the driver's limits end the run, and the next opening settles."""
+    """An engine, a store and servers that stand still: the driver's limits end the run, the next opening settles."""
     stopped_in_mid_statement(trial)
     for kind, _ in trial.urls():
         stopped_servers(trial, kind)

@@ -5,8 +5,8 @@
 The store is a file, or the URL of one in a cluster, as piql.connect takes it. Clients connect by
 piql.connect("unix:SOCKET"). Only the owner of the server may. A second server on the store, or on the socket, ends at
 once; with --standby one on the store of a cluster waits until it is free. Each client has a thread; the engine is taken
-by one of them at a time. A server keeps the lease of its cluster while it is idle, but not while its engine stands still
-in the middle of a statement.
+by one of them at a time. A server keeps the lease of its cluster while it is idle, but not while its engine stands
+still in the middle of a statement.
 """
 
 import argparse

@@ -1,4 +1,3 @@
-#!/usr/bin/env python3
 """Stands for an engine in the tests of hosts: it speaks the frames, and each of its statements is a few words.
 
     PUT KEY VALUE;   GET KEY;   COUNT;   calls of the store, with the answer as a row

@@ -1,9 +1,9 @@
 """Hosts: the frames, backends in memory and in a file, and the links of runs whose store this process has."""
 
 import io
-import os
 import random
 import re
+import shutil
 import struct
 import sys
 import time
@@ -11,7 +11,7 @@ import unittest
 import unittest.mock
 from pathlib import Path
 
-from helpers import TOP, built, new_folder, piql
+from helpers import TOP, built, make_folder, new_folder, piql
 from piql.errors import InterfaceError, NotSupportedError, OperationalError
 from piql.hosts import (
     Backend,
@@ -38,7 +38,7 @@ from piql.hosts.postgres_client import places_of
 from piql.hosts.urls import etcd_parts, is_url, times_of
 from piql.hosts.wire import FAILURE, Request, answer, read_range, read_request, read_write
 
-STUB = str(Path(__file__).with_name("stub_engine.py"))
+STUB = Path(__file__).with_name("stub_engine.py")
 PIQL_HOST = built("piql_host")
 PIQL_NODES = built("piql_nodes")
 USED = re.compile(rb" used (\d+) (\d+)$", re.MULTILINE)
@@ -91,7 +91,8 @@ class HostTest(unittest.TestCase):
         self.assertEqual(self.host.answer(Request(Op.GET, 0, b"k")), answer(b"\1v"))
         self.assertEqual(self.host.answer(Request(Op.GET, 0, b"x")), answer(b"\0"))
         within = struct.pack(">I", 9) + sized(b"a") + b"z"
-        self.assertEqual(self.host.answer(Request(Op.RANGE, 0, within)), answer(b"\0\0\0\1" + sized(b"k") + sized(b"v")))
+        found = b"\0\0\0\1" + sized(b"k") + sized(b"v")
+        self.assertEqual(self.host.answer(Request(Op.RANGE, 0, within)), answer(found))
         self.assertEqual(self.host.answer(Request(Op.COUNT, 0, within)), answer(b"\0\0\0\1"))
         self.assertEqual(self.host.answer(Request(Op.PLACES, 0, b"")), answer(b"\0\0\0\2" + sized(b"") + sized(b"m")))
         self.assertEqual((self.host.calls.total(), self.host.entries, self.host.faults), (6, 3, 0))
@@ -142,6 +143,12 @@ class BackendTest(unittest.TestCase):
             store.begin()
             self.check(store, seed)
             store.close()
+
+    def test_the_backend_of_the_document(self) -> None:
+        found: dict[str, type[Backend]] = {}
+        exec((TOP / "docs/scripts/backend.py").read_text(), found)
+        for seed in range(5):
+            self.check(found["Pairs"](), seed)
 
     def test_a_file_is_locked_and_stays(self) -> None:
         path = str(new_folder(self) / "store.db")
@@ -212,12 +219,23 @@ class Pinned(Reading):
         return self.seen.count(low, high, cap)
 
 
-@unittest.skipUnless(os.access(STUB, os.X_OK), "the tests' own engine can't be run from this folder")
 class LinkTest(unittest.TestCase):
     """Links over a program that stands for the engine."""
 
-    def link(self, store: Backend, seconds: float = 10.0) -> HostLink:
-        made = HostLink("the store", store, STUB, 0.2, seconds)
+    stub: str
+
+    @classmethod
+    def setUpClass(cls) -> None:
+        folder = make_folder()
+        cls.addClassCleanup(shutil.rmtree, folder, ignore_errors=True)
+        program = folder / "engine"
+        # By the interpreter itself, without what it needn't look for: each test begins some.
+        program.write_text(f"#!{sys.executable} -SE\n{STUB.read_text()}")
+        program.chmod(0o755)
+        cls.stub = str(program)
+
+    def link(self, store: Backend) -> HostLink:
+        made = HostLink("the store", store, self.stub, 0.2)
         self.addCleanup(made.close)
         return made
 
@@ -246,16 +264,22 @@ class LinkTest(unittest.TestCase):
         self.assertIn("1 ok", link.exchange(b"COUNT;", True))
 
     def test_an_engine_that_stands_still(self) -> None:
-        link = self.link(MemoryStore(), 0.3)
+        link = self.hurried(MemoryStore())
         with self.assertRaisesRegex(OperationalError, "asked for nothing for 0.3 seconds, so the run was ended"):
             link.exchange(b"HANG;", False)
         self.assertIn("1 ok", link.exchange(b"COUNT;", True))
 
     def test_a_store_that_stands_still(self) -> None:
-        link = self.link(Slow(), 0.3)
+        link = self.hurried(Slow())
         with self.assertRaisesRegex(OperationalError, "more than 0.3 seconds, so the run was ended"):
             link.exchange(b"GET k;", True)
         self.assertIn("1 ok", link.exchange(b"COUNT;", True))
+
+    def hurried(self, store: Backend) -> HostLink:
+        """A link whose first run has little time for a step; a second one has enough to begin on a slow machine."""
+        link = self.link(store)
+        link.begin().seconds = 0.3
+        return link
 
     def test_what_is_no_request_ends_the_run(self) -> None:
         link = self.link(MemoryStore())
@@ -285,7 +309,7 @@ class LinkTest(unittest.TestCase):
     def test_a_reader(self) -> None:
         store = MemoryStore()
         reading = Pinned(store)
-        link = ReaderLink("the store", reading, STUB, 0.2)
+        link = ReaderLink("the store", reading, self.stub, 0.2)
         self.addCleanup(link.close)
         self.assertIn("1 ok", link.exchange(b"COUNT;", True))
         store.write(b"k", Guard.ANY, b"", b"v")
@@ -302,14 +326,14 @@ class LinkTest(unittest.TestCase):
 
     def test_a_reader_whose_revision_is_gone_takes_another(self) -> None:
         reading = Pinned(MemoryStore())
-        link = ReaderLink("the store", reading, STUB, 0.2)
+        link = ReaderLink("the store", reading, self.stub, 0.2)
         self.addCleanup(link.close)
         reading.get = unittest.mock.Mock(side_effect=[Fault("compacted"), b"v"])  # type: ignore[method-assign]
         self.assertIn("x01v", link.exchange(b"GET k;", True))
         self.assertEqual(len(reading.pins), 2)
 
     def test_nodes(self) -> None:
-        link = NodesLink("nodes", [MemoryStore(), MemoryStore()], [b"", b"m"], STUB)
+        link = NodesLink("nodes", [MemoryStore(), MemoryStore()], [b"", b"m"], self.stub)
         self.addCleanup(link.close)
         self.assertIn("1 ok", link.exchange(b"COUNT;", True))
 

@@ -4,8 +4,8 @@ A backend keeps pairs of a key and a value, both `bytes`. The engine thinks, the
 tables or statements. A new one is a subclass of Backend with `get`, `range`, `count` and `write`, as memory.py shows in
 forty lines. It owes the engine this:
 
-1. Keys are ordered by their bytes. A range has `low <= key < high`, and is empty where low isn't below high. Any key may
-   come, the empty one too.
+1. Keys are ordered by their bytes. A range has `low <= key < high`, and is empty where low isn't below high. Any key
+   may come, the empty one too.
 2. Each call is one step: it sees all writes that were answered before it, and a write's guard and its change are one.
 3. A write that was answered stays. One that has no answer is decided before the call returns or raises: it was made, or
    it wasn't and can be made no more. Where nothing decides it, the call raises Fault, and so does each call behind it.

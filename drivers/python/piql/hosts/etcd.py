@@ -1,10 +1,11 @@
-"""Pairs in a cluster of etcd, under a fence: one engine writes, and whoever lost the fence reads and writes nothing.
+"""Pairs in a cluster of etcd, under a fence: one engine writes, and one that lost the fence has no calls any more.
 
-The key NAME/fence lives as long as its owner's lease, and has the value OWNER/WRITES/TURNS. Each call is one transaction
-that compares this value. A write also changes it, to WRITES + 1, in the same transaction. So the value of the fence tells
-of each write whether it was made. Where the answer of a write is lost, the fence is taken from OWNER/w/t to OWNER/w/t+1
-by a compare-and-set: once that has been told, the lost write can land no more, for it compares OWNER/w/t; and where it
-isn't possible since the fence is OWNER/w+1/t, the write has landed. So a write is told as made, or made once more.
+The key NAME/fence lives as long as its owner's lease, and has the value OWNER/WRITES/TURNS. Each call is one
+transaction that compares this value. A write also changes it, to WRITES + 1, in the same transaction. So the value of
+the fence tells of each write whether it was made. Where the answer of a write is lost, the fence is taken from
+OWNER/w/t to OWNER/w/t+1 by a compare-and-set: once that has been told, the lost write can land no more, for it compares
+OWNER/w/t; and where it isn't possible since the fence is OWNER/w+1/t, the write has landed. So a write is told as made,
+or made once more.
 
 The lease is renewed by the calls themselves, so an engine that is stopped loses it.
 """
@@ -60,7 +61,7 @@ def read_fence(value: bytes) -> Fence:
 
 
 class EtcdStore(EtcdPairs):
-    """The pairs under NAME/kv/. `lease` is in seconds, and so is `patience`, for which a call goes on asking members."""
+    """The pairs under NAME/kv/. `lease` and `patience`, for which a call goes on asking members, are in seconds."""
 
     def __init__(self, client: EtcdClient, name: str, lease: float = 10.0, patience: float = 10.0) -> None:
         super().__init__(client, name, patience)

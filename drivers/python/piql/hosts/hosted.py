@@ -1,4 +1,4 @@
-"""A run of the engine whose host is this process: a statement goes in, its report comes out, and its calls are answered.
+"""A run of the engine whose host is this process: a statement goes in, its report comes out, its calls are answered.
 
 The engine asks for more of its script only once the report of all that it had is out. So a statement is handed out as
 the answer of such a request, and the next one tells that its report is whole.

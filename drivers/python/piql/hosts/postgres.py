@@ -1,9 +1,9 @@
-"""Pairs in a table of PostgreSQL, under a fence: one engine writes, and whoever lost the fence reads and writes nothing.
+"""Pairs in a table of PostgreSQL, under a fence: one engine writes, and one that lost the fence has no calls any more.
 
-The one row of piql_fence has its owner, an epoch and the number of writes. Each call is one statement that compares epoch
-and number. A write also adds one to the number, and says there whether its guard held, so the row tells of each write
-whether it was made. Where the answer of a write is lost, the epoch is raised by a compare-and-set: that waits for the
-lost write, if the server is at it, and once it has been told the lost write can be made no more. A number that is
+The one row of piql_fence has its owner, an epoch and the number of writes. Each call is one statement that compares
+epoch and number. A write also adds one to the number, and says there whether its guard held, so the row tells of each
+write whether it was made. Where the answer of a write is lost, the epoch is raised by a compare-and-set: that waits for
+the lost write, if the server is at it, and once it has been told the lost write can be made no more. A number that is
 neither the last one told nor the next says that the server lost writes, as a standby that isn't synchronous may have.
 
 The time until which the fence is its owner's is renewed by the calls themselves, so an engine that is stopped loses it.
@@ -30,7 +30,8 @@ INSERT INTO piql_fence VALUES (true, '', 0, 0, true, '-infinity') ON CONFLICT DO
 LASTING = "until = clock_timestamp() + %(lease)s * interval '1 second'"
 OURS = "epoch = %(epoch)s AND revision = %(revision)s"
 LOOK = "SELECT owner, epoch, revision, admitted, until > clock_timestamp() FROM piql_fence"
-TAKE = f"UPDATE piql_fence SET owner = %(owner)s, epoch = epoch + 1, {LASTING} WHERE epoch = %(epoch)s RETURNING revision"
+TAKEN = f"owner = %(owner)s, epoch = epoch + 1, {LASTING}"
+TAKE = f"UPDATE piql_fence SET {TAKEN} WHERE epoch = %(epoch)s RETURNING revision"
 RENEW = f"UPDATE piql_fence SET {LASTING} WHERE {OURS} RETURNING revision"
 SETTLE = f"UPDATE piql_fence SET epoch = epoch + 1, {LASTING} WHERE epoch = %(epoch)s RETURNING revision, admitted"
 FREE = "UPDATE piql_fence SET until = '-infinity' WHERE epoch = %(epoch)s"

@@ -1,8 +1,8 @@
-"""What a writer's store in PostgreSQL holds at one snapshot, for engines that read beside the writer, also at a standby.
+"""What a writer's store in PostgreSQL holds at one snapshot, for engines that read beside it, also at a standby.
 
-A snapshot is a transaction that only reads. PostgreSQL makes none of the past, so a quiet one is waited for: between two
-statements of the writer that takes milliseconds. While an index is made there is none, and then the last one is kept;
-so a reader has two connections. The server ends a snapshot that idles for a minute.
+A snapshot is a transaction that only reads. PostgreSQL makes none of the past, so a quiet one is waited for: between
+two statements of the writer that takes milliseconds. While an index is made there is none, and then the last one is
+kept; so a reader has two connections. The server ends a snapshot that idles for a minute.
 """
 
 import random

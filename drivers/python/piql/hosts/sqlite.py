@@ -1,4 +1,4 @@
-"""Pairs in a file of SQLite, in the table that the program piql_file keeps them in, so that each opens what the other left."""
+"""Pairs in a file of SQLite, in the table of the program piql_file, so that each opens what the other left."""
 
 import contextlib
 import sqlite3

@@ -1,4 +1,4 @@
-"""The frames between an engine and its host, version 1, as docs/HOST.md has them. Numbers have the higher byte first."""
+"""The frames between an engine and its host, version 1: docs/HOST.md. Numbers have the higher byte first."""
 
 import enum
 import struct
