@@ -8,10 +8,9 @@ ghost use Rattle.pq_host.specs.Frames.{number, answer, get_request, range_reques
 
 use crate::answer::{read_done, read_pairs, read_value};
 use crate::link::Link;
-use crate::part_check::is_part;
 use crate::request::{Op, range_body, write_body};
 use pq_base::{Bytes, List};
-use pq_store::{Guard, Meter, Pair, Store, StoreErr};
+use pq_store::{Guard, Meter, Pair, Store, StoreErr, is_part};
 use std::alloc::Global;
 use std::io::{Read, Write};
 use std::marker::Model;

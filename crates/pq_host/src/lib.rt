@@ -9,7 +9,6 @@
 mod answer;
 mod host_store;
 mod link;
-mod part_check;
 mod request;
 mod streams;
 
