@@ -6,10 +6,12 @@ use Rattle.std.proofs.lemmas.Bool.{eq-eqb, eqb-true, false≢true}
 use Rattle.pq_base.specs.Columns.{set_of}
 use Rattle.pq_base.specs.Members.{In}
 use Rattle.pq_base.specs.Values.{IsType, FitsType, AllFit}
+use Rattle.pq_base.specs.declared.value.ColType.{ColType}
 use Rattle.pq_base.specs.declared.value.Value.{Value}
 use Rattle.pq_base.proofs.Members.{filter_in}
 use Rattle.pq_base.proofs.Sets.{set_members}
 use Rattle.pq_key_code.specs.KeyCode.{row_key}
+use Rattle.pq_row_code.specs.RowCode.{code_as}
 use Rattle.pq_row_code.proofs.Rows.{row_code_injective}
 use Rattle.pq_schema.specs.declared.table.Access.TheVariants.{Secondary}
 use Rattle.pq_schema.specs.declared.table.Table.{Table}
@@ -33,7 +35,7 @@ use Rattle.pq_schema.proofs.TypeKinds.{kinds_from_fit}
 use Rattle.pq_content.proofs.Values.{key_of_kinds, same_values_itself}
 use Rattle.pq_nodes.specs.Operators.{ShowsRead, no_row, missing_row}
 use Rattle.pq_nodes.proofs.Undamaged.{entry_names, key_column_there}
-use Rattle.pq_entries.specs.Entries.{IsSequence, IsEntryThere}
+use Rattle.pq_entries.specs.Entries.{IsSequence, IsNamedRow, IsEntryThere}
 
 -- ---- the key that values name
 
@@ -99,6 +101,16 @@ missing_shows tables t index values key at is fits names at_is (Some content) th
     unread (Some code) h = absurd h
 
 -- ---- the row that is fetched
+
+-- it stands at the key, whatever the content
+pub named : (t index : ℕ) (table : Table) (values key found : List Value) → key ≡ named_key table (Secondary index) values → (told : Option Content) → IfSome told (λ content. IsRead (types_of table) (get content (row_key t key)) (Some found)) → IfSome told (IsNamedRow t table index values found)
+named t index table values key found names None read = tt
+named t index table values key found names (Some content) read =
+    ap (λ (k : List Value). get content (row_key t k)) (sym names) ∙ is_code (types_of table) (get content (row_key t key)) read
+  where
+    is_code : (types : List ColType) (o : Option (List ℕ)) → IsRead types o (Some found) → o ≡ Some (code_as types found)
+    is_code types None h = absurd h
+    is_code types (Some code) h = ap Some (sym h.1)
 
 -- a row of a table is found by its key
 pub found_by_key : (tables : List Table) (rows : Rows) (t : ℕ) (row : List Value) → AreApart tables rows → In row (rows_of t rows) → row_at tables rows t (key_of (table_at tables t) row) ≡ Some row

@@ -1,11 +1,10 @@
 -- Tables of a catalog by their numbers.
-use Rattle.std.proofs.Common.{List, [], ◌∷◌, ℕ, map, arith}
+use Rattle.std.proofs.Common.{List, [], ◌∷◌, ℕ, map}
 use Rattle.std.specs.Prelude.{All}
 use Rattle.std.specs.List.{AllByRecursion}
 use Rattle.std.proofs.lemmas.List.Elements.{recursion_from_All, All-from_recursion}
 use Rattle.pq_base.specs.Values.{IsType}
 use Rattle.pq_base.specs.declared.value.ColType.{ColType}
-use Rattle.pq_base.specs.declared.value.ColType.TheVariants as type
 use Rattle.pq_schema.specs.declared.table.Column.{Column}
 use Rattle.pq_schema.specs.declared.table.Access.{Access}
 use Rattle.pq_schema.specs.Schema.{Schema}

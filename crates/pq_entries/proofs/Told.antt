@@ -48,7 +48,7 @@ use Rattle.pq_content.proofs.TableRows.{dirs_of-primary, values_of-primary}
 use Rattle.pq_schema.proofs.TypeKinds.{kinds_from_fit}
 use Rattle.pq_content.proofs.Values.{sequence_fits}
 use Rattle.pq_nodes.specs.Operators.{ShowsRead, no_row, no_key}
-use Rattle.pq_entries.specs.Entries.{Begins, AreEnds, key_front, IsUnread, IsNoRowPair, IsNoKeyPair, OneShows, AreFirstRows, AreFirstValues, IsKeyThere, pair_of}
+use Rattle.pq_entries.specs.Entries.{Begins, AreEnds, key_front, IsUnread, IsNoRowPair, IsNoKeyPair, OneShows, AreRowsWithin, AreKeysWithin, AreFirstRows, AreFirstValues, IsKeyThere, pair_of}
 
 -- ---- pairs of a range
 
@@ -272,6 +272,15 @@ keys_read t own access (Some content) low high limit pairs found fit codes is = 
         ∙ (λ i. code_of (sym (dirs_of-primary own.key) i) (sym (values_of-primary own.key row) i))
     own_code (Secondary index) row = refl
 
+-- the key of the values that are read is the pair's
+own_key : (t : ℕ) (own : Table) (access : Access) (values : List Value) → AllFit (sequence_types own access) values → (key : List ℕ) (b : Begins (key_front t access) key) → code_of (dirs_of (sequence_of own access)) values ≡ drop (length (key_front 0 access)) key → sequence_key t own access values ≡ key
+own_key t own Primary values fits key b code =
+    let fit = subst (λ (cols : List ℕ). AllFit (types_at own.columns cols) values) (columns_of-primary own.key) fits in
+    let long : length values ≡ length own.key = length_from_fits (key_types own) values fit ∙ length-map own.key (type_at own.columns) in
+    let turned : code_of (replicate (length values) Asc) values ≡ code_of (dirs_of (primary_sequence own)) values = ap (λ (n : ℕ). code_of (replicate n Asc) values) long ∙ ap (λ (ds : List Dir). code_of ds values) (sym (dirs_of-primary own.key)) in
+    ap (λ (c : List ℕ). 2 ∷ t ∷ c) (turned ∙ code ∙ ap (drop 2) b.1) ∙ sym b.1
+own_key t own (Secondary index) values fits key b code = ap (λ (c : List ℕ). 3 ∷ t ∷ index ∷ c) (code ∙ ap (drop 3) b.1) ∙ sym b.1
+
 -- the keys that are read are the content's
 pub keys_there : (t : ℕ) (table : Table) (access : Access) (content : Content) (pairs : List Found) (found : List (List Value)) → AllByRecursion (AllFit (sequence_types table access)) found → map (code_of (dirs_of (sequence_of table access))) found ≡ map (λ (pair : Found). drop (length (key_front 0 access)) pair.key) pairs → ((pair : Pair) → In pair (map entry pairs) → Begins (key_front t access) pair.0) → ((pair : Pair) → In pair (map entry pairs) → get content pair.0 ≡ Some pair.1) → AllByRecursion (IsKeyThere t table access (Some content)) found
 keys_there t own access content [] [] fit codes begins there = tt
@@ -283,17 +292,32 @@ keys_there t own access content (pair ∷ pairs) (values ∷ found) fit codes be
     let first : code_of dirs values ≡ drop n pair.key = cc in
     let rest : map (code_of dirs) found ≡ map (λ (p : Found). drop n p.key) pairs = cc in
     let b = begins (entry pair) (inl refl) in (
-      subst (λ (k : List ℕ). IsSome (get content k)) (sym (own_key access values fit.0 (pair.key) b first)) (subst IsSome (sym (there (entry pair) (inl refl))) refl),
+      subst (λ (k : List ℕ). IsSome (get content k)) (sym (own_key t own access values fit.0 (pair.key) b first)) (subst IsSome (sym (there (entry pair) (inl refl))) refl),
       keys_there t own access content pairs found fit.1 rest (λ p here. begins p (inr here)) (λ p here. there p (inr here)),
     )
-  where
-    own_key : (access : Access) (values : List Value) → AllFit (sequence_types own access) values → (key : List ℕ) (b : Begins (key_front t access) key) → code_of (dirs_of (sequence_of own access)) values ≡ drop (length (key_front 0 access)) key → sequence_key t own access values ≡ key
-    own_key Primary values fits key b code =
-        let fit = subst (λ (cols : List ℕ). AllFit (types_at own.columns cols) values) (columns_of-primary own.key) fits in
-        let long : length values ≡ length own.key = length_from_fits (key_types own) values fit ∙ length-map own.key (type_at own.columns) in
-        let turned : code_of (replicate (length values) Asc) values ≡ code_of (dirs_of (primary_sequence own)) values = ap (λ (n : ℕ). code_of (replicate n Asc) values) long ∙ ap (λ (ds : List Dir). code_of ds values) (sym (dirs_of-primary own.key)) in
-        ap (λ (c : List ℕ). 2 ∷ t ∷ c) (turned ∙ code ∙ ap (drop 2) b.1) ∙ sym b.1
-    own_key (Secondary index) values fits key b code = ap (λ (c : List ℕ). 3 ∷ t ∷ index ∷ c) (code ∙ ap (drop 3) b.1) ∙ sym b.1
+
+-- ---- what is read of any content
+
+rows_within : (own : Table) (told : Option Content) (low high : List ℕ) (limit : ℕ) (pairs : List Found) (found : List (List Value)) → map (code_as (types_of own)) found ≡ map (λ (pair : Found). pair.value) pairs → IfSome told (λ content. map entry pairs ≡ take limit (pairs_within content low high)) → IfSome told (AreRowsWithin own low high limit found)
+rows_within own None low high limit pairs found codes is = tt
+rows_within own (Some content) low high limit pairs found codes is = codes ∙ sym (map_both entry (λ (p : Pair). p.1) pairs) ∙ ap (map (λ (p : Pair). p.1)) is
+
+keys_again : (t : ℕ) (own : Table) (access : Access) (pairs : List Found) (found : List (List Value)) → AllByRecursion (AllFit (sequence_types own access)) found → map (code_of (dirs_of (sequence_of own access))) found ≡ map (λ (pair : Found). drop (length (key_front 0 access)) pair.key) pairs → ((pair : Pair) → In pair (map entry pairs) → Begins (key_front t access) pair.0) → map (sequence_key t own access) found ≡ map (λ (pair : Found). pair.key) pairs
+keys_again t own access [] [] fit codes begins = refl
+keys_again t own access (pair ∷ pairs) [] fit codes begins = cc
+keys_again t own access [] (values ∷ found) fit codes begins = cc
+keys_again t own access (pair ∷ pairs) (values ∷ found) fit codes begins =
+    let dirs = dirs_of (sequence_of own access) in
+    let n = length (key_front 0 access) in
+    let first : code_of dirs values ≡ drop n pair.key = cc in
+    let rest : map (code_of dirs) found ≡ map (λ (p : Found). drop n p.key) pairs = cc in
+    let head = own_key t own access values fit.0 pair.key (begins (entry pair) (inl refl)) first in
+    let tail = keys_again t own access pairs found fit.1 rest (λ p here. begins p (inr here)) in
+    λ i. head i ∷ tail i
+
+keys_within : (t : ℕ) (own : Table) (access : Access) (told : Option Content) (low high : List ℕ) (limit : ℕ) (pairs : List Found) (found : List (List Value)) → map (sequence_key t own access) found ≡ map (λ (pair : Found). pair.key) pairs → IfSome told (λ content. map entry pairs ≡ take limit (pairs_within content low high)) → IfSome told (AreKeysWithin t own access low high limit found)
+keys_within t own access None low high limit pairs found keys is = tt
+keys_within t own access (Some content) low high limit pairs found keys is = keys ∙ sym (map_both entry (λ (p : Pair). p.0) pairs) ∙ ap (map (λ (p : Pair). p.0)) is
 
 -- ---- the answers of ranges
 
@@ -305,6 +329,10 @@ module _ (tables : List Table) (t : ℕ) (number : IsTableNumber tables t) (low 
       (λ pair content damage here there shown. no_row_shows tables t number content pair damage there (part_begins t Primary low high limit pairs pair ends part here) (subst (λ (ts : List ColType). IsNoRowPair ts pair damage) same shown))
       (subst (λ (o : Option Content). IfSome o (λ content. map entry pairs ≡ take limit (pairs_within content low high))) (sym from) is)
       error h
+
+  pub rows_coded : (types : List ColType) → types ≡ types_of (table_at tables t) → (result : Result (List (List Value)) Broke) → IfOk result (λ rows. map (code_as types) rows ≡ map (λ (pair : Found). pair.value) pairs) → IfOk result (λ rows. IfSome told (AreRowsWithin (table_at tables t) low high limit rows))
+  rows_coded types same (Err error) codes = tt
+  rows_coded types same (Ok rows) codes = rows_within (table_at tables t) told low high limit pairs rows (subst (λ (ts : List ColType). map (code_as ts) rows ≡ map (λ (pair : Found). pair.value) pairs) same codes) is
 
   pub rows_answered : (types : List ColType) → types ≡ types_of (table_at tables t) → All IsType types → (result : Result (List (List Value)) Broke) → IfOk result (λ rows. map (code_as types) rows ≡ map (λ (pair : Found). pair.value) pairs) → IfOk result (AllByRecursion (AllFit types)) → IfOk result (λ rows. IfSome told (AreFirstRows t (table_at tables t) low high limit rows))
   rows_answered types same known (Err error) codes fit = tt
@@ -328,6 +356,16 @@ module _ (tables : List Table) (t : ℕ) (number : IsTableNumber tables t) (low 
       keys_read t (table_at tables t) access told low high limit pairs found (subst (λ (ts : List ColType). AllByRecursion (AllFit ts) found) same fit)
       (subst (λ (n : ℕ). map (code_of (dirs_of (sequence_of (table_at tables t) access))) found ≡ map (λ (pair : Found). drop n pair.key) pairs) behind
       (subst (λ (ds : List Dir). map (code_of ds) found ≡ map (λ (pair : Found). drop skipped pair.key) pairs) turned codes))
+      is
+
+  pub keys_keyed : (access : Access) → AreEnds t access low high → (types : List ColType) (dirs : List Dir) (skipped : ℕ) → types ≡ sequence_types (table_at tables t) access → dirs ≡ dirs_of (sequence_of (table_at tables t) access) → skipped ≡ length (key_front 0 access) → (result : Result (List (List Value)) Broke) → IfOk result (λ found. map (code_of dirs) found ≡ map (λ (pair : Found). drop skipped pair.key) pairs) → IfOk result (AllByRecursion (AllFit types)) → IfOk result (λ found. IfSome told (AreKeysWithin t (table_at tables t) access low high limit found))
+  keys_keyed access ends types dirs skipped same turned behind (Err error) codes fit = tt
+  keys_keyed access ends types dirs skipped same turned behind (Ok found) codes fit =
+      keys_within t (table_at tables t) access told low high limit pairs found
+      (keys_again t (table_at tables t) access pairs found (subst (λ (ts : List ColType). AllByRecursion (AllFit ts) found) same fit)
+      (subst (λ (n : ℕ). map (code_of (dirs_of (sequence_of (table_at tables t) access))) found ≡ map (λ (pair : Found). drop n pair.key) pairs) behind
+      (subst (λ (ds : List Dir). map (code_of ds) found ≡ map (λ (pair : Found). drop skipped pair.key) pairs) turned codes))
+      (λ pair here. part_begins t access low high limit pairs pair ends part here))
       is
 
   pub keys_are_there : (access : Access) → AreEnds t access low high → (types : List ColType) (dirs : List Dir) (skipped : ℕ) → types ≡ sequence_types (table_at tables t) access → dirs ≡ dirs_of (sequence_of (table_at tables t) access) → skipped ≡ length (key_front 0 access) → (result : Result (List (List Value)) Broke) → IfOk result (λ found. map (code_of dirs) found ≡ map (λ (pair : Found). drop skipped pair.key) pairs) → IfOk result (AllByRecursion (AllFit types)) → IfOk result (AllByRecursion (IsKeyThere t (table_at tables t) access told))

@@ -7,7 +7,7 @@ use Rattle.pq_base.specs.Values.{AllFit}
 use Rattle.pq_base.specs.declared.value.ColType.{ColType}
 use Rattle.pq_base.specs.declared.value.Dir.{Dir}
 use Rattle.pq_base.specs.declared.value.Value.{Value}
-use Rattle.pq_key_code.specs.KeyCode.{IsBytes, code_of}
+use Rattle.pq_key_code.specs.KeyCode.{IsBytes, code_of, row_key}
 use Rattle.pq_row_code.specs.RowCode.{IsNoRowCode}
 use Rattle.pq_schema.specs.declared.table.Access.{Access}
 use Rattle.pq_schema.specs.declared.table.Access.TheVariants.{Primary, Secondary}
@@ -19,9 +19,9 @@ use Rattle.pq_store.specs.Content.{Content, pairs_within}
 use Rattle.pq_store.specs.declared.damage.Broke.{Broke}
 use Rattle.pq_store.specs.declared.damage.Broke.TheVariants as broke
 use Rattle.pq_store.specs.declared.damage.Damage.{Damage}
-use Rattle.pq_calls.specs.Keys.{sequence_key}
+use Rattle.pq_calls.specs.Keys.{sequence_key, sequence_types, named_key}
 use Rattle.pq_content.specs.Pairs.{Pair, row_pair, entry_pair}
-use Rattle.pq_content.specs.Tables.{values_of}
+use Rattle.pq_content.specs.Tables.{values_of, stored_code}
 
 -- a sequence of a table that is there
 pub record IsSequence (tables : List Table) (t : ℕ) (access : Access) : Type 0 where
@@ -70,7 +70,46 @@ pub record IsNoKeyPair (types : List ColType) (dirs : List Dir) (skipped : ℕ) 
 abbrev pub OneShows : (Pair → Damage → Type 0) → List Pair → Damage → Type 0
 OneShows shows pairs damage = (pair : Pair) × In pair pairs × shows pair damage
 
--- ---- what is read
+-- ---- what is read of any content
+
+-- the rows whose codes are the values of the first pairs of a range, in their order
+abbrev pub AreRowsWithin : Table → List ℕ → List ℕ → ℕ → List (List Value) → Content → Type 0
+AreRowsWithin table low high limit found content =
+    map (stored_code table) found ≡ map (λ pair. pair.1) (take limit (pairs_within content low high))
+
+-- the values whose keys in the sequence are the keys of the first pairs of a range, in their order
+abbrev pub AreKeysWithin : ℕ → Table → Access → List ℕ → List ℕ → ℕ → List (List Value) → Content → Type 0
+AreKeysWithin t table access low high limit found content =
+    map (sequence_key t table access) found ≡ map (λ pair. pair.0) (take limit (pairs_within content low high))
+
+-- the value at the key that the entry with these values names
+abbrev pub named_value : ℕ → Table → ℕ → Content → List Value → Option (List ℕ)
+named_value t table index content values = get content (row_key t (named_key table (Secondary index) values))
+
+-- the row that stands at the key that the entry with these values names
+abbrev pub IsNamedRow : ℕ → Table → ℕ → List Value → List Value → Content → Type 0
+IsNamedRow t table index values row content = named_value t table index content values ≡ Some (stored_code table row)
+
+-- the rows that stand at the keys that the entries with these values name, one for each
+abbrev pub AreNamedRows : ℕ → Table → ℕ → List (List Value) → List (List Value) → Content → Type 0
+AreNamedRows t table index values found content =
+    map (named_value t table index content) values ≡ map (λ row. Some (stored_code table row)) found
+
+-- the rows that the entries of the first pairs of a range name
+pub record AreRowsOfEntries (t : ℕ) (table : Table) (index : ℕ) (low high : List ℕ) (limit : ℕ)
+    (found : List (List Value)) (content : Content) : Type 0 where
+  pub values : List (List Value)
+  pub fit : AllByRecursion (AllFit (sequence_types table (Secondary index))) values
+  pub within : AreKeysWithin t table (Secondary index) low high limit values content
+  pub named : AreNamedRows t table index values found content
+
+-- the rows of the first pairs of a range of a sequence
+abbrev pub AreSequenceRows : ℕ → Table → Access → List ℕ → List ℕ → ℕ → List (List Value) → Content → Type 0
+AreSequenceRows t table Primary low high limit found content = AreRowsWithin table low high limit found content
+AreSequenceRows t table (Secondary index) low high limit found content =
+    AreRowsOfEntries t table index low high limit found content
+
+-- ---- what is read of pairs that are those of rows
 
 -- where the pairs of a range are those of some rows, the first rows of them
 abbrev pub AreFirstRows : ℕ → Table → List ℕ → List ℕ → ℕ → List (List Value) → Content → Type 0

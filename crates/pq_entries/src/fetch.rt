@@ -1,5 +1,5 @@
 //! The rows that entries name.
-ghost use Rattle.std.specs.Prelude.{◌≡◌, List, IfOk, IfErr, length};
+ghost use Rattle.std.specs.Prelude.{◌≡◌, List, IfOk, IfErr, IfSome, length};
 ghost use Rattle.std.specs.List.{AllByRecursion};
 ghost use Rattle.pq_base.specs.Members.{In};
 ghost use Rattle.pq_base.specs.Values.{AllFit};
@@ -13,7 +13,7 @@ ghost use Rattle.pq_calls.specs.World.{Affords, where_told};
 ghost use Rattle.pq_content.specs.Pairs.{Pair, HoldsRows};
 ghost use Rattle.pq_content.specs.Tables.{Rows, values_of, rows_of};
 ghost use Rattle.pq_nodes.specs.Operators.{ShowsRead};
-ghost use Rattle.pq_entries.specs.Entries.{IsSequence, IsEntryThere};
+ghost use Rattle.pq_entries.specs.Entries.{IsSequence, IsNamedRow, IsEntryThere};
 
 use crate::keys::named_key;
 use crate::ranges::table_of;
@@ -44,6 +44,9 @@ pub fn named_row<S: Store<L>, L: Ledger>(
     ensures cause { IfErr result (Fails (where_told (ShowsRead catalog.now.tables)) S.content S.faults calls.old
         calls.new) }
     ensures fits { IfOk result (AllFit (types_of (table_at catalog.now.tables number))) }
+    // Over any content that is told, the row that stands at the key that the entry names.
+    ensures code { IfOk result (λ found. IfSome (S.content calls.old.store.now)
+        (IsNamedRow number (table_at catalog.now.tables number) index values.now found)) }
     ensures answer { IfOk result (λ found. (rows : Rows) (others : List Pair) (row : List Value)
         → HoldsRows (S.content calls.old.store.now) catalog.now.tables rows others →
         In row (rows_of number rows) → values.now

@@ -11,7 +11,7 @@ ghost use Rattle.pq_calls.specs.Calls.{Uses, Fails};
 ghost use Rattle.pq_calls.specs.Keys.{sequence_types};
 ghost use Rattle.pq_calls.specs.World.{Affords, where_told};
 ghost use Rattle.pq_nodes.specs.Operators.{ShowsRead};
-ghost use Rattle.pq_entries.specs.Entries.{IsSequence, AreEnds, AreFirstRows, AreFirstValues, IsKeyThere, key_front};
+ghost use Rattle.pq_entries.specs.Entries.{IsSequence, AreEnds, AreRowsWithin, AreKeysWithin, AreFirstRows, AreFirstValues, IsKeyThere, key_front};
 
 use crate::decode::{decoded_keys, decoded_rows};
 use crate::keys::types_at;
@@ -55,6 +55,9 @@ pub fn range_rows<S: Store<L>, L: Ledger>(
         calls.new) }
     ensures few { IfOk result (λ rows. length rows ≤ limit) }
     ensures fit { IfOk result (AllByRecursion (AllFit (types_of (table_at catalog.now.tables number)))) }
+    // Over any content that is told, no pair is passed over.
+    ensures codes { IfOk result (λ rows. IfSome (S.content calls.old.store.now)
+        (AreRowsWithin (table_at catalog.now.tables number) low.now high.now limit rows)) }
     ensures answer { IfOk result
         (λ rows. IfSome (S.content calls.old.store.now)
         (AreFirstRows number (table_at catalog.now.tables number) low.now high.now limit rows)) }
@@ -118,6 +121,9 @@ pub fn range_values<S: Store<L>, L: Ledger>(
     ensures fit { IfOk result (AllByRecursion (AllFit (sequence_types (table_at catalog.now.tables number) access))) }
     ensures there { IfOk result (AllByRecursion
         (IsKeyThere number (table_at catalog.now.tables number) access (S.content calls.old.store.now))) }
+    // Over any content that is told, no pair is passed over.
+    ensures keys { IfOk result (λ found. IfSome (S.content calls.old.store.now)
+        (AreKeysWithin number (table_at catalog.now.tables number) access low.now high.now limit found)) }
     ensures answer { IfOk result
         (λ found. IfSome (S.content calls.old.store.now)
         (AreFirstValues number (table_at catalog.now.tables number) access low.now high.now limit found)) }

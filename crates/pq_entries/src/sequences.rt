@@ -1,5 +1,5 @@
 //! The rows of a range of any sequence.
-ghost use Rattle.std.specs.Prelude.{◌≡◌, ◌≤◌, List, map, take, length, IfOk, IfErr};
+ghost use Rattle.std.specs.Prelude.{◌≡◌, ◌≤◌, List, map, take, length, IfOk, IfErr, IfSome};
 ghost use Rattle.std.specs.List.{AllByRecursion};
 ghost use Rattle.pq_base.specs.Members.{In};
 ghost use Rattle.pq_base.specs.Values.{AllFit};
@@ -16,7 +16,7 @@ ghost use Rattle.pq_content.specs.Pairs.{Pair, HoldsRows, content_pairs};
 ghost use Rattle.pq_content.specs.Tables.{Rows, values_of, rows_of};
 ghost use Rattle.pq_plan.specs.Cost.{is_primary_access};
 ghost use Rattle.pq_nodes.specs.Operators.{ShowsRead};
-ghost use Rattle.pq_entries.specs.Entries.{IsSequence, AreEnds, IsEntryThere, pair_of};
+ghost use Rattle.pq_entries.specs.Entries.{IsSequence, AreEnds, AreNamedRows, AreSequenceRows, IsEntryThere, pair_of};
 
 use crate::fetch::named_row;
 use crate::ranges::{range_rows, range_values};
@@ -47,6 +47,8 @@ fn named_rows<S: Store<L>, L: Ledger>(
         calls.new) }
     ensures long { IfOk result (λ rows. length rows ≡ length found.now) }
     ensures fit { IfOk result (AllByRecursion (AllFit (types_of (table_at catalog.now.tables number)))) }
+    ensures codes { IfOk result (λ named. IfSome (S.content calls.old.store.now)
+        (AreNamedRows number (table_at catalog.now.tables number) index found.now named)) }
     ensures answer { IfOk result (λ named. (rows : Rows) (others : List Pair) (wanted : List (List Value))
         → HoldsRows (S.content calls.old.store.now) catalog.now.tables rows others →
         AllByRecursion (λ row. In row (rows_of number rows)) wanted
@@ -84,6 +86,9 @@ pub fn sequence_rows<S: Store<L>, L: Ledger>(
         calls.new) }
     ensures few { IfOk result (λ found. length found ≤ limit) }
     ensures fit { IfOk result (AllByRecursion (AllFit (types_of (table_at catalog.now.tables number)))) }
+    // Over any content that is told, no pair is passed over.
+    ensures codes { IfOk result (λ found. IfSome (S.content calls.old.store.now)
+        (AreSequenceRows number (table_at catalog.now.tables number) access low.now high.now limit found)) }
     ensures answer { IfOk result (λ found. (rows : Rows) (others : List Pair) (within : List (List Value))
         → HoldsRows (S.content calls.old.store.now) catalog.now.tables rows others →
         AllByRecursion (λ row. In row (rows_of number rows)) within

@@ -7,11 +7,12 @@ use Rattle.pq_schema.specs.declared.table.Table.{Table}
 use Rattle.pq_base.specs.Values.{IsType}
 use Rattle.pq_key_code.specs.KeyCode.{row_key}
 use Rattle.pq_schema.specs.Rows.{types_of}
+use Rattle.pq_schema.specs.Tables.{table_at}
 use Rattle.pq_store.specs.Content.{Content}
 use Rattle.pq_calls.specs.Calls.{seen_world}
 use Rattle.pq_calls.specs.Evidence.{IsRead}
 use Rattle.pq_calls.specs.Keys.{named_key}
-use Rattle.pq_entries.proofs.Fetched.{fetch_explains, missing_shows, fetched}
+use Rattle.pq_entries.proofs.Fetched.{fetch_explains, missing_shows, named, fetched}
 use Rattle.pq_entries.proofs.fetch.named_row.Goals as goal
 
 pub returns-in_err-stored-clause-cause : goal.returns-in_err-stored-clause-cause
@@ -42,3 +43,12 @@ returns-clause-cause g c =
     (g.S.Store.content c.args.calls.now.store.now) c.requires.there
     (subst (λ (own : Table). IfSome (g.S.Store.content c.args.calls.now.store.now) (λ (content : Content). IsRead (types_of own) (get content (row_key c.args.number c.in_ok-key.key)) None)) table
     (rw c.in-None.is at c.in_ok-stored.ensures.read))
+
+pub returns-in-Some-clause-code : goal.returns-in-Some-clause-code
+returns-in-Some-clause-code g c =
+    let table = c.table_of-table.ensures.table in
+    named c.args.number c.args.index (table_at c.args.catalog.now.tables c.args.number) c.args.values.now c.in_ok-key.key c.in-Some.stored.row
+    (c.in_ok-key.ensures ∙ ap (λ (own : Table). named_key own (Secondary c.args.index) c.args.values.now) table)
+    (g.S.Store.content c.args.calls.now.store.now)
+    (subst (λ (own : Table). IfSome (g.S.Store.content c.args.calls.now.store.now) (λ (content : Content). IsRead (types_of own) (get content (row_key c.args.number c.in_ok-key.key)) (Some c.in-Some.stored.row))) table
+    (rw c.in-Some.is at c.in_ok-stored.ensures.read))

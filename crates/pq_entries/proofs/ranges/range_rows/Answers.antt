@@ -5,7 +5,7 @@ use Rattle.pq_row_code.specs.RowCode.{code_as}
 use Rattle.pq_schema.specs.Rows.{types_of}
 use Rattle.pq_store.specs.declared.store.Pair.{Pair}
 use Rattle.pq_calls.specs.Calls.{seen_world}
-use Rattle.pq_entries.proofs.Told.{rows_explained, rows_answered, few_read, fit_as}
+use Rattle.pq_entries.proofs.Told.{rows_explained, rows_coded, rows_answered, few_read, fit_as}
 use Rattle.pq_entries.proofs.ranges.range_rows.Goals as goal
 
 pub returns-clause-cause : goal.returns-clause-cause
@@ -33,3 +33,10 @@ pub returns-clause-fit : goal.returns-clause-fit
 returns-clause-fit g c =
     let types = c.items.ensures ∙ c.in_ok-types.ensures ∙ ap types_of c.table_of-table.ensures.table in
     fit_as c.items.result.now _ types c.decoded_rows.result c.decoded_rows.ensures.fit
+
+pub returns-clause-codes : goal.returns-clause-codes
+returns-clause-codes g c =
+    let types = c.items.ensures ∙ c.in_ok-types.ensures ∙ ap types_of c.table_of-table.ensures.table in
+    rows_coded c.args.catalog.now.tables c.args.number c.requires.sequence.number c.args.low.now c.args.high.now c.args.limit c.items-2.result.now
+    (rw c.items-2.ensures c.in_ok-pairs.ensures.part) (g.S.Store.content c.args.calls.now.store.now) (rw c.items-2.ensures c.in_ok-pairs.ensures.answer)
+    c.items.result.now types c.decoded_rows.result c.decoded_rows.ensures.codes

@@ -7,7 +7,7 @@ use Rattle.pq_schema.specs.declared.table.Table.{Table}
 use Rattle.pq_calls.specs.Calls.{seen_world}
 use Rattle.pq_calls.specs.Keys.{sequence_types}
 use Rattle.pq_store.specs.declared.store.Pair.{Pair}
-use Rattle.pq_entries.proofs.Told.{keys_explained, keys_answered, keys_are_there, few_read, fit_as, part_long}
+use Rattle.pq_entries.proofs.Told.{keys_explained, keys_keyed, keys_answered, keys_are_there, few_read, fit_as, part_long}
 use Rattle.pq_entries.proofs.ranges.range_values.Goals as goal
 
 pub returns-clause-cause : goal.returns-clause-cause
@@ -50,3 +50,11 @@ pub decoded_keys-requires-clause-long : goal.decoded_keys-requires-clause-long
 decoded_keys-requires-clause-long g c =
     subst (λ (n : ℕ). All (λ (pair : Pair). n ≤ length pair.key) c.items-3.result.now) (sym c.front_len-skipped.ensures)
     (part_long c.args.number c.args.access c.args.low.now c.args.high.now c.args.limit c.items-3.result.now c.requires.ends (rw c.items-3.ensures c.in_ok-pairs.ensures.part))
+
+pub returns-clause-keys : goal.returns-clause-keys
+returns-clause-keys g c =
+    let types = c.items.ensures ∙ c.in_ok-shape.ensures.types ∙ ap (λ (table : Table). sequence_types table c.args.access) c.table_of.ensures.table in
+    let dirs = c.items-2.ensures ∙ c.in_ok-shape.ensures.dirs ∙ ap (λ (table : Table). dirs_of (sequence_of table c.args.access)) c.table_of.ensures.table in
+    keys_keyed c.args.catalog.now.tables c.args.number c.requires.sequence.number c.args.low.now c.args.high.now c.args.limit c.items-3.result.now
+    (rw c.items-3.ensures c.in_ok-pairs.ensures.part) (g.S.Store.content c.args.calls.now.store.now) (rw c.items-3.ensures c.in_ok-pairs.ensures.answer)
+    c.args.access c.requires.ends c.items.result.now c.items-2.result.now c.front_len-skipped.result types dirs c.front_len-skipped.ensures c.decoded_keys.result c.decoded_keys.ensures.codes c.decoded_keys.ensures.fit
