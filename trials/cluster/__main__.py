@@ -14,6 +14,7 @@ import argparse
 import contextlib
 import importlib.util
 import os
+import signal
 import sys
 import time
 
@@ -102,6 +103,9 @@ def servers(given: argparse.Namespace, ended: contextlib.ExitStack) -> tuple[Mem
 
 
 def main() -> int:
+    # Whatever ends this process ends the servers first.
+    signal.signal(signal.SIGTERM, lambda *_: sys.exit(1))
+    signal.signal(signal.SIGINT, signal.default_int_handler)
     given = read_words()
     engine = found_program(given.engine, "piql_host")
     if engine is None:

@@ -13,7 +13,9 @@ from types import TracebackType
 
 from members import PAUSE, READY_SECONDS, free_ports, processor_seconds, tool
 
-PLACES = tuple(str(path) for path in sorted(pathlib.Path("/usr/lib/postgresql").glob("*/bin"), reverse=True))
+# Debian's folders, that of the newest version first.
+FOUND = sorted(pathlib.Path("/usr/lib/postgresql").glob("*/bin"), key=lambda path: float(path.parent.name), reverse=True)
+PLACES = tuple(map(str, FOUND))
 USER = "piql"
 # The server refuses to be run by root, so root runs it as Debian's user for it.
 RUNNER = "postgres" if os.geteuid() == 0 else None

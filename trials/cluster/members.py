@@ -14,7 +14,7 @@ import urllib.error
 import urllib.request
 from types import TracebackType
 
-READY_SECONDS = 60.0
+READY_SECONDS = 180.0
 PAUSE = 0.05
 
 
@@ -28,8 +28,8 @@ def free_ports(number: int) -> list[int]:
 
 
 def tool(name: str, places: tuple[str, ...] = ()) -> str | None:
-    """A program, on the PATH or in one of the places."""
-    return shutil.which(name) or shutil.which(name, path=os.pathsep.join(places))
+    """A program, in one of the places or on the PATH."""
+    return shutil.which(name, path=os.pathsep.join(places)) or shutil.which(name)
 
 
 class Members:

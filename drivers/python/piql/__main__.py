@@ -11,12 +11,14 @@
 
 import argparse
 import os
+import re
 import sys
 
 from . import connect, shell
 from .bounds import BoundsRose, check_bounds, write_bounds
 from .errors import Error
 from .hosts.script import run_url
+from .hosts.urls import is_url
 from .load import load
 from .migrate import migrate
 from .rebuild import Values, rebuild
@@ -50,9 +52,14 @@ def run_backup(given: argparse.Namespace) -> int:
     return 0
 
 
+def mark_name(file: str) -> str:
+    """What the file is named after that keeps how far a load came."""
+    return re.sub(r"\W+", "_", file) if is_url(file) else file.removeprefix("unix:")
+
+
 def run_load(given: argparse.Namespace) -> int:
     """Loads a CSV file."""
-    mark = given.mark or f"{given.file.removeprefix('unix:')}.{given.table}.load"
+    mark = given.mark or f"{mark_name(given.file)}.{given.table}.load"
     # The lines of a CSV text end as its records say, so they are read as they are.
     source = open(sys.stdin.fileno(), newline="", encoding="utf-8", closefd=False)
     with source, connect(given.file) as connection:
