@@ -1,0 +1,54 @@
+//! `piql_host`: the words are handed to the top call with a source, a sink and a store that a host has at the other end
+//! of standard input and output (docs/HOST.md). The exit status is how the run ended.
+#![tactic(auto)]
+
+ghost use Rattle.std.specs.Prelude.{◌≡◌, ◌↔◌};
+ghost use Rattle.pq_fill.specs.Words.{IsForm};
+ghost use Rattle.pq_fill.specs.declared.words.Form.{Form};
+
+use pq_base::PText;
+use pq_host::{HostReader, HostStore, HostWriter, Line, Link};
+use pq_shell::{Status, StdSink, StdSource, WordsErr, read_words, run_piql};
+use pq_store::{Meter, Opening};
+use std::io::{Stdin, Stdout};
+use std::marker::Brand;
+use std::process::ExitCode;
+use std::sync::ledger::{Blank, Ledger};
+
+fn link<'a>(rt: &HostRuntime, line: &'a Line) -> Link<'a, Stdin, Stdout> {
+    Link::new(line, rt.stdin(), rt.stdout())
+}
+
+// The caller's proof picks the ledger of the blank.
+fn run_over<L: Ledger>(rt: &HostRuntime, blank: Blank, words: &[PText]) -> Status
+    requires name { blank.name ≡ L.name }
+    requires parts { blank.parts ≡ L.parts }
+    requires two { blank.parts ≡ 2 }
+    ensures usage { result ≡ Status.Usage ↔ ((form : Form) → ¬ IsForm form words.now) }
+{
+    let line = Line::new();
+    let mut meter = Meter::<L>::start(Opening::of(blank));
+    let mut store = HostStore::new(link(rt, &line), 0);
+    let mut source = StdSource::new(HostReader::new(link(rt, &line)));
+    let mut sink = StdSink::new(HostWriter::new(link(rt, &line)));
+    run_piql(
+        rt.alloc(),
+        words,
+        &mut source,
+        &mut store,
+        &mut sink,
+        &mut meter,
+    )
+}
+
+fn run(rt: &HostRuntime) -> Status {
+    match read_words(rt) {
+        Ok(words) => run_over::<Brand>(rt, Blank::new(2), words.items()),
+        Err(WordsErr::NotUtf8) => Status::Usage,
+        Err(WordsErr::NoMem) => Status::NoMem,
+    }
+}
+
+fn main(rt: HostRuntime) -> ExitCode {
+    ExitCode::from(run(&rt).code())
+}

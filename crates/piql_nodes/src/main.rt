@@ -1,0 +1,129 @@
+//! `piql_nodes`: as `piql_host`, over as many nodes as the host has: each has the keys of one range, and the host tells
+//! where they begin (docs/HOST.md).
+#![tactic(auto)]
+
+ghost use Rattle.std.specs.Prelude.{◌≡◌, ◌⊎◌, ◌↔◌, ◌≤◌, IfErr, length};
+ghost use Rattle.pq_fill.specs.Words.{IsForm};
+ghost use Rattle.pq_fill.specs.declared.words.Form.{Form};
+
+use pq_base::{Bytes, List, NoMem, PText};
+use pq_fill::form_of;
+use pq_host::{HostReader, HostStore, HostWriter, Line, Link};
+use pq_parts::{Part, PartStore};
+use pq_shell::{Status, StdSink, StdSource, WordsErr, read_words, run_piql};
+use pq_store::{Meter, Opening, StoreErr};
+use std::io::{Stdin, Stdout};
+use std::marker::Brand;
+use std::process::ExitCode;
+use std::sync::ledger::{Blank, Ledger};
+
+fn link<'a>(rt: &HostRuntime, line: &'a Line) -> Link<'a, Stdin, Stdout> {
+    Link::new(line, rt.stdin(), rt.stdout())
+}
+
+// A part for each first key, in their order, whose nodes are numbered from 0.
+fn parts_of<'a>(
+    rt: &HostRuntime,
+    line: &'a Line,
+    keys: List<Bytes>,
+) -> Result<List<Part<HostStore<'a, Stdin, Stdout>>>, NoMem>
+    requires { length keys ≤ 64 }
+{
+    let mut parts = List::new(rt.alloc());
+    for (node, from) in keys.into_vec().into_iter().enumerate() {
+        let store = HostStore::new(link(rt, line), node as u8);
+        parts.push(rt.alloc(), Part { from, store })?;
+    }
+    Ok(parts)
+}
+
+// The store over the host's nodes; the status of a run where there is none.
+fn nodes_of<'a, N: Ledger + Drop>(
+    rt: &HostRuntime,
+    line: &'a Line,
+    nodes: Meter<N>,
+) -> Result<PartStore<HostStore<'a, Stdin, Stdout>, N>, Status>
+    ensures { IfErr result (λ status. (status ≡ Status.NoMem) ⊎ (status ≡ Status.StoreFault)) }
+{
+    let keys = match link(rt, line).first_keys(rt.alloc()) {
+        Ok(keys) => keys,
+        Err(StoreErr::NoMem) => return Err(Status::NoMem),
+        Err(StoreErr::Failed) => return Err(Status::StoreFault),
+    };
+    let parts = match parts_of(rt, line, keys) {
+        Ok(parts) => parts,
+        Err(NoMem) => return Err(Status::NoMem),
+    };
+    match PartStore::new(parts, nodes) {
+        Ok(store) => Ok(store),
+        Err(_) => Err(Status::StoreFault),
+    }
+}
+
+fn run_on<'a, N: Ledger, L: Ledger>(
+    rt: &HostRuntime,
+    line: &'a Line,
+    words: &[PText],
+    store: PartStore<HostStore<'a, Stdin, Stdout>, N>,
+    meter: Meter<L>,
+) -> Status
+    ensures usage { result ≡ Status.Usage ↔ ((form : Form) → ¬ IsForm form words.now) }
+{
+    let mut store = store;
+    let mut meter = meter;
+    let mut source = StdSource::new(HostReader::new(link(rt, line)));
+    let mut sink = StdSink::new(HostWriter::new(link(rt, line)));
+    run_piql(
+        rt.alloc(),
+        words,
+        &mut source,
+        &mut store,
+        &mut sink,
+        &mut meter,
+    )
+}
+
+// The caller's proof picks the ledgers of the blanks.
+fn run_over<N: Ledger + Drop, L: Ledger>(
+    rt: &HostRuntime,
+    nodes: Blank,
+    blank: Blank,
+    words: &[PText],
+) -> Status
+    requires nodes_name { nodes.name ≡ N.name }
+    requires nodes_parts { nodes.parts ≡ N.parts }
+    requires nodes_two { nodes.parts ≡ 2 }
+    requires name { blank.name ≡ L.name }
+    requires parts { blank.parts ≡ L.parts }
+    requires two { blank.parts ≡ 2 }
+    ensures usage { result ≡ Status.Usage → (form : Form) → ¬ IsForm form words.now }
+{
+    let line = Line::new();
+    let meter = Meter::<L>::start(Opening::of(blank));
+    match nodes_of(rt, &line, Meter::<N>::start(Opening::of(nodes))) {
+        Ok(store) => run_on(rt, &line, words, store, meter),
+        Err(status) => status,
+    }
+}
+
+// Words of no form ask the host for nothing.
+fn run_words(rt: &HostRuntime, words: &[PText]) -> Status
+    ensures usage { result ≡ Status.Usage ↔ ((form : Form) → ¬ IsForm form words.now) }
+{
+    if form_of(words).is_none() {
+        return Status::Usage;
+    }
+    run_over::<Brand, Brand>(rt, Blank::new(2), Blank::new(2), words)
+}
+
+fn run(rt: &HostRuntime) -> Status {
+    match read_words(rt) {
+        Ok(words) => run_words(rt, words.items()),
+        Err(WordsErr::NotUtf8) => Status::Usage,
+        Err(WordsErr::NoMem) => Status::NoMem,
+    }
+}
+
+fn main(rt: HostRuntime) -> ExitCode {
+    ExitCode::from(run(&rt).code())
+}
