@@ -9,6 +9,7 @@ from dataclasses import dataclass
 
 TOP = pathlib.Path(__file__).resolve().parent.parent
 BUILD = TOP / "crates/piql/out/piql"
+FILE_BUILD = TOP / "crates/piql_file/out/piql_file"
 EXAMPLES = TOP / "examples"
 # The seconds after which a run counts as one that hangs.
 LIMIT = 60
@@ -40,10 +41,10 @@ def is_fresh(build):
     return subprocess.run(words, capture_output=True, check=True).stdout == b""
 
 
-def run(build, script, environment=None):
-    """How a build ends that reads this script."""
+def run(build, script, environment=None, path=None):
+    """How a build ends that reads this script, over a file where there is a path."""
     try:
-        words = [build, "run"]
+        words = [build, path, "run"] if path else [build, "run"]
         done = subprocess.run(words, input=script, capture_output=True, timeout=LIMIT, env=environment)
     except subprocess.TimeoutExpired:
         return Ended(None, b"")

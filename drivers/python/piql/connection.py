@@ -90,18 +90,18 @@ class Connection:
 
     def report(self, sent: Sent) -> Report:
         """The report of a statement; a refusal is raised."""
-        data, statement = sent.data(), sent.statement
+        kind, data = sent.statement.kind, sent.data()
         with self._lock:
             link = self._link or self.link()
-            text = link.exchange(data, statement.kind in READS)
+            text = link.exchange(data, kind in READS)
             self._sent += 1
         try:
             report = read_report(text)
         except ValueError as error:
             raise InternalError(str(error)) from error
-        if report.is_refused():
+        if " refused " in report.ending:
             raise self.refusal(sent, report.end.refusal)
-        if statement.kind in DEFINES:
+        if kind in DEFINES:
             self._schema = None
         return report
 

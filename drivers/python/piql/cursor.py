@@ -11,7 +11,7 @@ from .statements import WRITES, Kind, Statement, read_statement
 if TYPE_CHECKING:
     from .connection import Connection, Parameters
 
-ROWS = (Kind.SELECT, Kind.RUN)
+ROWS = (Kind.RUN, Kind.SELECT)
 ANSWERS = (*ROWS, Kind.SHOW, Kind.EXPLAIN)
 
 
@@ -94,13 +94,14 @@ class Cursor:
         statement = read_statement(operation)
         report = self._report = connection.answer(statement, parameters, after)
         self._statement = statement
-        if statement.kind in ROWS:
+        kind = statement.kind
+        if kind in ROWS:
             self._rows = report.rows
-        elif statement.kind in WRITES:
+        elif kind in WRITES:
             self._made = 1
-        elif statement.kind is Kind.SHOW:
+        elif kind is Kind.SHOW:
             self._rows = [(line.number, line.text) for line in report.definitions()]
-        elif statement.kind is Kind.EXPLAIN:
+        elif kind is Kind.EXPLAIN:
             self._rows = explained(report)
         return self
 

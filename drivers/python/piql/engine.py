@@ -10,7 +10,7 @@ from .errors import InterfaceError
 from .scripts import SCRIPT_BYTES
 
 CHUNK = 1 << 16
-END = re.compile(rb"\d+ (?:ok|refused) [^'\n]*used \d+ \d+\n")
+DIGITS = b"0123456789"
 OPENING = re.compile(rb"open [^\n]*\n")
 TOP = Path(__file__).resolve().parents[3]
 # Where a program stands in a release, and in the repository once it is built.
@@ -37,8 +37,12 @@ def find_program(name: str, given: str | os.PathLike[str] | None = None) -> str:
 
 
 def is_report(text: bytes | bytearray) -> bool:
-    """Whether the text ends with the end line of a report. The caller has seen that no quote is open."""
-    return END.fullmatch(text, text.rfind(b"\n", 0, len(text) - 1) + 1) is not None
+    """Whether the text ends with the end line of a report: no other line begins with a digit, and it has no quote.
+
+    The caller has seen that no quote is open. So none is before the last line, and it begins as a line.
+    """
+    start = text.rfind(b"\n", 0, -1) + 1
+    return text[start] in DIGITS and text.find(b"'", start) < 0
 
 
 class Engine:

@@ -109,7 +109,6 @@ WORDS: dict[str, Value] = {"true": True, "false": False, "NULL": None}
 NUMBERS = r"bound (\d+) (\d+) used (\d+) (\d+)"
 OPENING = re.compile(r"open defs (\d+) " + NUMBERS)
 END = re.compile(r"(\d+) (?:ok(?: rows (\d+)(?: next ([A-Za-z0-9_-]+))?)?|refused (E\d\d\d[^'\n]*?)) " + NUMBERS)
-ROWS = re.compile(r"\d+ ok rows (\d+) ")
 QUERY = re.compile(r"query (\w+) (whole|stop \d+) bound (\d+) (\d+)")
 INDEX = re.compile(r"index (\w+) (\d+) \(([^)]*)\)")
 DEFINITION = re.compile(r"def (\d+) (.*)", re.DOTALL)
@@ -118,10 +117,19 @@ DAMAGE = re.compile(r"damaged ([0-9a-f]*)")
 
 def read_values(text: str) -> Row:
     """The values of a row as a report prints them, behind the word `row`."""
+    if "," not in text:
+        return (read_value(text),)
     return tuple([
         int(number) if number else WORDS[word] if word else quoted.replace("''", "'")
         for quoted, number, word in VALUE.findall(text)
     ])
+
+
+def read_value(text: str) -> Value:
+    """A value as a report prints it."""
+    if text[0] == "'":
+        return text[1:-1].replace("''", "'")
+    return WORDS[text] if text in WORDS else int(text)
 
 
 def work(operations: str, entries: str) -> Work:
@@ -186,6 +194,8 @@ def read_reports(text: str) -> Iterator[Report | OpeningLine | DamageLine]:
 
 def read_rows(text: str, count: int) -> list[Row]:
     """So many rows of an answer, from their lines. With as many line feeds as rows, none stands in a text."""
+    if count == 1:
+        return [read_values(text[4:-1])]
     lines = text[:-1].split("\n") if text.count("\n") == count else cut_lines(text)
     return [read_values(line[4:]) for line in lines]
 
@@ -194,8 +204,11 @@ def read_report(text: str) -> Report:
     """The one report that the text is. A text that is none is a ValueError."""
     start = text.rfind("\n", 0, -1) + 1
     ending = text[start:-1]
-    if text.startswith("row ") and (counted := ROWS.match(ending)):
-        return Report(read_rows(text[:start], int(counted[1])), [], ending)
+    if text.startswith("row "):
+        # The end line of an answer is `N ok rows R ..`.
+        words = ending.split(" ", 4)
+        if len(words) == 5 and words[2] == "rows":
+            return Report(read_rows(text[:start], int(words[3])), [], ending)
     if read_end(ending) is None:
         raise ValueError(f"no report ends so: {ending[:200]!r}")
     return Report([], [line for line in map(read_line, cut_lines(text[:start])) if line is not None], ending)

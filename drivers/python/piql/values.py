@@ -15,6 +15,8 @@ def quoted_text(text: str) -> str:
 
 def quoted(value: object) -> str:
     """A value as a statement writes it: a whole number, True or False, a text, or None for NULL."""
+    if type(value) is int and LEAST <= value <= GREATEST:
+        return str(value)
     if isinstance(value, str):
         return quoted_text(value)
     if value is None:
