@@ -20,7 +20,8 @@ from tools.versions import MEANING, NUMBER
 
 NAME = "release"
 FAILED = 1
-PROGRAMS = ("piql", "piql_file")
+# Programs have this beginning; the one that runs the examples is for the gate.
+BEGINNING, OF_GATE = "piql", "piql_examples"
 COMMANDS = ("piql", "piql_file", "tell", "dump", "piql-serve", "piql-shell")
 # What the commands of a release stand on. The test runs each command from a release.
 MODULES = "__init__ command dump kept launch pointing programs repository shapes statuses tell versions words".split()
@@ -99,14 +100,19 @@ def gate_line(log: pathlib.Path, programs: Mapping[str, pathlib.Path]) -> str:
     return lines[-1]
 
 
+def program_names(repository: Repository) -> list[str]:
+    """The programs that a release has."""
+    return [crate for crate in repository.uses if crate.startswith(BEGINNING) and crate != OF_GATE]
+
+
 def proved_programs(top: pathlib.Path) -> dict[str, pathlib.Path]:
     """The programs that the gate has built."""
     repository = Repository(top)
-    found = {name: proved_build(repository, name) for name in PROGRAMS}
+    found = {name: proved_build(repository, name) for name in program_names(repository)}
     lacking = [name for name, program in found.items() if program is None]
     if lacking:
         names = " and ".join(lacking)
-        raise NoRelease(f"there is no proved build of these sources of {names}; bin/test makes both")
+        raise NoRelease(f"there is no proved build of these sources of {names}; bin/test makes them all")
     return {name: program for name, program in found.items() if program is not None}
 
 

@@ -13,7 +13,7 @@ from collections.abc import Mapping
 
 from tools import release
 from tools.documents import blocks
-from tools.repository import TOP
+from tools.repository import TOP, Repository
 from tools.tests.copies import built, new_folder
 from tools.versions import NUMBER
 
@@ -106,6 +106,12 @@ class NoReleaseTest(unittest.TestCase):
     def test_a_gate_that_passed_is_told(self) -> None:
         self.log.write_text(f"== piql\n{GATE}\n")
         self.assertEqual(release.gate_line(self.log, {"piql": self.program}), GATE)
+
+    def test_each_program_is_packed(self) -> None:
+        names = release.program_names(Repository())
+        self.assertEqual(names[:1], ["piql"])
+        for name in names:
+            self.assertTrue((TOP / "crates" / name / "src/main.rt").exists(), name)
 
     def test_no_proved_build_gives_none(self) -> None:
         (self.folder / "crates.txt").write_text("piql:\npiql_file:\n")
