@@ -2,7 +2,7 @@
 
     python3 trials/cluster feed      examples/feed.piql over three members of etcd, over PostgreSQL with a standby
     python3 trials/cluster TRIAL..   some of the trials below
-    python3 trials/cluster all       all of them; some twenty minutes on an idle machine
+    python3 trials/cluster all       all of them; some twenty minutes on a machine that does little else
 
 They install nothing. `apt-get install etcd-server postgresql python3-psycopg2` (Debian) has all that they want; what
 isn't there is told and skipped. The programs are those of --engine and --nodes, else the proved builds of piql_host and

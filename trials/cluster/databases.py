@@ -11,7 +11,7 @@ import tempfile
 import time
 from types import TracebackType
 
-from members import PAUSE, READY_SECONDS, free_ports, processor_seconds, tool
+from members import PAUSE, READY_SECONDS, end_with_parent, free_ports, processor_seconds, tool
 
 # Debian's folders, that of the newest version first.
 FOUND = sorted(pathlib.Path("/usr/lib/postgresql").glob("*/bin"), key=lambda path: float(path.parent.name), reverse=True)
@@ -66,7 +66,8 @@ class Databases:
     def run(self, name: str, *words: str) -> str:
         """Runs one of PostgreSQL's programs."""
         path = tool(name, PLACES) or name
-        done = subprocess.run([path, *words], capture_output=True, text=True, user=RUNNER, cwd=self.folder)
+        how = {"capture_output": True, "text": True, "preexec_fn": end_with_parent}
+        done = subprocess.run([path, *words], user=RUNNER, cwd=self.folder, **how)  # type: ignore[call-overload]
         if done.returncode:
             raise SystemExit(f"{name} failed: {done.stderr}")
         return done.stdout
@@ -98,6 +99,7 @@ class Databases:
             words += ["-c", f"{name}={value.strip(chr(39))}"]
         with (self.folder / f"d{server}.log").open("ab") as log:
             how = {"stdin": subprocess.DEVNULL, "stdout": log, "stderr": log, "start_new_session": True}
+            how["preexec_fn"] = end_with_parent
             self.processes[server] = subprocess.Popen(words, user=RUNNER, **how)  # type: ignore[call-overload]
         self.wait_for(server, "SELECT 1", "1")
 

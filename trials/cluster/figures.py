@@ -104,6 +104,8 @@ def ranges(trial: Trial, kind: str, url: str) -> None:
     store.write(b"z", Guard.ANY, b"", b"")
     for goal in SIZES:
         fill(store, size, goal)
+        # The lease may be over meanwhile.
+        store.begin()
         size, told = goal, []
         for high in (b"z~", b"z%08d" % (LIMIT - 1)):
             begun = time.perf_counter()

@@ -1,6 +1,7 @@
 """Members of etcd on loopback: they are started, killed and started again by their process ids, and leave nothing."""
 
 import contextlib
+import ctypes
 import json
 import os
 import pathlib
@@ -16,6 +17,14 @@ from types import TracebackType
 
 READY_SECONDS = 180.0
 PAUSE = 0.05
+LIBRARY = ctypes.CDLL(None)
+# Linux's number for asking that a signal comes when the parent ends.
+PARENT_DEATH_SIGNAL = 1
+
+
+def end_with_parent() -> None:
+    """Asks, in a server's process, that it is killed when the trial is, however that ends."""
+    LIBRARY.prctl(PARENT_DEATH_SIGNAL, signal.SIGKILL)
 
 
 def free_ports(number: int) -> list[int]:
@@ -71,6 +80,7 @@ class Members:
         """Starts a member, or starts it again over what it has kept."""
         with (self.folder / f"m{member}.log").open("ab") as log:
             how = {"stdin": subprocess.DEVNULL, "stdout": log, "stderr": log, "start_new_session": True}
+            how["preexec_fn"] = end_with_parent
             self.processes[member] = subprocess.Popen(self.words(member), **how)  # type: ignore[call-overload]
 
     def wait(self) -> None:

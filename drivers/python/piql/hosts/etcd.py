@@ -10,8 +10,6 @@ or made once more.
 The lease is renewed by the calls themselves, so an engine that is stopped loses it.
 """
 
-import os
-import socket
 import time
 from typing import NamedTuple
 
@@ -32,9 +30,9 @@ from .etcd_client import (
     revision_of,
 )
 from .etcd_pairs import EtcdPairs
+from .fenced import GONE, FencedStore
 
 TXN = "/v3/kv/txn"
-GONE = "the fence is another engine's, or gone"
 
 
 class Fence(NamedTuple):
@@ -60,19 +58,14 @@ def read_fence(value: bytes) -> Fence:
     return Fence(owner, int(writes), int(turns))
 
 
-class EtcdStore(EtcdPairs):
-    """The pairs under NAME/kv/. `lease` and `patience`, for which a call goes on asking members, are in seconds."""
+class EtcdStore(EtcdPairs, FencedStore):
+    """The pairs under NAME/kv/."""
 
     def __init__(self, client: EtcdClient, name: str, lease: float = 10.0, patience: float = 10.0) -> None:
-        super().__init__(client, name, patience)
-        self.lease, self.fence_key = lease, f"{name}/fence".encode()
-        self.fence = Fence(f"{socket.gethostname()}:{os.getpid()}:{os.urandom(8).hex()}")
-        self.lease_id = ""
-        self.renewed = 0.0
-        # Why no more calls are made until the next `begin`.
-        self.lost: str | None = "the store isn't begun"
-        # How many writes had no answer and were decided.
-        self.settled = 0
+        EtcdPairs.__init__(self, client, name, patience)
+        FencedStore.__init__(self, lease, patience)
+        self.fence_key, self.lease_id = f"{name}/fence".encode(), ""
+        self.fence = Fence(self.owner)
 
     # The fence
 
@@ -82,8 +75,9 @@ class EtcdStore(EtcdPairs):
             return
         self.revoke()
         self.check_free(pairs_of(self.client.post("/v3/kv/range", {"key": coded(self.fence_key)}, self.patience)))
+        self.renewed = time.monotonic()
         granted = self.client.post("/v3/lease/grant", {"TTL": str(max(1, round(self.lease)))}, self.patience)
-        self.lease_id, self.renewed = granted["ID"], time.monotonic()
+        self.lease_id = granted["ID"]
         self.take()
         self.lost = None
 
@@ -121,39 +115,10 @@ class EtcdStore(EtcdPairs):
         """The comparison that each call makes."""
         return has_value(self.fence_key, self.fence.value())
 
-    def is_begun(self) -> bool:
-        """Whether the lease can't have ended, or the fence is still there."""
-        if self.lost is None and time.monotonic() - self.renewed > self.lease / 2:
-            try:
-                self.renewed = 0.0
-                self.renew()
-                self.look(self.fence_key)
-            except Fault:
-                return False
-        return self.lost is None
-
-    def renew(self) -> None:
-        """Renews the lease where a third of it is over."""
-        now = time.monotonic()
-        if now - self.renewed <= self.lease / 3:
-            return
+    def renew_fence(self) -> bool:
+        """Renews the lease. While it lives, the fence is there, and nobody else makes one."""
         told = self.client.post("/v3/lease/keepalive", {"ID": self.lease_id}, self.patience)
-        if int(told.get("result", told).get("TTL", 0)) <= 0:
-            self.give_up(GONE)
-        self.renewed = now
-
-    def keep(self) -> None:
-        """Renews the lease of an idle engine. The next call tells where that fails."""
-        try:
-            if self.lost is None:
-                self.renew()
-        except Fault as fault:
-            self.lost = str(fault)
-
-    def give_up(self, why: str) -> None:
-        """All calls from now on are faults."""
-        self.lost = why
-        raise Fault(why)
+        return int(told.get("result", told).get("TTL", 0)) > 0
 
     def revoke(self) -> None:
         """Gives the lease back, and the fence with it, if a member takes it within a second."""
@@ -168,9 +133,7 @@ class EtcdStore(EtcdPairs):
 
     def look(self, key: bytes, **more: object) -> list[Stored]:
         """What a read under the fence tells. Members are asked until one answers, for a read may be made twice."""
-        if self.lost is not None:
-            raise Fault(self.lost)
-        self.renew()
+        self.check()
         body = {"compare": [self.compare_fence()], "success": [looking(key, **more)]}
         told = self.client.post(TXN, body, self.patience)
         if not told.get("succeeded"):
@@ -180,9 +143,7 @@ class EtcdStore(EtcdPairs):
     # Writes
 
     def write(self, key: bytes, guard: Guard, held: bytes, new: bytes | None) -> bool:
-        if self.lost is not None:
-            raise Fault(self.lost)
-        self.renew()
+        self.check()
         until = time.monotonic() + self.patience
         while True:
             try:

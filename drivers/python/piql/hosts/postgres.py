@@ -10,16 +10,14 @@ The time until which the fence is its owner's is renewed by the calls themselves
 A write is told once the synchronous standby has it, if the server has one.
 """
 
-import os
-import socket
 import time
 from typing import Any
 
-from .backend import Backend, Fault, Guard, Held, Pair
+from .backend import Fault, Guard, Held, Pair
+from .fenced import GONE, FencedStore
 from .postgres_client import Lost, PostgresClient, Values
 
 PAUSE = 0.02
-GONE = "the fence is another engine's, or the server lost writes"
 TABLES = """
 CREATE TABLE IF NOT EXISTS piql_pairs (k bytea PRIMARY KEY, v bytea NOT NULL);
 CREATE TABLE IF NOT EXISTS piql_fence (
@@ -61,18 +59,13 @@ def write_text(guard: Guard, is_put: bool) -> str:
 WRITES = {(guard, is_put): write_text(guard, is_put) for guard in Guard for is_put in (False, True)}
 
 
-class PostgresStore(Backend):
-    """The pairs of a database. `lease` is in seconds, and so is `patience`, for which a call goes on asking servers."""
+class PostgresStore(FencedStore):
+    """The pairs of a database."""
 
     def __init__(self, url: str, lease: float = 10.0, patience: float = 10.0) -> None:
+        super().__init__(lease, patience)
         self.client = PostgresClient(url, max(1.0, patience / 3))
-        self.lease, self.patience = lease, patience
-        self.owner = f"{socket.gethostname()}:{os.getpid()}:{os.urandom(8).hex()}"
-        self.epoch, self.renewed = -1, 0.0
-        # Why no more calls are made until the next `begin`.
-        self.lost: str | None = "the store isn't begun"
-        # How many writes had no answer and were decided.
-        self.settled = 0
+        self.epoch = -1
 
     # The fence
 
@@ -120,40 +113,12 @@ class PostgresStore(Backend):
 
     def read(self, text: str, **values: object) -> list[tuple[Any, ...]]:
         """The rows of a read, which are none where the fence is another one."""
-        if self.lost is not None:
-            raise Fault(self.lost)
-        self.renew()
+        self.check()
         return self.again(text, self.words(**values)) or self.give_up(GONE)
 
-    def is_begun(self) -> bool:
-        """Whether the fence is still there. It stays beyond its time where nobody takes it."""
-        if self.lost is None and time.monotonic() - self.renewed > self.lease / 2:
-            try:
-                self.renew()
-            except Fault:
-                return False
-        return self.lost is None
-
-    def renew(self) -> None:
-        """Renews the time of the fence where a third of it is over."""
-        now = time.monotonic()
-        if now - self.renewed > self.lease / 3:
-            if not self.again(RENEW, self.words()):
-                self.give_up(GONE)
-            self.renewed = now
-
-    def keep(self) -> None:
-        """Renews the time of an idle engine's fence. The next call tells where that fails."""
-        try:
-            if self.lost is None:
-                self.renew()
-        except Fault as fault:
-            self.lost = str(fault)
-
-    def give_up(self, why: str) -> list[tuple[Any, ...]]:
-        """All calls from now on are faults."""
-        self.lost = why
-        raise Fault(why)
+    def renew_fence(self) -> bool:
+        """Renews the fence's time. It stays beyond it where nobody takes it."""
+        return bool(self.again(RENEW, self.words()))
 
     # The calls
 
@@ -172,6 +137,7 @@ class PostgresStore(Backend):
     def write(self, key: bytes, guard: Guard, held: bytes, new: bytes | None) -> bool:
         if self.lost is not None:
             raise Fault(self.lost)
+        # (It renews the fence's time by itself.)
         until = time.monotonic() + self.patience
         while True:
             values = self.words(key=key, held=held, new=new)

@@ -1,0 +1,61 @@
+"""What the stores of clusters share: one owner, a time that the calls renew, and no more calls once the fence is lost."""
+
+import abc
+import os
+import socket
+import time
+from typing import NoReturn
+
+from .backend import Backend, Fault
+
+GONE = "the fence is another engine's, or gone"
+
+
+class FencedStore(Backend):
+    """A backend under a fence. `lease`, and `patience`, for which servers are asked, are in seconds."""
+
+    def __init__(self, lease: float, patience: float) -> None:
+        self.lease, self.patience = lease, patience
+        self.owner = f"{socket.gethostname()}:{os.getpid()}:{os.urandom(8).hex()}"
+        # When the fence's time was renewed last.
+        self.renewed = 0.0
+        # Why no more calls are made until the next `begin`.
+        self.lost: str | None = "the store isn't begun"
+        # How many writes had no answer and were decided.
+        self.settled = 0
+
+    @abc.abstractmethod
+    def renew_fence(self) -> bool:
+        """Renews the fence's time; whether it is still this store's."""
+
+    def check(self) -> None:
+        """Has each call fail once the fence is lost, and renews its time where a third of it is over."""
+        if self.lost is not None:
+            raise Fault(self.lost)
+        now = time.monotonic()
+        if now - self.renewed > self.lease / 3:
+            if not self.renew_fence():
+                self.give_up(GONE)
+            self.renewed = now
+
+    def is_begun(self) -> bool:
+        """Whether the fence is still this store's. Where its time may be over, the servers are asked."""
+        if self.lost is None and time.monotonic() - self.renewed > self.lease / 2:
+            try:
+                self.check()
+            except Fault:
+                return False
+        return self.lost is None
+
+    def keep(self) -> None:
+        """Renews the time of an idle engine's fence. The next statement begins anew where that fails."""
+        try:
+            if self.lost is None:
+                self.check()
+        except Fault as fault:
+            self.lost = str(fault)
+
+    def give_up(self, why: str) -> NoReturn:
+        """All calls from now on are faults."""
+        self.lost = why
+        raise Fault(why)
