@@ -356,7 +356,7 @@ class UrlTest(unittest.TestCase):
         self.assertEqual(places_of({"dbname": "d"}), [{"dbname": "d"}])
 
     def test_what_is_no_url(self) -> None:
-        for url in ("etcd://a:1", "etcd:///shop", "etcd://a:x/shop", "etcd://a/shop?leese=3"):
+        for url in ("etcd://a:1", "etcd:///shop", "etcd://a:x/shop", "etcd://a/shop/kv", "etcd://a/shop?leese=3"):
             self.assertRaises(InterfaceError, etcd_parts, url)
         self.assertRaises(InterfaceError, times_of, "etcd://a/shop?lease=long")
         self.assertRaises(InterfaceError, piql.connect, "site.db", reader=True)

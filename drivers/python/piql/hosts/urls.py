@@ -50,7 +50,9 @@ def etcd_parts(url: str) -> tuple[list[str], str]:
     parts = urlsplit(url)
     endpoints = [at if ":" in at else f"{at}:{ETCD_PORT}" for at in parts.netloc.split(",") if at]
     name = parts.path.strip("/")
-    if not endpoints or not name or parts.query or not all(at.rpartition(":")[2].isdecimal() for at in endpoints):
+    are_ports = all(at.rpartition(":")[2].isdecimal() for at in endpoints)
+    # A name with a slash could lie within another store.
+    if not endpoints or not are_ports or not name or "/" in name or parts.query:
         raise InterfaceError(NO_ETCD.format(url=url))
     return endpoints, name
 
