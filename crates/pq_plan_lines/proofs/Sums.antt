@@ -5,7 +5,7 @@ use Rattle.pq_base.specs.declared.number.Bound.{Bound}
 use Rattle.pq_schema.specs.Costs.{ReachedCost, start, bound, plus}
 use Rattle.pq_plan.specs.declared.physical.Physical.{Physical}
 use Rattle.pq_plan.specs.Cost.{IsInLimits, cost, is_primary_access, reach, relations_read}
-use Rattle.pq_plan.specs.Nodes.{Node, lookup, limit_range, stop_scan, keep, sort, cut, project, node_step, nodes, run_of}
+use Rattle.pq_plan.specs.Nodes.{Node, lookup, limit_range, stop_scan, keep, sort, cut, project, node_step, nodes}
 use Rattle.pq_plan.specs.declared.cost.Total.{Total}
 use Rattle.pq_plan.proofs.PlanRows.{reach_nodes}
 use Rattle.pq_plan.proofs.Small.{within}

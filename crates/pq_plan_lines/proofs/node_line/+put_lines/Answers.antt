@@ -1,4 +1,4 @@
-use Rattle.std.proofs.Common.{◌≡◌, ◌≤◌, ◌++◌, length, ap, ◌∙◌, arith}
+use Rattle.std.proofs.Common.{◌≤◌, ◌++◌, length, ap, ◌∙◌, arith}
 use Rattle.pq_plan.specs.Cost.{reach, relations_read}
 use Rattle.pq_plan.specs.Nodes.{lookup, limit_range, stop_scan, keep, sort, cut, project, nodes}
 use Rattle.pq_plan_lines.specs.Lines.{plan_lines}
