@@ -18,4 +18,5 @@ pub mod Lengths
 pub mod QueryLengths
 pub mod LaterTables
 pub mod ReadBack
+pub mod TablesAgain
 pub mod WholeStatements

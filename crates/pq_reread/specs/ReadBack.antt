@@ -1,18 +1,19 @@
--- The text of a query is read as the query.
-use Rattle.std.specs.Prelude.{◌≡◌, ℕ, ◌≤◌, ◌<◌, ◌+◌, true, List, length, Ok, Option}
+-- The text of a query is read as the query, and that of a table as its definition.
+use Rattle.std.specs.Prelude.{◌≡◌, ℕ, ◌≤◌, ◌<◌, ◌+◌, true, List, length, take, Ok, Option}
 use Rattle.std.specs.Str.{is_utf8}
 use Rattle.pq_schema.specs.Names.{IsName}
 use Rattle.pq_schema.specs.Resolved.{IsResolved}
 use Rattle.pq_schema.specs.Schema.{Schema, with_query}
 use Rattle.pq_schema.specs.Tables.{table_at}
 use Rattle.pq_schema.specs.Valid.{IsDefined}
+use Rattle.pq_schema.specs.declared.definition.TableDef.{TableDef}
 use Rattle.pq_schema.specs.declared.query.Query.{Query}
 use Rattle.pq_schema.specs.declared.table.NewIndex.{NewIndex}
 use Rattle.pq_schema.specs.declared.table.Table.{Table}
 use Rattle.pq_text.specs.Tokens.{text_limit, tokens_of}
 use Rattle.pq_def_read.specs.Reading.{statement_of}
-use Rattle.pq_def_read.specs.declared.statement.Statement.TheVariants.{Prepare}
-use Rattle.pq_print.specs.Canonical.{column_name, query_text, definition_text}
+use Rattle.pq_def_read.specs.declared.statement.Statement.TheVariants.{Create, Prepare}
+use Rattle.pq_print.specs.Canonical.{column_name, query_text, table_text, with_first_columns, definition_text}
 use Rattle.pq_query_read.specs.Queries.{read_query_of}
 use Rattle.pq_reread.specs.Orderly.{AreOrderly}
 
@@ -51,3 +52,20 @@ abbrev pub IsReadBackDefined : Schema → Query → Type 0
 IsReadBackDefined schema query =
     (wanted : Option NewIndex) → IsDefined schema query wanted
     → IsReadBack schema query (definition_text (with_query schema query wanted) (length schema.definitions + 1))
+
+-- the text is the CREATE TABLE of this definition
+abbrev pub ReadsAs : TableDef → List ℕ → Type 0
+ReadsAs def text = statement_of text (tokens_of text) ≡ Ok (Create def)
+
+-- the table is this one still, whatever columns and indexes were added behind its own
+pub record KeepsTable (table now : Table) : Type 0 where
+  pub name : now.name ≡ table.name
+  pub columns : take (length table.columns) now.columns ≡ table.columns
+  pub key : now.key ≡ table.key
+  pub limits : now.limits ≡ table.limits
+  pub foreign : now.foreign ≡ table.foreign
+
+-- so is the text of a table with its first columns, as it is printed over later tables
+abbrev pub IsReadLater : List Table → TableDef → Table → Type 0
+IsReadLater tables def table = (later : List Table) (now : Table) → KeepNames tables later → KeepsTable table now
+    → ReadsAs def (table_text later (with_first_columns (length table.columns) now))

@@ -17,7 +17,7 @@ ghost use Rattle.pq_def_read.specs.declared.statement.Statement.TheVariants.{Cre
 ghost use Rattle.pq_print.specs.Canonical.{table_text, query_text};
 ghost use Rattle.pq_reread.specs.Orderly.{AreOrderly};
 ghost use Rattle.pq_reread.specs.Printed.{Piece, ArePieces, joins_none, printed_pieces, shapes_printed};
-ghost use Rattle.pq_reread.specs.ReadBack.{IsNamedQuery, IsReadBack, IsReadBackLater, IsReadBackDefined};
+ghost use Rattle.pq_reread.specs.ReadBack.{IsNamedQuery, IsReadBack, IsReadBackLater, IsReadBackDefined, IsReadLater};
 ghost use Rattle.pq_reread.specs.Said.{Says};
 ghost use Rattle.pq_reread.specs.WholeStatements.{WholeStatement, SpellsWhole, whole_of};
 
@@ -74,6 +74,12 @@ pub fn tables_law()
         → new_table schema def ≡ Ok table
         → statement_of (table_text (schema.tables ++ table ∷ []) table)
         (tokens_of (table_text (schema.tables ++ table ∷ []) table)) ≡ Ok (Create def) }
+
+    // Also as it is printed over later tables, with more tables, columns and indexes: so each definition of a table,
+    // whenever it is shown.
+    ensures later { (schema : Schema) (def : TableDef) (table : Table)
+        → All (λ (other : Table). 0 < length other.key) schema.tables → IsTableDef def
+        → new_table schema def ≡ Ok table → IsReadLater (schema.tables ++ table ∷ []) def table }
 {}
 
 /// The canonical text of every query over a valid schema is read back: it is UTF-8 and short enough to be cut, its head
