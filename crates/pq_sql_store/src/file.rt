@@ -1,14 +1,28 @@
 //! The store in a file.
+ghost use Rattle.std.specs.Prelude.{◌≡◌, IfOk};
+
 use crate::sql_store::{SqlStore, store_err};
 use pq_base::{Bytes, List};
 use pq_store::{Guard, Meter, Pair, Store, StoreErr};
 use sqlite::{Connection, File, FileStore};
 use std::alloc::Global;
+use std::marker::Model;
 use std::sync::ledger::Ledger;
 
-/// The store over an SQLite file.
+/// The store over an SQLite file, seen as its count of faults.
 pub struct FileSqlStore {
     inner: SqlStore<FileStore<File>>,
+}
+
+impl Model for FileSqlStore {
+    ghost use Rattle.std.specs.Prelude.{ℕ};
+    ghost use Rattle.std.specs.Coded.{coded_ℕ};
+
+    ghost Value = { ℕ };
+
+    ghost coded = { coded_ℕ };
+
+    ghost view = { λ s. s.inner };
 }
 
 // Written out, so that no caller proves again how each part of a connection is dropped.
@@ -19,14 +33,16 @@ impl Drop for FileSqlStore {
 }
 
 impl FileSqlStore {
-    /// The store in the file at the path, which is made where there is none. A file that is no
-    /// database, and one whose table is another's, is left as it is.
-    pub fn open(rt: &HostRuntime, path: &str) -> Result<FileSqlStore, StoreErr> {
+    /// The store in the file at the path, which is made where there is none. It has no fault yet. A
+    /// file that is no database, and one whose table is another's, is left as it is.
+    pub fn open(rt: &HostRuntime, path: &str) -> Result<FileSqlStore, StoreErr>
+        ensures { IfOk result (λ faults. faults ≡ 0) }
+    {
         let connection = match Connection::open(rt, path) {
             Ok(connection) => connection,
             Err(error) => return Err(store_err(&error)),
         };
-        let inner = SqlStore::over(connection)?;
+        let inner = SqlStore::over(rt.alloc(), connection)?;
         Ok(FileSqlStore { inner })
     }
 
@@ -46,7 +62,7 @@ impl<L: Ledger> Store<L> for FileSqlStore {
 
     ghost content = { λ _. None };
 
-    ghost faults = { λ s. s.inner.faults };
+    ghost faults = { λ s. s };
 
     fn get(
         &mut self,

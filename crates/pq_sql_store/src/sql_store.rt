@@ -1,5 +1,5 @@
 //! The store over a connection.
-ghost use Rattle.std.specs.Prelude.{◌≡◌, ◌≤◌};
+ghost use Rattle.std.specs.Prelude.{◌≡◌, ◌≤◌, IfOk};
 ghost use Rattle.pq_store.specs.Content.{HasRisen};
 
 use crate::statements::{
@@ -9,16 +9,38 @@ use pq_base::{Bytes, List};
 use pq_store::{Guard, Meter, Pair, Store, StoreErr, is_part};
 use sqlite::{Alter, Connection, Error, ErrorCode};
 use std::alloc::Global;
+use std::marker::Model;
 use std::sync::ledger::Ledger;
 
-/// A store of pairs in the table `kv(k BLOB PRIMARY KEY, v BLOB NOT NULL)` of a database.
+/// A store of pairs in the table `kv(k BLOB PRIMARY KEY, v BLOB NOT NULL)` of a database, seen as its
+/// count of faults.
 ///
 /// Each call is one statement, which the database makes whole or not at all. Each refusal of the
 /// database but want of memory is a fault that is counted, and so is an answer that no store gives.
-#[derive(Drop)]
 pub struct SqlStore<D: Alter> {
     connection: Connection<D>,
     faults: u64,
+}
+
+impl<D: Alter> Model for SqlStore<D> {
+    ghost use Rattle.std.specs.Prelude.{ℕ};
+    ghost use Rattle.std.specs.Coded.{coded_ℕ};
+
+    ghost Value = { ℕ };
+
+    ghost coded = { coded_ℕ };
+
+    ghost view = { λ s. s.faults };
+}
+
+// Written out, so that no caller proves again how each part of a connection is dropped.
+impl<D: Alter + Drop> Drop for SqlStore<D> {
+    fn drop(self) {
+        let SqlStore {
+            connection: _,
+            faults: _,
+        } = self;
+    }
 }
 
 /// What a refusal of the database is to a store.
@@ -54,8 +76,8 @@ fn is_done(guard: Guard, new: Option<&[u8]>, changed: usize) -> Option<bool> {
 impl<D: Alter> SqlStore<D> {
     fn fault(&mut self) -> StoreErr
         ensures failed { result ≡ StoreErr.Failed }
-        ensures later { self.old.faults ≤ self.new.faults }
-        ensures risen { HasRisen self.old.faults self.new.faults }
+        ensures later { self.old ≤ self.new }
+        ensures risen { HasRisen self.old self.new }
     {
         self.faults = self.faults.saturating_add(1);
         StoreErr::Failed
@@ -63,8 +85,8 @@ impl<D: Alter> SqlStore<D> {
 
     // Any refusal but want of memory is a fault.
     fn refused(&mut self, error: &Error) -> StoreErr
-        ensures later { self.old.faults ≤ self.new.faults }
-        ensures risen { result ≡ StoreErr.Failed → HasRisen self.old.faults self.new.faults }
+        ensures later { self.old ≤ self.new }
+        ensures risen { result ≡ StoreErr.Failed → HasRisen self.old self.new }
     {
         match store_err(error) {
             StoreErr::NoMem => StoreErr::NoMem,
@@ -74,9 +96,12 @@ impl<D: Alter> SqlStore<D> {
 }
 
 impl<D: Alter + Drop> SqlStore<D> {
-    /// The store over the connection, whose table is made where there is none. A table of another
-    /// make is left as it is, and the answer is `Failed`.
-    pub fn over(mut connection: Connection<D>) -> Result<SqlStore<D>, StoreErr> {
+    /// The store over the connection, whose table is made where there is none. It has no fault yet. A
+    /// table of another make is left as it is, and the answer is `Failed`.
+    pub fn over(_alloc: Global, connection: Connection<D>) -> Result<SqlStore<D>, StoreErr>
+        ensures { IfOk result (λ faults. faults ≡ 0) }
+    {
+        let mut connection = connection;
         match have_table(&mut connection) {
             Ok(true) => Ok(SqlStore {
                 connection,
@@ -102,7 +127,7 @@ impl<L: Ledger, D: Alter> Store<L> for SqlStore<D> {
 
     ghost content = { λ _. None };
 
-    ghost faults = { λ s. s.faults };
+    ghost faults = { λ s. s };
 
     fn get(
         &mut self,
