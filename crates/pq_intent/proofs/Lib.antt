@@ -1,3 +1,4 @@
 pub mod Steps
 pub mod Ends
 pub mod Codes
+pub mod Wanting

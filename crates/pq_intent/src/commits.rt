@@ -1,5 +1,5 @@
 //! Committing changes: all of them or none, whichever call of the store is the last one.
-ghost use Rattle.std.specs.Prelude.{◌≡◌, ◌≤◌, ◌<◌, ◌+◌, ◌⊎◌, None, Some, length, map, IfOk, IfErr, IfSome, IsErr, OnOk, OnErr};
+ghost use Rattle.std.specs.Prelude.{◌≡◌, ◌≤◌, ◌<◌, ◌+◌, ◌⊎◌, None, Some, length, map, IfOk, IfErr, IfSome, IsErr, IsErrOf, OnOk, OnErr};
 ghost use Rattle.std.specs.FinMap.{insert};
 ghost use Rattle.pq_row_code.specs.Changes.{changes_code, AreChanges};
 ghost use Rattle.pq_content.specs.Pairs.{changed_content};
@@ -7,7 +7,7 @@ ghost use Rattle.pq_content.specs.Standing.{change_of, AreIntended};
 ghost use Rattle.pq_key_code.specs.KeyCode.{intent_key};
 ghost use Rattle.pq_store.specs.Content.{HasBrokeCause, Content};
 ghost use Rattle.pq_store.specs.Breaks.{IfDamaged, IsPresent, IsUndamaged};
-ghost use Rattle.pq_intent.specs.Changing.{IfDamagedSame};
+ghost use Rattle.pq_intent.specs.Changing.{IfDamagedSame, WantsMemory, intent_writes};
 ghost use Rattle.pq_intent.specs.Settling.{IsSettled, Settles, HasIntent};
 ghost use Rattle.pq_intent.specs.Spending.{Spends, write_ops};
 
@@ -39,6 +39,8 @@ fn put_intent<S: Store<L>, L: Ledger>(
     ensures damage { IfErr result (λ broke. IfSome (S.content store.old)
         (λ pairs. IfDamaged (IsPresent intent_key pairs) broke)) }
     ensures kept { IfErr result (IfDamagedSame (S.content store.old) (S.content store.new)) }
+    ensures memory { IsErrOf result Broke.NoMem → S.content store.new ≡ S.content store.old }
+    ensures one { meter.new.ops ≡ meter.old.ops + 1 }
     ensures spends { Spends 1 allowance.old allowance.new meter.old meter.new }
     ensures cause { HasBrokeCause (S.faults store.old) (S.faults store.new) result }
 {
@@ -70,6 +72,8 @@ fn commit_by_intent<S: Store<L>, L: Ledger>(
     ensures damage { IfErr result (λ broke. IfSome (S.content store.old)
         (λ pairs. IfDamaged (IsPresent intent_key pairs) broke)) }
     ensures kept { IfErr result (IfDamagedSame (S.content store.old) (S.content store.new)) }
+    ensures memory { IsErrOf result Broke.NoMem → (pairs : Content) → IsSettled (S.content store.old) pairs
+        → WantsMemory (intent_writes changes.now) meter.old meter.new (S.content store.old) (S.content store.new) }
     ensures spends { Spends (length changes.now + 2) allowance.old allowance.new meter.old meter.new }
     ensures cause { HasBrokeCause (S.faults store.old) (S.faults store.new) result }
 {
@@ -106,6 +110,10 @@ pub fn commit<S: Store<L>, L: Ledger>(
     ensures damage { IfErr result (λ broke. IfSome (S.content store.old)
         (λ pairs. IfDamaged (IsPresent intent_key pairs) broke)) }
     ensures kept { IfErr result (IfDamagedSame (S.content store.old) (S.content store.new)) }
+    // Memory of its own is taken before the first call. From there on it is wanting only where the last call of the
+    // store was not made for it: each write before that one is made. (A single change is one call.)
+    ensures memory { IsErrOf result Broke.NoMem → (pairs : Content) → IsSettled (S.content store.old) pairs
+        → WantsMemory (intent_writes changes) meter.old meter.new (S.content store.old) (S.content store.new) }
     // Over every store, told or not, and also on an error.
     ensures spends { Spends (write_ops (length changes)) allowance.old allowance.new meter.old meter.new }
     ensures cause { HasBrokeCause (S.faults store.old) (S.faults store.new) result }

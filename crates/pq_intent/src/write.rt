@@ -1,9 +1,9 @@
 //! Writes that are paid from an allowance, and the changes of a list one after the other.
-ghost use Rattle.std.specs.Prelude.{◌≡◌, ◌≤◌, ◌+◌, ◌++◌, ◌∷◌, [], None, length, map, OnOk, OnErr, IfErr};
+ghost use Rattle.std.specs.Prelude.{◌≡◌, ◌≤◌, ◌+◌, ◌++◌, ◌∷◌, [], None, length, map, OnOk, OnErr, IfErr, IsErrOf};
 ghost use Rattle.std.specs.Option.{option_map, option_copied};
 ghost use Rattle.pq_content.specs.Standing.{change_of};
 ghost use Rattle.pq_store.specs.Content.{HasBrokeCause, written_content};
-ghost use Rattle.pq_intent.specs.Changing.{content_after, IsPartway, MayChange};
+ghost use Rattle.pq_intent.specs.Changing.{content_after, IsPartway, MayChange, StopsBefore};
 ghost use Rattle.pq_store.specs.Breaks.{IsUndamaged};
 ghost use Rattle.pq_intent.specs.Spending.{Spends};
 
@@ -27,6 +27,7 @@ pub fn put<S: Store<L>, L: Ledger>(
     ensures stopped { OnErr result (MayChange (key.now, option_copied new.entry) (S.content store.old)
         (S.content store.new)) }
     ensures sound { IfErr result IsUndamaged }
+    ensures memory { IsErrOf result Broke.NoMem → S.content store.new ≡ S.content store.old }
     ensures spends { Spends 1 allowance.old allowance.new meter.old meter.new }
     ensures one { meter.new.ops ≡ meter.old.ops + 1 }
     ensures cause { HasBrokeCause (S.faults store.old) (S.faults store.new) result }
@@ -51,6 +52,7 @@ pub fn write_change<S: Store<L>, L: Ledger>(
         ≡ option_map (written_content change.now.key change.now.new) (S.content store.old)) }
     ensures stopped { OnErr result (MayChange (change_of change.now) (S.content store.old) (S.content store.new)) }
     ensures sound { IfErr result IsUndamaged }
+    ensures memory { IsErrOf result Broke.NoMem → S.content store.new ≡ S.content store.old }
     ensures spends { Spends 1 allowance.old allowance.new meter.old meter.new }
     ensures one { meter.new.ops ≡ meter.old.ops + 1 }
     ensures cause { HasBrokeCause (S.faults store.old) (S.faults store.new) result }
@@ -74,6 +76,8 @@ pub fn write_changes<S: Store<L>, L: Ledger>(
     ensures made { OnOk result (S.content store.new ≡ content_after (map change_of changes.now) (S.content store.old)) }
     ensures stopped { OnErr result (IsPartway (map change_of changes.now) (S.content store.old) (S.content store.new)) }
     ensures sound { IfErr result IsUndamaged }
+    ensures memory { IsErrOf result Broke.NoMem → StopsBefore (map change_of changes.now)
+        meter.old meter.new (S.content store.old) (S.content store.new) }
     ensures spends { Spends (length changes.now) allowance.old allowance.new meter.old meter.new }
     ensures each { OnOk result (meter.new.ops ≡ meter.old.ops + length changes.now) }
     ensures cause { HasBrokeCause (S.faults store.old) (S.faults store.new) result }
@@ -99,6 +103,8 @@ pub fn finish<S: Store<L>, L: Ledger>(
     ensures stopped { OnErr result (IsPartway (map change_of changes.now ++ (key.now, None) ∷ [])
         (S.content store.old) (S.content store.new)) }
     ensures sound { IfErr result IsUndamaged }
+    ensures memory { IsErrOf result Broke.NoMem → StopsBefore (map change_of changes.now ++ (key.now, None) ∷ [])
+        meter.old meter.new (S.content store.old) (S.content store.new) }
     ensures spends { Spends (length changes.now + 1) allowance.old allowance.new meter.old meter.new }
     ensures each { OnOk result (meter.new.ops ≡ meter.old.ops + (length changes.now + 1)) }
     ensures cause { HasBrokeCause (S.faults store.old) (S.faults store.new) result }

@@ -1,11 +1,14 @@
-use Rattle.std.proofs.Common.{◌≡◌, ◌∙◌, ap, subst, inl, None, [], ◌∷◌, ◌++◌, map, List}
+use Rattle.std.proofs.Common.{◌≡◌, ◌∙◌, ap, sym, subst, refl, inl, inr, ℕ, None, Some, [], ◌∷◌, ◌++◌, map, List, rules}
+use Rattle.std.specs.FinMap.{insert}
+use Rattle.pq_key_code.specs.KeyCode.{intent_key}
 use Rattle.std.proofs.lemmas.Result.{on_ok_weaker, on_err_weaker}
 use Rattle.pq_row_code.specs.Changes.{changes_code}
 use Rattle.pq_content.specs.Pairs.{Change}
 use Rattle.pq_content.specs.Standing.{change_of}
-use Rattle.pq_intent.specs.Changing.{content_after, IsPartway}
+use Rattle.pq_intent.specs.Changing.{content_after, IsPartway, StopsBefore}
 use Rattle.pq_intent.proofs.Steps.{on_err_holds}
 use Rattle.pq_intent.proofs.Ends.{with_removal, steps_are, settles_itself, commit_started, commit_stopped, commit_made}
+use Rattle.pq_intent.proofs.Wanting.{stops_first, stops_behind}
 use Rattle.pq_intent.proofs.commits.commit_by_intent.Goals as goal
 
 pub returns-in_err-key-clause-stopped : goal.returns-in_err-key-clause-stopped
@@ -31,3 +34,20 @@ returns-clause-stopped g c =
     let steps : map change_of c.items-3.result.now ++ (c.items-2.result.now, None) ∷ [] ≡ with_removal c.args.changes.now = steps_are c.items-3.result.now c.args.changes.now c.items-2.result.now c.items-3.ensures (c.items-2.ensures ∙ c.in_ok-key-2.ensures.back) in
     on_err_weaker c.finish.result (λ partway pairs s. commit_stopped pairs c.args.changes.now s.no_intent c.requires.coded c.requires.intended (g.S.Store.content c.put_intent.new.store) (g.S.Store.content c.finish.new.store) c.items.result.now code (c.in_ok-key-2.ensures.put pairs s)
     (subst (λ (l : List Change). IsPartway l (g.S.Store.content c.put_intent.new.store) (g.S.Store.content c.finish.new.store)) steps partway)) c.finish.ensures.stopped
+
+pub returns-in_err-key-clause-memory : goal.returns-in_err-key-clause-memory
+returns-in_err-key-clause-memory g c = λ want pairs s. inl (refl, refl)
+
+pub returns-in_err-code-clause-memory : goal.returns-in_err-code-clause-memory
+returns-in_err-code-clause-memory g c = λ want pairs s. inl (refl, refl)
+
+pub returns-in_err-key-2-clause-memory : goal.returns-in_err-key-2-clause-memory
+returns-in_err-key-2-clause-memory g c = λ want pairs s. inr (stops_first _ _ _ _ _ c.put_intent.ensures.one (c.in_err-key-2.ensures.memory (search rules)))
+
+pub returns-clause-memory : goal.returns-clause-memory
+returns-clause-memory g c = λ want pairs s.
+    let code : c.items.result.now ≡ changes_code c.args.changes.now = c.items.ensures ∙ c.in_ok-code.ensures in
+    let steps : map change_of c.items-3.result.now ++ (c.items-2.result.now, None) ∷ [] ≡ with_removal c.args.changes.now = steps_are c.items-3.result.now c.args.changes.now c.items-2.result.now c.items-3.ensures (c.items-2.ensures ∙ c.in_ok-key-2.ensures.back) in
+    let put = c.in_ok-key-2.ensures.put pairs s ∙ ap (λ (v : List ℕ). Some (insert pairs intent_key v)) code ∙ ap (content_after ((intent_key, Some (changes_code c.args.changes.now)) ∷ [])) (sym s.told) in
+    inr (stops_behind (intent_key, Some (changes_code c.args.changes.now)) (with_removal c.args.changes.now) c.args.meter.now c.put_intent.new.meter c.finish.new.meter (g.S.Store.content c.args.store.now) (g.S.Store.content c.put_intent.new.store) (g.S.Store.content c.finish.new.store) c.put_intent.ensures.one put
+    (subst (λ (l : List Change). StopsBefore l c.put_intent.new.meter c.finish.new.meter (g.S.Store.content c.put_intent.new.store) (g.S.Store.content c.finish.new.store)) steps (c.finish.ensures.memory want)))

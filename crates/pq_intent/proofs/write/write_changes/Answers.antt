@@ -1,4 +1,4 @@
-use Rattle.std.proofs.Common.{◌<◌, length, ◌∙◌, arith}
+use Rattle.std.proofs.Common.{◌<◌, length, ◌∙◌, arith, rules}
 use Rattle.std.proofs.lemmas.Result.{err_from_is_err_and}
 use Rattle.pq_intent.proofs.Steps.{partway_more, made_more}
 use Rattle.pq_intent.proofs.write.write_changes.Goals as goal
@@ -25,4 +25,12 @@ loop-change-preserved g c =
       };
       each = omega arith;
       later = omega (arith, c.write_change.ensures.cause.later);
+    }
+
+pub returns-in_err-write_change-clause-memory : goal.returns-in_err-write_change-clause-memory
+returns-in_err-write_change-clause-memory g c = λ want.
+    record {
+      made = c.loop-change.change-index;
+      counted = omega (arith, c.loop-change.invariant.each, c.write_change.ensures.one);
+      is = c.in_err-write_change.ensures.memory (search rules) ∙ c.loop-change.invariant.made;
     }
