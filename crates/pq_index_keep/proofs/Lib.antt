@@ -8,6 +8,7 @@ pub mod Few
 pub mod Fitting
 pub mod Inserting
 pub mod Narrow
+pub mod Refusing
 pub mod Steps
 pub mod Tests
 pub mod Touching

@@ -5,5 +5,6 @@ pub mod Effects
 pub mod Groups
 pub mod Moved
 pub mod Promises
+pub mod Refusals
 pub mod Sound
 pub mod Tested

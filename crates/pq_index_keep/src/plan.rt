@@ -13,6 +13,7 @@ ghost use Rattle.pq_calls.specs.Calls.{Uses, Fails};
 ghost use Rattle.pq_calls.specs.Evidence.{IsNoRow};
 ghost use Rattle.pq_calls.specs.World.{Affords, no_damage, where_told};
 ghost use Rattle.pq_index_keep.specs.Promises.{HoldsRows, Plans, IsPlannedWithin, ChangesOwn};
+ghost use Rattle.pq_index_keep.specs.Refusals.{RefusesAs};
 ghost use Rattle.pq_index_keep.specs.Sound.{AreWritable, IsInsert, IsDelete};
 
 use crate::changes::{puts, removals};
@@ -83,6 +84,7 @@ pub(crate) fn plan_insert<S: Store<L>, L: Ledger>(
     ensures cause { IfErr result (Fails no_damage S.content S.faults calls.old calls.new) }
     ensures plan { IfOk result (IsPlannedWithin (1 + length (table_at catalog.now.tables number).indexes)) }
     ensures own { IfOk result (ChangesOwn catalog.now.tables (Write.Insert number row.now)) }
+    ensures can { IfOk result (RefusesAs catalog.now.tables (Write.Insert number row.now)) }
     ensures answer { IfOk result (λ planned. (rows : Rows) (others : List Pair)
         → HoldsRows (S.content calls.old.store.now) catalog.now.tables rows others
         → Plans catalog.now.tables rows others (Write.Insert number row.now) planned) }
@@ -147,6 +149,7 @@ fn plan_removal<S: Store<L>, L: Ledger>(
     ensures cause { IfErr result (Fails no_damage S.content S.faults calls.old calls.new) }
     ensures plan { IfOk result (IsPlannedWithin (1 + length (table_at catalog.now.tables number).indexes)) }
     ensures own { IfOk result (ChangesOwn catalog.now.tables (Write.Delete number key.now)) }
+    ensures can { IfOk result (RefusesAs catalog.now.tables (Write.Delete number key.now)) }
     ensures answer { IfOk result (λ planned. (rows : Rows) (others : List Pair)
         → HoldsRows (S.content calls.old.store.now) catalog.now.tables rows others →
         Some found.row ≡ row_at catalog.now.tables rows number key.now
@@ -181,6 +184,7 @@ pub(crate) fn plan_delete<S: Store<L>, L: Ledger>(
         calls.new) }
     ensures plan { IfOk result (IsPlannedWithin (1 + length (table_at catalog.now.tables number).indexes)) }
     ensures own { IfOk result (ChangesOwn catalog.now.tables (Write.Delete number key.now)) }
+    ensures can { IfOk result (RefusesAs catalog.now.tables (Write.Delete number key.now)) }
     ensures answer { IfOk result (λ planned. (rows : Rows) (others : List Pair)
         → HoldsRows (S.content calls.old.store.now) catalog.now.tables rows others
         → Plans catalog.now.tables rows others (Write.Delete number key.now) planned) }

@@ -1,5 +1,5 @@
 //! Why a write is refused by the rows that are there.
-ghost use Rattle.std.specs.Prelude.{◌≡◌, ◌≤◌, ◌<◌, ◌+◌, List, All, length, IfOk, IfErr, IsSome};
+ghost use Rattle.std.specs.Prelude.{◌≡◌, ◌≤◌, ◌<◌, ◌+◌, List, All, length, IfOk, IfErr, IfSome, IsSome};
 ghost use Rattle.std.specs.List.{sum_by};
 ghost use Rattle.pq_base.specs.Answers.{or_else};
 ghost use Rattle.pq_base.specs.Columns.{set_of};
@@ -16,6 +16,7 @@ ghost use Rattle.pq_index_keep.specs.Effects.{no_parent, no_room, parent_refusal
 ghost use Rattle.pq_calls.specs.Calls.{Uses, Fails};
 ghost use Rattle.pq_calls.specs.World.{Affords, no_damage};
 ghost use Rattle.pq_index_keep.specs.Promises.{HoldsRows, IsTested};
+ghost use Rattle.pq_index_keep.specs.Refusals.{IsInsertRefusal, IsTestRefusal};
 
 use crate::limits::first_full;
 use crate::parents::first_lacking;
@@ -66,6 +67,7 @@ fn parent_refusal<S: Store<L>, L: Ledger>(
     ensures uses { Uses S.content S.faults calls.old calls.new (tested_foreign scope.now table.now.foreign)
         (tested_foreign scope.now table.now.foreign) }
     ensures cause { IfErr result (Fails no_damage S.content S.faults calls.old calls.new) }
+    ensures can { IfOk result (λ refusal. IfSome refusal (IsTestRefusal table.now)) }
     ensures answer { IfOk result (λ refusal. (tables : List Definition) (rows : Rows) (others : List Pair)
         → HoldsRows (S.content calls.old.store.now) tables rows others →
         All (λ f. AllOfKinds (key_types (table_at tables f.table)) (cells f.cols row.now)) table.now.foreign
@@ -95,6 +97,7 @@ fn room_refusal<S: Store<L>, L: Ledger>(
     ensures uses { Uses S.content S.faults calls.old calls.new (tested_limits scope.now table.now.limits)
         (sum_by (tested_n scope.now) table.now.limits) }
     ensures cause { IfErr result (Fails no_damage S.content S.faults calls.old calls.new) }
+    ensures can { IfOk result (λ refusal. IfSome refusal (IsTestRefusal table.now)) }
     ensures answer { IfOk result (λ refusal. (tables : List Definition) (rows : Rows) (others : List Pair)
         → HoldsRows (S.content calls.old.store.now) tables rows others → table.now ≡ table_at tables number →
         AllFit (types_of table.now) row.now → refusal ≡ room_refusal rows scope.now old.now number table.now row.now) }
@@ -127,6 +130,7 @@ pub(crate) fn tested_refusal<S: Store<L>, L: Ledger>(
         (tested_foreign scope.now table.now.foreign + tested_limits scope.now table.now.limits)
         (tested_foreign scope.now table.now.foreign + sum_by (tested_n scope.now) table.now.limits) }
     ensures cause { IfErr result (Fails no_damage S.content S.faults calls.old calls.new) }
+    ensures can { IfOk result (λ refusal. IfSome refusal (IsTestRefusal table.now)) }
     ensures answer { IfOk result (λ refusal. (tables : List Definition) (rows : Rows) (others : List Pair)
         → HoldsRows (S.content calls.old.store.now) tables rows others → table.now ≡ table_at tables number →
         IsTested tables table.now row.now → refusal
@@ -158,6 +162,7 @@ pub(crate) fn insert_refusal<S: Store<L>, L: Ledger>(
     ensures uses { Uses S.content S.faults calls.old calls.new (tests Scope.All table.now).ops
         (tests Scope.All table.now).entries }
     ensures cause { IfErr result (Fails no_damage S.content S.faults calls.old calls.new) }
+    ensures can { IfOk result (λ refusal. IfSome refusal (IsInsertRefusal table.now)) }
     ensures answer { IfOk result (λ refusal. (tables : List Definition) (rows : Rows) (others : List Pair)
         → HoldsRows (S.content calls.old.store.now) tables rows others → table.now ≡ table_at tables number →
         IsTested tables table.now row.now → refusal ≡ insert_refusal tables rows number row.now) }

@@ -1,5 +1,5 @@
 //! What an UPDATE changes.
-ghost use Rattle.std.specs.Prelude.{◌≡◌, ◌≤◌, ◌<◌, ◌+◌, ◌*◌, List, All, Some, length, slice_set, nat_lt, IfOk, IfErr, IsSome};
+ghost use Rattle.std.specs.Prelude.{◌≡◌, ◌≤◌, ◌<◌, ◌+◌, ◌*◌, List, All, Some, length, slice_set, nat_lt, IfOk, IfErr, IfSome, IsSome};
 ghost use Rattle.std.specs.List.{count_by, sum_by};
 ghost use Rattle.pq_base.specs.Answers.{or_else};
 ghost use Rattle.pq_base.specs.Columns.{set_of};
@@ -19,6 +19,7 @@ ghost use Rattle.pq_calls.specs.Calls.{Uses, Fails};
 ghost use Rattle.pq_calls.specs.Evidence.{IsNoRow};
 ghost use Rattle.pq_calls.specs.World.{Affords, no_damage, where_told};
 ghost use Rattle.pq_index_keep.specs.Promises.{HoldsRows, IsTested, Plans, IsPlannedWithin, ChangesOwn};
+ghost use Rattle.pq_index_keep.specs.Refusals.{IsUpdateRefusal, RefusesAs};
 ghost use Rattle.pq_index_keep.specs.Sound.{AreWritable, IsUpdate};
 ghost use Rattle.pq_index_keep.specs.Tested.{touches_index, scope_of, with_sets};
 
@@ -109,6 +110,7 @@ fn update_refusal<S: Store<L>, L: Ledger>(
         (tested_foreign scope.now table.now.foreign + tested_limits scope.now table.now.limits)
         (tested_foreign scope.now table.now.foreign + sum_by (tested_n scope.now) table.now.limits) }
     ensures cause { IfErr result (Fails no_damage S.content S.faults calls.old calls.new) }
+    ensures can { IfOk result (λ refusal. IfSome refusal (IsUpdateRefusal table.now)) }
     ensures answer { IfOk result (λ refusal. (tables : List Definition) (rows : Rows) (others : List Pair)
         → HoldsRows (S.content calls.old.store.now) tables rows others → table.now ≡ table_at tables number →
         IsTested tables table.now new.now → refusal
@@ -154,6 +156,7 @@ fn plan_change<S: Store<L>, L: Ledger>(
         (1 + 2 * count_by (touches_index (scope_of sets.now) (table_at catalog.now.tables number))
         (table_at catalog.now.tables number).indexes)) }
     ensures own { IfOk result (ChangesOwn catalog.now.tables (Write.Update number key.now sets.now)) }
+    ensures can { IfOk result (RefusesAs catalog.now.tables (Write.Update number key.now sets.now)) }
     ensures answer { IfOk result (λ planned. (rows : Rows) (others : List Pair)
         → HoldsRows (S.content calls.old.store.now) catalog.now.tables rows others →
         Some found.row ≡ row_at catalog.now.tables rows number key.now
@@ -197,6 +200,7 @@ pub(crate) fn plan_update<S: Store<L>, L: Ledger>(
         (1 + 2 * count_by (touches_index (scope_of sets.now) (table_at catalog.now.tables number))
         (table_at catalog.now.tables number).indexes)) }
     ensures own { IfOk result (ChangesOwn catalog.now.tables (Write.Update number key.now sets.now)) }
+    ensures can { IfOk result (RefusesAs catalog.now.tables (Write.Update number key.now sets.now)) }
     ensures answer { IfOk result (λ planned. (rows : Rows) (others : List Pair)
         → HoldsRows (S.content calls.old.store.now) catalog.now.tables rows others
         → Plans catalog.now.tables rows others (Write.Update number key.now sets.now) planned) }

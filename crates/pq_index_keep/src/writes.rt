@@ -9,6 +9,7 @@ ghost use Rattle.pq_calls.specs.Calls.{Uses, Fails};
 ghost use Rattle.pq_calls.specs.Evidence.{IsNoRow};
 ghost use Rattle.pq_calls.specs.World.{world, Affords, Reads, Explains, where_told};
 ghost use Rattle.pq_index_keep.specs.Promises.{HoldsRows, Plans, IsPlannedWithin, ChangesOwn};
+ghost use Rattle.pq_index_keep.specs.Refusals.{RefusesAs};
 ghost use Rattle.pq_index_keep.specs.Sound.{AreWritable, IsWrite};
 
 use crate::plan::{Planned, plan_delete, plan_insert};
@@ -37,6 +38,7 @@ fn plan_by<S: Store<L>, L: Ledger>(
         calls.new) }
     ensures plan { IfOk result (IsPlannedWithin (most_changes catalog.now.tables write.now)) }
     ensures own { IfOk result (ChangesOwn catalog.now.tables write.now) }
+    ensures can { IfOk result (RefusesAs catalog.now.tables write.now) }
     ensures answer { IfOk result (λ planned. (rows : Rows) (others : List Pair) →
         HoldsRows (S.content calls.old.store.now) catalog.now.tables rows others
         → Plans catalog.now.tables rows others write.now planned) }
@@ -86,8 +88,10 @@ pub fn plan_write<S: Store<L>, L: Ledger>(
     ensures undamaged { IfErr result (λ error. (rows : Rows) (others : List Pair)
         → HoldsRows (S.content store.old) catalog.now.tables rows others → IsUndamaged error) }
     ensures plan { IfOk result (IsPlannedWithin (most_changes catalog.now.tables write.now)) }
-    // The row's own pair is among the changes over every store, told or not.
+    // Over every store, told or not: the row's own pair is among the changes, and a refusal is one that the write can
+    // have.
     ensures own { IfOk result (ChangesOwn catalog.now.tables write.now) }
+    ensures can { IfOk result (RefusesAs catalog.now.tables write.now) }
     ensures answer { IfOk result (λ planned. (rows : Rows) (others : List Pair)
         → HoldsRows (S.content store.old) catalog.now.tables rows others
         → Plans catalog.now.tables rows others write.now planned) }

@@ -1,9 +1,14 @@
-use Rattle.std.proofs.Common.{◌∙◌, sym}
+use Rattle.std.proofs.Common.{◌∙◌, sym, subst}
 use Rattle.pq_schema.specs.Tables.{table_at}
 use Rattle.pq_index_keep.specs.Promises.{IsTested}
 use Rattle.pq_index_keep.proofs.Changing.{own_puts}
 use Rattle.pq_index_keep.proofs.Coding.{fit_texts, fit_columns, insert_planned}
 use Rattle.pq_index_keep.proofs.Inserting.{writable_at, is_tested, insert_refused, insert_made}
+use Rattle.std.specs.Prelude.{IfSome}
+use Rattle.pq_schema.specs.declared.table.Table.{Table}
+use Rattle.pq_index_keep.specs.Refusals.{IsInsertRefusal}
+use Rattle.pq_index_keep.specs.declared.write.Write.TheVariants.{Insert}
+use Rattle.pq_index_keep.proofs.Refusing.{found_can}
 use Rattle.pq_index_keep.proofs.plan.plan_insert.Goals as goal
 
 pub puts-requires-clause-columns : goal.puts-requires-clause-columns
@@ -39,3 +44,8 @@ returns-in_ok-changes-in-None-clause-answer g c = λ rows others s.
 pub returns-in_ok-changes-in-None-clause-own : goal.returns-in_ok-changes-in-None-clause-own
 returns-in_ok-changes-in-None-clause-own g c =
     rw (← c.table_of-table.ensures.table) (own_puts c.args.number c.table_of-table.result.now c.args.row.now c.in_ok-at.at _ c.in_ok-at.ensures c.in_ok-changes-in-None.ensures)
+
+pub returns-in-Some-clause-can : goal.returns-in-Some-clause-can
+returns-in-Some-clause-can g c =
+    found_can c.args.catalog.now.tables (Insert c.args.number c.args.row.now) c.in_ok-refusal.refusal c.in-Some.refusal c.in-Some.is
+    (subst (λ (t : Table). IfSome c.in_ok-refusal.refusal (IsInsertRefusal t)) c.table_of-table.ensures.table c.in_ok-refusal.ensures.can)

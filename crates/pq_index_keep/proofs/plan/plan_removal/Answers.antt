@@ -1,10 +1,15 @@
-use Rattle.std.proofs.Common.{◌∙◌, sym}
+use Rattle.std.proofs.Common.{◌∙◌, sym, List, subst}
 use Rattle.pq_schema.specs.Tables.{table_at}
 use Rattle.pq_schema.proofs.TypeKinds.{kinds_from_fit}
 use Rattle.pq_index_keep.proofs.Changing.{own_removal}
 use Rattle.pq_index_keep.proofs.Coding.{delete_planned}
 use Rattle.pq_index_keep.proofs.Deleting.{may_name, delete_refused, delete_made}
 use Rattle.pq_index_keep.proofs.Inserting.{writable_at}
+use Rattle.std.specs.Prelude.{IfSome}
+use Rattle.pq_schema.specs.declared.table.Table.{Table}
+use Rattle.pq_index_keep.specs.Refusals.{IsDeleteRefusal}
+use Rattle.pq_index_keep.specs.declared.write.Write.TheVariants.{Delete}
+use Rattle.pq_index_keep.proofs.Refusing.{deletes_can, found_can}
 use Rattle.pq_index_keep.proofs.plan.plan_removal.Goals as goal
 
 pub child_refusal-requires-clause-may : goal.child_refusal-requires-clause-may
@@ -31,3 +36,9 @@ returns-in_ok-changes-in-None-clause-answer g c = λ rows others s found.
 pub returns-in_ok-changes-in-None-clause-own : goal.returns-in_ok-changes-in-None-clause-own
 returns-in_ok-changes-in-None-clause-own g c =
     own_removal c.args.number c.args.key.now c.args.found.at _ _ c.requires.at c.in_ok-changes-in-None.ensures
+
+pub returns-in-Some-clause-can : goal.returns-in-Some-clause-can
+returns-in-Some-clause-can g c =
+    let tables = c.args.catalog.now.tables in
+    found_can tables (Delete c.args.number c.args.key.now) c.in_ok-refusal.refusal c.in-Some.refusal c.in-Some.is
+    (deletes_can tables c.args.number c.args.key.now c.in_ok-refusal.refusal (subst (λ (ts : List Table). IfSome c.in_ok-refusal.refusal (IsDeleteRefusal ts)) c.tables-tables.ensures.tables c.in_ok-refusal.ensures.can))

@@ -1,4 +1,4 @@
-use Rattle.std.proofs.Common.{◌≡◌, ◌∙◌, ℕ, Bool, true, false, List, Option, Some, None, is_some, sym, ap}
+use Rattle.std.proofs.Common.{◌≡◌, ◌∙◌, ℕ, Bool, true, false, List, Option, Some, None, is_some, sym, ap, inl}
 use Rattle.pq_base.specs.Answers.{or_else}
 use Rattle.pq_base.specs.declared.refusal.Refusal.{Refusal}
 use Rattle.pq_base.specs.declared.refusal.Refusal.TheVariants.{DuplicateKey}
@@ -11,6 +11,7 @@ use Rattle.pq_index_keep.specs.Effects.{parent_refusal, room_refusal, insert_ref
 use Rattle.pq_index_keep.specs.declared.write.Scope.TheVariants.{All}
 use Rattle.pq_index_keep.proofs.Steps.{settled_later}
 use Rattle.pq_index_keep.proofs.Tests.{told_own}
+use Rattle.pq_index_keep.proofs.Refusing.{tests_insert}
 use Rattle.pq_index_keep.proofs.refusals.insert_refusal.Goals as goal
 
 refused_first : (b : Bool) (why got : Refusal) (rest : Option Refusal) → true ≡ b → got ≡ why → Some got ≡ or_else (refused_if b why) rest
@@ -45,3 +46,9 @@ returns-clause-answer g c = λ tables rows others s is tested.
     (refused_later (is_some (row_at tables rows c.args.number (key_of table row))) (DuplicateKey table.name) _ (or_else (parent_refusal tables rows All table row) (room_refusal rows All None c.args.number table row))
     (sym c.if-branch.false ∙ told_own tables rows others _ c.args.number table row c.args.at.now _ s is tested.fits c.requires.at c.in_ok-has_value.ensures.answer)
     (c.in_ok-rest.ensures.answer tables rows others (settled_later _ _ _ _ tables rows others c.has_value.ensures.uses.reads s) is tested))
+
+pub returns-then-branch-clause-can : goal.returns-then-branch-clause-can
+returns-then-branch-clause-can g c = inl (ap DuplicateKey c.in_ok-name.ensures)
+
+pub returns-clause-can : goal.returns-clause-can
+returns-clause-can g c = tests_insert c.args.table.now c.in_ok-rest.rest c.in_ok-rest.ensures.can

@@ -1,4 +1,4 @@
-use Rattle.std.proofs.Common.{◌∙◌, ap, sym, Some, List}
+use Rattle.std.proofs.Common.{◌∙◌, ap, sym, Some, List, subst}
 use Rattle.pq_base.specs.declared.value.Value.{Value}
 use Rattle.pq_schema.specs.Tables.{table_at}
 use Rattle.pq_index_keep.specs.Promises.{IsTested}
@@ -8,6 +8,11 @@ use Rattle.pq_index_keep.proofs.Changing.{own_change}
 use Rattle.pq_index_keep.proofs.Coding.{fit_texts, fit_columns, update_planned}
 use Rattle.pq_index_keep.proofs.Inserting.{writable_at, is_tested}
 use Rattle.pq_index_keep.proofs.Updating.{fit_sets, sets_inside, sets_small, as_update, kept_sequence, update_refused, update_made}
+use Rattle.std.specs.Prelude.{IfSome}
+use Rattle.pq_schema.specs.declared.table.Table.{Table}
+use Rattle.pq_index_keep.specs.Refusals.{IsUpdateRefusal}
+use Rattle.pq_index_keep.specs.declared.write.Write.TheVariants.{Update}
+use Rattle.pq_index_keep.proofs.Refusing.{found_can, updates_can}
 use Rattle.pq_index_keep.proofs.update.plan_change.Goals as goal
 
 pub scope_of-scope-requires : goal.scope_of-scope-requires
@@ -78,3 +83,9 @@ returns-in_ok-changes-in-None-clause-answer g c = λ rows others s found.
 pub returns-in_ok-changes-in-None-clause-own : goal.returns-in_ok-changes-in-None-clause-own
 returns-in_ok-changes-in-None-clause-own g c =
     own_change c.args.number c.args.key.now c.args.found.at _ _ _ c.requires.at c.in_ok-changes-in-None.ensures
+
+pub returns-in-Some-clause-can : goal.returns-in-Some-clause-can
+returns-in-Some-clause-can g c =
+    let tables = c.args.catalog.now.tables in
+    found_can tables (Update c.args.number c.args.key.now c.args.sets.now) c.in_ok-refusal.refusal c.in-Some.refusal c.in-Some.is
+    (updates_can tables c.args.number c.args.key.now c.args.sets.now c.in_ok-refusal.refusal (subst (λ (t : Table). IfSome c.in_ok-refusal.refusal (IsUpdateRefusal t)) c.table_of-table.ensures.table c.in_ok-refusal.ensures.can))

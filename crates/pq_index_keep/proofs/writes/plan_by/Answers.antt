@@ -11,3 +11,6 @@ returns-in-Ok-plan_update-clause-plan g c = rw c.in-Update.is c.in-Ok-plan_updat
 
 pub returns-in-Ok-plan_update-clause-own : goal.returns-in-Ok-plan_update-clause-own
 returns-in-Ok-plan_update-clause-own g c = rw c.in-Update.is c.in-Ok-plan_update.ensures.own
+
+pub returns-in-Ok-plan_update-clause-can : goal.returns-in-Ok-plan_update-clause-can
+returns-in-Ok-plan_update-clause-can g c = rw c.in-Update.is c.in-Ok-plan_update.ensures.can
