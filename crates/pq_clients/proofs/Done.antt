@@ -1,24 +1,20 @@
 -- Done is told exactly where the free of an own row is answered with true.
-use Rattle.std.proofs.Common.{◌≡◌, ℕ, Bool, true, false, cond, List, ◌∷◌, length, Option, Some, None, refl, sym, ap, ◌∙◌}
-use Rattle.std.specs.Prelude.{nat_lt}
+use Rattle.std.proofs.Common.{◌≡◌, ℕ, Bool, true, false, cond, List, ◌∷◌, Option, Some, None, refl, sym, ap, ◌∙◌}
 use Rattle.std.specs.FinMap.{get}
 use Rattle.std.proofs.lemmas.Bool.{false≢true}
-use Rattle.pq_base.specs.declared.refusal.Refusal.TheVariants as refusal
-use Rattle.pq_base.specs.declared.value.Value.{Value}
 use Rattle.pq_schema.specs.declared.table.Table.{Table}
-use Rattle.pq_content.specs.Tables.{stored_code}
 use Rattle.pq_store.specs.Content.{Content, written_content}
 use Rattle.pq_index_keep.specs.declared.write.Write.{Write}
-use Rattle.pq_index_keep.specs.declared.write.Write.TheVariants as write
 use Rattle.pq_clients.specs.declared.outcome.Outcome.{Outcome}
 use Rattle.pq_clients.specs.declared.outcome.Outcome.TheVariants as outcome
 use Rattle.pq_clients.specs.declared.outcome.Step.{Step}
 use Rattle.pq_clients.specs.declared.outcome.Step.TheVariants as step
-use Rattle.pq_clients.specs.Held.{stored_row, Cell, Free, Held, cell_of, held_value}
-use Rattle.pq_clients.specs.Flights.{row_made, table_of, pair_key, Flight, flight_table, flight_key, new_code, fresh_entries, stale_entries, flight_checks, check_refusal, test_refusal}
+use Rattle.pq_clients.specs.Held.{held_value}
+use Rattle.pq_clients.specs.Flights.{Flight, flight_key, new_code, fresh_entries, stale_entries, flight_checks, check_refusal, test_refusal}
 use Rattle.pq_clients.specs.Clients.{Checking, Adding, Testing, Putting, Clearing, Freeing, Undoing, Releasing, Next, Reading, Taking, Looking, Flying, View, write_at, is_over}
-use Rattle.pq_clients.specs.Steps.{is_just, taking_short, after_row, after_code, after_cell, after_read, read_on, is_held_by_other, Then, On, Puts, Ends, testing, checking, clearing, undoing, passes, has_room, refused, damaged, gone_on, after_call, Fate, Answers, NotDone, DoneUnseen, NoMemory, met, stepped}
+use Rattle.pq_clients.specs.Steps.{is_just, read_on, Then, On, Puts, Ends, testing, checking, clearing, undoing, passes, has_room, refused, damaged, gone_on, after_call, Fate, Answers, NotDone, DoneUnseen, NoMemory, met, stepped}
 use Rattle.pq_clients.specs.Promises.{Frees, TellsOutcome}
+use Rattle.pq_clients.proofs.EndsWith.{ends_with, if_not, cond_not, reads_not}
 use Rattle.pq_clients.proofs.Shaped.{just_this, just_itself}
 
 module _ (tables : List Table) where
@@ -31,53 +27,9 @@ module _ (tables : List Table) where
   is_done outcome.NoMem = false
   is_done (outcome.Damaged d) = false
 
-  -- it ends with Done
-  ends_done : Then → Bool
-  ends_done (On next) = false
-  ends_done (Puts next) = false
-  ends_done (Ends o) = is_done o
-
-  if_done : (b : Bool) (t u : Then) → ends_done t ≡ false → ends_done u ≡ false → ends_done (cond b t u) ≡ false
-  if_done true t u h k = h
-  if_done false t u h k = k
-
-  cond_done : (b : Bool) (c d : Content) (t u : Then) → ends_done t ≡ false → ends_done u ≡ false → ends_done (cond {A = Content × Then} b (c, t) (d, u)).1 ≡ false
-  cond_done true c d t u h k = h
-  cond_done false c d t u h k = k
-
-  short_done : (f : Flight) (row : Option (List Value)) → ends_done (taking_short tables f row) ≡ false
-  unfolding ends_done is_done
-  short_done f None = refl
-  short_done f (Some row) = if_done (nat_lt 4096 (length (stored_code (flight_table tables f) row))) (refused (refusal.RowLong (flight_table tables f).name (length (stored_code (flight_table tables f) row)))) (On (Taking f)) refl refl
-
-  row_done : (w : Write) (read : Option (List ℕ)) (row : Option (List Value)) → ends_done (after_row tables w read row) ≡ false
-  unfolding ends_done is_done
-  row_done (write.Insert t new) read None = refl
-  row_done (write.Insert t new) read (Some old) = refl
-  row_done (write.Update t key sets) read None = refl
-  row_done (write.Update t key sets) read (Some old) =
-      short_done (record { write = write.Update t key sets; read = read }) (row_made (write.Update t key sets) (Some old))
-  row_done (write.Delete t key) read None = refl
-  row_done (write.Delete t key) read (Some old) = refl
-
-  code_done : (w : Write) (code : List ℕ) (row : Option (List Value)) → ends_done (after_code tables w code row) ≡ false
-  unfolding ends_done is_done
-  code_done w code None = refl
-  code_done w code (Some row) = row_done w (Some code) (Some row)
-
-  cell_done : (client : ℕ) (w : Write) (value : List ℕ) (cell : Cell) → ends_done (after_cell tables client w value cell) ≡ false
-  unfolding ends_done is_done
-  cell_done client w value (Free code) = code_done w value (stored_row (table_of tables w) value)
-  cell_done client w value (Held holder number present) = if_done (is_held_by_other (table_of tables w) client (Held holder number present)) (Ends (outcome.Busy value)) (damaged (pair_key tables w) (Some value)) refl refl
-
-  read_done : (client : ℕ) (w : Write) (o : Option (List ℕ)) → ends_done (after_read tables client w o) ≡ false
-  read_done client w None = row_done w None None
-  read_done client w (Some value) = cell_done client w value (cell_of value)
-
-  reads_done : (client : ℕ) (w : Option Write) (c : Content) → ends_done (read_on tables client w c).1 ≡ false
-  unfolding ends_done is_done
-  reads_done client None c = refl
-  reads_done client (Some w) c = read_done client w (get c (pair_key tables w))
+  reads_done : (client : ℕ) (w : Option Write) (c : Content) → ends_with is_done (read_on tables client w c).1 ≡ false
+  unfolding is_done
+  reads_done client w c = reads_not tables is_done (λ r. refl) (λ found. refl) (λ damage. refl) client w c
 
   -- the guard of a free
   abbrev pub Own : View → Content → Flight → Type 0
@@ -86,26 +38,26 @@ module _ (tables : List Table) where
   abbrev pub AtFree : View → Content → Next → Type 0
   AtFree v c next = (f : Flight) × (next ≡ Flying f Freeing) × Own v c f
 
-  not_done : (v : View) (c : Content) (next : Next) (t : Then) → ends_done t ≡ false → ends_done t ≡ true → AtFree v c next
+  not_done : (v : View) (c : Content) (next : Next) (t : Then) → ends_with is_done t ≡ false → ends_with is_done t ≡ true → AtFree v c next
   not_done v c next t h e = absurd (false≢true (sym h ∙ e))
 
-  gone_done : (v : View) (c : Content) (next : Next) → ends_done (gone_on tables v next c).1 ≡ true → AtFree v c next
-  unfolding ends_done is_done
+  gone_done : (v : View) (c : Content) (next : Next) → ends_with is_done (gone_on tables v next c).1 ≡ true → AtFree v c next
+  unfolding is_done
   gone_done v c Reading = not_done v c Reading (read_on tables v.number (write_at v.writes v.at) c).1 (reads_done v.number (write_at v.writes v.at) c)
-  gone_done v c (Taking g) = not_done v c (Taking g) (gone_on tables v (Taking g) c).1 (cond_done (is_just g.read (get c (flight_key tables g))) (written_content (flight_key tables g) (Some (held_value v.number v.at g.read)) c) c (On (Flying g (checking tables g (flight_checks tables g)))) (On (Looking g)) refl refl)
+  gone_done v c (Taking g) = not_done v c (Taking g) (gone_on tables v (Taking g) c).1 (cond_not is_done (is_just g.read (get c (flight_key tables g))) (written_content (flight_key tables g) (Some (held_value v.number v.at g.read)) c) c (On (Flying g (checking tables g (flight_checks tables g)))) (On (Looking g)) refl refl)
   gone_done v c (Looking g) = not_done v c (Looking g) (gone_on tables v (Looking g) c).1 refl
-  gone_done v c (Flying g (Checking check left)) = not_done v c (Flying g (Checking check left)) (gone_on tables v (Flying g (Checking check left)) c).1 (if_done (passes tables check c) (On (Flying g (checking tables g left))) (On (Flying g (Releasing (check_refusal tables g check)))) refl refl)
+  gone_done v c (Flying g (Checking check left)) = not_done v c (Flying g (Checking check left)) (gone_on tables v (Flying g (Checking check left)) c).1 (if_not is_done (passes tables check c) (On (Flying g (checking tables g left))) (On (Flying g (Releasing (check_refusal tables g check)))) refl refl)
   gone_done v c (Flying g (Adding entry left added)) = not_done v c (Flying g (Adding entry left added)) (gone_on tables v (Flying g (Adding entry left added)) c).1 refl
-  gone_done v c (Flying g (Testing place left passed)) = not_done v c (Flying g (Testing place left passed)) (gone_on tables v (Flying g (Testing place left passed)) c).1 (if_done (has_room tables g place c) (On (Flying g (testing left (place ∷ passed)))) (On (Flying g (undoing (fresh_entries tables g) (test_refusal tables g place)))) refl refl)
-  gone_done v c (Flying g Putting) = not_done v c (Flying g Putting) (gone_on tables v (Flying g Putting) c).1 (cond_done (is_just (Some (held_value v.number v.at g.read)) (get c (flight_key tables g))) (written_content (flight_key tables g) (Some (held_value v.number v.at (new_code tables g))) c) c (Puts (Flying g (clearing (stale_entries tables g)))) (damaged (flight_key tables g) None) refl refl)
+  gone_done v c (Flying g (Testing place left passed)) = not_done v c (Flying g (Testing place left passed)) (gone_on tables v (Flying g (Testing place left passed)) c).1 (if_not is_done (has_room tables g place c) (On (Flying g (testing left (place ∷ passed)))) (On (Flying g (undoing (fresh_entries tables g) (test_refusal tables g place)))) refl refl)
+  gone_done v c (Flying g Putting) = not_done v c (Flying g Putting) (gone_on tables v (Flying g Putting) c).1 (cond_not is_done (is_just (Some (held_value v.number v.at g.read)) (get c (flight_key tables g))) (written_content (flight_key tables g) (Some (held_value v.number v.at (new_code tables g))) c) c (Puts (Flying g (clearing (stale_entries tables g)))) (damaged (flight_key tables g) None) refl refl)
   gone_done v c (Flying g (Clearing entry left)) = not_done v c (Flying g (Clearing entry left)) (gone_on tables v (Flying g (Clearing entry left)) c).1 refl
   gone_done v c (Flying g Freeing) = by (is_just (Some (held_value v.number v.at (new_code tables g))) (get c (flight_key tables g))) refl
     where
-      by : (b : Bool) → is_just (Some (held_value v.number v.at (new_code tables g))) (get c (flight_key tables g)) ≡ b → ends_done (cond {A = Content × Then} b (written_content (flight_key tables g) (new_code tables g) c, Ends outcome.Done) (c, damaged (flight_key tables g) None)).1 ≡ true → AtFree v c (Flying g Freeing)
+      by : (b : Bool) → is_just (Some (held_value v.number v.at (new_code tables g))) (get c (flight_key tables g)) ≡ b → ends_with is_done (cond {A = Content × Then} b (written_content (flight_key tables g) (new_code tables g) c, Ends outcome.Done) (c, damaged (flight_key tables g) None)).1 ≡ true → AtFree v c (Flying g Freeing)
       by true h e = (g, refl, h)
       by false h e = absurd (false≢true e)
   gone_done v c (Flying g (Undoing entry left r)) = not_done v c (Flying g (Undoing entry left r)) (gone_on tables v (Flying g (Undoing entry left r)) c).1 refl
-  gone_done v c (Flying g (Releasing r)) = not_done v c (Flying g (Releasing r)) (gone_on tables v (Flying g (Releasing r)) c).1 (cond_done (is_just (Some (held_value v.number v.at g.read)) (get c (flight_key tables g))) (written_content (flight_key tables g) g.read c) c (refused r) (damaged (flight_key tables g) None) refl refl)
+  gone_done v c (Flying g (Releasing r)) = not_done v c (Flying g (Releasing r)) (gone_on tables v (Flying g (Releasing r)) c).1 (cond_not is_done (is_just (Some (held_value v.number v.at g.read)) (get c (flight_key tables g))) (written_content (flight_key tables g) g.read c) c (refused r) (damaged (flight_key tables g) None) refl refl)
 
   unfoldable pub step_done : Step → Bool
   step_done step.Moved = false
@@ -113,8 +65,8 @@ module _ (tables : List Table) where
   step_done (step.Tells told) = is_done told.outcome
   step_done step.Over = false
 
-  call_done : (v : View) (c : Content) (t : Then) → step_done (after_call v (c, t)).step ≡ ends_done t
-  unfolding step_done ends_done
+  call_done : (v : View) (c : Content) (t : Then) → step_done (after_call v (c, t)).step ≡ ends_with is_done t
+  unfolding step_done
   call_done v c (On next) = refl
   call_done v c (Puts next) = refl
   call_done v c (Ends o) = refl

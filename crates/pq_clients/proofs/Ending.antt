@@ -60,13 +60,12 @@ module _ (tables : List Table) where
   turns_counted p k (suc n) less =
       omega (arith, below_counted p k less, turns_counted p k n less, sum_by-append (λ q. cond {A = ℕ} (q == p) 1 0) (places_below k) (by_turns k n))
 
-  one_of_sum : (f : View → ℕ) (vs : List View) (p : ℕ) (v : View) → slice_get vs p ≡ Some v → (p < length vs) × (f v ≤ sum_by f vs)
-  one_of_sum f [] p v is = absurd (cc)
-  one_of_sum f (x ∷ xs) zero v is =
+  one_of_each : (n : ℕ) (vs : List View) (p : ℕ) (v : View) → AllByRecursion (λ (u : View). calls_of_client tables u ≤ n) vs → slice_get vs p ≡ Some v → (p < length vs) × (calls_of_client tables v ≤ n)
+  one_of_each n [] p v all is = absurd (cc)
+  one_of_each n (x ∷ xs) zero v all is =
       let same : x ≡ v = cc in
-      let value : f x ≡ f v = ap f same in
-      (omega arith, omega (arith, value, sum_by-cons f x xs))
-  one_of_sum f (x ∷ xs) (suc p) v is = let rest = one_of_sum f xs p v is in (omega (arith, rest.0), omega (arith, rest.1, sum_by-cons f x xs))
+      (omega arith, subst (λ (u : View). calls_of_client tables u ≤ n) same all.0)
+  one_of_each n (x ∷ xs) (suc p) v all is = let rest = one_of_each n xs p v all.1 is in (omega (arith, rest.0), rest.1)
 
   each_over : (vs : List View) → ((p : ℕ) (v : View) → slice_get vs p ≡ Some v → is_over v ≡ true) → AllByRecursion (λ (v : View). is_over v ≡ true) vs
   each_over [] h = tt
@@ -83,14 +82,14 @@ module _ (tables : List Table) where
         rounds = λ n most turns. each_over left (λ p v is. by_turn n most turns own p v is);
       }
     where
-      by_turn : (n : ℕ) → sum_by (λ v. calls_of_client tables v) clients ≤ n → places ≡ by_turns (length clients) n
+      by_turn : (n : ℕ) → AllByRecursion (λ (u : View). calls_of_client tables u ≤ n) clients → places ≡ by_turns (length clients) n
           → ((p : ℕ) (v : View) → slice_get clients p ≡ Some v → calls_of_client tables v ≤ count_by (λ q. q == p) places → IsOverAt left p)
           → (p : ℕ) (v : View) → slice_get left p ≡ Some v → is_over v ≡ true
       by_turn n most turns own p v is =
           let was = was_there c clients events p v (subst (λ (l : List View). slice_get l p ≡ Some v) leaves is) in
-          let part = one_of_sum (λ (v : View). calls_of_client tables v) clients p was.0 was.1 in
+          let part = one_of_each n clients p was.0 most was.1 in
           let often = turns_counted p (length clients) n part.0 in
-          let over = own p was.0 was.1 (subst (λ (l : List ℕ). calls_of_client tables was.0 ≤ count_by (λ q. q == p) l) (sym turns) (omega (arith, part.1, often, most))) in
+          let over = own p was.0 was.1 (subst (λ (l : List ℕ). calls_of_client tables was.0 ≤ count_by (λ q. q == p) l) (sym turns) (omega (arith, part.1, often))) in
           let both : ◌≡◌ {A = Option View} (Some over.0) (Some v) = sym over.1 ∙ is in
           let same : over.0 ≡ v = cc in
           subst (λ (w : View). is_over w ≡ true) same over.2

@@ -53,6 +53,7 @@ pub mod Left
 pub mod Ways
 pub mod Promising
 pub mod Ending
+pub mod EndsWith
 pub mod AtKeys
 pub mod ByCalls
 pub mod FitsMade

@@ -7,7 +7,8 @@ use Rattle.pq_index_keep.specs.declared.write.Write.{Write}
 use Rattle.pq_clients.specs.declared.outcome.Outcome.{Outcome}
 use Rattle.pq_clients.specs.Flights.{Flight, Check, new_code}
 
--- the next step of a write that holds its key: what it is made on, what is left behind it, and what was made of its kind
+-- the next step of a write that holds its key: what it is made on, what is left behind it, and what was made of its
+-- kind
 pub data Stage : Type 0 where
   -- a get or a count
   Checking : (check : Check) (left : List Check) → Stage

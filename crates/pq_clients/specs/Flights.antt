@@ -114,8 +114,8 @@ stale_entries tables f = left_out (old_entries tables f) (new_entries tables f)
 
 -- ---- parents and children
 
--- a row that a foreign key names, by the place of the key, the row's table and the key of its pair; or the rows of a table that
--- name the row by a foreign key, by the table's number, the place of the key and the beginning of their keys
+-- a row that a foreign key names, by the place of the key, the row's table and the key of its pair; or the rows of a
+-- table that name the row by a foreign key, by the table's number, the place of the key and the beginning of their keys
 pub data Check : Type 0 where
   Parent : (place table : ℕ) (at : List ℕ) → Check
   Child : (table place : ℕ) (front : List ℕ) → Check
@@ -124,7 +124,8 @@ abbrev pub parent_checks : Write → List Value → ℕ → List Foreign → Lis
 parent_checks w row place [] = []
 parent_checks w row place (foreign ∷ rest) =
     if is_tested w row foreign.cols
-    then Parent place foreign.table (row_key foreign.table (cells foreign.cols row)) ∷ parent_checks w row (place + 1) rest
+    then Parent place foreign.table (row_key foreign.table (cells foreign.cols row))
+    ∷ parent_checks w row (place + 1) rest
     else parent_checks w row (place + 1) rest
 
 abbrev pub child_checks_of : ℕ → List Value → ℕ → Table → ℕ → List Foreign → List Check

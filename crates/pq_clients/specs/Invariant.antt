@@ -34,7 +34,8 @@ code_row tables k code =
 
 -- whether a key is of an entry of the row with this code
 unfoldable pub has_code_entry : List Table → List ℕ → Option (List ℕ) → List ℕ → Bool
-has_code_entry tables k code e = has_entry e (keys_of_row (key_table k) (table_at tables (key_table k)) (code_row tables k code))
+has_code_entry tables k code e =
+    has_entry e (keys_of_row (key_table k) (table_at tables (key_table k)) (code_row tables k code))
 
 -- a row's code stands at the row's own key
 pub record IsRowAt (tables : List Table) (k code : List ℕ) : Type 0 where
@@ -87,7 +88,8 @@ group_bound tables g = (limit_at (table_at tables g.table) g.place).n
 
 -- the beginning of the keys under which its rows are counted
 abbrev pub front_of_group : List Table → Group → List ℕ
-front_of_group tables g = group_key g.table (table_at tables g.table) (limit_at (table_at tables g.table) g.place).cols g.values
+front_of_group tables g =
+    group_key g.table (table_at tables g.table) (limit_at (table_at tables g.table) g.place).cols g.values
 
 -- ---- what a client's step says of the key that it holds
 
@@ -204,7 +206,9 @@ HeldWell (Some (Held i m p)) stances k = IsHolder (stances i) k m p
 -- a client that is not over holds its key
 abbrev pub Owns : Content → ℕ → Stance → Type 0
 Owns c j Idle = Unit {0}
-Owns c j (Holds h) = (is_in_space 2 h.key ≡ true) × (get c h.key ≡ Some (held_value j h.at h.present)) × (cell_of (held_value j h.at h.present) ≡ Held j h.at h.present)
+Owns c j (Holds h) =
+    (is_in_space 2 h.key ≡ true) × (get c h.key ≡ Some (held_value j h.at h.present))
+    × (cell_of (held_value j h.at h.present) ≡ Held j h.at h.present)
 Owns c j (Left l) = Unit {0}
 
 -- ---- Entries
@@ -237,10 +241,13 @@ abbrev pub is_there : Content → List ℕ → Bool
 is_there c e = is_some (get c e)
 
 -- what is known at one key
-pub record KeyGood (tables : List Table) (x : Option Cell) (marks : List ℕ → Bool) (stances : ℕ → Stance) (k : List ℕ) : Type 0 where
+pub record KeyGood (tables : List Table) (x : Option Cell) (marks : List ℕ → Bool) (stances : ℕ → Stance)
+    (k : List ℕ) : Type 0 where
   pub held : HeldWell x stances k
-  pub lower : (e : List ℕ) → Names tables k e → (has_code_entry tables k (present_at_cell x) e || due_at x stances e) ≡ true → marks e ≡ true
-  pub upper : (e : List ℕ) → Names tables k e → marks e ≡ true → (has_code_entry tables k (present_at_cell x) e || extra_at x stances e) ≡ true
+  pub lower : (e : List ℕ) → Names tables k e
+      → (has_code_entry tables k (present_at_cell x) e || due_at x stances e) ≡ true → marks e ≡ true
+  pub upper : (e : List ℕ) → Names tables k e → marks e ≡ true
+      → (has_code_entry tables k (present_at_cell x) e || extra_at x stances e) ≡ true
 
 -- ---- Limits
 
@@ -308,7 +315,8 @@ abbrev pub NextFits : List Table → View → Next → Type 0
 NextFits tables v Reading = Unit {0}
 NextFits tables v (Taking f) = FlightFits tables f × (write_at v.writes v.at ≡ Some f.write)
 NextFits tables v (Looking f) = FlightFits tables f × (write_at v.writes v.at ≡ Some f.write)
-NextFits tables v (Flying f stage) = FlightFits tables f × (write_at v.writes v.at ≡ Some f.write) × StageFits tables f stage
+NextFits tables v (Flying f stage) =
+    FlightFits tables f × (write_at v.writes v.at ≡ Some f.write) × StageFits tables f stage
 
 pub record ViewFits (tables : List Table) (v : View) : Type 0 where
   pub small : v.number < 2 ^ 32
@@ -322,6 +330,8 @@ pub record ViewFits (tables : List Table) (v : View) : Type 0 where
 -- each pair of a row has a row's code there, free or held, or is held with nothing; each entry is one of some row and
 -- has no value; all other pairs are as at entry
 pub record IsShaped (tables : List Table) (c : Content) (others : List ℕ → Option (List ℕ)) : Type 0 where
-  pub rows : (k value : List ℕ) → is_in_space 2 k ≡ true → get c k ≡ Some value → MayStandAt tables k (present_in (cell_of value))
-  pub entries : (e value : List ℕ) → is_in_space 3 e ≡ true → get c e ≡ Some value → ((k : List ℕ) × Names tables k e) × (value ≡ [])
+  pub rows : (k value : List ℕ) → is_in_space 2 k ≡ true → get c k ≡ Some value
+      → MayStandAt tables k (present_in (cell_of value))
+  pub entries : (e value : List ℕ) → is_in_space 3 e ≡ true → get c e ≡ Some value
+      → ((k : List ℕ) × Names tables k e) × (value ≡ [])
   pub beside : (q : List ℕ) → is_of_rows q ≡ false → get c q ≡ others q

@@ -1,5 +1,5 @@
--- The one call of a step, as data: a get, a count with its cap, or a write with its guard; what it answers and leaves, and
--- how the write goes on behind each answer.
+-- The one call of a step, as data: a get, a count with its cap, or a write with its guard; what it answers and leaves,
+-- and how the write goes on behind each answer.
 use Rattle.std.specs.Prelude.{◌≡◌, ℕ, ◌+◌, Bool, true, false, ◌==◌, nat_le, List, [], Option, Some, None, is_some, if◌then◌else◌}
 use Rattle.std.specs.FinMap.{get}
 use Rattle.pq_schema.specs.declared.table.Table.{Table}

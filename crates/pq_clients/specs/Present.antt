@@ -26,7 +26,8 @@ as_row t (Some row) = (t, row) ∷ []
 
 -- the row present in a pair, if it is one of the rows' pairs
 abbrev pub rows_in : List Table → List ℕ → List ℕ → Rows
-rows_in tables (space ∷ t ∷ code) value = if space == 2 then as_row t (present_row (table_at tables t) (Some value)) else []
+rows_in tables (space ∷ t ∷ code) value =
+    if space == 2 then as_row t (present_row (table_at tables t) (Some value)) else []
 rows_in tables _ value = []
 
 abbrev pub rows_among : List Table → List Pair → Rows

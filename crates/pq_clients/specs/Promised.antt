@@ -32,17 +32,21 @@ abbrev pub by_turns : ℕ → ℕ → List ℕ
 by_turns k zero = []
 by_turns k (suc n) = places_below k ++ by_turns k n
 
--- a client is over whose place came as often as it may call; and all are over after as many rounds as they may call together
+-- a client is over whose place came as often as it may call; and all are over after so many rounds that none of them
+-- may make more calls
 pub record AreOverAfter (tables : List Table) (clients : List View) (places : List ℕ) (left : List View) : Type 0 where
-  pub each : (p : ℕ) (v : View) → slice_get clients p ≡ Some v → calls_of_client tables v ≤ count_by (λ q. q == p) places → IsOverAt left p
-  pub rounds : (n : ℕ) → sum_by (λ v. calls_of_client tables v) clients ≤ n → places ≡ by_turns (length clients) n
+  pub each : (p : ℕ) (v : View) → slice_get clients p ≡ Some v
+      → calls_of_client tables v ≤ count_by (λ q. q == p) places → IsOverAt left p
+  pub rounds : (n : ℕ) → AllByRecursion (λ v. calls_of_client tables v ≤ n) clients
+      → places ≡ by_turns (length clients) n
       → AllByRecursion (λ v. is_over v ≡ true) left
 
 -- ---- all of it
 
--- the clients took their steps at just these places, each with some fate; what is left, told and put is what these steps
--- leave from these rows; and all that is promised holds of them and of the first n of them, for every n
-pub record RunsAsPromised (tables : List Table) (rows : Rows) (others : List Pair) (clients : List View) (places : List ℕ)
+-- the clients took their steps at just these places, each with some fate; what is left, told and put is what these
+-- steps leave from these rows; and all that is promised holds of them and of the first n of them, for every n
+pub record RunsAsPromised (tables : List Table) (rows : Rows) (others : List Pair) (clients : List View)
+    (places : List ℕ)
     (content : Option Content) (left : List View) (told : List Told) (puts : List Wrote) : Type 0 where
   pub events : List Event
   pub at : map (λ (e : Event). e.place) events ≡ places

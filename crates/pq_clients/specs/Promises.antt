@@ -64,7 +64,8 @@ reached tables rows others clients events = run tables (begun (content_pairs tab
 -- each of the row's entries is there
 abbrev pub HasEntries : List Table → Content → ℕ × List Value → Type 0
 HasEntries tables c e =
-    AllByRecursion (λ pair. get c pair.0 ≡ Some pair.1) (entries_from e.0 1 (table_at tables e.0) (table_at tables e.0).indexes e.1)
+    AllByRecursion (λ pair. get c pair.0 ≡ Some pair.1)
+    (entries_from e.0 1 (table_at tables e.0) (table_at tables e.0).indexes e.1)
 
 -- the present rows are rows of their tables with different keys, each has its entries, and no group is over its limit
 pub record KeepsPresent (tables : List Table) (c : Content) : Type 0 where
@@ -76,7 +77,8 @@ pub record KeepsPresent (tables : List Table) (c : Content) : Type 0 where
   -- the row present at a key is the one coded in the key's pair
   pub coded : (t : ℕ) (key : List Value) → IsTableNumber tables t → AllOfKinds (key_types (table_at tables t)) key
       → row_at tables (present_rows tables c) t key ≡ present_at tables c t key
-  pub limits : (t : ℕ) → IsTableNumber tables t → AllByRecursion (IsWithinLimit t (present_rows tables c)) (table_at tables t).limits
+  pub limits : (t : ℕ) → IsTableNumber tables t
+      → AllByRecursion (IsWithinLimit t (present_rows tables c)) (table_at tables t).limits
 
 -- ---- the present tables
 
@@ -87,14 +89,16 @@ is_insert (write.Delete t key) = false
 
 -- a client ended by Failed at its put, and the content shows the row that it was to put, or none for a DELETE
 abbrev pub shows_put : List Table → Content → Option Outcome → Next → Bool
-shows_put tables c (Some outcome.Failed) (Flying f Putting) = is_just (new_code tables f) (present_code (get c (flight_key tables f)))
+shows_put tables c (Some outcome.Failed) (Flying f Putting) =
+    is_just (new_code tables f) (present_code (get c (flight_key tables f)))
 shows_put tables c over next = false
 
 -- the writes at which such clients are
 abbrev pub shown_puts : List Table → Content → List View → List Wrote
 shown_puts tables c [] = []
 shown_puts tables c (v ∷ vs) =
-    (if shows_put tables c v.over v.next then record { client = v.number; number = v.at } ∷ [] else []) ++ shown_puts tables c vs
+    (if shows_put tables c v.over v.next then record { client = v.number; number = v.at } ∷ [] else [])
+    ++ shown_puts tables c vs
 
 -- those that were put, in their order, and those that failed at the put and show
 abbrev pub all_puts : List Table → Run → List Wrote
@@ -112,7 +116,8 @@ given clients = map (λ v. (v.number, v.writes)) clients
 abbrev pub EachFits : List Table → Rows → List Write → Type 0
 EachFits tables rows [] = Unit {0}
 EachFits tables rows (w ∷ ws) =
-    (is_insert w ≡ not (is_some (row_at tables rows (table_number w) (key_written tables w)))) × EachFits tables (rows_after tables rows w) ws
+    (is_insert w ≡ not (is_some (row_at tables rows (table_number w) (key_written tables w))))
+    × EachFits tables (rows_after tables rows w) ws
 
 -- the present tables are those at entry, changed by these writes
 pub record ShowsWrites (tables : List Table) (rows : Rows) (clients : List View) (r : Run) : Type 0 where
@@ -123,27 +128,31 @@ pub record ShowsWrites (tables : List Table) (rows : Rows) (clients : List View)
       → write_at v.writes v.at ≡ Some f.write
   -- each put is of a write of a client, and of each write there is one at most
   pub named : (wrote : Wrote) → In wrote (all_puts tables r) → (w : Write) × (write_named clients wrote ≡ w ∷ [])
-  pub once : (front back : List Wrote) (wrote : Wrote) → all_puts tables r ≡ front ++ wrote ∷ back → (In wrote front ⊎ In wrote back) → ⊥
+  pub once : (front back : List Wrote) (wrote : Wrote) → all_puts tables r ≡ front ++ wrote ∷ back
+      → (In wrote front ⊎ In wrote back) → ⊥
   pub present : (t : ℕ) (key : List Value) → IsTableNumber tables t → AllOfKinds (key_types (table_at tables t)) key
       → row_at tables (present_rows tables r.content) t key
       ≡ row_at tables (rows_after_all tables rows (made_writes tables clients r)) t key
   -- each of them finds no row, if it is an INSERT, and else a row
   pub fit : EachFits tables rows (made_writes tables clients r)
   -- a write that comes to its put finds present what it read: no row, if it is an INSERT, and else a row
-  pub finds : (p : ℕ) (v : View) (f : Flight) → slice_get r.clients p ≡ Some v → v.over ≡ None → v.next ≡ Flying f Putting
-      → (row_at tables (present_rows tables r.content) (table_number f.write) (key_written tables f.write) ≡ old_row tables f)
+  pub finds : (p : ℕ) (v : View) (f : Flight) → slice_get r.clients p ≡ Some v → v.over ≡ None
+      → v.next ≡ Flying f Putting
+      → (row_at tables (present_rows tables r.content) (table_number f.write) (key_written tables f.write)
+      ≡ old_row tables f)
       × (is_insert f.write ≡ not (is_some (old_row tables f)))
-  -- from its take on a client holds its key, with the row of its step present; so it does where it ended, and then it may
-  -- be the new row at the put; only a free that failed may have been done
+  -- from its take on a client holds its key, with the row of its step present; so it does where it ended, and then it
+  -- may be the new row at the put; only a free that failed may have been done
   pub stays : (p : ℕ) (v : View) (f : Flight) (stage : Stage) → slice_get r.clients p ≡ Some v → v.next ≡ Flying f stage
       → (v.over ≡ None) ⊎ (v.over ≡ Some outcome.NoMem) ⊎ (is_freeing stage ≡ false)
       → (present : Option (List ℕ)) × (get r.content (flight_key tables f) ≡ Some (held_value v.number v.at present))
       × ((present ≡ present_of tables f stage) ⊎ ((is_some v.over ≡ true) × (present ≡ may_show tables f stage)))
 
--- while a client that is not over holds a key, the entries there are just those of the row present and those that are due:
--- those that it has added, and those that it has still to remove
+-- while a client that is not over holds a key, the entries there are just those of the row present and those that are
+-- due: those that it has added, and those that it has still to remove
 abbrev pub HasDueEntries : List Table → Run → Type 0
-HasDueEntries tables r = (p : ℕ) (v : View) (f : Flight) (stage : Stage) → slice_get r.clients p ≡ Some v → v.over ≡ None
+HasDueEntries tables r =
+    (p : ℕ) (v : View) (f : Flight) (stage : Stage) → slice_get r.clients p ≡ Some v → v.over ≡ None
     → v.next ≡ Flying f stage → (e : List ℕ) → Names tables (flight_key tables f) e
     → is_there r.content e
     ≡ (has_code_entry tables (flight_key tables f) (present_of tables f stage) e || is_due tables f stage e)
@@ -196,8 +205,10 @@ pub record IsTold (told : List Told) (v : View) : Type 0 where
   pub numbers : numbers_told told v.number ≡ range_with_len 1 (told_so_far v)
   pub from_one : 1 ≤ v.at
   pub within : told_so_far v ≤ length v.writes
-  pub ended : (o : Outcome) → v.over ≡ Some o → (is_fault o ≡ true) × In (record { client = v.number; number = v.at; outcome = o }) told
-  pub faults : (t : Told) → In t told → t.client ≡ v.number → is_fault t.outcome ≡ true → (v.over ≡ Some t.outcome) × (t.number ≡ v.at)
+  pub ended : (o : Outcome) → v.over ≡ Some o
+      → (is_fault o ≡ true) × In (record { client = v.number; number = v.at; outcome = o }) told
+  pub faults : (t : Told) → In t told → t.client ≡ v.number → is_fault t.outcome ≡ true
+      → (v.over ≡ Some t.outcome) × (t.number ≡ v.at)
 
 -- so is each client, and nobody else is told
 pub record TellsInOrder (r : Run) : Type 0 where
@@ -237,12 +248,16 @@ HasReason tables v c (outcome.Refused (refusal.DuplicateKey name)) = (w : Write)
     × ReadsRow tables v c w row × (is_insert w ≡ true) × (name ≡ (table_of tables w).name)
 HasReason tables v c (outcome.Refused (refusal.NoRow name)) = (w : Write)
     × Reads tables v c w None × (is_insert w ≡ false) × (name ≡ (table_of tables w).name)
-HasReason tables v c (outcome.Refused (refusal.RowLong name long)) = (w : Write) × (old : List Value) × (new : List Value)
+HasReason tables v c (outcome.Refused (refusal.RowLong name long)) =
+    (w : Write) × (old : List Value) × (new : List Value)
     × ReadsRow tables v c w old × (is_insert w ≡ false) × (row_made w (Some old) ≡ Some new)
     × (long ≡ length (stored_code (table_of tables w) new)) × (4096 < long) × (name ≡ (table_of tables w).name)
-HasReason tables v c (outcome.Refused (refusal.NoParent name place)) = (f : Flight) × (v.next ≡ Flying f (Releasing (refusal.NoParent name place)))
-HasReason tables v c (outcome.Refused (refusal.Referenced name place)) = (f : Flight) × (v.next ≡ Flying f (Releasing (refusal.Referenced name place)))
-HasReason tables v c (outcome.Refused (refusal.Cardinality name place n)) = (f : Flight) × (v.next ≡ Flying f (Releasing (refusal.Cardinality name place n)))
+HasReason tables v c (outcome.Refused (refusal.NoParent name place)) =
+    (f : Flight) × (v.next ≡ Flying f (Releasing (refusal.NoParent name place)))
+HasReason tables v c (outcome.Refused (refusal.Referenced name place)) =
+    (f : Flight) × (v.next ≡ Flying f (Releasing (refusal.Referenced name place)))
+HasReason tables v c (outcome.Refused (refusal.Cardinality name place n)) =
+    (f : Flight) × (v.next ≡ Flying f (Releasing (refusal.Cardinality name place n)))
 HasReason tables v c (outcome.Refused why) = ⊥
 HasReason tables v c (outcome.Damaged damage) = ⊥
 HasReason tables v c outcome.Done = Unit {0}
@@ -285,7 +300,8 @@ ShowsRefusal tables c f (Checking (Parent place u at) left) why =
 ShowsRefusal tables c f (Checking (Child u place front) left) why =
     (1 ≤ length (pairs_within c front (past_code front))) × (why ≡ referenced_refusal (table_at tables u) place)
 ShowsRefusal tables c f (Testing place left passed) why =
-    ((tested_limit tables f place).n < length (pairs_within c (tested_front tables f place) (past_code (tested_front tables f place))))
+    ((tested_limit tables f place).n
+    < length (pairs_within c (tested_front tables f place) (past_code (tested_front tables f place))))
     × (why ≡ no_room (flight_table tables f) place)
 ShowsRefusal tables c f stage why = ⊥
 
@@ -308,7 +324,8 @@ pub record HasCauses (tables : List Table) (v : View) (c : Content) (fate : Fate
   -- a step turns to the refusal of a test only where its call answers and shows it, and is a test of the write at hand
   pub turns : (f : Flight) (stage : Stage) (why : Refusal) → (stepped tables v c fate).view.next ≡ Flying f stage
       → WillTell stage why → (before : Stage) × (v.next ≡ Flying f before)
-      × (WillTell before why ⊎ ((is_over v ≡ false) × (fate ≡ Answers) × IsOwnTest tables f before × ShowsRefusal tables c f before why))
+      × (WillTell before why
+      ⊎ ((is_over v ≡ false) × (fate ≡ Answers) × IsOwnTest tables f before × ShowsRefusal tables c f before why))
   -- a take comes only behind a read of the write at hand that answered what the take is guarded by
   pub reads : (f : Flight) → (stepped tables v c fate).view.next ≡ Taking f
       → (v.next ≡ Taking f) ⊎ ((is_over v ≡ false) × (fate ≡ Answers) × Reads tables v c f.write f.read)
@@ -331,8 +348,10 @@ is_of_test (refusal.Referenced name place) = true
 is_of_test (refusal.Cardinality name place n) = true
 is_of_test why = false
 
--- at some moment a call of the client's write with this number, which is a test of this write, answers and shows the refusal
-pub record WasShown (tables : List Table) (start : Run) (events : List Event) (client number : ℕ) (why : Refusal) : Type 0 where
+-- at some moment a call of the client's write with this number, which is a test of this write, answers and shows the
+-- refusal
+pub record WasShown (tables : List Table) (start : Run) (events : List Event) (client number : ℕ)
+    (why : Refusal) : Type 0 where
   pub front : List Event
   pub event : Event
   pub back : List Event
@@ -376,7 +395,8 @@ pub record SaysAll (tables : List Table) (start : Run) (events : List Event) : T
 -- what a write tests, the entries that it may add, and those that it may clear
 abbrev pub calls_of_write : List Table → Write → ℕ
 calls_of_write tables (write.Insert t row) =
-    4 + (length (table_at tables t).foreign + length (table_at tables t).limits) + 2 * length (table_at tables t).indexes
+    4 + (length (table_at tables t).foreign + length (table_at tables t).limits)
+    + 2 * length (table_at tables t).indexes
 calls_of_write tables (write.Update t key sets) =
     4 + (count_by (λ f. touches (scope_of sets) f.cols) (table_at tables t).foreign
     + count_by (λ limit. touches (scope_of sets) limit.cols) (table_at tables t).limits)
@@ -392,7 +412,8 @@ is_step_of (Some v) client number = v.number == client && v.at == number && not 
 abbrev pub steps_of : List Table → Run → List Event → ℕ → ℕ → ℕ
 steps_of tables r [] client number = 0
 steps_of tables r (e ∷ es) client number =
-    (if is_step_of (slice_get r.clients e.place) client number then 1 else 0) + steps_of tables (turn tables r e) es client number
+    (if is_step_of (slice_get r.clients e.place) client number then 1 else 0)
+    + steps_of tables (turn tables r e) es client number
 
 abbrev pub HasFewCalls : List Table → Run → List Event → Type 0
 HasFewCalls tables r events = (p : ℕ) (v : View) (number : ℕ) (w : Write) → slice_get r.clients p ≡ Some v
@@ -410,7 +431,8 @@ pub record ComesToEnd (tables : List Table) (start : Run) (events : List Event) 
 
 -- ---- all of it
 
-pub record HoldsThroughout (tables : List Table) (rows : Rows) (others : List Pair) (clients : List View) (events : List Event) : Type 0 where
+pub record HoldsThroughout (tables : List Table) (rows : Rows) (others : List Pair) (clients : List View)
+    (events : List Event) : Type 0 where
   pub kept : KeepsPresent tables (reached tables rows others clients events).content
   pub shows : ShowsWrites tables rows clients (reached tables rows others clients events)
   pub due : HasDueEntries tables (reached tables rows others clients events)
@@ -419,7 +441,8 @@ pub record HoldsThroughout (tables : List Table) (rows : Rows) (others : List Pa
   pub rests : IsSettledAgain tables others (reached tables rows others clients events)
   pub beside : (q : List ℕ) → is_of_rows q ≡ false
       → get (reached tables rows others clients events).content q ≡ get (content_pairs tables rows others) q
-  pub causes : (p : ℕ) (v : View) (fate : Fate) → slice_get (reached tables rows others clients events).clients p ≡ Some v
+  pub causes : (p : ℕ) (v : View) (fate : Fate)
+      → slice_get (reached tables rows others clients events).clients p ≡ Some v
       → HasCauses tables v (reached tables rows others clients events).content fate
   pub said : SaysAll tables (begun (content_pairs tables rows others) clients) events
   pub shown : TellsShown tables (begun (content_pairs tables rows others) clients) events

@@ -67,18 +67,22 @@ Turns tables (place ∷ places) before after =
     (between : Moment) × Turn tables place before between × Turns tables places between after
 
 -- it is what this run leaves
-pub record IsRun (r : Run) (told : Option Content) (clients : List View) (said : List Told) (puts : List Wrote) : Type 0 where
+pub record IsRun (r : Run) (told : Option Content) (clients : List View) (said : List Told)
+    (puts : List Wrote) : Type 0 where
   pub content : told ≡ Some r.content
   pub views : clients ≡ r.clients
   pub says : said ≡ r.told
   pub writes : puts ≡ r.puts
 
+-- the run that begins with this content, of a moment
+abbrev pub begun_at : Content → Moment → Run
+begun_at c before = record { content = c; clients = before.clients; told = before.told; puts = before.puts }
+
 -- over a told content they are steps taken at just these places in this order, each with some fate
 abbrev pub LeavesRun : List Table → List ℕ → Moment → Moment → Type 0
 LeavesRun tables places before after = IfSome before.spot.told (λ c.
     (events : List Event) × (map (λ (e : Event). e.place) events ≡ places)
-    × IsRun (run tables (record { content = c; clients = before.clients; told = before.told; puts = before.puts }) events)
-    after.spot.told after.clients after.told after.puts)
+    × IsRun (run tables (begun_at c before) events) after.spot.told after.clients after.told after.puts)
 
 -- over every store: at most one call for each turn, and Failed is told only where the count of faults has risen
 pub record MakesCalls (turns : ℕ) (before after : Moment) : Type 0 where

@@ -79,10 +79,13 @@ taking_short tables f (Some row) =
 
 abbrev pub after_row : List Table → Write → Option (List ℕ) → Option (List Value) → Then
 after_row tables (write.Insert t row) read None = On (Taking (record { write = write.Insert t row; read = read }))
-after_row tables (write.Insert t row) read (Some old) = refused (refusal.DuplicateKey (table_of tables (write.Insert t row)).name)
-after_row tables (write.Update t key sets) read None = refused (refusal.NoRow (table_of tables (write.Update t key sets)).name)
+after_row tables (write.Insert t row) read (Some old) =
+    refused (refusal.DuplicateKey (table_of tables (write.Insert t row)).name)
+after_row tables (write.Update t key sets) read None =
+    refused (refusal.NoRow (table_of tables (write.Update t key sets)).name)
 after_row tables (write.Update t key sets) read (Some old) =
-    taking_short tables (record { write = write.Update t key sets; read = read }) (row_made (write.Update t key sets) (Some old))
+    taking_short tables (record { write = write.Update t key sets; read = read })
+    (row_made (write.Update t key sets) (Some old))
 after_row tables (write.Delete t key) read None = refused (refusal.NoRow (table_of tables (write.Delete t key)).name)
 after_row tables (write.Delete t key) read (Some old) = On (Taking (record { write = write.Delete t key; read = read }))
 
@@ -121,7 +124,8 @@ passes tables (Child u place front) c = counted c front 1 == 0
 -- at most n, counted with the new row's own pair
 abbrev pub has_room : List Table → Flight → ℕ → Content → Bool
 has_room tables f place c =
-    nat_le (counted c (tested_front tables f place) ((tested_limit tables f place).n + 1)) (tested_limit tables f place).n
+    nat_le (counted c (tested_front tables f place) ((tested_limit tables f place).n + 1))
+    (tested_limit tables f place).n
 
 -- a write of the own pair, guarded by the own held value with this present row
 abbrev pub if_own : List Table → ℕ → ℕ → Flight → Option (List ℕ) → Content → Option (List ℕ) → Then → Content × Then
@@ -199,7 +203,12 @@ told_view v told = if is_fault told then record v { over = Some told } else reco
 
 abbrev pub after_call : View → Content × Then → After
 after_call v (c, On next) = record { content = c; view = record v { next = next }; step = step.Moved }
-after_call v (c, Puts next) = record { content = c; view = record v { next = next }; step = step.Put (record { client = v.number; number = v.at }) }
+after_call v (c, Puts next) =
+    record {
+      content = c;
+      view = record v { next = next };
+      step = step.Put (record { client = v.number; number = v.at });
+    }
 after_call v (c, Ends told) = record { content = c; view = told_view v told; step = tells v told }
 
 -- what becomes of the call: it answers; it fails, and is not done or done; or there is no memory for it

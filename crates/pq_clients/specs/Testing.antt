@@ -49,7 +49,8 @@ is_refused (Releasing refusal) = true
 is_refused stage = false
 
 -- at some moment the client made this test for this write, and it was passed
-pub record WasPassed (tables : List Table) (start : Run) (events : List Event) (client number : ℕ) (f : Flight) (test : Test) : Type 0 where
+pub record WasPassed (tables : List Table) (start : Run) (events : List Event) (client number : ℕ) (f : Flight)
+    (test : Test) : Type 0 where
   pub front : List Event
   pub event : Event
   pub back : List Event
@@ -66,13 +67,14 @@ pub record WasPassed (tables : List Table) (start : Run) (events : List Event) (
   pub passed : is_passed_by tables f (run tables start front).content test ≡ true
 
 -- the tests before this step were passed, in their order, and the others are left
-pub record TestsBefore (tables : List Table) (start : Run) (events : List Event) (client number : ℕ) (f : Flight) (stage : Stage) : Type 0 where
+pub record TestsBefore (tables : List Table) (start : Run) (events : List Event) (client number : ℕ) (f : Flight)
+    (stage : Stage) : Type 0 where
   pub before : List Test
   pub all : all_tests tables f ≡ before ++ tests_left tables f stage
   pub passed : AllByRecursion (WasPassed tables start events client number f) before
 
--- so a write that isn't refused has passed all of them when it comes to its put, and one that is was refused by the first
--- that it didn't pass
+-- so a write that isn't refused has passed all of them when it comes to its put, and one that is was refused by the
+-- first that it didn't pass
 abbrev pub TestsInOrder : List Table → Run → List Event → Type 0
 TestsInOrder tables start events = (p : ℕ) (v : View) (f : Flight) (stage : Stage)
     → slice_get (run tables start events).clients p ≡ Some v → v.next ≡ Flying f stage → is_refused stage ≡ false

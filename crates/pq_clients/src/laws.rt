@@ -9,8 +9,8 @@ ghost use Rattle.pq_clients.specs.OneCall.{MakesOneCall};
 ghost use Rattle.pq_clients.specs.Runs.{Event};
 ghost use Rattle.pq_clients.specs.Promises.{Begins, HoldsThroughout};
 
-/// What holds of any clients with any writes over any rows that keep their tables, after any steps in any order, whatever
-/// calls fail.
+/// What holds of any clients with any writes over any rows that keep their tables, after any steps in any order,
+/// whatever calls fail.
 pub fn client_laws()
     ensures throughout { (tables : List Table) (rows : Rows) (others : List Pair) (clients : List View)
         → Begins tables rows others clients

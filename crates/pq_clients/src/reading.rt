@@ -13,12 +13,12 @@ ghost use Rattle.pq_clients.specs.Seen.{flight, seen_course};
 ghost use Rattle.pq_clients.specs.Steps.{Ends, after_row, after_code, after_cell, after_read, damaged, refused};
 
 use crate::calls::get_pair;
+use crate::course::in_memory;
 use crate::entries::copy_found;
 use crate::halt::Halt;
 use crate::held::{is_held_by_other, is_held_value};
 use crate::rows::{code_len, pair_key, stored_row, table_of, updated};
 use crate::stage::{Course, Ending};
-use crate::steps::in_memory;
 use pq_base::{Bytes, List, NoMem, Refusal, Row};
 use pq_index_keep::{SetCol, Write};
 use pq_schema::{Catalog, Table};

@@ -1,8 +1,0 @@
-use Rattle.std.proofs.Common.{ap, ◌∙◌}
-use Rattle.pq_clients.specs.Clients.{Flying}
-use Rattle.pq_clients.specs.Steps.{On}
-use Rattle.pq_clients.specs.Clients.{Stage}
-use Rattle.pq_clients.proofs.steps.clear_led.Goals as goal
-
-pub returns : goal.returns
-returns c = λ f. c.flying.ensures f ∙ ap (λ (s : Stage). On (Flying f s)) c.in_ok-stage.ensures
