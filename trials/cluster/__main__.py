@@ -102,9 +102,15 @@ def servers(given: argparse.Namespace, ended: contextlib.ExitStack) -> tuple[Mem
     return members, databases
 
 
+def end(*_: object) -> None:
+    """Ends the trials on a signal. A second one doesn't stop the servers' end."""
+    signal.signal(signal.SIGTERM, signal.SIG_IGN)
+    sys.exit(1)
+
+
 def main() -> int:
     # Whatever ends this process ends the servers first.
-    signal.signal(signal.SIGTERM, lambda *_: sys.exit(1))
+    signal.signal(signal.SIGTERM, end)
     signal.signal(signal.SIGINT, signal.default_int_handler)
     given = read_words()
     engine = found_program(given.engine, "piql_host")
