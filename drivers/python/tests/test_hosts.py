@@ -219,6 +219,13 @@ class Pinned(Reading):
         return self.seen.count(low, high, cap)
 
 
+# An engine, and a store: each with the statement at which it stands still, and what is then told.
+STANDING_STILL: list[tuple[type[Backend], bytes, str]] = [
+    (MemoryStore, b"HANG;", "asked for nothing for 0.3 seconds, so the run was ended"),
+    (Slow, b"GET k;", "more than 0.3 seconds, so the run was ended"),
+]
+
+
 class LinkTest(unittest.TestCase):
     """Links over a program that stands for the engine."""
 
@@ -263,17 +270,13 @@ class LinkTest(unittest.TestCase):
         self.assertEqual(caught.exception.status, 7)
         self.assertIn("1 ok", link.exchange(b"COUNT;", True))
 
-    def test_an_engine_that_stands_still(self) -> None:
-        link = self.hurried(MemoryStore())
-        with self.assertRaisesRegex(OperationalError, "asked for nothing for 0.3 seconds, so the run was ended"):
-            link.exchange(b"HANG;", False)
-        self.assertIn("1 ok", link.exchange(b"COUNT;", True))
-
-    def test_a_store_that_stands_still(self) -> None:
-        link = self.hurried(Slow())
-        with self.assertRaisesRegex(OperationalError, "more than 0.3 seconds, so the run was ended"):
-            link.exchange(b"GET k;", True)
-        self.assertIn("1 ok", link.exchange(b"COUNT;", True))
+    def test_what_stands_still_ends_the_run_and_the_next_statement_begins_one(self) -> None:
+        for store, statement, told in STANDING_STILL:
+            with self.subTest(statement):
+                link = self.hurried(store())
+                with self.assertRaisesRegex(OperationalError, told):
+                    link.exchange(statement, statement.startswith(b"GET"))
+                self.assertIn("1 ok", link.exchange(b"COUNT;", True))
 
     def hurried(self, store: Backend) -> HostLink:
         """A link whose first run has little time for a step; a second one has enough to begin on a slow machine."""
