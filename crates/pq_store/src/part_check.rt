@@ -12,7 +12,8 @@ fn lies_within(low: &[u8], high: &[u8], pair: &Pair) -> bool
 }
 
 fn are_within(low: &[u8], high: &[u8], pairs: &[Pair]) -> bool
-    ensures { IsTrue result → All (λ pair. is_within low.now high.now (entry pair) ≡ true) pairs.now }
+    ensures each { IsTrue result → All (λ pair. is_within low.now high.now (entry pair) ≡ true) pairs.now }
+    ensures all { All (λ pair. is_within low.now high.now (entry pair) ≡ true) pairs.now → IsTrue result }
 {
     pairs.iter().all(|pair| lies_within(low, high, pair))
 }
@@ -38,7 +39,8 @@ pub(crate) fn rise(pairs: &[Pair]) -> bool
 /// each store promises of its answer to a range. A store over something else, as a database or the
 /// other end of a stream, tests with it what it was given.
 pub fn is_part(low: &[u8], high: &[u8], limit: u32, pairs: &[Pair]) -> bool
-    ensures { IsTrue result → IsPartOf low.now high.now limit (map entry pairs.now) }
+    ensures part { IsTrue result → IsPartOf low.now high.now limit (map entry pairs.now) }
+    ensures exactly { IsPartOf low.now high.now limit (map entry pairs.now) → IsTrue result }
 {
     if pairs.len() > limit as usize {
         return false;
