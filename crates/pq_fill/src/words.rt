@@ -20,19 +20,19 @@ pub enum Form {
 /// The most users of a generated script.
 const USERS: u32 = 20_000;
 
-/// The number of users that a word spells in decimal, without a sign or leading zeros.
-fn users_in(word: &str) -> Option<u32>
-    ensures some { IfSome result (λ n. (1 ≤ n) × (n ≤ 20000) × (word.now ≡ decimal n)) }
-    ensures all { (n : ℕ) → 1 ≤ n → n ≤ 20000 → word.now ≡ decimal n → result ≡ Some n }
+/// The number from 1 to the most that a word spells in decimal, without a sign or leading zeros.
+pub fn count_in(word: &str, most: u32) -> Option<u32>
+    ensures some { IfSome result (λ n. (1 ≤ n) × (n ≤ most) × (word.now ≡ decimal n)) }
+    ensures all { (n : ℕ) → 1 ≤ n → n ≤ most → word.now ≡ decimal n → result ≡ Some n }
 {
-    let Ok(users) = word.parse::<u32>() else {
+    let Ok(count) = word.parse::<u32>() else {
         return None;
     };
     let mut buffer = Buffer::new();
-    if users == 0 || users > USERS || buffer.format(users) != word {
+    if count == 0 || count > most || buffer.format(count) != word {
         return None;
     }
-    Some(users)
+    Some(count)
 }
 
 /// The form of a run that some words spell: `run`; `check`; or `fill` and a number from 1 to 20,000 in
@@ -45,7 +45,7 @@ pub fn form_of(words: &[PText]) -> Option<Form>
         [word] if word.as_str() == "run" => Some(Form::Run),
         [word] if word.as_str() == "check" => Some(Form::Check),
         [word, number] if word.as_str() == "fill" => {
-            let users = users_in(number.as_str())?;
+            let users = count_in(number.as_str(), USERS)?;
             Some(Form::Fill(users))
         }
         _ => None,

@@ -293,7 +293,7 @@ fn report_damage<O: Sink>(alloc: Global, key: &[u8], sink: &mut O) -> Status
 }
 
 /// The status of a script that was run so.
-fn close<O: Sink>(alloc: Global, outcome: Result<Ended, Stop>, sink: &mut O) -> Status
+pub fn close<O: Sink>(alloc: Global, outcome: Result<Ended, Stop>, sink: &mut O) -> Status
     ensures closes { Closes outcome result (O.held sink.old) (O.held sink.new) }
     ensures later { O.faults sink.old ≤ O.faults sink.new }
     ensures cause { result ≡ Status.WriteFault

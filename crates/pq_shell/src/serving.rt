@@ -106,7 +106,7 @@ pub fn make<S: Store<L>, L: Ledger>(
 }
 
 /// Makes the next piece and writes its report.
-fn serve<S: Store<L>, O: Sink, L: Ledger>(
+pub fn serve<S: Store<L>, O: Sink, L: Ledger>(
     alloc: Global,
     form: Form,
     session: Session,
@@ -186,7 +186,7 @@ pub fn run_part<S: Store<L>, O: Sink, L: Ledger>(
 }
 
 /// The report of an unfinished rest.
-fn rest_report(alloc: Global, number: u32) -> Report
+pub fn rest_report(alloc: Global, number: u32) -> Report
     ensures { result ≡ rest_report number }
 {
     Report {

@@ -12,7 +12,8 @@ use pq_fill::{Summary, print_summary};
 use pq_print::{Opened, Report, print_damage, print_opening, print_report};
 use std::alloc::Global;
 
-fn write_text<O: Sink>(text: &Bytes, sink: &mut O) -> Result<(), Stop>
+/// Writes a text.
+pub fn write_text<O: Sink>(text: &Bytes, sink: &mut O) -> Result<(), Stop>
     ensures ok { OnOk result (O.held sink.new ≡ append_known (O.held sink.old) text.now) }
     ensures err { IfErr result (λ stop. CutsOff stop text.now (O.held sink.old) (O.held sink.new)) }
     ensures causes { Causes 0 0 (O.faults sink.old) (O.faults sink.new) result }
