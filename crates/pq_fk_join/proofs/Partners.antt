@@ -31,7 +31,7 @@ use Rattle.pq_nodes.specs.Inverse.{IsLookup}
 use Rattle.pq_nodes.specs.Operators.{IsAsked, ShowsRead, no_row}
 use Rattle.pq_nodes.proofs.Tied.{tied_kinds, matching_row, within_tied}
 use Rattle.pq_operands.specs.Ties.{cells_tied}
-use Rattle.pq_fk_join.specs.Joined.{IsPartner}
+use Rattle.pq_fk_join.specs.Joined.{IsTiedRow, IsPartner}
 
 shows_read : (tables : List Table) (told : Option Content) (damage : Damage) → where_told (IsNoRow tables) told damage → where_told (ShowsRead tables) told damage
 shows_read tables None damage shown = tt
@@ -78,6 +78,12 @@ module _ (s : Schema) (query : Query) (params : List Value) (rel : ℕ) (input :
           (subst (λ (other : Table). IfSome told (λ content. IsRead (types_of other) (get content (row_key number key)) found)) own_is
           (subst (λ (n : ℕ). IfSome told (λ content. IsRead (types_of own) (get content (row_key n key)) found)) t_is read))
 
+      -- where no tied value is NULL, it is what stands at the tied key
+      pub partner_code : has_null key ≡ false → IsTiedRow told s.tables query params rel input found
+      partner_code plain =
+          subst (λ (b : Bool). IfSome told (λ content. IsRead (types_of table) (cond b None (get content (row_key number tied_key))) found))
+          (sym (sym (ap has_null tied_is) ∙ plain)) read_there
+
       types : All IsType (types_of table)
       types = sequence_types_known s number Primary valid (record { number = number_there; is_access = tt })
 
@@ -100,7 +106,17 @@ module _ (s : Schema) (query : Query) (params : List Value) (rel : ℕ) (input :
           ∙ sym (ap (λ (b : Bool). cond b [] (option_to_list (row_at s.tables rows number tied_key))) (sym (ap has_null tied_is) ∙ plain))
           ∙ sym (matching_row s.tables query rows params asked.resolved asked.params_fit rel input fits holds.keeps.schema (within_tied query rel table.key is.tied))
 
-    -- and with a tied NULL nothing matches
+    -- ---- with a tied NULL nothing matches
+
+    no_code : (told : Option Content) → IfSome told (λ content. IsRead (types_of table) None None)
+    no_code None = tt
+    no_code (Some content) = tt
+
+    pub none_code : (told : Option Content) → has_null key ≡ true → IsTiedRow told s.tables query params rel input None
+    none_code told null =
+        subst (λ (b : Bool). IfSome told (λ content. IsRead (types_of table) (cond b None (get content (row_key number tied_key))) None))
+        (sym (sym (ap has_null tied_is) ∙ null)) (no_code told)
+
     pub partner_none : (told : Option Content) → has_null key ≡ true → IsPartner told s.tables query params rel input None
     partner_none told null rows others holds =
         sym (matching_row s.tables query rows params asked.resolved asked.params_fit rel input fits holds.keeps.schema (within_tied query rel table.key is.tied)

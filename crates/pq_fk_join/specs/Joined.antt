@@ -1,23 +1,70 @@
 -- What a join by a key makes of one input and of several.
-use Rattle.std.specs.Prelude.{◌≡◌, ℕ, List, ◌++◌, take, Option, option_to_list}
+use Rattle.std.specs.Prelude.{◌≡◌, ℕ, ◌-◌, cond, List, ◌++◌, map, take, Option, None, option_to_list, IfSome}
+use Rattle.std.specs.FinMap.{get}
+use Rattle.std.specs.List.{flat_map}
+use Rattle.pq_base.specs.Values.{has_null}
 use Rattle.pq_base.specs.declared.value.Value.{Value}
+use Rattle.pq_key_code.specs.KeyCode.{row_key}
 use Rattle.pq_schema.specs.declared.query.Query.{Query}
 use Rattle.pq_schema.specs.declared.table.Table.{Table}
-use Rattle.pq_schema.specs.Rows.{Rows}
+use Rattle.pq_schema.specs.Relations.{relation_at, table_of}
+use Rattle.pq_schema.specs.Rows.{Rows, types_of}
 use Rattle.pq_store.specs.Content.{Content}
+use Rattle.pq_calls.specs.Evidence.{IsRead}
 use Rattle.pq_content.specs.Pairs.{Pair, HoldsRows}
+use Rattle.pq_content.specs.Tables.{stored_code}
+use Rattle.pq_operands.specs.Ties.{cells_tied}
 use Rattle.pq_plan.specs.Meaning.{key_of}
 use Rattle.pq_plan.specs.Running.{matching, looked_up}
-use Rattle.pq_plan.specs.Answer.{question}
+use Rattle.pq_plan.specs.Answer.{question, row_of}
 
--- over a content that holds rows, the row is the one whose key is tied behind the input, and none where there is none
+-- ---- what is read of any content
+
+-- the value at the key that is tied behind the input, where there is one; a tied NULL names none
+abbrev pub tied_code : List Table → Query → List Value → ℕ → Content → List (List Value) → Option (List ℕ)
+tied_code tables query params rel content input =
+    let key = cells_tied query params rel input (table_of tables query rel).key in
+    cond (has_null key) None (get content (row_key (relation_at query rel).table key))
+
+-- what is found is the row with this code, and nothing only where there is no value
+abbrev pub IsTiedRow : Option Content → List Table → Query → List Value → ℕ → List (List Value)
+    → Option (List Value) → Type 0
+IsTiedRow told tables query params rel input found = IfSome told (λ content.
+    IsRead (types_of (table_of tables query rel)) (tied_code tables query params rel content input) found)
+
+-- each input with the value that is tied behind it, where there is one
+abbrev pub tied_codes : List Table → Query → List Value → ℕ → Content → List (List (List Value))
+    → List (List (List Value) × List ℕ)
+tied_codes tables query params rel content inputs = flat_map (λ input.
+    map (λ code. (input, code)) (option_to_list (tied_code tables query params rel content input))) inputs
+
+-- a combination as its input and the code of the relation's row
+abbrev pub coded_row : List Table → Query → ℕ → List (List Value) → List (List Value) × List ℕ
+coded_row tables query rel combo = (take (rel - 1) combo, stored_code (table_of tables query rel) (row_of rel combo))
+
+-- the codes of the rows behind the inputs are the values at the tied keys, one for each input that has such a value
+abbrev pub AreJoined : List Table → Query → List Value → ℕ → List (List (List Value)) → List (List (List Value))
+    → Content → Type 0
+AreJoined tables query params rel inputs found content =
+    map (coded_row tables query rel) found ≡ tied_codes tables query params rel content inputs
+
+-- such combinations come behind those that were there
+abbrev pub AddsJoined : Option Content → List Table → Query → List Value → ℕ → List (List (List Value))
+    → List (List (List Value)) → List (List (List Value)) → Type 0
+AddsJoined told tables query params rel inputs before after = IfSome told (λ content.
+    map (coded_row tables query rel) after
+    ≡ map (coded_row tables query rel) before ++ tied_codes tables query params rel content inputs)
+
+-- ---- what is read of a content that holds rows
+
+-- the row is the one whose key is tied behind the input, and none where there is none
 abbrev pub IsPartner : Option Content → List Table → Query → List Value → ℕ → List (List Value)
     → Option (List Value) → Type 0
 IsPartner told tables query params rel input found =
     (rows : Rows) (others : List Pair) → HoldsRows told tables rows others →
     let q = question tables query rows params in option_to_list found ≡ take 1 (matching q rel (key_of q rel) input)
 
--- over such a content, what was found is followed by what the lookup makes of the inputs
+-- what was found is followed by what the lookup makes of the inputs
 abbrev pub AddsLookedUp : Option Content → List Table → Query → List Value → ℕ → List (List (List Value))
     → List (List (List Value)) → List (List (List Value)) → Type 0
 AddsLookedUp told tables query params rel inputs before after =

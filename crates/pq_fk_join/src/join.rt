@@ -10,7 +10,7 @@ ghost use Rattle.pq_plan.specs.Nodes.{lookup};
 ghost use Rattle.pq_nodes.specs.Combos.{FitsTables};
 ghost use Rattle.pq_nodes.specs.Inverse.{IsLookup};
 ghost use Rattle.pq_nodes.specs.Operators.{IsAsked, IsReadyNode, AreInputs, AffordsNode, ReadsNode, AreFound, AnswersNode, ShowsRead, StopsReading, IsSoundOverRows};
-ghost use Rattle.pq_fk_join.specs.Joined.{IsPartner, AddsLookedUp};
+ghost use Rattle.pq_fk_join.specs.Joined.{IsTiedRow, AreJoined, AddsJoined, IsPartner, AddsLookedUp};
 
 use pq_base::{List, Row, has_null};
 use pq_calls::Calls;
@@ -40,6 +40,8 @@ fn partner<S: Store<L>, L: Ledger>(
     ensures cause { IfErr result (Fails (where_told (ShowsRead catalog.now.tables))
         S.content S.faults calls.old calls.new) }
     ensures fits { IfOk result (λ found. IfSome found (AllFit (types_of (table_of catalog.now.tables query.now rel)))) }
+    ensures code { IfOk result (IsTiedRow (S.content calls.old.store.now)
+        catalog.now.tables query.now params.now rel input.now) }
     ensures answer { IfOk result (IsPartner (S.content calls.old.store.now)
         catalog.now.tables query.now params.now rel input.now) }
 {
@@ -76,6 +78,8 @@ fn join_one<S: Store<L>, L: Ledger>(
     ensures few { OnOk result (length found.new ≤ length found.old + 1) }
     ensures fit { OnOk result (AllByRecursion (FitsTables catalog.now.tables query.now rel) found.old
         → AllByRecursion (FitsTables catalog.now.tables query.now rel) found.new) }
+    ensures codes { OnOk result (AddsJoined (S.content calls.old.store.now)
+        catalog.now.tables query.now params.now rel (input ∷ []) found.old found.new) }
     ensures answer { OnOk result (AddsLookedUp (S.content calls.old.store.now)
         catalog.now.tables query.now params.now rel (input ∷ []) found.old found.new) }
 {
@@ -106,6 +110,8 @@ fn join_each<S: Store<L>, L: Ledger>(
     ensures cause { IfErr result (Fails (where_told (ShowsRead catalog.now.tables))
         S.content S.faults calls.old calls.new) }
     ensures found { IfOk result (AreFound catalog.now.tables query.now rel (length inputs) (lookup rel)) }
+    ensures codes { IfOk result (AddsJoined (S.content calls.old.store.now)
+        catalog.now.tables query.now params.now rel inputs []) }
     ensures answer { IfOk result (AddsLookedUp (S.content calls.old.store.now)
         catalog.now.tables query.now params.now rel inputs []) }
 {
@@ -133,6 +139,9 @@ pub fn fk_join<S: Store<L>, L: Ledger>(
     requires ready { IsReadyNode catalog.now.tables query.now (lookup rel) }
     requires inputs { AreInputs catalog.now.tables query.now rel inputs }
     requires share { AffordsNode allowance.old (length inputs) (lookup rel) }
+    // Over any content that is told, no row is passed over, and none stands in for another.
+    ensures codes { IfOk result (λ found. IfSome (S.content store.old)
+        (AreJoined catalog.now.tables query.now params.now rel inputs found)) }
     ensures answer { IfOk result (AnswersNode (S.content store.old)
         catalog.now.tables query.now params.now None inputs (lookup rel)) }
     ensures reads { ReadsNode (world (S.content store.old) (S.faults store.old) allowance.old meter.old)

@@ -3,7 +3,7 @@ use Rattle.std.specs.List.{AllByRecursion}
 use Rattle.std.specs.Vec.Iter.{into_iter_items}
 use Rattle.pq_calls.specs.Calls.{Uses}
 use Rattle.pq_nodes.specs.Combos.{FitsTables}
-use Rattle.pq_fk_join.specs.Joined.{AddsLookedUp}
+use Rattle.pq_fk_join.specs.Joined.{AddsJoined, AddsLookedUp}
 use Rattle.pq_fk_join.proofs.join.join_each.Given as goal
 
 abbrev pub invariant-loop-input : goal.invariant-loop-input
@@ -12,5 +12,6 @@ invariant-loop-input g l = record {
   few : length l.found ≤ length l.yielded;
   left : AllByRecursion (FitsTables l.catalog.tables l.query (l.rel - 1)) (into_iter_items l.input-iterator);
   fit : AllByRecursion (FitsTables l.catalog.tables l.query l.rel) l.found;
+  codes : AddsJoined (g.S.Store.content l.initial.calls.store.now) l.catalog.tables l.query l.params l.rel l.yielded [] l.found;
   answer : AddsLookedUp (g.S.Store.content l.initial.calls.store.now) l.catalog.tables l.query l.params l.rel l.yielded [] l.found;
 }
