@@ -319,6 +319,11 @@ row_code_injective ts xs ys w f g e = same_Some xs ys (sym (row_again ts xs w f)
 
 -- ---- as the loop and the calls do it
 
+-- a column whose mark is 0
+pub plain_cell : (ty : ColType) (bs : List ℕ) → cell_at ty 0 bs ≡ field_at (kind_of_type ty) (room_of ty) bs
+unfolding cell_at
+plain_cell ty bs = refl
+
 pub field_more : (front new : List Value) (ts : List ColType) (i : ℕ) (t : ColType) (left : ℕ) (bs : List ℕ) (x : Value) (after : List ℕ) (total : Option (List Value × List ℕ)) → i < length ts
     → cell_at (get_or ts i t) (left % 2) bs ≡ Some (x, after) → new ≡ front ++ x ∷ []
     → rows_behind front (fields_at (drop i ts) left bs) ≡ total → rows_behind new (fields_at (drop (i + 1) ts) (left / 2) after) ≡ total

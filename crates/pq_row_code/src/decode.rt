@@ -65,6 +65,7 @@ fn string_of(alloc: Global, most: u16, bytes: &[u8]) -> Result<Option<(PText, &[
     }
 }
 
+#[inline(always)]
 #[tactic(auto, unfolding(crate::specs::RowReading::field_at))]
 fn field_of(alloc: Global, ty: ColType, bytes: &[u8]) -> Result<Option<(Value, &[u8])>, NoMem>
     ensures { IfOk result (λ read. option_map (λ x. (x.0, x.1.now)) read
@@ -105,7 +106,29 @@ fn cell_of(
     }
 }
 
-fn fields_of<'a>(
+// The columns of a row without NULL.
+fn plain_fields_of<'a>(
+    alloc: Global,
+    types: &[ColType],
+    bytes: &'a [u8],
+) -> Result<Option<(Row, &'a [u8])>, NoMem>
+    ensures { IfOk result (λ read. option_map (λ x. (x.0, x.1.now)) read ≡ fields_at types.now 0 bytes.now) }
+{
+    let mut row = Row::with_room(alloc, types.len())?;
+    let mut rest = bytes;
+    for ty in types {
+        let Some((value, after)) = field_of(alloc, *ty, rest)? else {
+            return Ok(None);
+        };
+        row.push(alloc, value)?;
+        rest = after;
+    }
+    Ok(Some((row, rest)))
+}
+
+// Out of line, so that reading a row without NULL stays one loop.
+#[inline(never)]
+fn marked_fields_of<'a>(
     alloc: Global,
     types: &[ColType],
     marks: u32,
@@ -129,6 +152,20 @@ fn fields_of<'a>(
     } else {
         Ok(None)
     }
+}
+
+fn fields_of<'a>(
+    alloc: Global,
+    types: &[ColType],
+    marks: u32,
+    bytes: &'a [u8],
+) -> Result<Option<(Row, &'a [u8])>, NoMem>
+    ensures { IfOk result (λ read. option_map (λ x. (x.0, x.1.now)) read ≡ fields_at types.now marks bytes.now) }
+{
+    if marks == 0 {
+        return plain_fields_of(alloc, types, bytes);
+    }
+    marked_fields_of(alloc, types, marks, bytes)
 }
 
 fn marks_of(bytes: &[u8]) -> Option<(u32, &[u8])>

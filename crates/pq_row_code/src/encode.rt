@@ -1,6 +1,6 @@
 //! From rows to row codes.
 ghost use Rattle.std.specs.Prelude.{◌≡◌, ◌++◌, ◌≤◌, ◌<◌, ◌^◌, length, All, OnOk, IfOk, if◌then◌else◌};
-ghost use Rattle.pq_base.specs.Values.{is_null, has_null};
+ghost use Rattle.pq_base.specs.Values.{has_null};
 ghost use Rattle.pq_row_code.specs.RowCode.{field, fields, null_marks, row_front, row_code, IsShort};
 
 use pq_base::{Bytes, NoMem, Row, Value};
@@ -34,13 +34,6 @@ fn field_len(value: &Value) -> u32
     }
 }
 
-// The number of bytes of a row's front, with this value too.
-fn front_with(front: u32, value: &Value) -> u32
-    ensures { result ≡ (if is_null value.now then 5 else front) }
-{
-    if value.is_null() { 5 } else { front }
-}
-
 // How many bytes the front has, which tells whether some value is NULL, and how many the fields have.
 fn lens(values: &[Value]) -> (u32, u32)
     requires columns { length values.now ≤ 32 }
@@ -52,8 +45,10 @@ fn lens(values: &[Value]) -> (u32, u32)
     let mut front = 1;
     let mut fields = 0;
     for value in values {
-        front = front_with(front, value);
-        fields += field_len(value);
+        match value {
+            Value::Null => front = 5,
+            _ => fields += field_len(value),
+        }
     }
     (front, fields)
 }

@@ -1,6 +1,6 @@
 use Rattle.std.proofs.Common.{sym}
 use Rattle.pq_row_code.proofs.Rows.{field_more, field_stop, field_end, field_left}
-use Rattle.pq_row_code.proofs.decode.fields_of.Goals as goal
+use Rattle.pq_row_code.proofs.decode.marked_fields_of.Goals as goal
 
 pub returns-in_default : goal.returns-in_default
 returns-in_default c = field_stop c.loop-ty.row c.args.types.now c.loop-ty.ty-index _ c.loop-ty.left c.loop-ty.rest.now _ c.loop-ty-test.true (sym (rw c.in_default.is at c.in_ok-value.ensures)) c.loop-ty.invariant
