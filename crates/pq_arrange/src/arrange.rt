@@ -73,14 +73,14 @@ pub fn rearrange(
     alloc: Global,
     catalog: &Catalog,
     query: &Query,
-    close: bool,
+    closed: bool,
 ) -> Result<Rearranged, NoMem>
     requires { IsResolved catalog.now.tables query.now }
-    ensures query { IfOk result (λ found. found.query ≡ rearranged_query catalog.now.tables query.now close) }
-    ensures places { IfOk result (λ found. found.places ≡ places (arranged_order catalog.now.tables query.now close)) }
+    ensures query { IfOk result (λ found. found.query ≡ rearranged_query catalog.now.tables query.now closed) }
+    ensures places { IfOk result (λ found. found.places ≡ places (arranged_order catalog.now.tables query.now closed)) }
 {
-    let order = order_of(alloc, catalog, query, close)?;
-    let query = moved_by(alloc, catalog, query, order.items(), close)?;
+    let order = order_of(alloc, catalog, query, closed)?;
+    let query = moved_by(alloc, catalog, query, order.items(), closed)?;
     let places = places(alloc, order.items())?;
     Ok(Rearranged { query, places })
 }
