@@ -42,7 +42,7 @@ impl FileSqlStore {
             Ok(connection) => connection,
             Err(error) => return Err(store_err(&error)),
         };
-        let inner = SqlStore::over(rt.alloc(), connection)?;
+        let inner = SqlStore::over(connection)?;
         Ok(FileSqlStore { inner })
     }
 

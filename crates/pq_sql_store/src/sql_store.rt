@@ -98,7 +98,7 @@ impl<D: Alter> SqlStore<D> {
 impl<D: Alter + Drop> SqlStore<D> {
     /// The store over the connection, whose table is made where there is none. It has no fault yet. A
     /// table of another make is left as it is, and the answer is `Failed`.
-    pub fn over(_alloc: Global, connection: Connection<D>) -> Result<SqlStore<D>, StoreErr>
+    pub fn over(connection: Connection<D>) -> Result<SqlStore<D>, StoreErr>
         ensures { IfOk result (λ faults. faults ≡ 0) }
     {
         let mut connection = connection;

@@ -41,7 +41,7 @@ fn unlike_in_memory(alloc: Global, store: &mut SqlStore<MemStore>) -> Result<Opt
 
 #[test]
 fn scripts_run_over_a_database(rt: HostRuntime) -> Result<(), test::Fail> {
-    let mut store = SqlStore::over(rt.alloc(), in_memory(rt.alloc())?)?;
+    let mut store = SqlStore::over(in_memory(rt.alloc())?)?;
     assert_eq!(rt; unlike_in_memory(rt.alloc(), &mut store)?, None);
     Ok(())
 }
@@ -89,7 +89,7 @@ fn write_unlike_in_memory(
 
 #[test]
 fn guards_are_kept(rt: HostRuntime) -> Result<(), test::Fail> {
-    let mut store = SqlStore::over(rt.alloc(), in_memory(rt.alloc())?)?;
+    let mut store = SqlStore::over(in_memory(rt.alloc())?)?;
     assert_eq!(rt; write_unlike_in_memory(rt.alloc(), &mut store)?, None);
     Ok(())
 }
@@ -112,12 +112,12 @@ fn a_table_of_another_make_is_refused(rt: HostRuntime) -> Result<(), test::Fail>
         "CREATE TABLE kv(k BLOB, v BLOB NOT NULL)",
     ];
     for text in foreign {
-        match SqlStore::over(rt.alloc(), with_made(rt.alloc(), &[text])?) {
+        match SqlStore::over(with_made(rt.alloc(), &[text])?) {
             Ok(_) => assert!(rt; false),
             Err(error) => assert_eq!(rt; error, StoreErr::Failed),
         }
     }
-    assert!(rt; SqlStore::over(rt.alloc(), with_made(rt.alloc(), &[OWN])?).is_ok());
+    assert!(rt; SqlStore::over(with_made(rt.alloc(), &[OWN])?).is_ok());
     Ok(())
 }
 
@@ -144,7 +144,7 @@ fn opening(alloc: Global, store: &mut SqlStore<MemStore>) -> Result<Status, NoMe
 #[test]
 fn a_value_that_is_no_blob_is_a_fault(rt: HostRuntime) -> Result<(), test::Fail> {
     let texts = [OWN, "INSERT INTO kv VALUES (x'010001', 'text')"];
-    let mut store = SqlStore::over(rt.alloc(), with_made(rt.alloc(), &texts)?)?;
+    let mut store = SqlStore::over(with_made(rt.alloc(), &texts)?)?;
     assert_eq!(rt; opening(rt.alloc(), &mut store)?, Status::StoreFault);
     Ok(())
 }
