@@ -135,8 +135,9 @@ fn answers_and_counts(rt: HostRuntime) -> Result<(), test::Fail> {
     Ok(())
 }
 
-// Calls over three parts of which the middle one fails at its second and third call; whether each fails.
-const FAILING: [(Call, bool); 7] = [
+// Calls over three parts of which the middle one fails at each call but its first and those behind its fifth; whether
+// each fails.
+const FAILING: [(Call, bool); 9] = [
     (
         Call::Write(b"\x02\x02", Guard::Any, Some(b"c"), true),
         false,
@@ -145,16 +146,18 @@ const FAILING: [(Call, bool); 7] = [
     (Call::Get(b"\x03", None), false),
     (Call::Range(b"", b"\x02\x02", 9, &[]), false),
     (Call::Count(b"\x02", b"\x04", 9, 0), true),
+    (Call::Range(b"\x02", b"\x04", 9, &[]), true),
+    (Call::Write(b"\x02\x02", Guard::Is(b"c"), None, true), true),
     (Call::Count(b"\x02", b"\x04", 9, 1), false),
     (Call::Get(b"\x02\x02", Some(b"c")), false),
 ];
 
-// A store in memory whose second and third call fail.
-fn failing_twice(alloc: Global) -> Result<FailingStore, NoMem> {
+// A store in memory that fails from its second to its fifth call, and does none of them.
+fn failing_for_a_while(alloc: Global) -> Result<FailingStore, NoMem> {
     let mut fails = List::new(alloc);
-    let done = false;
-    fails.push(alloc, Fail { call: 2, done })?;
-    fails.push(alloc, Fail { call: 3, done })?;
+    for call in 2..6 {
+        fails.push(alloc, Fail { call, done: false })?;
+    }
     Ok(FailingStore::new(alloc, MemStore::new(alloc), fails))
 }
 
@@ -168,7 +171,7 @@ fn failing_parts(alloc: Global, froms: &[&[u8]]) -> Result<List<Part<FailingStor
         let part = Part {
             from: Bytes::of_bytes(alloc, from)?,
             store: if i == 1 {
-                failing_twice(alloc)?
+                failing_for_a_while(alloc)?
             } else {
                 sound(alloc)
             },
