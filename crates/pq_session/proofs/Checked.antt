@@ -1,5 +1,6 @@
 -- The steps of a check: what they report, and the definitions behind them.
 use Rattle.std.proofs.Common.{◌≡◌, ℕ, List, [], Option, Some, None, Result, Ok, Err, if◌then◌else◌, refl, sym, ap, ◌∙◌, subst}
+use Rattle.std.specs.Prelude.{IfErr}
 use Rattle.pq_base.specs.declared.number.Bound.{Bound}
 use Rattle.pq_base.specs.declared.refusal.Refusal.{Refusal}
 use Rattle.pq_builds.specs.Bounds.{bound, fixed_bound, prepare_bound}
@@ -16,8 +17,9 @@ use Rattle.pq_session.specs.Checks.{IsChecked, action_check, checked_as, check_s
 use Rattle.pq_session.specs.Lines.{planned_lines}
 use Rattle.pq_session.specs.Planning.{PlannedDefinition, planned_definition}
 use Rattle.pq_session.specs.Promise.{IsBound}
+use Rattle.pq_session.specs.Refusing.{CanEnd}
 use Rattle.pq_session.specs.Requests.{IsPlannedAs}
-use Rattle.pq_session.specs.Step.{Step, crowding_refusal, prepared_over, report_of}
+use Rattle.pq_session.specs.Step.{Step, crowding_refusal, prepared_over, report_of, unread_report}
 use Rattle.pq_session.specs.declared.planning.PlannedQuery.{PlannedQuery}
 use Rattle.pq_session.proofs.Defining.{explained_lines, lines_are, plan_is}
 
@@ -26,6 +28,8 @@ pub record IsCheckStep (schema : Schema) (number : ℕ) (asked : Result Action R
   pub numbered : made.report.number ≡ number
   pub bound : IsBound (asked_bound schema asked) made.report.bound
   pub unused : made.report.used ≡ record { ops = 0; entries = 0 }
+  pub unread : IfErr asked (λ why. made.report ≡ unread_report number why)
+  pub can : CanEnd schema asked made.report.end
   pub model : made.model ≡ without_rows (if is_refusal made.report then schema else asked_schema schema asked)
 
 module _ (schema : Schema) (number : ℕ) where
@@ -42,15 +46,15 @@ module _ (schema : Schema) (number : ℕ) where
   none_bound (Some new) = (0, refl)
 
   pub is_check_step : (asked : Result Action Refusal) → IsCheckStep schema number asked (checked_as schema number asked)
-  is_check_step (Err why) = record { numbered = refl; bound = refl; unused = refl; model = refl }
-  is_check_step (Ok (Creates table)) = record { numbered = refl; bound = refl; unused = refl; model = refl }
-  is_check_step (Ok (Writes write)) = record { numbered = refl; bound = refl; unused = refl; model = refl }
+  is_check_step (Err why) = record { numbered = refl; bound = refl; unused = refl; unread = refl; can = refl; model = refl }
+  is_check_step (Ok (Creates table)) = record { numbered = refl; bound = refl; unused = refl; unread = tt; can = tt; model = refl }
+  is_check_step (Ok (Writes write)) = record { numbered = refl; bound = refl; unused = refl; unread = tt; can = tt; model = refl }
   is_check_step (Ok (Prepares plan)) =
       subst (IsCheckStep schema number (Ok (Prepares plan))) (sym (prepared_none plan))
-      (record { numbered = refl; bound = none_bound plan.chosen.wanted; unused = refl; model = refl })
-  is_check_step (Ok (Explains plan)) = record { numbered = refl; bound = refl; unused = refl; model = refl }
-  is_check_step (Ok (Runs running)) = record { numbered = refl; bound = refl; unused = refl; model = refl }
-  is_check_step (Ok Shows) = record { numbered = refl; bound = refl; unused = refl; model = refl }
+      (record { numbered = refl; bound = none_bound plan.chosen.wanted; unused = refl; unread = tt; can = tt; model = refl })
+  is_check_step (Ok (Explains plan)) = record { numbered = refl; bound = refl; unused = refl; unread = tt; can = tt; model = refl }
+  is_check_step (Ok (Runs running)) = record { numbered = refl; bound = refl; unused = refl; unread = tt; can = tt; model = refl }
+  is_check_step (Ok Shows) = record { numbered = refl; bound = refl; unused = refl; unread = tt; can = tt; model = refl }
 
   -- the step of a piece, by what it asks for
   pub check_by : (piece : Piece) (found : Result Action Refusal) → action_of schema piece ≡ found → check_step (without_rows schema) number piece ≡ checked_as schema number found

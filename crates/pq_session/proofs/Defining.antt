@@ -37,7 +37,7 @@ use Rattle.pq_print.specs.declared.report.Report.{Report}
 use Rattle.pq_schema.specs.Tables.{table_at, no_table}
 use Rattle.pq_session.specs.Extends.{Extends}
 use Rattle.pq_intent.specs.Spending.{TakesAtMost}
-use Rattle.pq_session.specs.Promise.{DoneStatement as Promised, BrokenStatement, Promises, IsBound, IsWithinFixed}
+use Rattle.pq_session.specs.Promise.{OnlyReads, DoneStatement as Promised, BrokenStatement, Promises, IsBound, IsWithinFixed}
 use Rattle.pq_session.specs.Reports.{define_report}
 use Rattle.pq_session.specs.Stands.{HoldsModel, Stands, content_of, value_at, last_key, last_value}
 use Rattle.pq_builds.specs.Bounds.{bound}
@@ -51,7 +51,7 @@ use Rattle.pq_plan.specs.Cost.{cost}
 use Rattle.pq_session.proofs.Definitions.{next_absent, put_table, put_query}
 use Rattle.pq_session.proofs.Standing.{settled_opens}
 use Rattle.pq_session.proofs.Made.{made_of, made_room, small_of}
-use Rattle.pq_session.proofs.Promises.{shown_still}
+use Rattle.pq_session.proofs.Promises.{damaged_kept, shown_still, within_step}
 
 -- the model with one more definition
 abbrev pub defined : Model → ℕ → Schema → List Line → Step
@@ -107,7 +107,7 @@ present_shown (Some content) schema (broke.Damaged damage) shows = inr (inr show
 
 module _ (number : ℕ) (lines : List Line) (action : Action) (old now : Option Content) (schema next : Schema)
     (leads : (m : Model) → Stands old schema m → Leads m next × (action_step m number action ≡ defined m number next lines))
-    (one : action_bound schema action ≡ Some (bound 1 0)) (behind : next ≡ action_schema schema action) where
+    (one : action_bound schema action ≡ Some (bound 1 0)) (writes : OnlyReads (Ok action) → ⊥) (behind : next ≡ action_schema schema action) where
   added : (m : Model) → Stands old schema m → now ≡ Some (insert (content_of m) (last_key next) (last_value next)) → HoldsModel now (record m { schema = next })
   added m s is =
       let l = (leads m s).0 in
@@ -129,6 +129,8 @@ module _ (number : ℕ) (lines : List Line) (action : Action) (old now : Option 
     accepted = λ _. behind;
     numbered = refl;
     unread = tt;
+    can = tt;
+    reads = λ reads. absurd (writes reads);
   }
 
   -- the key is absent, so that no damage is found
@@ -143,6 +145,9 @@ module _ (number : ℕ) (lines : List Line) (action : Action) (old now : Option 
     ];
     sound = λ m s. subst (λ o. IfSome o (λ pairs. get pairs (last_key next) ≡ None → IsUndamaged broke)) s.settled.told sound (leads m s).0.absent;
     within = subst (λ (b : Option Bound). IsWithinFixed b before after) (sym one) within;
+    within_own = λ m s. within_step number action old schema (bound 1 0) before after one within m s;
+    kept = damaged_kept schema (Ok action) old now broke same;
+    reads = λ reads. absurd (writes reads);
     shown = here more shows;
     lasting = shown_still old now schema broke same (here more shows);
   }
@@ -178,12 +183,12 @@ IsWritten old now next number lines before after result =
     × IfErr result (IfDamagedSame old now)
 
 written_as : (action : Action) (old now : Option Content) (schema next : Schema) (number : ℕ) (lines : List Line) (before after : Counts) (result : Result (Schema × Report) Broke)
-    → ((m : Model) → Stands old schema m → Leads m next × (action_step m number action ≡ defined m number next lines)) → action_bound schema action ≡ Some (bound 1 0) → next ≡ action_schema schema action
+    → ((m : Model) → Stands old schema m → Leads m next × (action_step m number action ≡ defined m number next lines)) → action_bound schema action ≡ Some (bound 1 0) → (OnlyReads (Ok action) → ⊥) → next ≡ action_schema schema action
     → length schema.definitions + 1 ≡ length next.definitions → IsWritten old now next number lines before after result → Promises number (Ok action) old now schema before after result
-written_as action old now schema next number lines before after (Ok made) leads one behind more h =
-    rw (h.0.0, h.0.1, h.4) (define_done number lines action old now schema next leads one behind before h.1)
-written_as action old now schema next number lines before after (Err broke) leads one behind more h =
-    define_broken number lines action old now schema next leads one behind before after broke h.2 h.3 h.5 more h.6 h.7
+written_as action old now schema next number lines before after (Ok made) leads one writes behind more h =
+    rw (h.0.0, h.0.1, h.4) (define_done number lines action old now schema next leads one writes behind before h.1)
+written_as action old now schema next number lines before after (Err broke) leads one writes behind more h =
+    define_broken number lines action old now schema next leads one writes behind before after broke h.2 h.3 h.5 more h.6 h.7
 
 pub table_written : (old now : Option Content) (schema session : Schema) (number : ℕ) (def : TableDef) → IsTableDef def → (t : ℕ) (before after : Counts) (result : Result (Schema × Report) Broke)
     → Extends schema def session (Ok t) → IsWritten old now session number (table_lines (table_at session.tables t)) before after result
@@ -195,7 +200,7 @@ table_written old now schema session number def is_def t before after result e a
     let lined = subst (λ (x : Table). IsWritten old now next number (table_lines x) before after result) (last_table schema.tables table t e.3) there in
     subst (λ (r : Result Table Refusal). Promises number (action_from Creates r) old now schema before after result) (sym e.1)
     (written_as (Creates table) old now schema next number (table_lines table) before after result (leads_created old schema number def table is_def e.1)
-    refl refl (one_more schema.definitions (OfTable (length schema.tables + 1) (length table.columns) (length table.indexes))) lined)
+    refl (λ reads. reads) refl (one_more schema.definitions (OfTable (length schema.tables + 1) (length table.columns) (length table.indexes))) lined)
 
 -- ---- queries
 
@@ -218,7 +223,7 @@ module _ (schema : Schema) (number : ℕ) (query : Query) (best : Candidate) whe
       → Promises number (Ok (Prepares plain)) old now schema before after result
   query_written old now before after result lines is lined all =
       written_as (Prepares plain) old now schema (with_query schema query None) number (query_lines schema.tables plain) before after result (leads_prepared old is)
-      refl refl (one_more schema.definitions (OfQuery query None))
+      refl (λ reads. reads) refl (one_more schema.definitions (OfQuery query None))
       (subst (λ (ls : List Line). IsWritten old now (with_query schema query None) number ls before after result) lined all)
 
 -- a query that was planned and is not refused may be defined

@@ -8,6 +8,7 @@ pub mod Defining
 pub mod Definitions
 pub mod Kept
 pub mod Known
+pub mod Leaving
 pub mod Lefts
 pub mod Lists
 pub mod Made
@@ -19,6 +20,7 @@ pub mod Prepared
 pub mod Promises
 pub mod Reopening
 pub mod Rereading
+pub mod RunPages
 pub mod Runs
 pub mod Shown
 pub mod Spelling

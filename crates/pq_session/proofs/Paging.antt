@@ -30,12 +30,12 @@ use Rattle.pq_session.specs.Pages.{ArePages, IsPaged, question_of, last, next}
 
 -- ---- lists
 
-in_last : {X : Type 0} (xs : List X) (v : X) → last_of xs ≡ Some v → In v xs
+pub in_last : {X : Type 0} (xs : List X) (v : X) → last_of xs ≡ Some v → In v xs
 in_last [] v h = absurd (none-some v h)
 in_last (x ∷ []) v h = inl (same_Some x v h)
 in_last (x ∷ y ∷ xs) v h = inr (in_last (y ∷ xs) v h)
 
-some_last : {X : Type 0} (xs : List X) → 1 ≤ length xs → (v : X) × (last_of xs ≡ Some v)
+pub some_last : {X : Type 0} (xs : List X) → 1 ≤ length xs → (v : X) × (last_of xs ≡ Some v)
 some_last [] h = absurd (omega arith)
 some_last (x ∷ []) h = (x, refl)
 some_last (x ∷ y ∷ xs) h = some_last (y ∷ xs) (omega arith)
@@ -46,7 +46,7 @@ in_drop (suc n) v [] i = absurd i
 in_drop (suc n) v (x ∷ xs) i = inr (in_drop n v xs i)
 
 -- the first k are fewer, or there are k
-taken : {X : Type 0} (k : ℕ) (xs : List X) → (length (take k xs) < k) ⊎ ((length (take k xs) ≡ k) × (k ≤ length xs))
+pub taken : {X : Type 0} (k : ℕ) (xs : List X) → (length (take k xs) < k) ⊎ ((length (take k xs) ≡ k) × (k ≤ length xs))
 taken zero xs = inr (refl, omega arith)
 taken (suc k) [] = inl (omega arith)
 taken (suc k) (x ∷ xs) = elim (taken k xs) [
@@ -166,7 +166,7 @@ module _ (m : Model) (query : Query) (params : List Value) (k : ℕ) (paged : Is
   abbrev q : Question
   q = question_of m query params
 
-  sound : IsQuery m.schema.tables query
+  pub sound : IsQuery m.schema.tables query
   sound = valid_query m.schema query paged.valid paged.resolved
 
   keep : Keeps q (bound_at m.schema.tables query)
@@ -188,11 +188,15 @@ module _ (m : Model) (query : Query) (params : List Value) (k : ℕ) (paged : Is
   size : stop_size query.stop ≡ Some k
   size = ap stop_size paged.size
 
-  some : 1 ≤ k
+  pub some : 1 ≤ k
   some = (subst (λ (s : Option ℕ). IfSome s (λ n. (1 ≤ n) × (n ≤ 1000))) size paged.resolved.stop).0
 
+  -- whatever is made of each combination
+  pub pages_each : {Y : Type 0} (f : List (List Value) → Y) (pages : List (List (List (List Value)))) → ArePages q k None pages → flat_map (map f) pages ≡ map f (whole q)
+  pages_each f pages are = joined_from q k total up size f 0 None pages refl are
+
   pub pages_all : (pages : List (List (List (List Value)))) → ArePages q k None pages → flat_map (map (selected_values query)) pages ≡ map (selected_values query) (whole q)
-  pages_all pages are = joined_from q k total up size (selected_values query) 0 None pages refl are
+  pages_all pages are = pages_each (selected_values query) pages are
 
   pub pages_end : (pages : List (List (List (List Value)))) × ArePages q k None pages
   pages_end = pages_from q k total up size some (length (whole q)) 0 None (omega arith) refl

@@ -1,5 +1,5 @@
 -- What preparing a query makes where its index is filled, and where that breaks off.
-use Rattle.std.proofs.Common.{lit≤, ◌≡◌, ℕ, ◌+◌, ◌-◌, ◌*◌, ◌<◌, ◌≤◌, ◌⊎◌, Bool, true, false, List, [], ◌∷◌, length, Option, Some, Ok, refl, sym, ap, ◌∙◌, subst, arith, inl, inr}
+use Rattle.std.proofs.Common.{lit≤, ◌≡◌, ℕ, ◌+◌, ◌-◌, ◌*◌, ◌<◌, ◌≤◌, ◌⊎◌, Bool, true, false, List, [], ◌∷◌, length, Option, Some, None, Ok, refl, sym, ap, ◌∙◌, subst, arith, inl, inr}
 use Rattle.std.specs.Prelude.{not, nat_le, IfSome, if◌then◌else◌}
 use Rattle.pq_schema.specs.Definitions.{refused_if}
 use Rattle.std.proofs.lemmas.List.{length-append}
@@ -11,9 +11,10 @@ use Rattle.pq_builds.specs.declared.target.NewQuery.{NewQuery}
 use Rattle.pq_builds.specs.declared.target.Target.{Target}
 use Rattle.pq_builds.specs.Filling.{row_pairs_in}
 use Rattle.pq_builds.specs.Stages.{StopsBuilding, TakesBuild, IsWithinBuild as BuildsWithin, build_ops}
-use Rattle.pq_builds.specs.Standing.{Origin, HoldsOrigin, Makes, Leaves, before as before_build}
+use Rattle.pq_builds.specs.Standing.{Origin, HoldsOrigin, Makes, Leaves, rows_in, before as before_build}
 use Rattle.pq_builds.specs.Targets.{target_of}
 use Rattle.pq_builds.proofs.Standing.{counted_before}
+use Rattle.pq_intent.specs.Spending.{TakesAtMost}
 use Rattle.pq_content.specs.Tables.{IsTableNumber, rows_of}
 use Rattle.pq_key_code.specs.KeyCode.{catalog_key}
 use Rattle.pq_print.specs.Canonical.{query_text, definition_text}
@@ -42,14 +43,14 @@ use Rattle.pq_session.specs.Lines.{query_lines}
 use Rattle.pq_session.specs.Matches.{Matches}
 use Rattle.pq_session.specs.Model.{Model}
 use Rattle.pq_session.specs.Planning.{PlannedDefinition, planned_definition}
-use Rattle.pq_session.specs.Promise.{DoneStatement, BrokenStatement}
+use Rattle.pq_session.specs.Promise.{DoneStatement, BrokenStatement, KeepsDamaged}
 use Rattle.pq_session.specs.Reports.{build_report, too_many_report, used_numbers}
 use Rattle.pq_session.specs.Stands.{Stands, Opens, last_query, new_query_of}
 use Rattle.pq_builds.specs.Bounds.{bound, build_bound}
 use Rattle.pq_session.specs.Actions.{Prepares}
 use Rattle.pq_session.specs.Step.{Step, report_of, refusal_report, crowding_refusal, prepared_over}
 use Rattle.pq_session.proofs.Building.{next_schema, next_model, origin_of, target_for, at_end, holds_origin, new_in, target_is, leaves_opens, makes_next, before_holds}
-use Rattle.pq_session.proofs.Promises.{broken_kept, sound_shown}
+use Rattle.pq_session.proofs.Promises.{broken_kept, sound_kept, sound_shown, within_prepared}
 use Rattle.pq_session.proofs.Standing.{settled_opens}
 
 -- ---- the pair of the definition
@@ -90,6 +91,10 @@ le_false n most many = grind arith
 -- the bound over rows that are not too many
 filled_bound : (rows : ℕ) → rows ≤ 1000000 → bound (build_ops rows) (2 * rows) ≡ build_bound rows
 filled_bound rows few = sym (ap (λ (b : Bool). if b then bound (build_ops rows) (2 * rows) else bound 1 1000001) (le_true rows 1000000 few))
+
+-- and over too many of them
+counted_bound : (rows : ℕ) → 1000000 < rows → build_bound rows ≡ bound 1 1000001
+counted_bound rows many = ap (λ (b : Bool). if b then bound (build_ops rows) (2 * rows) else bound 1 1000001) (le_false rows 1000000 many)
 
 module _ (number : ℕ) (query : Query) (new : NewIndex) (best : Candidate) where
   abbrev plan : PlannedDefinition
@@ -180,6 +185,8 @@ module _ (number : ℕ) (query : Query) (new : NewIndex) (best : Candidate) wher
           accepted = λ _. refl;
           numbered = refl;
           unread = tt;
+          can = tt;
+          reads = λ none. absurd none;
         }
 
     pub too_many_done : (old now : Option Content) (before after : Counts) (why : Refusal) → why ≡ refusal.TooManyRows (table_at schema.tables new.table).name
@@ -207,7 +214,20 @@ module _ (number : ℕ) (query : Query) (new : NewIndex) (best : Candidate) wher
       accepted = λ not. absurd (not tt);
       numbered = refl;
       unread = tt;
+      can = is;
+      reads = λ none. absurd none;
     }
+
+    -- the bound of the step over a model's rows
+    step_within : (m : Model) (before after : Counts) → TakesAtMost (build_bound (rows_at m)) before after → TakesAtMost (build_step m).report.bound before after
+    step_within m before after within = within_prepared m number plan before after within
+
+    -- where damage was found, some of the index may be made
+    stops_damaged : (old now : Option Content) (broke : Broke) → IfSome old (λ c. StopsBuilding target written c now) → KeepsDamaged schema (Ok (Prepares plan)) old now broke
+    stops_damaged None now broke ended = tt
+    stops_damaged (Some c) now broke.Failed ended = tt
+    stops_damaged (Some c) now broke.NoMem ended = tt
+    stops_damaged (Some c) now (broke.Damaged damage) ended = ended
 
     -- wherever it breaks off
     stopped_at : (old now : Option Content) (m : Model) → Stands old schema m
@@ -239,11 +259,15 @@ module _ (number : ℕ) (query : Query) (new : NewIndex) (best : Candidate) wher
         → IfSome old (λ content. TellsEvidence schema content broke)
         → IfSome now (λ content. TellsEvidence schema content broke)
         → BuildsWithin build_ops before after
+        → ((origin : Origin) → HoldsOrigin origin target written old → TakesAtMost (build_bound (rows_in origin target)) before after)
         → BrokenStatement number (Ok (Prepares plan)) old now schema before after broke
-    build_broken old now before after broke leaves sound ended shown lasting within = record {
+    build_broken old now before after broke leaves sound ended shown lasting within bounded = record {
       stopped = λ m s. stopped_at old now m s leaves ended;
       sound = λ m s. at_model (λ o t q. IsUndamaged broke) old m s sound;
       within = within;
+      within_own = λ m s. step_within m before after (at_model (λ o t q. TakesAtMost (build_bound (rows_in o t)) before after) old m s bounded);
+      kept = stops_damaged old now broke ended;
+      reads = λ none. absurd none;
       shown = shown;
       lasting = lasting;
     }
@@ -259,15 +283,26 @@ module _ (number : ℕ) (query : Query) (new : NewIndex) (best : Candidate) wher
           inr (subst (λ (x : Step). Opens now x.model) (sym (few_step m made.1)) (settled_opens (makes_next m query new s.settled.valid s.settled.keeps (defined_in old m s) count made)));
       sound = λ m s. tt;
       within = record { count = count; few = few; ops = omega (arith, takes.ops_are); entries = omega (arith, takes.entries_are) };
+      within_own = λ m s.
+          let made = at_model (λ o t q. Makes o t q (Filled count) now) old m s makes in
+          step_within m before after (subst (λ (b : Bound). TakesAtMost b before after) (filled_bound (rows_at m) made.1)
+          (record { ops = omega (arith, takes.ops_are, ap build_ops made.0); entries = omega (arith, takes.entries_are, made.0) }));
+      kept = sound_kept schema (Ok (Prepares plan)) old now broke.NoMem tt;
+      reads = λ none. absurd none;
       shown = sound_shown old schema broke.NoMem tt;
       lasting = sound_shown now schema broke.NoMem tt;
     }
 
     -- want of memory behind a count of too many rows
-    pub too_many_lost : (old now : Option Content) (before after : Counts) → now ≡ old → TakesBuild TooMany before after → BrokenStatement number (Ok (Prepares plan)) old now schema before after broke.NoMem
-    too_many_lost old now before after same takes =
+    pub too_many_lost : (old now : Option Content) (before after : Counts) → ((origin : Origin) → HoldsOrigin origin target written old → Makes origin target written TooMany now)
+        → now ≡ old → TakesBuild TooMany before after → BrokenStatement number (Ok (Prepares plan)) old now schema before after broke.NoMem
+    too_many_lost old now before after makes same takes =
         broken_kept number (Ok (Prepares plan)) old now schema before after broke.NoMem same (λ m s. tt)
         (record { count = 1000000; few = lit≤ tt; ops = omega (arith, takes.ops_are, one_of_many); entries = omega (arith, takes.entries_are) })
+        (λ m s.
+        let made = at_model (λ o t q. Makes o t q TooMany now) old m s makes in
+        step_within m before after (subst (λ (b : Bound). TakesAtMost b before after) (sym (counted_bound (rows_at m) made.0))
+        (record { ops = omega (arith, takes.ops_are); entries = omega (arith, takes.entries_are) })))
         (sound_shown old schema broke.NoMem tt)
 
 -- a clause on an index and a definition, and on what these are

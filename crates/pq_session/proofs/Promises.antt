@@ -1,13 +1,20 @@
 -- Steps that change nothing, and the clauses on the step of a piece.
-use Rattle.std.proofs.Common.{◌≡◌, ℕ, ◌⊎◌, Bool, true, false, Option, Some, None, Result, Ok, Err, if◌then◌else◌, refl, sym, ap, subst, arith, inl, lit≤}
+use Rattle.std.proofs.Common.{◌≡◌, ℕ, ◌⊎◌, Bool, true, false, Option, Some, None, Result, Ok, Err, if◌then◌else◌, refl, sym, ap, ◌∙◌, subst, arith, inl, lit≤}
 use Rattle.std.specs.Prelude.{◌+◌, ◌*◌, ◌≤◌, nat_le, IfOk, IfErr, IfSome, OnErr}
 use Rattle.std.proofs.lemmas.Bool.{leb-true}
+use Rattle.std.proofs.lemmas.Option.{none-some, same_Some}
 use Rattle.pq_base.specs.declared.number.Bound.{Bound}
 use Rattle.pq_base.specs.declared.number.Used.{Used}
 use Rattle.pq_base.specs.declared.refusal.Refusal.{Refusal}
-use Rattle.pq_builds.specs.Bounds.{bound, build_bound}
+use Rattle.pq_builds.specs.Bounds.{bound, build_bound, fixed_bound, prepare_bound}
 use Rattle.pq_builds.specs.Stages.{IsWithinBuild as BuildsWithin, build_ops}
 use Rattle.pq_schema.specs.Schema.{Schema}
+use Rattle.pq_schema.specs.declared.query.Query.{Query}
+use Rattle.pq_schema.specs.declared.table.NewIndex.{NewIndex}
+use Rattle.pq_content.specs.Tables.{Rows}
+use Rattle.pq_index_keep.specs.Bounds.{write_bound}
+use Rattle.pq_index_keep.specs.Effects.{effect}
+use Rattle.pq_index_keep.specs.declared.write.Write.{Write}
 use Rattle.pq_print.specs.Report.{is_refused}
 use Rattle.pq_print.specs.declared.report.End.{End}
 use Rattle.pq_print.specs.declared.report.End.TheVariants as End
@@ -17,18 +24,19 @@ use Rattle.pq_store.specs.Content.{Content}
 use Rattle.pq_store.specs.declared.damage.Broke.{Broke}
 use Rattle.pq_store.specs.declared.damage.Broke.TheVariants as broke
 use Rattle.pq_intent.specs.Changing.{IfDamagedSame}
-use Rattle.pq_session.specs.Actions.{Action, Explains, Shows, action_bound, action_schema, action_of, asked_bound, asked_schema, schema_after, statement_bound}
+use Rattle.pq_session.specs.Actions.{Action, Creates, Writes, Prepares, Explains, Runs, Shows, action_bound, action_schema, action_of, asked_bound, asked_schema, schema_after, statement_bound}
 use Rattle.pq_session.specs.Evidence.{TellsEvidence}
 use Rattle.pq_session.specs.Model.{Model}
 use Rattle.pq_session.specs.Stands.{HoldsModel, Stands, Opens}
 use Rattle.pq_session.specs.Planning.{PlannedDefinition}
-use Rattle.pq_session.specs.Step.{Step, action_step, acted_as, step, refusal_report, report_of, report_step, explanation, unread_report}
+use Rattle.pq_session.specs.Step.{Step, action_step, acted_as, step, refusal_report, report_of, report_step, explanation, unread_report, crowding_refusal, effected_as, prepared_over, write_step}
 use Rattle.pq_text.specs.declared.piece.Piece.{Piece}
 use Rattle.pq_session.specs.Lines.{show_lines}
 use Rattle.pq_store.specs.Breaks.{IsUndamaged}
 use Rattle.pq_session.specs.Matches.{Matches}
 use Rattle.pq_intent.specs.Spending.{TakesAtMost}
-use Rattle.pq_session.specs.Promise.{DoneStatement, BrokenStatement, Promises, IsBound, IsRefusal, IsWithinFixed}
+use Rattle.pq_session.specs.Promise.{DoneStatement, BrokenStatement, Promises, IsBound, IsRefusal, IsWithinFixed, KeepsDamaged, OnlyReads, StopsAction, StopsAsked, StopsIndex}
+use Rattle.pq_session.specs.Refusing.{CanEnd}
 use Rattle.pq_session.proofs.Standing.{settled_opens}
 
 -- a statement that is refused before any call of the store changes nothing and uses nothing
@@ -46,6 +54,8 @@ unread_done number why old schema counts = record {
   accepted = λ not. absurd (not tt);
   numbered = refl;
   unread = refl;
+  can = refl;
+  reads = λ _. refl;
 }
 
 -- where no damage is told, nothing has to show it
@@ -55,6 +65,42 @@ sound_shown (Some content) schema broke.Failed sound = tt
 sound_shown (Some content) schema broke.NoMem sound = tt
 sound_shown (Some content) schema (broke.Damaged damage) sound = absurd sound
 
+-- and nothing has to be kept
+pub sound_kept : (schema : Schema) (asked : Result Action Refusal) (old now : Option Content) (broke : Broke) → IsUndamaged broke → KeepsDamaged schema asked old now broke
+sound_kept schema asked None now broke sound = tt
+sound_kept schema asked (Some content) now broke.Failed sound = tt
+sound_kept schema asked (Some content) now broke.NoMem sound = tt
+sound_kept schema asked (Some content) now (broke.Damaged damage) sound = absurd sound
+
+-- a content that is as it was is one that what was asked for may leave
+index_same : (schema : Schema) (query : Query) (wanted : Option NewIndex) (content : Content) (now : Option Content) → now ≡ Some content → StopsIndex schema query wanted content now
+index_same schema query None content now same = same
+index_same schema query (Some new) content now same = inl same
+
+action_same : (schema : Schema) (action : Action) (content : Content) (now : Option Content) → now ≡ Some content → StopsAction schema action content now
+action_same schema (Creates table) content now same = same
+action_same schema (Writes write) content now same = same
+action_same schema (Prepares plan) content now same = index_same schema plan.query plan.chosen.wanted content now same
+action_same schema (Explains plan) content now same = same
+action_same schema (Runs running) content now same = same
+action_same schema Shows content now same = same
+
+asked_same : (schema : Schema) (asked : Result Action Refusal) (content : Content) (now : Option Content) → now ≡ Some content → StopsAsked schema asked content now
+asked_same schema (Ok action) content now same = action_same schema action content now same
+asked_same schema (Err why) content now same = same
+
+pub damaged_kept : (schema : Schema) (asked : Result Action Refusal) (old now : Option Content) (broke : Broke) → IfDamagedSame old now broke → KeepsDamaged schema asked old now broke
+damaged_kept schema asked None now broke same = tt
+damaged_kept schema asked (Some content) now broke.Failed same = tt
+damaged_kept schema asked (Some content) now broke.NoMem same = tt
+damaged_kept schema asked (Some content) now (broke.Damaged damage) same = asked_same schema asked content now same
+
+pub same_kept : (schema : Schema) (asked : Result Action Refusal) (old now : Option Content) (broke : Broke) → now ≡ old → KeepsDamaged schema asked old now broke
+same_kept schema asked None now broke same = tt
+same_kept schema asked (Some content) now broke.Failed same = tt
+same_kept schema asked (Some content) now broke.NoMem same = tt
+same_kept schema asked (Some content) now (broke.Damaged damage) same = asked_same schema asked content now same
+
 -- where damage left the content as it was, what showed it shows it still
 pub shown_still : (old now : Option Content) (schema : Schema) (broke : Broke) → IfDamagedSame old now broke → IfSome old (λ content. TellsEvidence schema content broke)
     → IfSome now (λ content. TellsEvidence schema content broke)
@@ -62,6 +108,43 @@ shown_still old now schema broke.Failed same shown = sound_shown now schema brok
 shown_still old now schema broke.NoMem same shown = sound_shown now schema broke.NoMem tt
 shown_still old now schema (broke.Damaged damage) same shown =
     subst (λ (o : Option Content). IfSome o (λ content. TellsEvidence schema content (broke.Damaged damage))) (sym same) shown
+
+-- the bound that the definitions fix is that of the step
+prepared_bound : (m : Model) (number : ℕ) (plan : PlannedDefinition) (why : Option Refusal) → (prepared_over m number plan why).report.bound ≡ prepare_bound plan.chosen.wanted m.rows
+prepared_bound m number plan None = refl
+prepared_bound m number plan (Some why) = refl
+
+index_bound : (wanted : Option NewIndex) (rows : Rows) (most : Bound) → fixed_bound wanted ≡ Some most → prepare_bound wanted rows ≡ most
+index_bound None rows most is = same_Some _ _ is
+index_bound (Some new) rows most is = absurd (none-some _ is)
+
+effected_bound : (m : Model) (number : ℕ) (most : Bound) (made : Result Rows Refusal) → (effected_as m number most made).report.bound ≡ most
+effected_bound m number most (Ok rows) = refl
+effected_bound m number most (Err why) = refl
+
+written_bound : (m : Model) (number : ℕ) (write : Write) → (write_step m number write).report.bound ≡ write_bound m.schema.tables write
+unfolding write_step
+written_bound m number write = effected_bound m number (write_bound m.schema.tables write) (effect m.schema.tables m.rows write)
+
+step_bound : (m : Model) (number : ℕ) (action : Action) (most : Bound) → action_bound m.schema action ≡ Some most → (action_step m number action).report.bound ≡ most
+step_bound m number (Creates table) most is = same_Some _ _ is
+step_bound m number (Writes write) most is = written_bound m number write ∙ same_Some _ _ is
+step_bound m number (Prepares plan) most is = prepared_bound m number plan (crowding_refusal m plan.chosen.wanted) ∙ index_bound plan.chosen.wanted m.rows most is
+step_bound m number (Explains plan) most is = same_Some _ _ is
+step_bound m number (Runs running) most is = same_Some _ _ is
+step_bound m number Shows most is = same_Some _ _ is
+
+-- so what is within the one is within the other
+pub within_step : (number : ℕ) (action : Action) (old : Option Content) (schema : Schema) (most : Bound) (before after : Counts) → action_bound schema action ≡ Some most → TakesAtMost most before after
+    → (m : Model) → Stands old schema m → TakesAtMost (action_step m number action).report.bound before after
+within_step number action old schema most before after is within m s =
+    subst (λ (b : Bound). TakesAtMost b before after) (sym (step_bound m number action most (ap (λ (x : Schema). action_bound x action) (sym s.known) ∙ is))) within
+
+-- a PREPARE that makes an index is within the bound of its build over the rows
+pub within_prepared : (m : Model) (number : ℕ) (plan : PlannedDefinition) (before after : Counts) → TakesAtMost (prepare_bound plan.chosen.wanted m.rows) before after
+    → TakesAtMost (prepared_over m number plan (crowding_refusal m plan.chosen.wanted)).report.bound before after
+within_prepared m number plan before after within =
+    subst (λ (b : Bound). TakesAtMost b before after) (sym (prepared_bound m number plan (crowding_refusal m plan.chosen.wanted))) within
 
 -- no call was made
 pub within_none : (most : Option Bound) (counts : Counts) → IsWithinFixed most counts counts
@@ -101,6 +184,9 @@ broken_same number asked old schema counts broke sound = record {
   stopped = λ m s. inl (settled_opens s.settled);
   sound = λ m s. sound;
   within = within_none (asked_bound schema asked) counts;
+  within_own = λ m s. record { ops = omega arith; entries = omega arith };
+  kept = same_kept schema asked old old broke refl;
+  reads = λ _. refl;
   shown = sound_shown old schema broke sound;
   lasting = sound_shown old schema broke sound;
 }
@@ -108,18 +194,22 @@ broken_same number asked old schema counts broke sound = record {
 -- the same where the content is told to be as it was
 pub broken_kept : (number : ℕ) (asked : Result Action Refusal) (old now : Option Content) (schema : Schema) (before after : Counts) (broke : Broke)
     → now ≡ old → ((m : Model) → Stands old schema m → IsUndamaged broke) → IsWithinFixed (asked_bound schema asked) before after
+    → ((m : Model) → Stands old schema m → TakesAtMost (acted_as m number asked).report.bound before after)
     → IfSome old (λ content. TellsEvidence schema content broke) → BrokenStatement number asked old now schema before after broke
-broken_kept number asked old now schema before after broke same sound within shown = record {
+broken_kept number asked old now schema before after broke same sound within own shown = record {
   stopped = λ m s. inl (settled_opens (subst (λ o. HoldsModel o m) (sym same) s.settled));
   sound = sound;
   within = within;
+  within_own = own;
+  kept = same_kept schema asked old now broke same;
+  reads = λ _. same;
   shown = shown;
   lasting = subst (λ (o : Option Content). IfSome o (λ content. TellsEvidence schema content broke)) (sym same) shown;
 }
 
 -- what is reported of the definitions alone makes no call of the store
 module _ (number : ℕ) (action : Action) (report : Schema → Report) (free : (schema : Schema) → (report schema).used ≡ record { ops = 0; entries = 0 })
-    (numbered : (schema : Schema) → (report schema).number ≡ number) (is : (m : Model) → action_step m number action ≡ report_step m (report m.schema)) where
+    (numbered : (schema : Schema) → (report schema).number ≡ number) (ended : (schema : Schema) → (report schema).end ≡ End.Done) (is : (m : Model) → action_step m number action ≡ report_step m (report m.schema)) where
   pub unpaid_done : (old : Option Content) (schema : Schema) (counts : Counts) → action_bound schema action ≡ Some (report schema).bound → schema ≡ action_schema schema action
       → DoneStatement number (Ok action) old old schema schema counts counts (report schema)
   unpaid_done old schema counts most same =
@@ -138,17 +228,19 @@ module _ (number : ℕ) (action : Action) (report : Schema → Report) (free : (
         accepted = λ _. same;
         numbered = numbered schema;
         unread = tt;
+        can = subst (CanEnd schema (Ok action)) (sym (ended schema)) tt;
+        reads = λ _. refl;
       }
 
 -- SHOW tells the definitions
 pub shown_done : (number : ℕ) (old : Option Content) (schema : Schema) (counts : Counts)
     → DoneStatement number (Ok Shows) old old schema schema counts counts (report_of number (show_lines schema) End.Done (bound 0 0))
-shown_done number old schema counts = unpaid_done number Shows (λ s. report_of number (show_lines s) End.Done (bound 0 0)) (λ s. refl) (λ s. refl) (λ m. refl) old schema counts refl refl
+shown_done number old schema counts = unpaid_done number Shows (λ s. report_of number (show_lines s) End.Done (bound 0 0)) (λ s. refl) (λ s. refl) (λ s. refl) (λ m. refl) old schema counts refl refl
 
 -- EXPLAIN tells a query's plan
 pub explained_done : (number : ℕ) (plan : PlannedDefinition) (old : Option Content) (schema : Schema) (counts : Counts)
     → DoneStatement number (Ok (Explains plan)) old old schema schema counts counts (explanation schema.tables number plan)
-explained_done number plan old schema counts = unpaid_done number (Explains plan) (λ s. explanation s.tables number plan) (λ s. refl) (λ s. refl) (λ m. refl) old schema counts refl refl
+explained_done number plan old schema counts = unpaid_done number (Explains plan) (λ s. explanation s.tables number plan) (λ s. refl) (λ s. refl) (λ s. refl) (λ m. refl) old schema counts refl refl
 
 -- ---- the clauses on the step of a piece
 
@@ -208,3 +300,25 @@ module _ (number : ℕ) (piece : Piece) (old now : Option Content) (schema : Sch
   pub promised_lasting : (result : Result (Schema × Report) Broke) → Promised result → IfErr result (λ broke. IfSome now (λ content. TellsEvidence schema content broke))
   promised_lasting (Ok made) p = tt
   promised_lasting (Err broke) p = p.lasting
+
+  -- what was used is within the bound of the step, also where it breaks off
+  pub promised_own : (result : Result (Schema × Report) Broke) → Promised result → (m : Model) → Stands old schema m → TakesAtMost (step m number piece).report.bound before after
+  promised_own (Ok made) p m s =
+      let fits = p.matches m s in
+      let ops = fits.ops in
+      let entries = fits.entries in
+      subst (λ (x : Step). TakesAtMost x.report.bound before after) (step_is m s.known) (record { ops = omega (arith, p.ops, ops); entries = omega (arith, p.entries, entries) })
+  promised_own (Err broke) p m s = subst (λ (x : Step). TakesAtMost x.report.bound before after) (step_is m s.known) (p.within_own m s)
+
+  pub promised_kept : (result : Result (Schema × Report) Broke) → Promised result → IfErr result (KeepsDamaged schema (action_of schema piece) old now)
+  promised_kept (Ok made) p = tt
+  promised_kept (Err broke) p = p.kept
+
+  pub promised_can : (result : Result (Schema × Report) Broke) → Promised result → IfOk result (λ p. CanEnd schema (action_of schema piece) p.1.end)
+  promised_can (Ok made) p = p.can
+  promised_can (Err broke) p = tt
+
+  -- a statement that only reads leaves the content as it was
+  pub promised_reads : (result : Result (Schema × Report) Broke) → Promised result → OnlyReads (action_of schema piece) → now ≡ old
+  promised_reads (Ok made) p = p.reads
+  promised_reads (Err broke) p = p.reads

@@ -37,7 +37,7 @@ use Rattle.pq_session.specs.Reports.{page_report}
 use Rattle.pq_session.specs.Stands.{Stands, catalog_pairs}
 use Rattle.pq_session.specs.Actions.{Runs}
 use Rattle.pq_session.specs.Step.{page_of}
-use Rattle.pq_session.proofs.Promises.{broken_kept}
+use Rattle.pq_session.proofs.Promises.{broken_kept, within_step}
 use Rattle.pq_session.proofs.Writing.{settled_rows}
 
 -- ---- the query of a number
@@ -115,6 +115,8 @@ module _ (number : ℕ) (run : Running) (schema : Schema) where
         accepted = λ _. refl;
         numbered = refl;
         unread = tt;
+        can = tt;
+        reads = λ _. same;
       }
 
   -- damage that a read shows is evidence
@@ -130,7 +132,7 @@ module _ (number : ℕ) (run : Running) (schema : Schema) where
   page_broke old now before later error sound shows rises same =
       broken_kept number (Ok (Runs run)) old now schema before later error same
       (λ m s. sound m.rows (catalog_pairs schema) (settled_rows old schema m s))
-      (within_run before later rises) (read_shown old error shows)
+      (within_run before later rises) (within_step number (Runs run) old schema most before later refl (within_run before later rises)) (read_shown old error shows)
 
 -- ---- RUN
 

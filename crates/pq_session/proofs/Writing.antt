@@ -34,6 +34,7 @@ use Rattle.pq_index_keep.specs.Bounds.{write_tests, write_bound}
 use Rattle.pq_index_keep.specs.Checking.{checked_write, IsWriting}
 use Rattle.pq_index_keep.specs.Effects.{effect}
 use Rattle.pq_index_keep.specs.Promises as keep
+use Rattle.pq_index_keep.specs.Refusals.{CanRefuse, RefusesAs}
 use Rattle.pq_index_keep.specs.Promises.{Plans, MakesRows}
 use Rattle.pq_calls.specs.Evidence.{IsNoRow}
 use Rattle.pq_calls.specs.World.{world, Reads, Explains, where_told}
@@ -49,12 +50,12 @@ use Rattle.pq_schema.specs.Valid.{IsValid}
 use Rattle.pq_session.specs.Matches.{Matches}
 use Rattle.pq_session.specs.Model.{Model}
 use Rattle.pq_session.specs.Actions.{Writes}
-use Rattle.pq_session.specs.Promise.{DoneStatement, BrokenStatement}
+use Rattle.pq_session.specs.Promise.{DoneStatement, BrokenStatement, KeepsDamaged}
 use Rattle.pq_session.specs.Stands.{HoldsModel, Stands, Opens, content_of, catalog_pairs}
 use Rattle.pq_session.specs.Step.{Step, report_of, refusal_report, refused_step, write_step, effected_as}
 use Rattle.pq_session.proofs.Catalogs.{are_beside}
 use Rattle.pq_session.proofs.Standing.{no_intent_in, settled_opens}
-use Rattle.pq_session.proofs.Promises.{shown_still}
+use Rattle.pq_session.proofs.Promises.{damaged_kept, same_kept, shown_still, within_step}
 
 -- rows of the tables of a valid schema can be written
 pub writable_tables : (schema : Schema) → IsValid schema → writable.AreWritable schema.tables
@@ -88,8 +89,9 @@ step_refused m number write why schema known is =
 refused_by : (number : ℕ) (write : Write) (why : Refusal) (old now : Option Content) (schema : Schema) (f0 f1 : ℕ) (allowed : AllowedCounts) (before after : Counts)
     → Reads (world old f0 (granted_counts (write_bound schema.tables write).ops (write_bound schema.tables write).entries) before) (world now f1 allowed after) (write_tests schema.tables write).ops (write_tests schema.tables write).entries
     → ((rows : Rows) (others : List Pair) → keep.HoldsRows old schema.tables rows others → effect schema.tables rows write ≡ Err why)
+    → CanRefuse schema.tables write why
     → DoneStatement number (Ok (Writes write)) old now schema schema before after (record (refusal_report number why (write_bound schema.tables write)) { used = used_of allowed })
-refused_by number write why old now schema f0 f1 allowed before after reads answer = record {
+refused_by number write why old now schema f0 f1 allowed before after reads answer can = record {
   matches = λ m s. subst (λ (x : Step). Matches x.report (record (refusal_report number why (write_bound schema.tables write)) { used = used_of allowed }))
       (sym (step_refused m number write why schema s.known (answer m.rows (catalog_pairs schema) (settled_rows old schema m s))))
       (record { same = refl; ops = omega (arith, ap (λ (c : Counts). c.ops) reads.granted); entries = omega (arith, ap (λ (c : Counts). c.entries) reads.granted) });
@@ -105,18 +107,22 @@ refused_by number write why old now schema f0 f1 allowed before after reads answ
   accepted = λ _. refl;
   numbered = refl;
   unread = tt;
+  can = can;
+  reads = λ none. absurd none;
 }
 
 pub refused_done : (number : ℕ) (write : Write) (why : Refusal) (old now : Option Content) (schema : Schema) (most : Bound) (f0 f1 : ℕ) (given allowed : AllowedCounts) (before after : Counts) (q : Planned)
     → most ≡ write_bound schema.tables write → given ≡ granted_counts most.ops most.entries → q ≡ planned.Refused why
     → Reads (world old f0 given before) (world now f1 allowed after) (write_tests schema.tables write).ops (write_tests schema.tables write).entries
     → ((rows : Rows) (others : List Pair) → keep.HoldsRows old schema.tables rows others → Plans schema.tables rows others write q)
+    → RefusesAs schema.tables write q
     → DoneStatement number (Ok (Writes write)) old now schema schema before after (record (refusal_report number why most) { used = used_of allowed })
-refused_done number write why old now schema most f0 f1 given allowed before after q is_most is_given is reads answer =
+refused_done number write why old now schema most f0 f1 given allowed before after q is_most is_given is reads answer can =
     subst (λ (x : Bound). DoneStatement number (Ok (Writes write)) old now schema schema before after (record (refusal_report number why x) { used = used_of allowed })) (sym is_most)
     (refused_by number write why old now schema f0 f1 allowed before after
     (subst (λ (a : AllowedCounts). Reads (world old f0 a before) (world now f1 allowed after) (write_tests schema.tables write).ops (write_tests schema.tables write).entries) (is_given ∙ ap (λ (b : Bound). granted_counts b.ops b.entries) is_most) reads)
-    (subst (λ (x : Planned). (rows : Rows) (others : List Pair) → keep.HoldsRows old schema.tables rows others → Plans schema.tables rows others write x) is answer))
+    (subst (λ (x : Planned). (rows : Rows) (others : List Pair) → keep.HoldsRows old schema.tables rows others → Plans schema.tables rows others write x) is answer)
+    (subst (RefusesAs schema.tables write) is can))
 
 -- ---- made
 
@@ -193,6 +199,8 @@ changed_by number write changes old mid now schema f0 f1 left allowed before bet
       accepted = λ _. refl;
       numbered = refl;
       unread = tt;
+      can = tt;
+      reads = λ none. absurd none;
     }
 
 pub changed_done : (number : ℕ) (write : Write) (changes : List Change) (old mid now : Option Content) (schema : Schema) (most : Bound) (f0 f1 : ℕ) (given left allowed : AllowedCounts) (before between after : Counts) (q : Planned)
@@ -259,6 +267,10 @@ planning_broke number write error old now schema most f0 f1 given left before af
   stopped = λ m s. inl (settled_opens (subst (λ o. HoldsModel o m) (sym reads.same) s.settled));
   sound = λ m s. explained_sound old schema error f0 f1 given left before after now m s explains;
   within = within_effected write schema most before after is_most (planned_within most old now f0 f1 given left before after ops entries is_given reads);
+  within_own = λ m s. within_step number (Writes write) old schema (write_bound schema.tables write) before after refl
+      (within_effected write schema most before after is_most (planned_within most old now f0 f1 given left before after ops entries is_given reads)) m s;
+  kept = same_kept schema (Ok (Writes write)) old now error reads.same;
+  reads = λ none. absurd none;
   shown = explained_shown old schema error f0 f1 given left before after now explains;
   lasting = subst (λ (o : Option Content). IfSome o (λ content. TellsEvidence schema content error)) (sym reads.same) (explained_shown old schema error f0 f1 given left before after now explains);
 }
@@ -282,6 +294,10 @@ commit_broke number write changes error old mid now schema most f0 f1 given left
   stopped = λ m s. stopped_at m number write changes now s.settled.valid s.settled.keeps (made_of schema m old write changes s (planned_as old schema write q changes is answer)) (stops (content_of m) (settled_for old mid schema m reads.same s));
   sound = λ m s. sound (content_of m) (settled_for old mid schema m reads.same s);
   within = within_effected write schema most before after is_most (committed_within most old mid f0 f1 given left allowed before between after ops entries limit is_given reads spends);
+  within_own = λ m s. within_step number (Writes write) old schema (write_bound schema.tables write) before after refl
+      (within_effected write schema most before after is_most (committed_within most old mid f0 f1 given left allowed before between after ops entries limit is_given reads spends)) m s;
+  kept = subst (λ (o : Option Content). KeepsDamaged schema (Ok (Writes write)) o now error) reads.same (damaged_kept schema (Ok (Writes write)) mid now error same);
+  reads = λ none. absurd none;
   shown = intent_shown old schema error (subst (λ (o : Option Content). IfSome o (λ pairs. IfDamaged (IsPresent intent_key pairs) error)) reads.same shows);
   lasting = shown_still mid now schema error same (intent_shown mid schema error shows);
 }

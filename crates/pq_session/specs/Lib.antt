@@ -15,6 +15,7 @@ pub mod Pages
 pub mod Planned
 pub mod Planning
 pub mod Promise
+pub mod Refusing
 pub mod Reports
 pub mod Requests
 pub mod Spelling

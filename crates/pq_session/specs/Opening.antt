@@ -29,11 +29,11 @@ use Rattle.pq_content.specs.Tables.{Rows, rows_of, Keeps}
 use Rattle.pq_print.specs.Canonical.{definition_text}
 use Rattle.pq_print.specs.declared.report.Opened.{Opened}
 use Rattle.pq_intent.specs.Counting.{HasChanges}
-use Rattle.pq_intent.specs.Settling.{IsNoIntent}
+use Rattle.pq_intent.specs.Settling.{IsNoIntent, LeavesSettled}
 use Rattle.pq_intent.specs.declared.settles.Settled.{Settled}
 use Rattle.pq_builds.specs.Bounds.{bound, left_bound}
 use Rattle.pq_builds.specs.Filling.{row_pairs_in}
-use Rattle.pq_builds.specs.Stages.{Takes, ShowsLeft}
+use Rattle.pq_builds.specs.Stages.{Takes, ShowsLeft, StopsFilling}
 use Rattle.pq_builds.specs.Targets.{target_of}
 use Rattle.pq_builds.specs.declared.target.NewQuery.{NewQuery}
 use Rattle.pq_builds.specs.declared.target.Target.{Target}
@@ -267,6 +267,37 @@ abbrev pub NamesFlaw : Content → Broke → Type 0
 NamesFlaw content Failed = Unit {0}
 NamesFlaw content NoMem = Unit {0}
 NamesFlaw content (Damaged damage) = ShowsFlaw content damage ⊎ ShowsBuildLeft content damage
+
+-- ---- what an opening leaves
+
+-- no intent stands in it, and its catalog tells of no build
+pub record IsQuiet (content : Content) : Type 0 where
+  pub no_intent : get content intent_key ≡ None
+  pub no_build : (schema : Schema) → added_from none_added (catalog_in content) ≡ Ok (schema, Building) → ⊥
+
+-- nothing was changed; or what is built for this schema's last definition was gone on with
+abbrev pub GoesOnLeft : Schema → Content → Option Content → Type 0
+GoesOnLeft schema content now = (now ≡ Some content)
+    ⊎ ((target : Target) × (query : NewQuery) × IsLeft schema target query × StopsFilling target query content now)
+
+-- where a mark tells of it
+abbrev pub LeavesMarked : Schema → Mark → Content → Option Content → Type 0
+LeavesMarked schema Ready content now = now ≡ Some content
+LeavesMarked schema Building content now = GoesOnLeft schema content now
+
+-- what the content settles to has a catalog without a flaw, and is there; but what is built for its last definition
+-- was gone on with where its mark tells of it
+pub record LeavesRead (content : Content) (now : Option Content) : Type 0 where
+  pub settled : Content
+  pub settles : SettlesTo content settled
+  pub schema : Schema
+  pub mark : Mark
+  pub read : added_from none_added (catalog_in settled) ≡ Ok (schema, mark)
+  pub left : LeavesMarked schema mark settled now
+
+-- where damage is found: the content as it was, or what it settles to, or this with more of a build that was left
+abbrev pub LeavesFlawed : Content → Option Content → Type 0
+LeavesFlawed content now = (now ≡ Some content) ⊎ (LeavesSettled content now ⊎ LeavesRead content now)
 
 -- ---- the bound, which the content and the model fix
 

@@ -2,10 +2,10 @@
 ghost use Rattle.std.specs.Prelude.{◌≡◌, ◌≤◌, ◌*◌, length, IfOk, IfErr, IfSome, IsSome, OnOk, OnErr};
 ghost use Rattle.pq_builds.specs.Bounds.{left_bound};
 ghost use Rattle.pq_builds.specs.Filling.{row_pairs_in};
-ghost use Rattle.pq_builds.specs.Stages.{ShowsLeft, Takes, IsWithinBuild, left_ops};
+ghost use Rattle.pq_builds.specs.Stages.{ShowsLeft, StopsFilling, Takes, IsWithinBuild, left_ops};
 ghost use Rattle.pq_intent.specs.Spending.{TakesAtMost};
 ghost use Rattle.pq_session.specs.Model.{Model};
-ghost use Rattle.pq_session.specs.Opening.{IsLeft, IsFillingIn, rows_left, HasFewRows, ShowsMarked};
+ghost use Rattle.pq_session.specs.Opening.{IsLeft, IsFillingIn, GoesOnLeft, rows_left, HasFewRows, ShowsMarked};
 ghost use Rattle.pq_session.specs.Stands.{HoldsModel, Opens, last_made, last_query};
 ghost use Rattle.pq_store.specs.Breaks.{IsUndamaged};
 ghost use Rattle.pq_store.specs.Content.{HasBrokeCause};
@@ -79,6 +79,7 @@ fn complete_left<S: Store<L>, L: Ledger>(
     ensures sound { IfErr result (λ broke. (m : Model) → IsLeft m.schema target.now query.now
         → IsFillingIn (S.content store.old) m → IsUndamaged broke) }
     ensures shown { IfErr result (λ broke. IfSome (S.content store.old) (λ c. ShowsLeft target.now query.now c broke)) }
+    ensures left { IfSome (S.content store.old) (λ c. StopsFilling target.now query.now c (S.content store.new)) }
     ensures few { IfOk result (λ rows. rows ≤ 1000000) }
     ensures few_left { OnOk result (IfSome (S.content store.old) (λ c.
         length (row_pairs_in target.now.table c) ≤ 1000000)) }
@@ -107,6 +108,7 @@ pub(crate) fn complete<S: Store<L>, L: Ledger>(
         → IsUndamaged broke) }
     ensures shown { IfErr result (λ broke. IfSome (S.content store.old)
         (λ c. ShowsMarked catalog.now Mark.Building c broke)) }
+    ensures left { IfSome (S.content store.old) (λ c. GoesOnLeft catalog.now c (S.content store.new)) }
     ensures few { IfOk result (λ rows. rows ≤ 1000000) }
     ensures few_left { OnOk result (IfSome (S.content store.old) (HasFewRows (last_made catalog.now))) }
     ensures within { OnErr result (IsWithinBuild left_ops meter.old meter.new) }

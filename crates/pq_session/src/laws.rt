@@ -9,7 +9,7 @@ ghost use Rattle.pq_schema.specs.declared.table.NewIndex.{NewIndex};
 ghost use Rattle.pq_schema.specs.declared.table.Table.{Table};
 ghost use Rattle.pq_schema.specs.Definitions.{new_table};
 ghost use Rattle.pq_schema.specs.Names.{IsTableDef};
-ghost use Rattle.pq_schema.specs.Schema.{Schema, IsQueryDefinition, definition_at, empty_schema, query_at, with_table, with_query};
+ghost use Rattle.pq_schema.specs.Schema.{Schema, IsQueryDefinition, definition_at, empty_schema, find_query, query_at, with_table, with_query};
 ghost use Rattle.pq_schema.specs.Valid.{IsValid, IsDefined};
 ghost use Rattle.pq_schema.specs.Wanted.{no_bound};
 ghost use Rattle.pq_stop_push.specs.Having.{has_candidate};
@@ -23,14 +23,16 @@ ghost use Rattle.pq_reread.specs.WholeStatements.{WholeStatement, SpellsWhole};
 ghost use Rattle.pq_print.specs.Canonical.{definition_text};
 ghost use Rattle.pq_store.specs.Content.{Content};
 ghost use Rattle.pq_content.specs.Tables.{IsTableNumber, rows_of};
+ghost use Rattle.pq_pages.specs.Running.{params_refusal};
 ghost use Rattle.pq_plan.specs.Answer.{selected_values, whole};
+ghost use Rattle.pq_print.specs.declared.report.Report.{Report};
 ghost use Rattle.pq_session.specs.Actions.{asked_text};
 ghost use Rattle.pq_session.specs.Model.{Model};
-ghost use Rattle.pq_session.specs.Opening.{text_defines};
+ghost use Rattle.pq_session.specs.Opening.{IsQuiet, text_defines};
 ghost use Rattle.pq_session.specs.Planning.{HasNoCandidate, PlannedDefinition, arranged_from, arranged_plan, plan_from, plan_of};
-ghost use Rattle.pq_session.specs.Pages.{ArePages, IsPaged, question_of};
+ghost use Rattle.pq_session.specs.Pages.{ArePages, AreRuns, IsPaged, line_of, question_of};
 ghost use Rattle.pq_session.specs.Spelling.{asked_whole, SpellsNone};
-ghost use Rattle.pq_session.specs.Stands.{Opens};
+ghost use Rattle.pq_session.specs.Stands.{HoldsModel, Opens};
 
 /// What a text asks for is decided by what its tokens spell: no rule of reading plays a part.
 pub fn spelling_law()
@@ -97,6 +99,12 @@ pub fn standing_law()
 
     ensures rows { (content : Option Content) (m n : Model) → Opens content m → Opens content n → (t : ℕ)
         → IsTableNumber m.schema.tables t → IsPermutation (rows_of t m.rows) (rows_of t n.rows) }
+
+    // A quiet content, which an opening leaves as it is, is just that of the model: what a content holds after a
+    // statement or an opening is quiet, and a quiet one has nothing besides.
+    ensures quiet { (content : Content) (m : Model) → HoldsModel (Some content) m → IsQuiet content }
+    ensures own { (content : Content) (m : Model) → Opens (Some content) m → IsQuiet content
+        → HoldsModel (Some content) m }
 {}
 
 /// Over tables without a write between, and with the same parameters, the pages of a query with PAGINATE k are all of
@@ -112,4 +120,16 @@ pub fn page_law()
     // And there is such a page: the pages end.
     ensures ends { (m : Model) (query : Query) (params : List Value) (k : ℕ) → IsPaged m query k
         → (pages : List (List (List (List Value)))) × ArePages (question_of m query params) k None pages }
+
+    // So it is for the reports of RUN after RUN: each begins behind the cursor that the report before it prints, up to
+    // the first that prints none.
+    ensures runs { (m : Model) (name : List ℕ) (params : List Value) (number k : ℕ) (reports : List Report)
+        → find_query m.schema name ≡ Some number → IsPaged m (query_at m.schema number) k
+        → AreRuns m name params None reports
+        → flat_map (λ report. report.lines) reports ≡ map (line_of (query_at m.schema number))
+        (whole (question_of m (query_at m.schema number) params)) }
+    ensures runs_end { (m : Model) (name : List ℕ) (params : List Value) (number k : ℕ)
+        → find_query m.schema name ≡ Some number → IsPaged m (query_at m.schema number) k
+        → params_refusal (query_at m.schema number).params params ≡ None
+        → (reports : List Report) × AreRuns m name params None reports }
 {}

@@ -1,5 +1,5 @@
 //! The session: the view of a store's definitions.
-ghost use Rattle.std.specs.Prelude.{◌≡◌, ◌≤◌, ◌<◌, ◌+◌, ◌^◌, ◌⊎◌, length, IfOk, IfErr, IfSome, IsSome, OnOk, OnErr, Ok, None, Result, false};
+ghost use Rattle.std.specs.Prelude.{◌≡◌, ◌≤◌, ◌<◌, ◌+◌, ◌^◌, ◌⊎◌, length, IfOk, IfErr, IfSome, IsSome, OnOk, OnErr, Ok, None, Some, Result, false};
 ghost use Rattle.pq_builds.specs.Stages.{Takes, IsWithinBuild as BuildsWithin, left_ops};
 ghost use Rattle.pq_intent.specs.Spending.{TakesAtMost};
 ghost use Rattle.pq_store.specs.Content.{HasBrokeCause};
@@ -7,14 +7,15 @@ ghost use Rattle.pq_schema.specs.Schema.{empty_schema};
 ghost use Rattle.pq_print.specs.declared.report.End.TheVariants as End;
 ghost use Rattle.pq_base.specs.declared.refusal.Refusal.{Refusal};
 ghost use Rattle.pq_session.specs.Model.{Model as Tables};
-ghost use Rattle.pq_session.specs.Opening.{opening_of, started_of, none_added, added_from, catalog_in, completion_bound, AreFewRows, HasFewLeft, IsStarted, IsAsMarked, rows_of_mark, TellsSchema, NamesPair, NamesFlaw, ShowsMarked};
+ghost use Rattle.pq_session.specs.Opening.{opening_of, started_of, none_added, added_from, catalog_in, completion_bound, AreFewRows, HasFewLeft, IsQuiet, IsStarted, IsAsMarked, LeavesFlawed, LeavesMarked, LeavesRead, rows_of_mark, TellsSchema, NamesPair, NamesFlaw, ShowsMarked};
 ghost use Rattle.pq_schema.specs.Valid.{IsValid};
 ghost use Rattle.pq_session.specs.Within.{IsBounded, StopsWithin, IsWithinOpening};
-ghost use Rattle.pq_store.specs.Breaks.{IsUndamaged};
+ghost use Rattle.pq_store.specs.Breaks.{IfDamaged, IsUndamaged};
 ghost use Rattle.pq_session.specs.Matches.{Matches, IsOpening};
 ghost use Rattle.pq_session.specs.Evidence.{TellsEvidence};
 ghost use Rattle.pq_session.specs.Actions.{Action, action_of, schema_after, statement_bound};
-ghost use Rattle.pq_session.specs.Promise.{Promises, IsBound, IsRefusal, IsWithinFixed};
+ghost use Rattle.pq_session.specs.Promise.{Promises, IsBound, IsRefusal, IsWithinFixed, KeepsDamaged, OnlyReads};
+ghost use Rattle.pq_session.specs.Refusing.{CanEnd};
 ghost use Rattle.pq_session.specs.Requests.{Asks, IsRequest};
 ghost use Rattle.pq_session.specs.Stands.{HoldsModel, Stands, Opens, last_made};
 ghost use Rattle.pq_builds.specs.Bounds.{bound};
@@ -155,6 +156,7 @@ impl Session {
         // most it. Where it breaks off, the meter rose by at most such a bound and one range more; over a store
         // that opens to a model, by its own.
         ensures valid { IfOk result (λ s. IsValid s.session) }
+        ensures defs { IfOk result (λ s. s.defs ≡ length s.session.definitions) }
         ensures bounded { IfOk result (λ s. IsBounded (opening_of s)) }
         ensures within { OnErr result (StopsWithin meter.old meter.new) }
         ensures within_own { OnErr result ((m : Tables) → Opens (S.content store.old) m
@@ -164,6 +166,12 @@ impl Session {
         ensures told { IfOk result (λ s. IfSome (S.content store.old) (λ pairs. TellsSchema pairs s.session)) }
         ensures flaw { IfErr result (λ broke. IfSome (S.content store.old) (λ pairs. NamesFlaw pairs broke)) }
         ensures damage { IfErr result (λ broke. (m : Tables) → Opens (S.content store.old) m → IsUndamaged broke) }
+        // What is left of it, whether it opens to a model or not: what it settles to, with more of a build that was
+        // left or all of it; where there is damage, also the content as it was. A quiet content is left as it is.
+        ensures left { OnOk result (IfSome (S.content store.old) (λ c. LeavesRead c (S.content store.new))) }
+        ensures left_flawed { IfErr result (λ broke. IfSome (S.content store.old)
+            (λ c. IfDamaged (λ damage. LeavesFlawed c (S.content store.new)) broke)) }
+        ensures rests { IfSome (S.content store.old) (λ c. IsQuiet c → S.content store.new ≡ Some c) }
         ensures cause { HasBrokeCause (S.faults store.old) (S.faults store.new) result }
     {
         let settled = settle(alloc, store, meter)?;
@@ -223,6 +231,8 @@ impl Session {
             → IsAsMarked found.mark (S.content store.old) m → IsUndamaged broke) }
         ensures shown { IfErr result (λ broke. IfSome (S.content store.old)
             (λ c. ShowsMarked found.session found.mark c broke)) }
+        ensures left { IfSome (S.content store.old)
+            (λ c. LeavesMarked found.session found.mark c (S.content store.new)) }
         ensures few_left { OnOk result (IfSome (S.content store.old) (HasFewLeft found.session found.mark)) }
         ensures within { OnErr result (BuildsWithin left_ops meter.old meter.new) }
         ensures within_own { OnErr result ((m : Tables) → m.schema ≡ found.session
@@ -270,10 +280,17 @@ impl Session {
         ensures bound { IfOk result (λ p. IsBound (statement_bound self piece.now) p.1.bound) }
         ensures within { IfSome (statement_bound self piece.now) (λ most. TakesAtMost most meter.old meter.new) }
         ensures building { OnErr result (IsWithinFixed (statement_bound self piece.now) meter.old meter.new) }
+        // Over a model it is within the bound of its own step, where an index is made too.
+        ensures within_own { (m : Tables) → Stands (S.content store.old) self m
+            → TakesAtMost (step m number piece.now).report.bound meter.old meter.new }
         ensures few_ops { IfOk result (λ p. p.1.used.ops ≤ p.1.bound.ops) }
         ensures few_entries { IfOk result (λ p. p.1.used.entries ≤ p.1.bound.entries) }
         ensures refused { IfOk result (λ p. IsRefusal p.1.end
             → (S.content store.new ≡ S.content store.old) × (p.0 ≡ self)) }
+        // A RUN, an EXPLAIN, a SHOW and what is refused before any call write nothing, whatever comes.
+        ensures reads { OnlyReads (action_of self piece.now) → S.content store.new ≡ S.content store.old }
+        // A refusal is one that what the piece asks for can have.
+        ensures can { IfOk result (λ p. CanEnd self (action_of self piece.now) p.1.end) }
         // What is refused before any call is reported as just that; and so are the definitions
         // behind each report fixed.
         ensures number { IfOk result (λ p. p.1.number ≡ number) }
@@ -287,6 +304,9 @@ impl Session {
             → Opens (S.content store.new) m ⊎ Opens (S.content store.new) (step m number piece.now).model) }
         ensures damage { IfErr result (λ broke. (m : Tables) → Stands (S.content store.old) self m
             → IsUndamaged broke) }
+        // Damage leaves the content as it was; but an index that was being made is left as it is, with its mark.
+        ensures kept { IfErr result (KeepsDamaged self (action_of self piece.now) (S.content store.old)
+            (S.content store.new)) }
         // Damage is told with what shows it in the content that was there, and in what is there now.
         ensures shown { IfErr result (λ broke. IfSome (S.content store.old)
             (λ content. TellsEvidence self content broke)) }

@@ -73,18 +73,20 @@ items_all TooLong {told = told} fed = append-nil (cut_items told) ∙ ap cut_ite
 -- the rest is an item that is refused, whatever the form
 rest_made : (f : Form) → ReadsSource f → (n : ℕ) (s : Schema) (content : Option Content) (counts : Counts) → MakesItem f Rest n s s content content counts counts (rest_report n)
 rest_made Run read n s content counts = record {
-  is = record { number_is = refl; bound_is = refl; few_ops = omega arith; few_entries = omega arith; defined_is = tt };
+  is = record { number_is = refl; bound_is = refl; few_ops = omega arith; few_entries = omega arith; unread_is = refl; can = refl; defined_is = tt };
   next_is = refl;
   matches = λ m is. record { same = refl; ops = omega arith; entries = omega arith };
   stands = λ m is. is;
   rises = record { ops = omega arith; entries = omega arith };
+  still = λ _. refl;
 }
 rest_made Check read n s content counts = record {
-  is = record { number_is = refl; bound_is = refl; few_ops = omega arith; few_entries = omega arith; defined_is = tt };
+  is = record { number_is = refl; bound_is = refl; few_ops = omega arith; few_entries = omega arith; unread_is = refl; can = refl; defined_is = tt };
   next_is = refl;
   matches = λ m is. record { same = refl; ops = omega arith; entries = omega arith };
   stands = λ m is. ap (λ (x : Model). without_rows x.schema) is;
   rises = record { ops = omega arith; entries = omega arith };
+  still = λ _. refl;
 }
 rest_made (Fill k) read n s content counts = absurd read
 
@@ -100,7 +102,7 @@ served_rest f read s a h' n true refused text =
     Served-one refused (refused || true) (Made-one f Rest n s s a.content a.content a.held h' a.counts a.counts (rest_report n) (rest_made f read n s a.content a.counts) (text ∙ ap (append_known a.held) (sym (shown_printed f read n)))) refl
 served_rest f read s a h' n false refused text = record {
   reports = [];
-  made = record { told = refl; folds = λ m is. (is, tt); text = text; rises = Rises-none a.counts };
+  made = record { told = refl; folds = λ m is. (is, tt); still = λ _. refl; text = text; rises = Rises-none a.counts };
   refusal = refl;
 }
 

@@ -9,6 +9,7 @@ use Rattle.pq_fill.specs.declared.words.Form.{Form}
 use Rattle.pq_schema.specs.Schema.{Schema}
 use Rattle.pq_store.specs.Content.{Content}
 use Rattle.pq_store.specs.Counts.{Counts}
+use Rattle.pq_intent.specs.Spending.{TakesAtMost}
 use Rattle.pq_print.specs.declared.report.Report.{Report}
 use Rattle.pq_print.specs.Report.{is_refusal}
 use Rattle.pq_session.specs.Actions.{asked_bound}
@@ -16,7 +17,7 @@ use Rattle.pq_session.specs.Model.{Model}
 use Rattle.pq_session.specs.Matches.{Matches}
 use Rattle.pq_session.specs.Promise.{IsWithinFixed}
 use Rattle.pq_session.proofs.Promises.{within_none, within_reported}
-use Rattle.pq_shell.specs.Fold.{Moment, IsReport, Reports, RisesBy, IsWithinItem, IsPart, after, ReportedItems, Halts, MadeReports, ServedItems, ShowsDamage, StoppedItem, schema_behind}
+use Rattle.pq_shell.specs.Fold.{Moment, IsReport, Reports, RisesBy, IsWithinItem, IsWithinStep, IsPart, AreStill, KeepsItem, after, ReportedItems, Halts, MadeReports, ServedItems, ShowsDamage, StoppedItem, schema_behind}
 use Rattle.pq_shell.specs.Forms.{HasOpening, StandsIn, OpensAt, asked_item, item_step, shown_report}
 use Rattle.pq_shell.specs.Items.{Item}
 use Rattle.pq_shell.specs.Making.{MakesItem, moment}
@@ -51,6 +52,15 @@ Reports-append first mid last n (x ∷ xs) ys [] ss h k = absurd h
 Reports-append first mid last n (x ∷ xs) ys (r ∷ rs) ss h k =
     (h.0, Reports-append (schema_behind first x r) mid last (n + 1) xs ys rs ss h.1 (subst (λ i. Reports mid i ys ss last) (goes_on n x xs) k))
 
+-- of items that change nothing each part is so
+still-append : (first mid : Schema) (n : ℕ) (xs ys : List Item) (rs ss : List Report) → Reports first n xs rs mid → AreStill first (xs ++ ys) (rs ++ ss) → AreStill first xs rs × AreStill mid ys ss
+still-append first mid n [] ys [] ss told all = (tt, subst (λ (s : Schema). AreStill s ys ss) (sym told) all)
+still-append first mid n [] ys (r ∷ rs) ss told all = absurd told
+still-append first mid n (x ∷ xs) ys [] ss told all = absurd told
+still-append first mid n (x ∷ xs) ys (r ∷ rs) ss told all =
+    let rest = still-append (schema_behind first x r) mid (n + 1) xs ys rs ss told.1 all.1 in
+    ((all.0, rest.0), rest.1)
+
 sum-append : (g : Report → ℕ) (rs ss : List Report) → sum_by g (rs ++ ss) ≡ sum_by g rs + sum_by g ss
 sum-append g rs ss = grind (arith, common_steps)
 
@@ -66,7 +76,7 @@ Rises-none c = record { ops = sym (add-zero c.ops); entries = sym (add-zero c.en
 -- ---- items that were made
 
 pub Made-none : (f : Form) (s : Schema) (a : Moment) (n : ℕ) → MadeReports f s s a a n [] []
-Made-none f s a n = record { told = refl; folds = λ m is. (is, tt); text = sym (append_known-none a.held); rises = Rises-none a.counts }
+Made-none f s a n = record { told = refl; folds = λ m is. (is, tt); still = λ _. refl; text = sym (append_known-none a.held); rises = Rises-none a.counts }
 
 pub Made-append : {f : Form} {r s t : Schema} {a b c : Moment} {n : ℕ} {xs ys : List Item} {rs ss : List Report} → MadeReports f r s a b n xs rs → MadeReports f s t b c (n + length xs) ys ss → MadeReports f r t a c n (xs ++ ys) (rs ++ ss)
 Made-append {f = f} {r = r} {s = s} {t = t} {a = a} {c = c} {n = n} {xs = xs} {ys = ys} {rs = rs} {ss = ss} p q = record {
@@ -75,6 +85,9 @@ Made-append {f = f} {r = r} {s = s} {t = t} {a = a} {c = c} {n = n} {xs = xs} {y
       let first = p.folds m is in
       let second = q.folds (after f m n xs) first.0 in
       (subst (StandsIn f c.content t) (sym (after-append f m n xs ys)) second.0, Reported-append f m n xs ys rs ss first.1 second.1);
+  still = λ all.
+      let parts = still-append r s n xs ys rs ss p.told all in
+      q.still parts.1 ∙ p.still parts.0;
   text = q.text ∙ ap (λ k. append_known k (flat_map (shown_report f) ss)) p.text ∙ append_known-append a.held _ _ ∙ ap (append_known a.held) (sym (flat_map-append (shown_report f) rs ss));
   rises = Rises-append rs ss p.rises q.rises;
 }
@@ -85,6 +98,7 @@ pub Made-one : (f : Form) (item : Item) (n : ℕ) (s t : Schema) (old now : Opti
 Made-one f item n s t old now h h' before after report made text = record {
   told = (made.is, made.next_is);
   folds = λ m is. (made.stands m is, (made.matches m is, tt));
+  still = λ all. made.still all.0;
   text = text ∙ ap (append_known h) (sym (append-nil (shown_report f report)));
   rises = made.rises;
 }
@@ -135,6 +149,29 @@ halts_more f stops.WriteFailed m n [] more now part h = absurd h
 halts_more f stops.WriteFailed m n (x ∷ xs) more now part h = h
 halts_more f (stops.Damaged damage) m n todo more now part h = absurd h
 
+kept_more : (stop : Stop) (s : Schema) (todo more : List Item) (old now : Option Content) → KeepsItem stop s todo old now → KeepsItem stop s (todo ++ more) old now
+kept_more stops.StoreFailed s todo more old now h = tt
+kept_more stops.WriteFailed s todo more old now h = tt
+kept_more stops.NoMem s todo more old now h = tt
+kept_more (stops.Damaged damage) s [] more old now h = absurd h
+kept_more (stops.Damaged damage) s (x ∷ xs) more old now h = h
+
+-- where nothing is at hand, nothing was used for it
+part_none : (f : Form) (stop : Stop) (s : Schema) (n : ℕ) (part : List ℕ) (before now : Counts) → IsPart f stop s n [] part before now → now ≡ before
+part_none f stops.StoreFailed s n part before now h = h.2
+part_none f stops.NoMem s n part before now h = h.1
+part_none f (stops.Damaged damage) s n part before now h = h.2
+part_none f stops.WriteFailed s n part before now h = absurd h
+
+-- which is within any bound
+step_none : (f : Form) (m : Model) (n : ℕ) (items : List Item) (c : Counts) → IsWithinStep f m n items c c
+step_none f m n [] c = tt
+step_none f m n (x ∷ xs) c = record { ops = omega arith; entries = omega arith }
+
+step_more : (f : Form) (m : Model) (n : ℕ) (todo more : List Item) (before now : Counts) → (todo ≡ [] → now ≡ before) → IsWithinStep f m n todo before now → IsWithinStep f m n (todo ++ more) before now
+step_more f m n [] more before now none h = subst (IsWithinStep f m n more before) (sym (none refl)) (step_none f m n more before)
+step_more f m n (x ∷ xs) more before now none h = h
+
 -- a run that stopped among some items stopped among these and more
 pub Stopped-before : {f : Form} {stop : Stop} {s : Schema} {a b : Moment} {n : ℕ} {xs : List Item} (ys : List Item) → StoppedItem f stop s a b n xs → StoppedItem f stop s a b n (xs ++ ys)
 Stopped-before {f = f} {stop = stop} {b = b} {n = n} ys p = record {
@@ -144,13 +181,18 @@ Stopped-before {f = f} {stop = stop} {b = b} {n = n} ys p = record {
   last = p.last;
   part = p.part;
   between = p.between;
+  begun = p.begun;
   among = ap (λ zs. zs ++ ys) p.among ∙ append_assoc p.done p.todo ys;
   told = p.told;
   text = p.text;
   rises = p.rises;
   part_is = part_more f stop p.last (n + length p.done) p.todo ys p.part p.between b.counts p.part_is;
   shown = p.shown;
+  still = p.still;
+  kept = kept_more stop p.last p.todo ys p.begun b.content p.kept;
   stands = λ m is. let q = p.stands m is in (q.0, halts_more f stop (after f m n p.done) (n + length p.done) p.todo ys b.content p.part q.1);
+  own = λ m is. step_more f (after f m n p.done) (n + length p.done) p.todo ys p.between b.counts
+      (λ none. part_none f stop p.last (n + length p.done) p.part p.between b.counts (subst (λ (items : List Item). IsPart f stop p.last (n + length p.done) items p.part p.between b.counts) none p.part_is)) (p.own m is);
 }
 
 -- some items were made, and then the run stopped among others
@@ -164,38 +206,51 @@ Stopped-after {f = f} {stop = stop} {r = r} {s = s} {a = a} {c = c} {n = n} {xs 
       last = q.last;
       part = q.part;
       between = q.between;
+      begun = q.begun;
       among = ap (λ zs. xs ++ zs) q.among ∙ sym (append_assoc xs q.done q.todo);
       told = Reports-append r s q.last n xs q.done rs q.reports p.told q.told;
       text = q.text ∙ ap (λ k. append_known k (flat_map (shown_report f) q.reports ++ q.part)) p.text ∙ append_known-append a.held _ _ ∙ ap (append_known a.held) (sym (append_assoc (flat_map (shown_report f) rs) (flat_map (shown_report f) q.reports) q.part) ∙ ap (λ t. t ++ q.part) (sym (flat_map-append (shown_report f) rs q.reports)));
       rises = Rises-append rs q.reports p.rises q.rises;
       part_is = subst (λ k. IsPart f stop q.last k q.todo q.part q.between c.counts) number q.part_is;
       shown = q.shown;
+      still = λ all.
+          let parts = still-append r s n xs q.done rs q.reports p.told all in
+          q.still parts.1 ∙ p.still parts.0;
+      kept = q.kept;
       stands = λ m is.
           let first = p.folds m is in
           let second = q.stands (after f m n xs) first.0 in (
             Reported-append f m n xs q.done rs q.reports first.1 second.0,
             subst (λ k. Halts f stop (after f m n (xs ++ q.done)) k q.todo c.content q.part) number (subst (λ k. Halts f stop k ((n + length xs) + length q.done) q.todo c.content q.part) (sym (after-append f m n xs q.done)) second.1),
           );
+      own = λ m is.
+          let first = p.folds m is in
+          subst (λ k. IsWithinStep f (after f m n (xs ++ q.done)) k q.todo q.between c.counts) number
+          (subst (λ (x : Model). IsWithinStep f x ((n + length xs) + length q.done) q.todo q.between c.counts) (sym (after-append f m n xs q.done)) (q.own (after f m n xs) first.0));
     }
 
 -- the run stopped before any of these items was reported
 pub Stopped-at : (f : Form) (stop : Stop) (s : Schema) (a b : Moment) (n : ℕ) (items : List Item) (part : List ℕ) → b.held ≡ append_known a.held part
-    → IsPart f stop s n items part a.counts b.counts → ShowsDamage stop s b.content
-    → ((m : Model) → StandsIn f a.content s m → Halts f stop m n items b.content part) → StoppedItem f stop s a b n items
-Stopped-at f stop s a b n items part text is shown halts = record {
+    → IsPart f stop s n items part a.counts b.counts → ShowsDamage stop s b.content → KeepsItem stop s items a.content b.content
+    → ((m : Model) → StandsIn f a.content s m → Halts f stop m n items b.content part) → ((m : Model) → StandsIn f a.content s m → IsWithinStep f m n items a.counts b.counts) → StoppedItem f stop s a b n items
+Stopped-at f stop s a b n items part text is shown kept halts own = record {
   done = [];
   todo = items;
   reports = [];
   last = s;
   part = part;
   between = a.counts;
+  begun = a.content;
   among = refl;
   told = refl;
   text = text;
   rises = Rises-none a.counts;
   part_is = subst (λ k. IsPart f stop s k items part a.counts b.counts) (sym (add-zero n)) is;
   shown = shown;
+  still = λ _. refl;
+  kept = kept;
   stands = λ m is. (tt, subst (λ k. Halts f stop m k items b.content part) (sym (add-zero n)) (halts m is));
+  own = λ m is. subst (λ k. IsWithinStep f m k items a.counts b.counts) (sym (add-zero n)) (own m is);
 }
 
 within_nothing : (s : Schema) (items : List Item) (c : Counts) → IsWithinItem s items c c
@@ -209,7 +264,7 @@ halts_same f m n (x ∷ xs) now h = inl h
 -- the run stopped for want of memory before the next item was read whole
 pub Stopped-between : (f : Form) (s : Schema) (a : Moment) (n : ℕ) (items : List Item) → ((m : Model) → StandsIn f a.content s m → OpensAt f a.content m) → StoppedItem f stops.NoMem s a a n items
 Stopped-between f s a n items opens =
-    Stopped-at f stops.NoMem s a a n items [] (sym (append_known-none a.held)) (refl, within_nothing s items a.counts) tt (λ m is. halts_same f m n items a.content (opens m is))
+    Stopped-at f stops.NoMem s a a n items [] (sym (append_known-none a.held)) (refl, within_nothing s items a.counts) tt tt (λ m is. halts_same f m n items a.content (opens m is)) (λ m is. step_none f m n items a.counts)
 
 -- what a report tells as used is within the bound of its item
 within_item : (s : Schema) (n : ℕ) (item : Item) (report : Report) (before after : Counts) → IsReport s n item report → RisesBy (report ∷ []) before after → IsWithinFixed (asked_bound s (asked_item s item)) before after
@@ -217,6 +272,13 @@ within_item s n item report before after is rises =
     let ops = rises.ops in
     let entries = rises.entries in
     within_reported (asked_bound s (asked_item s item)) report before after is.bound_is (omega (arith, ops)) (omega (arith, entries)) is.few_ops is.few_entries
+
+-- and within that of the step that it matches
+matched_within : (expected report : Report) (before after : Counts) → Matches expected report → RisesBy (report ∷ []) before after → TakesAtMost expected.bound before after
+matched_within expected report before after matches rises =
+    let ops = rises.ops in
+    let entries = rises.entries in
+    record { ops = omega (arith, ops, matches.ops); entries = omega (arith, entries, matches.entries) }
 
 -- the run stopped while this item was reported
 pub Stopped-writing : (f : Form) (stop : Stop) (item : Item) (n : ℕ) (s t : Schema) (old now : Option Content) (h h' : Option (List ℕ)) (before after : Counts) (report : Report)
@@ -226,10 +288,12 @@ Stopped-writing f stops.StoreFailed item n s t old now h h' before after report 
 Stopped-writing f (stops.Damaged damage) item n s t old now h h' before after report made opens cut = absurd cut
 Stopped-writing f stops.NoMem item n s t old now h h' before after report made opens cut =
     Stopped-at f stops.NoMem s (moment old h before) (moment now h' after) n (item ∷ []) [] (cut ∙ sym (append_known-none h))
-    (refl, within_item s n item report before after made.is made.rises) tt (λ m is. inr (opens (item_step f m n item).model (made.stands m is)))
+    (refl, within_item s n item report before after made.is made.rises) tt tt (λ m is. inr (opens (item_step f m n item).model (made.stands m is)))
+    (λ m is. matched_within (item_step f m n item).report report before after (made.matches m is) made.rises)
 Stopped-writing f stops.WriteFailed item n s t old now h h' before after report made opens cut =
     Stopped-at f stops.WriteFailed s (moment old h before) (moment now h' after) n (item ∷ []) cut.0 cut.2
-    (report, made.is, cut.1, made.rises) tt (λ m is. (report, made.matches m is, cut.1, opens (item_step f m n item).model (made.stands m is)))
+    (report, made.is, cut.1, made.rises) tt tt (λ m is. (report, made.matches m is, cut.1, opens (item_step f m n item).model (made.stands m is)))
+    (λ m is. matched_within (item_step f m n item).report report before after (made.matches m is) made.rises)
 
 -- the items by another name
 pub among_items : {f : Form} {stop : Stop} {s : Schema} {a b : Moment} {n : ℕ} {xs ys : List Item} → xs ≡ ys → StoppedItem f stop s a b n xs → StoppedItem f stop s a b n ys
@@ -240,13 +304,17 @@ among_items same p = record {
   last = p.last;
   part = p.part;
   between = p.between;
+  begun = p.begun;
   among = sym same ∙ p.among;
   told = p.told;
   text = p.text;
   rises = p.rises;
   part_is = p.part_is;
   shown = p.shown;
+  still = p.still;
+  kept = p.kept;
   stands = p.stands;
+  own = p.own;
 }
 
 -- and numbered from the same number by another name
@@ -258,17 +326,21 @@ from_number {f = f} {stop = stop} {s = s} {b = b} same p = record {
   last = p.last;
   part = p.part;
   between = p.between;
+  begun = p.begun;
   among = p.among;
   told = subst (λ i. Reports s i p.done p.reports p.last) same p.told;
   text = p.text;
   rises = p.rises;
   part_is = subst (λ i. IsPart f stop p.last (i + length p.done) p.todo p.part p.between b.counts) same p.part_is;
   shown = p.shown;
+  still = p.still;
+  kept = p.kept;
   stands = λ m is.
       let q = p.stands m is in (
         subst (λ i. ReportedItems f m i p.done p.reports) same q.0,
         subst (λ i. Halts f stop (after f m i p.done) (i + length p.done) p.todo b.content p.part) same q.1,
       );
+  own = λ m is. subst (λ i. IsWithinStep f (after f m i p.done) (i + length p.done) p.todo p.between b.counts) same (p.own m is);
 }
 
 -- what was made before a stop

@@ -1,5 +1,5 @@
 -- The fold of the steps over the items of a script, and what is written of their reports.
-use Rattle.std.specs.Prelude.{◌≡◌, ℕ, ◌+◌, ◌≤◌, ◌⊎◌, Option, IfSome, Bool, false, ◌||◌, List, [], ◌∷◌, ◌++◌, length, if◌then◌else◌}
+use Rattle.std.specs.Prelude.{◌≡◌, ℕ, ◌+◌, ◌≤◌, ◌⊎◌, Option, IfErr, IfSome, Bool, false, true, ◌||◌, List, [], ◌∷◌, ◌++◌, length, if◌then◌else◌}
 use Rattle.std.specs.List.{flat_map, sum_by, list_any}
 use Rattle.std.specs.Io.KnownBytes.{append_known}
 use Rattle.pq_base.specs.declared.number.Bound.{Bound}
@@ -8,13 +8,16 @@ use Rattle.pq_schema.specs.Schema.{Schema}
 use Rattle.pq_schema.specs.declared.query.Query.{Query}
 use Rattle.pq_store.specs.Content.{Content}
 use Rattle.pq_store.specs.Counts.{Counts}
+use Rattle.pq_intent.specs.Spending.{TakesAtMost}
 use Rattle.pq_print.specs.declared.report.Report.{Report}
 use Rattle.pq_print.specs.Report.{is_refusal}
 use Rattle.pq_session.specs.Actions.{asked_bound, asked_schema}
 use Rattle.pq_session.specs.Evidence.{IsEvidence}
 use Rattle.pq_session.specs.Model.{Model}
 use Rattle.pq_session.specs.Matches.{Matches}
-use Rattle.pq_session.specs.Promise.{IsBound, IsWithinFixed}
+use Rattle.pq_session.specs.Promise.{IsBound, IsWithinFixed, OnlyReads, StopsAsked}
+use Rattle.pq_session.specs.Refusing.{CanEnd}
+use Rattle.pq_session.specs.Step.{unread_report}
 use Rattle.pq_session.specs.Written.{IsPrepareOf, IsDefinedAs}
 use Rattle.pq_shell.specs.Forms.{item_step, asked_item, shown_report, HasOpening, StandsIn, OpensAt}
 use Rattle.pq_shell.specs.Items.{Item, Cut, Rest}
@@ -41,12 +44,15 @@ DefinesAsWritten schema (Cut piece) report =
     IsDefinedAs schema.tables written (schema_behind schema (Cut piece) report)
 DefinesAsWritten schema Rest report = Unit {0}
 
--- a report with this number, on the bound of what the item asks for, that tells at most this bound as used
+-- a report with this number, on the bound of what the item asks for, that tells at most this bound as used; what is
+-- refused before any call has just its report, and a refusal is one that what is asked for can have
 pub record IsReport (schema : Schema) (number : ℕ) (item : Item) (report : Report) : Type 0 where
   pub number_is : report.number ≡ number
   pub bound_is : IsBound (asked_bound schema (asked_item schema item)) report.bound
   pub few_ops : report.used.ops ≤ report.bound.ops
   pub few_entries : report.used.entries ≤ report.bound.entries
+  pub unread_is : IfErr (asked_item schema item) (λ why. report ≡ unread_report number why)
+  pub can : CanEnd schema (asked_item schema item) report.end
   pub defined_is : DefinesAsWritten schema item report
 
 -- a report for each item, numbered on from here; and the definitions from the first to the last
@@ -91,6 +97,28 @@ ShowsDamage stops.WriteFailed schema now = Unit {0}
 ShowsDamage stops.NoMem schema now = Unit {0}
 ShowsDamage (stops.Damaged damage) schema now = IfSome now (λ content. IsEvidence schema content damage)
 
+-- ---- what is left of the content, whether it stands for a model or not
+
+-- an item that changes nothing: it only reads, or is refused
+abbrev pub IsStill : Schema → Item → Report → Type 0
+IsStill schema item report = OnlyReads (asked_item schema item) ⊎ (is_refusal report ≡ true)
+
+-- items of which each is so
+abbrev pub AreStill : Schema → List Item → List Report → Type 0
+AreStill schema [] reports = Unit {0}
+AreStill schema (item ∷ items) [] = Unit {0}
+AreStill schema (item ∷ items) (report ∷ reports) =
+    IsStill schema item report × AreStill (schema_behind schema item report) items reports
+
+-- damage leaves what was there as the item at hand began, but for an index that was being made
+abbrev pub KeepsItem : Stop → Schema → List Item → Option Content → Option Content → Type 0
+KeepsItem (stops.Damaged damage) schema [] old now = ⊥
+KeepsItem (stops.Damaged damage) schema (item ∷ items) old now =
+    IfSome old (λ content. StopsAsked schema (asked_item schema item) content now)
+KeepsItem stops.StoreFailed schema todo old now = Unit {0}
+KeepsItem stops.WriteFailed schema todo old now = Unit {0}
+KeepsItem stops.NoMem schema todo old now = Unit {0}
+
 -- ---- over a model
 
 -- the model after these items, numbered from here
@@ -122,6 +150,12 @@ Halts form stops.NoMem m number [] now part = OpensAt form now m
 Halts form stops.NoMem m number (item ∷ items) now part =
     OpensAt form now m ⊎ OpensAt form now (item_step form m number item).model
 
+-- what was used for the item at hand is within the bound of its step
+abbrev pub IsWithinStep : Form → Model → ℕ → List Item → Counts → Counts → Type 0
+IsWithinStep form m number [] before now = Unit {0}
+IsWithinStep form m number (item ∷ items) before now =
+    TakesAtMost (item_step form m number item).report.bound before now
+
 -- ---- items that were made
 
 -- these items were made, and these are their reports
@@ -130,6 +164,7 @@ pub record MadeReports (form : Form) (first last : Schema) (from to : Moment) (n
   pub told : Reports first number items reports last
   pub folds : (m : Model) → StandsIn form from.content first m
       → StandsIn form to.content last (after form m number items) × ReportedItems form m number items reports
+  pub still : AreStill first items reports → to.content ≡ from.content
   pub text : to.held ≡ append_known from.held (flat_map (shown_report form) reports)
   pub rises : RisesBy reports from.counts to.counts
 
@@ -149,12 +184,17 @@ pub record StoppedItem (form : Form) (stop : Stop) (first : Schema) (from now : 
   pub last : Schema
   pub part : List ℕ
   pub between : Counts
+  pub begun : Option Content
   pub among : items ≡ done ++ todo
   pub told : Reports first number done reports last
   pub text : now.held ≡ append_known from.held (flat_map (shown_report form) reports ++ part)
   pub rises : RisesBy reports from.counts between
   pub part_is : IsPart form stop last (number + length done) todo part between now.counts
   pub shown : ShowsDamage stop last now.content
+  pub still : AreStill first done reports → begun ≡ from.content
+  pub kept : KeepsItem stop last todo begun now.content
   pub stands : (m : Model) → StandsIn form from.content first m
       → ReportedItems form m number done reports
       × Halts form stop (after form m number done) (number + length done) todo now.content part
+  pub own : (m : Model) → StandsIn form from.content first m
+      → IsWithinStep form (after form m number done) (number + length done) todo between now.counts

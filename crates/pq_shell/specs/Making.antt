@@ -8,7 +8,7 @@ use Rattle.pq_store.specs.Counts.{Counts}
 use Rattle.pq_print.specs.declared.report.Report.{Report}
 use Rattle.pq_session.specs.Matches.{Matches}
 use Rattle.pq_session.specs.Model.{Model}
-use Rattle.pq_shell.specs.Fold.{Moment, IsReport, RisesBy, StoppedItem, schema_behind}
+use Rattle.pq_shell.specs.Fold.{Moment, IsReport, IsStill, RisesBy, StoppedItem, schema_behind}
 use Rattle.pq_shell.specs.Forms.{item_step, StandsIn}
 use Rattle.pq_shell.specs.Items.{Item}
 use Rattle.pq_shell.specs.declared.stop.Stop.{Stop}
@@ -27,6 +27,7 @@ pub record MakesItem (form : Form) (item : Item) (number : ℕ) (schema next : S
   pub matches : (m : Model) → StandsIn form old schema m → Matches (item_step form m number item).report report
   pub stands : (m : Model) → StandsIn form old schema m → StandsIn form now next (item_step form m number item).model
   pub rises : RisesBy (report ∷ []) before after
+  pub still : IsStill schema item report → now ≡ old
 
 abbrev pub moment : Option Content → Option (List ℕ) → Counts → Moment
 moment content held counts = record { content = content; held = held; counts = counts }

@@ -1,5 +1,5 @@
 -- The opening of a store at the start of a run, and what is written of it. A check opens none.
-use Rattle.std.specs.Prelude.{◌≡◌, ◌⊎◌, ℕ, ◌+◌, ◌≤◌, length, Option, IfSome, List, []}
+use Rattle.std.specs.Prelude.{◌≡◌, ◌⊎◌, ℕ, ◌+◌, ◌≤◌, length, Option, Some, IfSome, List, []}
 use Rattle.std.specs.Io.KnownBytes.{append_known}
 use Rattle.pq_fill.specs.declared.words.Form.{Form}
 use Rattle.pq_schema.specs.Schema.{Schema}
@@ -10,7 +10,7 @@ use Rattle.pq_print.specs.Report.{opening_line}
 use Rattle.pq_print.specs.declared.report.Opened.{Opened}
 use Rattle.pq_session.specs.Matches.{IsOpening}
 use Rattle.pq_session.specs.Model.{Model}
-use Rattle.pq_session.specs.Opening.{ShowsBuildLeft, ShowsFlaw}
+use Rattle.pq_session.specs.Opening.{IsQuiet, LeavesFlawed, LeavesRead, ShowsBuildLeft, ShowsFlaw}
 use Rattle.pq_session.specs.Stands.{Opens}
 use Rattle.pq_session.specs.Within.{IsBounded, IsWithinOpening, StopsWithin}
 use Rattle.pq_shell.specs.Fold.{Moment}
@@ -26,7 +26,9 @@ pub record Opening (form : Form) (first : Schema) (from to : Moment) : Type 0 wh
   pub opens : (m : Model) → Starts form from.content m
       → IsOpened form from.content m opened × StandsIn form to.content first m
   pub bounded : HasOpening form → IsBounded opened
+  pub left : HasOpening form → IfSome from.content (λ content. LeavesRead content to.content)
   pub valid : IsValid first
+  pub defs : opened.defs ≡ length first.definitions
   pub text : to.held ≡ append_known from.held (front form opened)
   pub ops : to.counts.ops ≡ from.counts.ops + opened.used.ops
   pub entries : to.counts.entries ≡ from.counts.entries + opened.used.entries
@@ -63,10 +65,18 @@ HaltsOpening stops.NoMem content m before now = IfSome content (IsWithinOpening 
 HaltsOpening stops.WriteFailed content m before now = IfSome content (IsWithinOpening m before now)
 HaltsOpening (stops.Damaged damage) content m before now = ⊥
 
+-- what is left of a told content: of a quiet one, and of one with damage
+abbrev pub LeavesOpening : Stop → Content → Option Content → Type 0
+LeavesOpening stops.StoreFailed content now = IsQuiet content → now ≡ Some content
+LeavesOpening stops.NoMem content now = IsQuiet content → now ≡ Some content
+LeavesOpening stops.WriteFailed content now = LeavesRead content now
+LeavesOpening (stops.Damaged damage) content now = LeavesFlawed content now
+
 -- the run stopped at the opening
 pub record StoppedOpening (stop : Stop) (before now : Moment) : Type 0 where
   pub part : List ℕ
   pub text : now.held ≡ append_known before.held part
   pub part_is : IsOpeningPart stop before part now.counts
+  pub left : IfSome before.content (λ content. LeavesOpening stop content now.content)
   pub stands : (m : Model) → Opens before.content m
       → Opens now.content m × HaltsOpening stop before.content m before.counts now.counts

@@ -17,6 +17,7 @@ mod writing;
 pub use command_line::{WordsErr, read_words};
 pub use memory::{MemSink, MemSource};
 pub use outside::{Failed, Sink, Source};
+pub use pq_fill::fill_statement;
 pub use reading::LIMIT;
 pub use run::{close, run_piql};
 pub use serving::{Ended, Tally, rest_report, serve};

@@ -12,8 +12,10 @@ pub struct StdSource<R: Read> {
 }
 
 impl<R: Read> StdSource<R> {
-    /// The source of the bytes that the reader gives.
-    pub fn new(reader: R) -> StdSource<R> {
+    /// The source of the bytes that the reader gives. It has no fault yet.
+    pub fn new(reader: R) -> StdSource<R>
+        ensures { result.faults ≡ 0 }
+    {
         StdSource { reader, faults: 0 }
     }
 }
@@ -44,8 +46,10 @@ pub struct StdSink<W: Write> {
 }
 
 impl<W: Write> StdSink<W> {
-    /// The sink that hands its bytes to the writer.
-    pub fn new(writer: W) -> StdSink<W> {
+    /// The sink that hands its bytes to the writer. It has no fault yet.
+    pub fn new(writer: W) -> StdSink<W>
+        ensures { result.faults ≡ 0 }
+    {
         StdSink { writer, faults: 0 }
     }
 }

@@ -3,6 +3,7 @@ use Rattle.std.proofs.lemmas.Result.{IfErr-weaker, on_err_weaker}
 use Rattle.pq_schema.specs.Schema.{Schema}
 use Rattle.pq_intent.proofs.Steps.{on_err_holds}
 use Rattle.pq_session.specs.Opening.{IsLeft}
+use Rattle.pq_session.proofs.Leaving.{gone_on, nothing_done}
 use Rattle.pq_session.proofs.Lefts.{filling_in_opens}
 use Rattle.pq_session.proofs.Starting.{marked_shown}
 use Rattle.pq_session.proofs.last.complete.Goals as goal
@@ -16,3 +17,10 @@ returns-clause-stopped g c =
 
 pub returns-clause-shown : goal.returns-clause-shown
 returns-clause-shown g c = IfErr-weaker c.complete_left.result _ _ (λ broke shows. marked_shown c.args.catalog.now c.in_ok-target.target c.in_ok-target.query (g.S.Store.content c.args.store.now) broke c.in_ok-target.ensures shows) c.complete_left.ensures.shown
+
+pub returns-in_err-target-clause-left : goal.returns-in_err-target-clause-left
+returns-in_err-target-clause-left g c = nothing_done c.args.catalog.now (g.S.Store.content c.args.store.now)
+
+pub returns-clause-left : goal.returns-clause-left
+returns-clause-left g c =
+    gone_on c.args.catalog.now c.in_ok-target.target c.in_ok-target.query (g.S.Store.content c.args.store.now) (g.S.Store.content c.complete_left.new.store) c.in_ok-target.ensures c.complete_left.ensures.left

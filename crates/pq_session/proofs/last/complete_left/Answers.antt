@@ -1,4 +1,5 @@
 use Rattle.std.proofs.lemmas.Result.{IfOk-weaker, IfErr-weaker, on_err_weaker}
+use Rattle.pq_session.proofs.Leaving.{index_stops}
 use Rattle.pq_session.proofs.Lefts.{left_made, left_stopped, left_sound, left_within}
 use Rattle.pq_session.proofs.last.complete_left.Goals as goal
 
@@ -13,3 +14,7 @@ returns-clause-sound g c = IfErr-weaker c.complete_index.result _ _ (λ broke al
 
 pub returns-clause-within_own : goal.returns-clause-within_own
 returns-clause-within_own g c = on_err_weaker c.complete_index.result (λ all m left f. left_within c.args.target.now c.args.query.now (g.S.Store.content c.args.store.now) (g.S.Store.content c.complete_index.new.store) m left f c.args.meter.now c.complete_index.new.meter all) c.complete_index.ensures.bounded
+
+pub returns-clause-left : goal.returns-clause-left
+returns-clause-left g c =
+    index_stops c.args.target.now c.args.query.now (g.S.Store.content c.args.store.now) (g.S.Store.content c.complete_index.new.store) c.complete_index.result c.complete_index.ensures.ready c.complete_index.ensures.ended

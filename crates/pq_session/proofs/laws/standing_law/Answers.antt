@@ -1,3 +1,4 @@
+use Rattle.pq_session.proofs.Leaving.{held_quiet, quiet_own}
 use Rattle.pq_session.proofs.Standing.{empty_opens}
 use Rattle.pq_session.proofs.Unique.{opened_schema, opened_rows}
 use Rattle.pq_session.proofs.laws.standing_law.Goals as goal
@@ -10,3 +11,9 @@ returns-clause-schema c = opened_schema
 
 pub returns-clause-rows : goal.returns-clause-rows
 returns-clause-rows c = opened_rows
+
+pub returns-clause-quiet : goal.returns-clause-quiet
+returns-clause-quiet c = held_quiet
+
+pub returns-clause-own : goal.returns-clause-own
+returns-clause-own c = quiet_own

@@ -6,15 +6,15 @@ use Rattle.pq_shell.proofs.Flaws.{broke_at_flaw, told_at_flaw}
 use Rattle.pq_shell.proofs.run.open.Goals as goal
 
 pub returns-in-Err-clause-err : goal.returns-in-Err-clause-err
-returns-in-Err-clause-err g c = rw c.of.ensures (broke_opening c.in-Err.broke _ _ _ _ _ c.in-Err.ensures.kept c.in-Err.ensures.damage c.in-Err.ensures.within c.in-Err.ensures.within_own c.in-Err.ensures.flaw)
+returns-in-Err-clause-err g c = rw c.of.ensures (broke_opening c.in-Err.broke _ _ _ _ _ c.in-Err.ensures.kept c.in-Err.ensures.damage c.in-Err.ensures.within c.in-Err.ensures.within_own c.in-Err.ensures.flaw c.in-Err.ensures.left_flawed c.in-Err.ensures.rests)
 
 pub returns-in_err-write_opening-clause-err : goal.returns-in_err-write_opening-clause-err
 returns-in_err-write_opening-clause-err g c =
     let p = err_from_is_err_and c.from_residual.result c.from_residual.ensures.1 in
-    rw (p.1, p.2) (cut_opening _ _ _ _ (opening_of c.in-Ok.started) c.in-Ok.ensures.bounded c.in-Ok.ensures.ops c.in-Ok.ensures.entries c.in-Ok.ensures.opened _ _ _ c.in-Ok.ensures.kept c.in_err-write_opening.ensures.err)
+    rw (p.1, p.2) (cut_opening _ _ _ _ (opening_of c.in-Ok.started) c.in-Ok.ensures.bounded c.in-Ok.ensures.ops c.in-Ok.ensures.entries c.in-Ok.ensures.opened c.in-Ok.ensures.left c.in-Ok.ensures.rests _ _ _ c.in-Ok.ensures.kept c.in_err-write_opening.ensures.err)
 
 pub returns-clause-ok : goal.returns-clause-ok
-returns-clause-ok g c = λ form some. begun_store form some _ _ _ _ _ _ _ (opening_of c.in-Ok.started) refl c.in-Ok.ensures.valid c.in-Ok.ensures.bounded c.in-Ok.ensures.opened c.in-Ok.ensures.stands c.in_ok-write_opening.ensures.ok c.in-Ok.ensures.ops c.in-Ok.ensures.entries
+returns-clause-ok g c = λ form some. begun_store form some _ _ _ _ _ _ _ (opening_of c.in-Ok.started) refl c.in-Ok.ensures.valid c.in-Ok.ensures.bounded c.in-Ok.ensures.opened c.in-Ok.ensures.stands c.in_ok-write_opening.ensures.ok c.in-Ok.ensures.ops c.in-Ok.ensures.entries c.in-Ok.ensures.defs c.in-Ok.ensures.left
 
 pub returns-in-Err-clause-flawed : goal.returns-in-Err-clause-flawed
 returns-in-Err-clause-flawed g c = rw c.of.ensures (broke_at_flaw _ c.in-Err.broke _ c.in-Err.ensures.flaw)

@@ -7,7 +7,9 @@ use Rattle.pq_builds.specs.declared.build.Built.{Built}
 use Rattle.pq_builds.specs.declared.build.Built.TheVariants.{Rows as Filled, TooMany}
 use Rattle.pq_builds.specs.Stages.{IsFew, ShowsBuild, StopsBuilding, TakesBuild}
 use Rattle.pq_builds.proofs.Lasting.{shows_still_told}
-use Rattle.pq_builds.specs.Standing.{Origin, HoldsOrigin, Leaves, Makes}
+use Rattle.pq_builds.specs.Bounds.{build_bound}
+use Rattle.pq_builds.specs.Standing.{Origin, HoldsOrigin, Leaves, Makes, rows_in}
+use Rattle.pq_intent.specs.Spending.{TakesAtMost}
 use Rattle.pq_store.specs.Breaks.{IsUndamaged}
 use Rattle.pq_store.specs.Content.{Content}
 use Rattle.pq_session.specs.Evidence.{TellsEvidence}
@@ -55,13 +57,17 @@ returns-in_err-build_index-clause-step g c best lined =
     (moved (λ t q. (origin : Origin) → HoldsOrigin origin t q old → Leaves origin t q now) index query e.stopped)
     (moved (λ t q. (origin : Origin) → HoldsOrigin origin t q old → IsUndamaged broke) index query e.sound)
     (moved (λ t q. IfSome old (λ content. StopsBuilding t q content now)) index query e.ended)
-    (shows old e.shown) (shows now lasting) e.within)
+    (shows old e.shown) (shows now lasting) e.within
+    (moved (λ t q. (origin : Origin) → HoldsOrigin origin t q old → TakesAtMost (build_bound (rows_in origin t)) c.args.meter.now c.build_index.new.meter) index query e.bounded))
 
 pub returns-in_err-why-in-TooMany-clause-step : goal.returns-in_err-why-in-TooMany-clause-step
 returns-in_err-why-in-TooMany-clause-step g c best lined =
     let p = err_from_is_err_and c.from_residual-in_err-why-in-TooMany.result c.from_residual-in_err-why-in-TooMany.ensures.1 in
     let e = c.in_ok-build_index.ensures in
-    rw (p.1, p.2) (too_many_lost c.args.number c.args.query c.args.new best c.args.self c.requires.defined _ _ _ _ (e.unchanged c.in-TooMany.is) (subst (λ (b : Built). TakesBuild b c.args.meter.now c.build_index.new.meter) c.in-TooMany.is e.takes))
+    let made : (origin : Origin) → HoldsOrigin origin c.in_ok-target.target c.in_ok-defined.defined (g.S.Store.content c.args.store.now) → Makes origin c.in_ok-target.target c.in_ok-defined.defined TooMany (g.S.Store.content c.build_index.new.store) =
+    subst (λ (b : Built). (origin : Origin) → HoldsOrigin origin c.in_ok-target.target c.in_ok-defined.defined (g.S.Store.content c.args.store.now) → Makes origin c.in_ok-target.target c.in_ok-defined.defined b (g.S.Store.content c.build_index.new.store)) c.in-TooMany.is e.made in
+    rw (p.1, p.2) (too_many_lost c.args.number c.args.query c.args.new best c.args.self c.requires.defined _ _ _ _
+    (moved (λ t q. (origin : Origin) → HoldsOrigin origin t q (g.S.Store.content c.args.store.now) → Makes origin t q TooMany (g.S.Store.content c.build_index.new.store)) c.in_ok-target.ensures c.in_ok-defined.ensures made) (e.unchanged c.in-TooMany.is) (subst (λ (b : Built). TakesBuild b c.args.meter.now c.build_index.new.meter) c.in-TooMany.is e.takes))
 
 pub returns-in_err-session-in-Rows-clause-step : goal.returns-in_err-session-in-Rows-clause-step
 returns-in_err-session-in-Rows-clause-step g c best lined =

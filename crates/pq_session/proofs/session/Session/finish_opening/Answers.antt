@@ -5,7 +5,8 @@ use Rattle.pq_intent.proofs.Steps.{on_err_holds}
 use Rattle.pq_schema.specs.Schema.{Schema}
 use Rattle.pq_session.specs.declared.format.Mark.{Mark}
 use Rattle.pq_session.specs.declared.format.Mark.TheVariants.{Building}
-use Rattle.pq_session.specs.Opening.{IsAsMarked, ShowsMarked}
+use Rattle.pq_session.specs.Opening.{GoesOnLeft, IsAsMarked, LeavesMarked, ShowsMarked}
+use Rattle.pq_session.proofs.Leaving.{itself}
 use Rattle.pq_session.proofs.session.Session.finish_opening.Goals as goal
 
 pub returns-in_err-rows-in-Building-clause-stopped : goal.returns-in_err-rows-in-Building-clause-stopped
@@ -17,3 +18,17 @@ returns-in_err-rows-in-Building-clause-shown g c =
     let p = err_from_is_err_and c.from_residual.result c.from_residual.ensures.1 in
     rw (p.1, p.2) (subst (λ (k : Mark). IfSome (g.S.Store.content c.args.store.now) (λ c'. ShowsMarked c.args.found.session k c' c.in_err-rows-in-Building.field-0.0)) (sym c.in-Building.is)
     (subst (λ (x : Schema). IfSome (g.S.Store.content c.args.store.now) (λ c'. ShowsMarked x Building c' c.in_err-rows-in-Building.field-0.0)) c.session.view_is c.in_err-rows-in-Building.ensures.shown))
+
+pub returns-in-Ready-clause-left : goal.returns-in-Ready-clause-left
+returns-in-Ready-clause-left g c =
+    subst (λ (k : Mark). IfSome (g.S.Store.content c.args.store.now) (λ c'. LeavesMarked c.args.found.session k c' (g.S.Store.content c.args.store.now))) (sym c.in-Ready.is) (itself (g.S.Store.content c.args.store.now))
+
+pub returns-in_err-rows-in-Building-clause-left : goal.returns-in_err-rows-in-Building-clause-left
+returns-in_err-rows-in-Building-clause-left g c =
+    subst (λ (k : Mark). IfSome (g.S.Store.content c.args.store.now) (λ c'. LeavesMarked c.args.found.session k c' (g.S.Store.content c.complete.new.store))) (sym c.in-Building.is)
+    (subst (λ (x : Schema). IfSome (g.S.Store.content c.args.store.now) (λ c'. GoesOnLeft x c' (g.S.Store.content c.complete.new.store))) c.session.view_is c.complete.ensures.left)
+
+pub returns-in_ok-rows-in-Building-clause-left : goal.returns-in_ok-rows-in-Building-clause-left
+returns-in_ok-rows-in-Building-clause-left g c =
+    subst (λ (k : Mark). IfSome (g.S.Store.content c.args.store.now) (λ c'. LeavesMarked c.args.found.session k c' (g.S.Store.content c.complete.new.store))) (sym c.in-Building.is)
+    (subst (λ (x : Schema). IfSome (g.S.Store.content c.args.store.now) (λ c'. GoesOnLeft x c' (g.S.Store.content c.complete.new.store))) c.session.view_is c.complete.ensures.left)

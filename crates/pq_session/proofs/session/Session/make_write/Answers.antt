@@ -25,7 +25,7 @@ returns-in_err-commit-in-Changes-clause-step g c =
 pub returns-in-Refused-clause-step : goal.returns-in-Refused-clause-step
 returns-in-Refused-clause-step g c =
     rw (c.refusal_report-report.ensures, c.used.ensures, ← c.self.view_is) (refused_done c.args.number c.args.write.now c.in-Refused.why _ _ c.self.inside.catalog c.write_bound-bound.result _ _ _ _ _ _ _
-    c.write_bound-bound.ensures c.grant-allowance.ensures c.in-Refused.is c.in_ok-why.ensures.reads c.in_ok-why.ensures.answer)
+    c.write_bound-bound.ensures c.grant-allowance.ensures c.in-Refused.is c.in_ok-why.ensures.reads c.in_ok-why.ensures.answer c.in_ok-why.ensures.can)
 
 pub returns-in_ok-commit-in-Changes-clause-step : goal.returns-in_ok-commit-in-Changes-clause-step
 returns-in_ok-commit-in-Changes-clause-step g c =

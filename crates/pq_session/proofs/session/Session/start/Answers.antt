@@ -1,9 +1,11 @@
-use Rattle.std.proofs.Common.{sym, ap, subst, length, Option}
+use Rattle.std.proofs.Common.{sym, ap, subst, length, Option, ◌∙◌}
 use Rattle.std.proofs.lemmas.Result.{IfOk-weaker, IfErr-weaker, on_err_weaker, err_from_is_err_and}
 use Rattle.pq_intent.proofs.Steps.{on_err_holds}
+use Rattle.pq_schema.specs.Schema.{Schema}
 use Rattle.pq_store.specs.Content.{Content}
 use Rattle.pq_session.specs.declared.session.Started.{Started}
 use Rattle.pq_session.specs.Stands.{Opens}
+use Rattle.pq_session.proofs.Leaving.{if_err_holds, left_flawed, left_quiet, left_read, on_ok_holds, read_flawed, read_quiet, settled_flawed, settled_quiet}
 use Rattle.pq_session.proofs.Standing.{settled_opens}
 use Rattle.pq_session.proofs.Starting.{opens_kept, opens_rests, rests_opens, rests_sound, read_mid, read_now, finished_stands, opens_as, tells_schema, settle_flaw, read_flaw, build_flaw, both_ok, either_way}
 use Rattle.pq_session.proofs.Within.{is_bounded, settle_within, read_within, finish_within, settle_own, read_own, finish_own}
@@ -110,3 +112,38 @@ returns-clause-damage g c =
 pub returns-clause-flaw : goal.returns-clause-flaw
 returns-clause-flaw g c =
     IfErr-weaker c.finish_opening.result _ _ (λ broke shows. build_flaw (g.S.Store.content c.args.store.now) (g.S.Store.content c.settle.new.store) (g.S.Store.content c.read_catalog.new.store) c.in_ok-found.found.session c.in_ok-found.found.mark broke c.read_catalog.ensures.same c.in_ok-settled.ensures.settles c.in_ok-found.ensures.told shows) c.finish_opening.ensures.shown
+
+-- ---- what is left
+
+pub returns-in_err-settled-clause-left_flawed : goal.returns-in_err-settled-clause-left_flawed
+returns-in_err-settled-clause-left_flawed g c =
+    let p = err_from_is_err_and c.from_residual.result c.from_residual.ensures.1 in
+    rw (p.1, p.2) (settled_flawed (g.S.Store.content c.args.store.now) (g.S.Store.content c.settle.new.store) c.in_err-settled.field-0.0 c.in_err-settled.ensures.kept)
+
+pub returns-in_err-settled-clause-rests : goal.returns-in_err-settled-clause-rests
+returns-in_err-settled-clause-rests g c = settled_quiet (g.S.Store.content c.args.store.now) (g.S.Store.content c.settle.new.store) c.in_err-settled.ensures.rests
+
+pub returns-in_err-found-clause-left_flawed : goal.returns-in_err-found-clause-left_flawed
+returns-in_err-found-clause-left_flawed g c =
+    let p = err_from_is_err_and c.from_residual-in_err-found.result c.from_residual-in_err-found.ensures.1 in
+    rw (p.1, p.2) (read_flawed (g.S.Store.content c.args.store.now) (g.S.Store.content c.settle.new.store) (g.S.Store.content c.read_catalog.new.store) c.in_err-found.field-0.0 c.read_catalog.ensures.same c.in_ok-settled.ensures.settles)
+
+pub returns-in_err-found-clause-rests : goal.returns-in_err-found-clause-rests
+returns-in_err-found-clause-rests g c = read_quiet (g.S.Store.content c.args.store.now) (g.S.Store.content c.settle.new.store) (g.S.Store.content c.read_catalog.new.store) c.read_catalog.ensures.same c.in_ok-settled.ensures.rests
+
+pub returns-clause-left : goal.returns-clause-left
+returns-clause-left g c =
+    on_ok_holds c.finish_opening.result (left_read (g.S.Store.content c.args.store.now) (g.S.Store.content c.settle.new.store) (g.S.Store.content c.read_catalog.new.store) (g.S.Store.content c.finish_opening.new.store) c.in_ok-found.found.session c.in_ok-found.found.mark c.read_catalog.ensures.same c.in_ok-settled.ensures.settles c.in_ok-found.ensures.told c.finish_opening.ensures.left)
+
+pub returns-clause-left_flawed : goal.returns-clause-left_flawed
+returns-clause-left_flawed g c =
+    if_err_holds c.finish_opening.result _ (λ broke. left_flawed (g.S.Store.content c.args.store.now) (g.S.Store.content c.finish_opening.new.store) broke
+    (left_read (g.S.Store.content c.args.store.now) (g.S.Store.content c.settle.new.store) (g.S.Store.content c.read_catalog.new.store) (g.S.Store.content c.finish_opening.new.store) c.in_ok-found.found.session c.in_ok-found.found.mark c.read_catalog.ensures.same c.in_ok-settled.ensures.settles c.in_ok-found.ensures.told c.finish_opening.ensures.left))
+
+pub returns-clause-rests : goal.returns-clause-rests
+returns-clause-rests g c =
+    left_quiet (g.S.Store.content c.args.store.now) (g.S.Store.content c.settle.new.store) (g.S.Store.content c.read_catalog.new.store) (g.S.Store.content c.finish_opening.new.store) c.in_ok-found.found.session c.in_ok-found.found.mark c.read_catalog.ensures.same c.in_ok-settled.ensures.rests c.in_ok-found.ensures.told c.finish_opening.ensures.left
+
+pub returns-clause-defs : goal.returns-clause-defs
+returns-clause-defs g c =
+    IfOk-weaker c.finish_opening.result _ _ (λ s started. ap (λ (x : Started). x.defs) started.is ∙ ap (λ (x : Schema). length x.definitions) (sym (ap (λ (x : Started). x.session) started.is))) c.finish_opening.ensures.started

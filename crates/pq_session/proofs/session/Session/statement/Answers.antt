@@ -1,4 +1,4 @@
-use Rattle.pq_session.proofs.Promises.{promised_made, promised_matches, promised_next, promised_shown, promised_lasting, promised_stopped, promised_unread, promised_within}
+use Rattle.pq_session.proofs.Promises.{promised_can, promised_kept, promised_own, promised_reads, promised_made, promised_matches, promised_next, promised_shown, promised_lasting, promised_stopped, promised_unread, promised_within}
 use Rattle.pq_session.proofs.Written.{promised_as}
 use Rattle.pq_session.proofs.session.Session.statement.Goals as goal
 
@@ -29,3 +29,15 @@ returns-clause-unread g c = promised_unread c.args.number c.args.piece.now _ _ c
 pub returns-clause-arranged : goal.returns-clause-arranged
 returns-clause-arranged g c =
     promised_as c.args.number c.args.piece.now _ _ c.args.self _ _ c.known.ensures c.piece.result c.piece.ensures.step
+
+pub returns-clause-within_own : goal.returns-clause-within_own
+returns-clause-within_own g c = promised_own c.args.number c.args.piece.now _ _ c.args.self _ _ c.piece.result c.piece.ensures.step
+
+pub returns-clause-kept : goal.returns-clause-kept
+returns-clause-kept g c = promised_kept c.args.number c.args.piece.now _ _ c.args.self _ _ c.piece.result c.piece.ensures.step
+
+pub returns-clause-can : goal.returns-clause-can
+returns-clause-can g c = promised_can c.args.number c.args.piece.now _ _ c.args.self _ _ c.piece.result c.piece.ensures.step
+
+pub returns-clause-reads : goal.returns-clause-reads
+returns-clause-reads g c = promised_reads c.args.number c.args.piece.now _ _ c.args.self _ _ c.piece.result c.piece.ensures.step
