@@ -8,6 +8,9 @@ from typing import NamedTuple
 from tools.kept import NotBuilt, unproved
 from tools.repository import PARTS, TOP, Repository
 
+# No build without proofs is made of these: one keeps a file, the other is asked for seldom.
+NEVER_UNPROVED = ("piql_file", "piql_plan")
+
 
 class Program(NamedTuple):
     """A program's file, and whether it was built from proved sources."""
@@ -53,6 +56,6 @@ def find_program(crate: str) -> Program:
         return Program(found, True)
     if not (TOP / "crates.txt").exists():
         raise NotBuilt("the release has no program of this name")
-    if crate == "piql_file":
-        raise NotBuilt("there is no proved build of these sources; bin/prove piql_file makes it")
+    if crate in NEVER_UNPROVED:
+        raise NotBuilt(f"there is no proved build of these sources; bin/prove {crate} makes it")
     return Program(unproved(Repository(), crate), False)

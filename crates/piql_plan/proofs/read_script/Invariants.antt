@@ -1,0 +1,12 @@
+use Rattle.std.proofs.Common.{◌≡◌, ◌+◌, ◌-◌, ◌≤◌, length}
+use Rattle.pq_shell.specs.Reading.{script_limit}
+use Rattle.piql_plan.proofs.read_script.Given as goal
+
+abbrev pub invariant-script : goal.invariant-script
+invariant-script g l = record {
+  long : length l.script ≡ l.taken;
+  within : l.taken ≤ script_limit + 1;
+}
+
+abbrev pub decreases-script : goal.decreases-script
+decreases-script g l = script_limit + 1 - l.taken

@@ -1,0 +1,31 @@
+use Rattle.std.proofs.Common.{◌≡◌, ◌<◌, ◌≤◌, length, subst}
+use Rattle.std.proofs.lemmas.Result.{err_from_is_err_and}
+use Rattle.pq_session.proofs.Statements.{too_long, asked_read, stopped_reading}
+use Rattle.pq_session.proofs.Rereading.{named_statement}
+use Rattle.pq_plan_report.proofs.Plans.{refused_told}
+use Rattle.pq_plan_report.proofs.plan.text_plan.Goals as goal
+
+pub returns-then-bytes-gt-STATEMENT_BYTES-clause-told :
+    goal.returns-then-bytes-gt-STATEMENT_BYTES-clause-told
+returns-then-bytes-gt-STATEMENT_BYTES-clause-told c =
+    let many : 65536 < length c.args.text.now = rw (← c.bytes.ensures.value) c.if-bytes-gt-STATEMENT_BYTES.true in
+    refused_told c.args.catalog.now _ _ _ (too_long c.args.catalog.now c.args.text.now many)
+
+pub returns-in_err-statement-clause-refused : goal.returns-in_err-statement-clause-refused
+returns-in_err-statement-clause-refused c =
+    let few : length c.args.text.now ≤ 65536 = rw (← c.bytes.ensures.value) c.if-bytes-gt-STATEMENT_BYTES.false in
+    let p = err_from_is_err_and c.from_residual-in_err-statement.result c.from_residual-in_err-statement.ensures.1 in
+    rw (p.1, p.2) (stopped_reading c.args.catalog.now c.args.text.now c.in_ok-found.found c.in_err-statement.field-0.0 few c.in_ok-found.ensures.found c.in_err-statement.ensures.stops)
+
+pub statement_plan-requires-clause-named : goal.statement_plan-requires-clause-named
+statement_plan-requires-clause-named c = named_statement c.args.text.now c.in_ok-found.found c.in_ok-statement.statement c.in_ok-found.ensures.found c.in_ok-statement.ensures.reads
+
+pub returns-clause-told : goal.returns-clause-told
+returns-clause-told c =
+    let few : length c.args.text.now ≤ 65536 = rw (← c.bytes.ensures.value) c.if-bytes-gt-STATEMENT_BYTES.false in
+    rw (asked_read c.args.catalog.now c.args.text.now c.in_ok-found.found c.in_ok-statement.statement few c.in_ok-found.ensures.found c.in_ok-statement.ensures.reads) c.statement_plan.ensures.told
+
+pub returns-clause-refused : goal.returns-clause-refused
+returns-clause-refused c =
+    let few : length c.args.text.now ≤ 65536 = rw (← c.bytes.ensures.value) c.if-bytes-gt-STATEMENT_BYTES.false in
+    rw (asked_read c.args.catalog.now c.args.text.now c.in_ok-found.found c.in_ok-statement.statement few c.in_ok-found.ensures.found c.in_ok-statement.ensures.reads) c.statement_plan.ensures.refused

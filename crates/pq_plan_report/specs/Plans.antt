@@ -1,0 +1,66 @@
+-- The plan of a query that is prepared or explained, as lines (docs/FORMATS.md, "Plans").
+use Rattle.std.specs.Prelude.{◌≡◌, ℕ, List, [], flat_map, Result, Ok, Err}
+use Rattle.pq_base.specs.declared.refusal.Refusal.{Refusal}
+use Rattle.pq_schema.specs.Schema.{Schema}
+use Rattle.pq_schema.specs.declared.table.Table.{Table}
+use Rattle.pq_plan.specs.Nodes.{plan_nodes}
+use Rattle.pq_plan_lines.specs.Lines.{plan_lines, sum_of}
+use Rattle.pq_plan_lines.specs.Texts.{line_text}
+use Rattle.pq_plan_lines.specs.declared.node_line.NodeLine.{NodeLine}
+use Rattle.pq_session.specs.Actions.{Action, Creates, Writes, Prepares, Explains, Runs, Shows}
+use Rattle.pq_session.specs.Planning.{PlannedDefinition}
+
+-- the nodes of the plan, from the innermost on, with what each costs and gives
+abbrev pub lines_of : List Table → PlannedDefinition → List NodeLine
+lines_of tables plan = plan_lines (plan_nodes tables plan.query plan.chosen.best.choice)
+
+unfoldable pub plan_text : List Table → PlannedDefinition → List ℕ
+plan_text tables plan = flat_map (line_text tables plan.query plan.chosen.wanted) (lines_of tables plan)
+
+-- of what is asked for: just a query that is prepared or explained has a plan to be told
+abbrev pub asked_plan : Schema → Result Action Refusal → List ℕ
+asked_plan schema (Ok (Creates table)) = []
+asked_plan schema (Ok (Writes write)) = []
+asked_plan schema (Ok (Prepares plan)) = plan_text schema.tables plan
+asked_plan schema (Ok (Explains plan)) = plan_text schema.tables plan
+asked_plan schema (Ok (Runs running)) = []
+asked_plan schema (Ok Shows) = []
+asked_plan schema (Err why) = []
+
+-- ---- their sum
+
+-- the costs of the nodes sum to the bound
+abbrev pub SumsToBound : List Table → PlannedDefinition → Type 0
+SumsToBound tables plan = sum_of (lines_of tables plan) ≡ plan.chosen.best.bound
+
+-- of a query that is prepared or explained
+abbrev pub IsSummed : Schema → Result Action Refusal → Type 0
+IsSummed schema (Ok (Creates table)) = Unit {0}
+IsSummed schema (Ok (Writes write)) = Unit {0}
+IsSummed schema (Ok (Prepares plan)) = SumsToBound schema.tables plan
+IsSummed schema (Ok (Explains plan)) = SumsToBound schema.tables plan
+IsSummed schema (Ok (Runs running)) = Unit {0}
+IsSummed schema (Ok Shows) = Unit {0}
+IsSummed schema (Err why) = Unit {0}
+
+-- ---- what a text tells
+
+-- this plan
+pub record TellsPlan (tables : List Table) (plan : PlannedDefinition) (text : List ℕ) : Type 0 where
+  pub text_is : text ≡ plan_text tables plan
+  pub sums : SumsToBound tables plan
+
+-- the plan that was found, if one was
+abbrev pub TellsFound : List Table → Result PlannedDefinition Refusal → List ℕ → Type 0
+TellsFound tables (Ok plan) text = TellsPlan tables plan text
+TellsFound tables (Err why) text = Unit {0}
+
+-- that of what is asked for, where it is not refused
+abbrev pub TellsAsked : Schema → Result Action Refusal → List ℕ → Type 0
+TellsAsked schema (Ok (Creates table)) text = text ≡ []
+TellsAsked schema (Ok (Writes write)) text = text ≡ []
+TellsAsked schema (Ok (Prepares plan)) text = TellsPlan schema.tables plan text
+TellsAsked schema (Ok (Explains plan)) text = TellsPlan schema.tables plan text
+TellsAsked schema (Ok (Runs running)) text = text ≡ []
+TellsAsked schema (Ok Shows) text = text ≡ []
+TellsAsked schema (Err why) text = Unit {0}
