@@ -1,0 +1,59 @@
+//! `piql_clients K`: `clients` and the words, standard input, standard output and a new store in memory, handed to the
+//! top call for clients. The exit status is how the run ended.
+#![tactic(auto)]
+
+ghost use Rattle.std.specs.Prelude.{◌≡◌};
+
+use pq_base::{List, PText};
+use pq_client_shell::run_piql_clients;
+use pq_shell::{Status, StdSink, StdSource, WordsErr, read_words};
+use pq_store::{MemStore, Meter, Opening};
+use std::alloc::Global;
+use std::marker::Brand;
+use std::process::ExitCode;
+use std::sync::ledger::{Blank, Ledger};
+
+// The caller's proof picks the ledger of the blank.
+fn run_over<L: Ledger>(
+    rt: &HostRuntime,
+    blank: Blank,
+    words: &[PText],
+    store: &mut MemStore,
+) -> Status
+    requires name { blank.name ≡ L.name }
+    requires parts { blank.parts ≡ L.parts }
+    requires two { blank.parts ≡ 2 }
+{
+    let mut meter = Meter::<L>::start(Opening::of(blank));
+    let mut source = StdSource::new(rt.stdin());
+    let mut sink = StdSink::new(rt.stdout());
+    run_piql_clients(rt.alloc(), words, &mut source, store, &mut sink, &mut meter)
+}
+
+// `clients`, and then the words after the program's name.
+fn all_words(rt: &HostRuntime) -> Result<List<PText>, WordsErr> {
+    let mut words = List::new(rt.alloc());
+    let Some(first) = PText::from_bytes(rt.alloc(), b"clients")? else {
+        return Err(WordsErr::NotUtf8);
+    };
+    words.push(rt.alloc(), first)?;
+    for word in read_words(rt)?.into_vec() {
+        words.push(rt.alloc(), word)?;
+    }
+    Ok(words)
+}
+
+fn run(rt: &HostRuntime) -> Status {
+    match all_words(rt) {
+        Ok(words) => {
+            let mut store = MemStore::new(rt.alloc());
+            run_over::<Brand>(rt, Blank::new(2), words.items(), &mut store)
+        }
+        Err(WordsErr::NotUtf8) => Status::Usage,
+        Err(WordsErr::NoMem) => Status::NoMem,
+    }
+}
+
+fn main(rt: HostRuntime) -> ExitCode {
+    ExitCode::from(run(&rt).code())
+}

@@ -1,0 +1,206 @@
+-- How a run of clients ends.
+use Rattle.std.proofs.Common.{◌≡◌, ℕ, ◌+◌, ◌≤◌, ◌⊎◌, inl, inr, Bool, true, false, ◌||◌, Option, Some, None, Result, Ok, Err, IfOk, IfErr, List, [], ◌∷◌, ◌++◌, length, take, refl, sym, ap, ◌∙◌, subst, arith, length-append}
+use Rattle.std.specs.List.{slice_get, list_any}
+use Rattle.std.specs.Io.KnownBytes.{append_known, prepend_known}
+use Rattle.std.proofs.Math.Seq.{take-append_seam}
+use Rattle.pq_base.specs.Members.{In}
+use Rattle.pq_fill.specs.declared.words.Form.TheVariants.{Run}
+use Rattle.pq_schema.specs.Schema.{Schema}
+use Rattle.pq_schema.specs.declared.table.Table.{Table}
+use Rattle.pq_store.specs.Content.{Content}
+use Rattle.pq_store.specs.Counts.{Counts}
+use Rattle.pq_store.specs.Breaks.{IsUndamaged}
+use Rattle.pq_store.specs.declared.damage.Broke.{Broke}
+use Rattle.pq_store.specs.declared.damage.Broke.TheVariants as broke
+use Rattle.pq_store.specs.declared.damage.Damage.{Damage}
+use Rattle.pq_text.specs.declared.piece.Piece.{Piece}
+use Rattle.pq_content.specs.Pairs.{Pair}
+use Rattle.pq_content.specs.Tables.{Rows}
+use Rattle.pq_print.specs.Report.{damage_line, is_refusal}
+use Rattle.pq_clients.specs.Clients.{View}
+use Rattle.pq_clients.specs.Promised.{RunsAsPromised}
+use Rattle.pq_clients.specs.Promises.{HoldsThroughout, HasReason, reached}
+use Rattle.pq_clients.specs.Runs.{Event}
+use Rattle.pq_clients.specs.declared.outcome.Outcome.{Outcome}
+use Rattle.pq_clients.specs.declared.outcome.Outcome.TheVariants as outcome
+use Rattle.pq_clients.specs.declared.outcome.Told.{Told}
+use Rattle.pq_clients.specs.declared.outcome.Wrote.{Wrote}
+use Rattle.pq_session.specs.Model.{Model}
+use Rattle.pq_session.specs.Stands.{Opens, Stands, catalog_pairs}
+use Rattle.pq_session.proofs.Standing.{settled_opens}
+use Rattle.pq_shell.specs.Fold.{Moment, MadeReports, ServedItems, StoppedItem, after}
+use Rattle.pq_shell.specs.Items.{cut_items}
+use Rattle.pq_shell.specs.Making.{moment}
+use Rattle.pq_shell.specs.Reading.{TookBytes, script_limit}
+use Rattle.pq_shell.specs.Run.{RunWorld, EndsDamaged, Closes, IsPlain, IsScript, status_of, run_world, written_world}
+use Rattle.pq_shell.specs.Stops.{CutsOff, stop_of_broke}
+use Rattle.pq_shell.specs.declared.reading.Ending.{Ending}
+use Rattle.pq_shell.specs.declared.reading.Ending.TheVariants.{Whole, Faulted, TooLong}
+use Rattle.pq_shell.specs.declared.serving.Ended.{Ended}
+use Rattle.pq_shell.specs.declared.status.Status.{Status}
+use Rattle.pq_shell.specs.declared.status.Status.TheVariants as status
+use Rattle.pq_shell.specs.declared.stop.Stop.{Stop}
+use Rattle.pq_shell.specs.declared.stop.Stop.TheVariants as stops
+use Rattle.pq_shell.proofs.Known.{append_known-none, known-length}
+use Rattle.pq_client_shell.specs.Lines.{between_text, told_text}
+use Rattle.pq_client_shell.specs.Runs.{OpensStore, StopsOpening, IsRead, RanClients, Stepped, MadeGathered, StopsBetween, StopsTelling, HaltsGathered, MadeRead, HaltsBehind, HaltsRead, Opened, FinishedClients, StopsEarly, StopsAmong, BrokenClients, NamesDamage, Ends, Suffices}
+use Rattle.pq_client_shell.specs.Runs.BrokenClients.{Early, Among}
+use Rattle.pq_client_shell.specs.Telling.{fault_of, first_fault}
+use Rattle.pq_client_shell.proofs.Outcomes.{HasFault, fault_in, none_some, same_stop, IsSoundStop}
+use Rattle.pq_client_shell.specs.Writes.{front_count, front_of}
+use Rattle.pq_client_shell.specs.declared.script.Script.{Script}
+
+-- ---- the pieces of a script that was read
+
+module _ (k : ℕ) (first last : Schema) (script : Script) (from stood now : Moment) (ps : List Piece) (ps_is : ps ≡ script.pieces) (count : ℕ) (count_is : count ≡ front_count script.pieces) (front : Bool)
+    (served : ServedItems Run first last from stood 1 (cut_items (take count ps)) false front) where
+  made_front : MadeReports Run first last from stood 1 (cut_items (front_of script.pieces)) served.reports
+  made_front = subst (λ (xs : List Piece). MadeReports Run first last from stood 1 (cut_items xs) served.reports) (ap (take count) ps_is ∙ ap (λ n. take n script.pieces) count_is) served.made
+
+  pub made_read : (known : Schema) → known ≡ last → (ended : Ended) (behind : Bool) → MadeGathered k known script behind stood now → ended.ending ≡ script.ending → ended.refused ≡ (front || behind) → MadeRead k first script ended from now
+  made_read known known_is ended behind gathered ending_is refused_is = record {
+    last = last;
+    reports = served.reports;
+    stood = stood;
+    made = made_front;
+    behind = behind;
+    gathered = subst (λ (t : Schema). MadeGathered k t script behind stood now) known_is gathered;
+    ending_is = ending_is;
+    refusal = refused_is ∙ ap (λ b. b || behind) served.refusal;
+  }
+
+  pub halts_behind : (known : Schema) → known ≡ last → (stop : Stop) → HaltsGathered k known script stop stood now → HaltsRead k first script stop from now
+  halts_behind known known_is stop halts =
+      inr (record { last = last; reports = served.reports; stood = stood; made = made_front; halts = subst (λ (t : Schema). HaltsGathered k t script stop stood now) known_is halts })
+
+pub halts_front : (k : ℕ) (first : Schema) (script : Script) (stop : Stop) (from now : Moment) (ps : List Piece) → ps ≡ script.pieces → (count : ℕ) → count ≡ front_count script.pieces → StoppedItem Run stop first from now 1 (cut_items (take count ps))
+    → HaltsRead k first script stop from now
+halts_front k first script stop from now ps ps_is count count_is stopped =
+    inl (subst (λ (xs : List Piece). StoppedItem Run stop first from now 1 (cut_items xs)) (ap (take count) ps_is ∙ ap (λ n. take n script.pieces) count_is) stopped)
+
+-- ---- the whole run
+
+-- a session that could not be started
+pub broke_opening : (error : Broke) (old now : Option Content) → ((m : Model) → Opens old m → Opens now m) → ((m : Model) → Opens old m → IsUndamaged error) → StopsOpening (stop_of_broke error) old now
+broke_opening broke.Failed old now kept sound m opens = (kept m opens, tt)
+broke_opening broke.NoMem old now kept sound m opens = (kept m opens, tt)
+broke_opening (broke.Damaged damage) old now kept sound m opens = absurd (sound m opens)
+
+pub stops_opening : (k : ℕ) (stop : Stop) (left left' : Option (List ℕ)) (old now : Option Content) (held : Option (List ℕ)) (before after : Counts) → StopsOpening stop old now → BrokenClients k stop (run_world left old held before) (run_world left' now held after)
+stops_opening k stop left left' old now held before after opens = Early (record { opens = opens; silent = refl })
+
+pub stops_reading : (k : ℕ) (left left' : Option (List ℕ)) (old now : Option Content) (held : Option (List ℕ)) (before after : Counts) (first : Schema) → OpensStore old now first → BrokenClients k stops.NoMem (run_world left old held before) (run_world left' now held after)
+stops_reading k left left' old now held before after first opening =
+    Early (record { opens = λ m opens. (settled_opens (opening.stands m opens).settled, tt); silent = refl })
+
+abbrev opened_so : (left left' : Option (List ℕ)) (old mid : Option Content) (held : Option (List ℕ)) (before between : Counts) (first : Schema) (script : Script) → OpensStore old mid first → IsRead left left' script → Opened (run_world left old held before) left' script
+opened_so left left' old mid held before between first script opening read = record { read = read; first = first; content = mid; counts = between; opening = opening }
+
+pub finished_clients : (k : ℕ) (left left' : Option (List ℕ)) (old mid now : Option Content) (held held' : Option (List ℕ)) (before between after : Counts) (first : Schema) (script : Script) (ended : Ended)
+    → OpensStore old mid first → IsRead left left' script → MadeRead k first script ended (moment mid held between) (moment now held' after) → FinishedClients k ended.ending ended.refused (run_world left old held before) (run_world left' now held' after)
+finished_clients k left left' old mid now held held' before between after first script ended opening read made = record {
+  script = script;
+  opened = opened_so left left' old mid held before between first script opening read;
+  made = made;
+}
+
+pub broken_clients : (k : ℕ) (stop : Stop) (left left' : Option (List ℕ)) (old mid now : Option Content) (held held' : Option (List ℕ)) (before between after : Counts) (first : Schema) (script : Script)
+    → OpensStore old mid first → IsRead left left' script → HaltsRead k first script stop (moment mid held between) (moment now held' after) → BrokenClients k stop (run_world left old held before) (run_world left' now held' after)
+broken_clients k stop left left' old mid now held held' before between after first script opening read halts =
+    Among (record { script = script; opened = opened_so left left' old mid held before between first script opening read; halts = halts })
+
+-- ---- each status
+
+finished : (k : ℕ) (ending : Ending) (refused : Bool) (before now : RunWorld) → FinishedClients k ending refused before now → Ends k (status_of ending refused) before now
+finished k Whole false before now is = is
+finished k Whole true before now is = is
+finished k Faulted refused before now is = (refused, is)
+finished k TooLong refused before now is = (refused, is)
+
+damaged : (k : ℕ) (is : Status) (damage : Damage) (before mid : RunWorld) (h' : Option (List ℕ)) → BrokenClients k (stops.Damaged damage) before mid → EndsDamaged is damage.key mid.moment.held h' → Ends k is before (written_world mid h')
+damaged k status.Damaged damage before mid h' broken ends = record { damage = damage; held = mid.moment.held; line = damage_line damage.key; broken = broken; tail = refl; text = ends }
+damaged k status.WriteFault damage before mid h' broken ends = inr (record { damage = damage; held = mid.moment.held; line = ends.0; broken = broken; tail = ends.1; text = ends.2 })
+damaged k status.NoMem damage before mid h' broken ends = inr (record { damage = damage; held = mid.moment.held; line = []; broken = broken; tail = refl; text = ends ∙ sym (append_known-none mid.moment.held) })
+damaged k status.Good damage before mid h' broken ends = absurd ends
+damaged k status.SomeRefused damage before mid h' broken ends = absurd ends
+damaged k status.Usage damage before mid h' broken ends = absurd ends
+damaged k status.ReadFault damage before mid h' broken ends = absurd ends
+damaged k status.StoreFault damage before mid h' broken ends = absurd ends
+damaged k status.TooLong damage before mid h' broken ends = absurd ends
+
+at_status : (k : ℕ) (is expected : Status) (before mid : RunWorld) (h' : Option (List ℕ)) → is ≡ expected → h' ≡ mid.moment.held → Ends k expected before mid → Ends k is before (written_world mid h')
+at_status k is expected before mid h' same kept ends = subst (λ h. Ends k is before (written_world mid h)) (sym kept) (subst (λ s. Ends k s before mid) (sym same) ends)
+
+pub ends_of : (k : ℕ) (outcome : Result Ended Stop) (is : Status) (before mid : RunWorld) (h' : Option (List ℕ)) → IfOk outcome (λ ended. FinishedClients k ended.ending ended.refused before mid) → IfErr outcome (λ stop. BrokenClients k stop before mid)
+    → Closes outcome is mid.moment.held h' → Ends k is before (written_world mid h')
+ends_of k (Ok ended) is before mid h' ok err closes = at_status k is (status_of ended.ending ended.refused) before mid h' closes.0 closes.1 (finished k ended.ending ended.refused before mid ok)
+ends_of k (Err stops.StoreFailed) is before mid h' ok err closes = at_status k is status.StoreFault before mid h' closes.0 closes.1 err
+ends_of k (Err stops.WriteFailed) is before mid h' ok err closes = at_status k is status.WriteFault before mid h' closes.0 closes.1 (inl err)
+ends_of k (Err stops.NoMem) is before mid h' ok err closes = at_status k is status.NoMem before mid h' closes.0 closes.1 (inl err)
+ends_of k (Err (stops.Damaged damage)) is before mid h' ok err closes = damaged k is damage before mid h' err closes
+
+-- ---- completeness
+
+too_long : (left left' : Option (List ℕ)) (script : Script) → script.ending ≡ TooLong → IsRead left left' script → IsScript left → ⊥
+too_long left left' script is read enough = by (subst (λ (e : Ending). TookBytes e left left' read.bytes) is read.took)
+  where
+    by : TookBytes TooLong left left' read.bytes → ⊥
+    by took =
+        let long = known-length left' (read.bytes ++ took.0 ∷ []) enough.script (sym enough.told ∙ took.1) in
+        omega (arith, long, took.2, enough.short, length-append read.bytes (took.0 ∷ []))
+
+-- damage is told of nothing else
+no_reason : (tables : List Table) (v : View) (c : Content) (o : Outcome) (damage : Damage) → fault_of o ≡ Some (stops.Damaged damage) → HasReason tables v c o → ⊥
+no_reason tables v c outcome.Done damage is reason = none_some (stops.Damaged damage) is
+no_reason tables v c (outcome.Refused why) damage is reason = none_some (stops.Damaged damage) is
+no_reason tables v c (outcome.Busy found) damage is reason = none_some (stops.Damaged damage) is
+no_reason tables v c (outcome.Conflict read found) damage is reason = none_some (stops.Damaged damage) is
+no_reason tables v c outcome.Failed damage is reason = subst IsSoundStop (same_stop stops.StoreFailed (stops.Damaged damage) is) tt
+no_reason tables v c outcome.NoMem damage is reason = subst IsSoundStop (same_stop stops.NoMem (stops.Damaged damage) is) tt
+no_reason tables v c (outcome.Damaged d) damage is reason = reason
+
+never_damaged : (tables : List Table) (rows : Rows) (others : List Pair) (clients : List View) (places : List ℕ) (content : Option Content) (left : List View) (told : List Told) (puts : List Wrote)
+    → RunsAsPromised tables rows others clients places content left told puts → (damage : Damage) → first_fault told ≡ Some (stops.Damaged damage) → ⊥
+never_damaged tables rows others clients places content left told puts promised damage first =
+    let fault = fault_in told (stops.Damaged damage) first in
+    let said = promised.holds.said.told fault.one (subst (In fault.one) promised.leaves.says fault.is_in) in
+    let front_is : take (length said.front) promised.events ≡ said.front = ap (take (length said.front)) said.split ∙ take-append_seam said.front (said.event ∷ said.back) in
+    let holds = subst (HoldsThroughout tables rows others clients) front_is (promised.held (length said.front)) in
+    let causes = holds.causes said.event.place said.view said.event.fate said.own in
+    no_reason tables said.view (reached tables rows others clients said.front).content fault.one.outcome damage fault.is (causes.told fault.one said.says).2
+
+module _ (k : ℕ) (schema : Schema) (script : Script) (damage : Damage) (stood now : Moment) where
+  no_damage : (m : Model) → Stands stood.content schema m → HaltsGathered k schema script (stops.Damaged damage) stood now → ⊥
+  no_damage m stands (inl between) = by between.text
+    where
+      by : CutsOff (stops.Damaged damage) (between_text schema script.pieces script.unfinished) stood.held now.held ⊎ ((stops.Damaged damage ≡ stops.NoMem) × (now.held ≡ append_known stood.held (between_text schema script.pieces script.unfinished))) → ⊥
+      by (inl cut) = cut
+      by (inr (other, text)) = subst IsSoundStop (sym other) tt
+  no_damage m stands (inr telling) = by telling.text
+    where
+      by : CutsOff (stops.Damaged damage) (told_text telling.told) telling.held now.held ⊎ ((first_fault telling.told ≡ Some (stops.Damaged damage)) × (now.held ≡ append_known telling.held (told_text telling.told))) → ⊥
+      by (inl cut) = cut
+      by (inr (first, text)) = never_damaged _ _ _ _ _ _ _ _ _ (telling.stepped.ran.promised m stands) damage first
+
+sound : (k : ℕ) (damage : Damage) (before now : RunWorld) → BrokenClients k (stops.Damaged damage) before now → Suffices before → ⊥
+sound k damage before now (Early b) enough = (b.opens enough.1.0 enough.1.1).1
+sound k damage before now (Among b) enough = by b.halts
+  where
+    stands : Stands b.opened.content b.opened.first enough.1.0
+    stands = b.opened.opening.stands enough.1.0 enough.1.1
+
+    by : HaltsRead k b.opened.first b.script (stops.Damaged damage) (moment b.opened.content before.moment.held b.opened.counts) now.moment → ⊥
+    by (inl stopped) = (stopped.stands enough.1.0 stands).1
+    by (inr behind) = no_damage k behind.last b.script damage behind.stood now.moment _ (behind.made.folds enough.1.0 stands).0 behind.halts
+
+-- where no fault came and there was enough, the run is plain
+pub ends_plain : (k : ℕ) (is : Status) (before now : RunWorld) → Ends k is before now → (is ≡ status.ReadFault → ⊥) → (is ≡ status.WriteFault → ⊥) → (is ≡ status.StoreFault → ⊥) → Suffices before → IsPlain is
+ends_plain k status.Good before now ends read write store enough = tt
+ends_plain k status.SomeRefused before now ends read write store enough = tt
+ends_plain k status.NoMem before now ends read write store enough = tt
+ends_plain k status.Usage before now ends read write store enough = ends
+ends_plain k status.ReadFault before now ends read write store enough = read refl
+ends_plain k status.WriteFault before now ends read write store enough = write refl
+ends_plain k status.StoreFault before now ends read write store enough = store refl
+ends_plain k status.TooLong before now ends read write store enough = too_long before.left now.left ends.1.script (sym ends.1.made.ending_is) ends.1.opened.read enough.0
+ends_plain k status.Damaged before now ends read write store enough = sound k ends.damage before _ ends.broken enough

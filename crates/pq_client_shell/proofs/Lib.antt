@@ -1,0 +1,10 @@
+pub mod Fronts
+pub mod Dealt
+pub mod Orders
+pub mod Outcomes
+pub mod Served
+pub mod Sorting
+pub mod Pieces
+pub mod Stepping
+pub mod Gathering
+pub mod Closing

@@ -1,0 +1,25 @@
+use Rattle.std.proofs.Common.{◌≡◌, ◌+◌, ◌++◌, List, length, drop, ap, ◌∙◌, arith}
+use Rattle.std.specs.Prelude.{string_bytes}
+use Rattle.std.specs.List.{list_any}
+use Rattle.pq_text.specs.declared.piece.Piece.{Piece}
+use Rattle.pq_shell.specs.Serving.{rest_text}
+use Rattle.pq_client_shell.specs.Lines.{skipped_text}
+use Rattle.pq_client_shell.specs.Writes.{is_skipped, writes_of}
+use Rattle.pq_client_shell.proofs.Gathering.{writes_behind, skips_behind, between_is}
+use Rattle.pq_client_shell.proofs.gathered.prepare.Goals as goal
+
+pub returns-clause-writes : goal.returns-clause-writes
+returns-clause-writes c =
+    writes_behind c.args.script.now.pieces c.args.count c.requires.count c.args.catalog.now _
+    (c.in_ok-sorted.ensures.writes ∙ ap (writes_of c.args.catalog.now) (c.behind-rest.ensures ∙ ap (drop c.args.count) c.items-pieces.ensures))
+
+pub returns-clause-text : goal.returns-clause-text
+returns-clause-text c =
+    between_is c.args.script.now.pieces c.args.count c.requires.count c.args.catalog.now c.args.script.now.unfinished _ _
+    (c.in_ok-sorted.ensures.lines ∙ ap (skipped_text c.args.catalog.now (c.args.count + 1)) (c.behind-rest.ensures ∙ ap (drop c.args.count) c.items-pieces.ensures))
+    (c.in_ok-text.ensures ∙ ap (λ n. string_bytes c.in_ok-sorted.sorted.lines ++ rest_text c.args.script.now.unfinished (n + 1)) (ap length c.items-pieces.ensures))
+
+pub returns-clause-skipped : goal.returns-clause-skipped
+returns-clause-skipped c =
+    skips_behind c.args.script.now.pieces c.args.count c.requires.count c.args.catalog.now _
+    (c.in_ok-sorted.ensures.skipped ∙ ap (list_any (is_skipped c.args.catalog.now)) (c.behind-rest.ensures ∙ ap (drop c.args.count) c.items-pieces.ensures))

@@ -1,0 +1,5 @@
+use Rattle.pq_client_shell.proofs.Closing.{ends_of}
+use Rattle.pq_client_shell.proofs.run.run.Goals as goal
+
+pub returns-clause-ends : goal.returns-clause-ends
+returns-clause-ends g c = ends_of c.args.k c.run_script-outcome.result _ _ _ _ c.run_script-outcome.ensures.ok c.run_script-outcome.ensures.err c.close.ensures.closes

@@ -1,0 +1,70 @@
+-- The writes of a script: where they begin, and which of them clients make.
+use Rattle.std.specs.Prelude.{ℕ, ◌+◌, Bool, not, nat_le, length, List, [], ◌∷◌, ◌++◌, take, drop, Option, Some, None, is_some, Result, Ok, Err, if◌then◌else◌}
+use Rattle.std.specs.Result.{result_ok}
+use Rattle.pq_text.specs.Tokens.{tokens_of}
+use Rattle.pq_text.specs.declared.piece.Piece.{Piece}
+use Rattle.pq_text.specs.declared.piece.Piece.TheVariants as piece
+use Rattle.pq_def_read.specs.Reading.{statement_of}
+use Rattle.pq_def_read.specs.declared.statement.Statement.{Statement}
+use Rattle.pq_def_read.specs.declared.statement.Statement.TheVariants as statement
+use Rattle.pq_schema.specs.Schema.{Schema}
+use Rattle.pq_index_keep.specs.Checking.{checked_write}
+use Rattle.pq_index_keep.specs.declared.write.Write.{Write}
+
+-- an INSERT, UPDATE or DELETE
+abbrev pub as_writing : Statement → Option Statement
+as_writing (statement.Insert table cols values) = Some (statement.Insert table cols values)
+as_writing (statement.Update table sets key) = Some (statement.Update table sets key)
+as_writing (statement.Delete table key) = Some (statement.Delete table key)
+as_writing (statement.Create def) = None
+as_writing (statement.Prepare name from) = None
+as_writing (statement.Explain from) = None
+as_writing (statement.Run name params after) = None
+as_writing statement.Show = None
+
+abbrev pub read_writing : Result Statement ℕ → Option Statement
+read_writing (Ok statement) = as_writing statement
+read_writing (Err left) = None
+
+-- of a text of at most 65,536 bytes
+abbrev pub text_writing : List ℕ → Option Statement
+text_writing text = if nat_le (length text) 65536 then read_writing (statement_of text (tokens_of text)) else None
+
+-- the INSERT, UPDATE or DELETE that a piece spells
+unfoldable pub writing_of : Piece → Option Statement
+writing_of (piece.Statement text) = text_writing text
+writing_of piece.NotUtf8 = None
+writing_of piece.TooLong = None
+
+-- ---- the pieces before the first write, and those from it on
+
+unfoldable pub front_count : List Piece → ℕ
+front_count [] = 0
+front_count (p ∷ ps) = if is_some (writing_of p) then 0 else 1 + front_count ps
+
+abbrev pub front_of : List Piece → List Piece
+front_of pieces = take (front_count pieces) pieces
+
+abbrev pub gathered_of : List Piece → List Piece
+gathered_of pieces = drop (front_count pieces) pieces
+
+-- ---- the writes that these definitions accept
+
+abbrev pub accepted : Schema → Option Statement → Option Write
+accepted schema None = None
+accepted schema (Some statement) = result_ok (checked_write schema statement)
+
+abbrev pub write_of : Schema → Piece → Option Write
+write_of schema p = accepted schema (writing_of p)
+
+abbrev pub one_write : Option Write → List Write
+one_write None = []
+one_write (Some write) = write ∷ []
+
+unfoldable pub writes_of : Schema → List Piece → List Write
+writes_of schema [] = []
+writes_of schema (p ∷ ps) = one_write (write_of schema p) ++ writes_of schema ps
+
+-- a piece that is gathered and spells no accepted write is skipped
+abbrev pub is_skipped : Schema → Piece → Bool
+is_skipped schema p = not (is_some (write_of schema p))
