@@ -3,9 +3,7 @@
 import re
 import sys
 
-from tools.kept import NotBuilt
-from tools.launch import UNPROVED, ended, run_once, tell
-from tools.programs import find_program
+from tools.launch import ended, found, run_once, tell
 from tools.statuses import BRIEFLY, NO_PROGRAM, USAGE
 from tools.words import Wrong, check_script, shown
 
@@ -35,13 +33,9 @@ def read_words(words: list[str]) -> tuple[str, str | None]:
 
 def run_clients(count: str, script: str | None) -> int:
     """Finds the program and runs it."""
-    try:
-        program = find_program(NAME)
-    except NotBuilt as error:
-        tell(NAME, str(error))
+    program = found(NAME)
+    if program is None:
         return NO_PROGRAM
-    if not program.is_proved:
-        tell(NAME, UNPROVED)
     if script is None:
         return ended(NAME, run_once(program, [count], None))
     with open(script, "rb") as opened:

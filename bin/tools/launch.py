@@ -69,15 +69,32 @@ def version(name: str) -> str:
     return f"{name} {NUMBER} ({MEANING}), {'proved' if proved_program(name) else 'not proved'}"
 
 
-def run_asked(name: str, asked: Asked) -> int:
-    """Finds the program and runs it."""
+def found(name: str) -> Program | None:
+    """The program; what keeps it from being proved, or from being there, is told."""
     try:
         program = find_program(name)
     except NotBuilt as error:
         tell(name, str(error))
-        return NO_PROGRAM
+        return None
     if not program.is_proved:
         tell(name, UNPROVED)
+    return program
+
+
+def written(name: str, words: list[str], script: str) -> tuple[str, int]:
+    """What a program writes of a script, and its status; a bad end is told."""
+    with open(script, "rb") as opened:
+        run = subprocess.run([find_program(name).path, *words], stdin=opened, stdout=subprocess.PIPE)
+    if line := meaning(name, run.returncode):
+        print(line, file=sys.stderr)
+    return run.stdout.decode(errors="replace"), run.returncode
+
+
+def run_asked(name: str, asked: Asked) -> int:
+    """Finds the program and runs it."""
+    program = found(name)
+    if program is None:
+        return NO_PROGRAM
     if asked.reads_input and sys.stdin.isatty():
         tell(name, AT_A_TERMINAL)
     if asked.scripts:

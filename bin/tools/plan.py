@@ -2,17 +2,15 @@
 
 import argparse
 import os
-import subprocess
 import sys
 
 from piql.refusals import refusal_of
 from piql.scripts import place_at, tokens
 from tools.kept import NotBuilt
-from tools.launch import tell
+from tools.launch import tell, written
 from tools.picture import Band, page, work_text
 from tools.plans import Told, read_plans
-from tools.programs import find_program
-from tools.statuses import NO_PROGRAM, REFUSED, meaning
+from tools.statuses import NO_PROGRAM, REFUSED
 from tools.tell import Script, read_script
 from tools.words import Wrong, check_script
 
@@ -52,15 +50,6 @@ def band_of(told: Told, script: Script) -> Band | None:
     return planned_band(told, head, statement) if found[0].is_word(*QUERIES) else None
 
 
-def run_script(name: str) -> tuple[str, int]:
-    """What the program tells of a script, and its status."""
-    with open(name, "rb") as script:
-        run = subprocess.run([find_program(PROGRAM).path], stdin=script, stdout=subprocess.PIPE)
-    if line := meaning(PROGRAM, run.returncode):
-        print(line, file=sys.stderr)
-    return run.stdout.decode(errors="replace"), run.returncode
-
-
 def read_given(words: list[str]) -> argparse.Namespace:
     parser = argparse.ArgumentParser(prog="bin/plan", description=__doc__)
     parser.add_argument("--lines", metavar="LINES", help="run nothing: this is what piql_plan wrote of the script")
@@ -74,11 +63,11 @@ def main(words: list[str]) -> int:
         check_script(given.script)
         if given.lines:
             with open(given.lines, encoding="utf-8", errors="replace") as file:
-                written, status = file.read(), 0
+                text, status = file.read(), 0
         else:
-            written, status = run_script(given.script)
+            text, status = written(PROGRAM, [], given.script)
         script = read_script(given.script)
-        found = [told for told in read_plans(written)]
+        found = list(read_plans(text))
         bands = [band for told in found if (band := band_of(told, script))]
         print(page(os.path.basename(given.script), bands), end="")
     except (Wrong, NotBuilt, OSError) as error:

@@ -22,9 +22,9 @@ NAME = "release"
 FAILED = 1
 # Programs have this beginning; the one that runs the examples is for the gate.
 BEGINNING, OF_GATE = "piql", "piql_examples"
-COMMANDS = ("piql", "piql_file", "tell", "plan", "dump", "piql-serve", "piql-shell")
+COMMANDS = ("piql", "piql_file", "piql_clients", "tell", "plan", "dump", "piql-serve", "piql-shell")
 # What the commands of a release stand on. The test runs each command from a release.
-MODULES = """__init__ command dump kept launch picture plan plans pointing programs repository shapes statuses
+MODULES = """__init__ clients command dump kept launch picture plan plans pointing programs repository shapes statuses
 tell versions words""".split()
 FOLDERS = {"docs": "*.*", "docs/scripts": "*", "examples": "*.*", "drivers/python/piql": "**/*", "site": "**/*"}
 FILES = ("README.md", "CHANGES.md", "CONTRIBUTING.md", "drivers/python/pyproject.toml", "drivers/python/package.py")

@@ -2,7 +2,6 @@
 
 import argparse
 import re
-import subprocess
 import sys
 import textwrap
 from typing import NamedTuple
@@ -12,11 +11,10 @@ from piql.reports import DamageLine, DefinitionLine, IndexLine, OpeningLine, Que
 from piql.scripts import Piece, Token, character_at, pieces, place_at, tokens
 from piql.tables import table
 from tools.kept import NotBuilt
-from tools.launch import tell
+from tools.launch import tell, written
 from tools.pointing import pointed
-from tools.programs import find_program
 from tools.shapes import Shapes
-from tools.statuses import NO_PROGRAM, REFUSED, meaning
+from tools.statuses import NO_PROGRAM, REFUSED
 from tools.words import Wrong, check_script, read_words
 
 NAME = "tell"
@@ -162,12 +160,7 @@ def run_script(given: argparse.Namespace) -> tuple[str, int]:
     """What a run of the script writes, and its status."""
     name = "piql_file" if given.file else "piql"
     words = [*([given.file] if given.file else []), "check" if given.check else "run", given.script]
-    asked = read_words(name, words)
-    with open(given.script, "rb") as script:
-        run = subprocess.run([find_program(name).path, *asked.words], stdin=script, stdout=subprocess.PIPE)
-    if line := meaning(name, run.returncode):
-        print(line, file=sys.stderr)
-    return run.stdout.decode(errors="replace"), run.returncode
+    return written(name, read_words(name, words).words, given.script)
 
 
 def read_given(words: list[str]) -> argparse.Namespace:
@@ -185,11 +178,11 @@ def main(words: list[str]) -> int:
         check_script(given.script)
         if given.report:
             with open(given.report, encoding="utf-8", errors="replace") as file:
-                written, status = file.read(), 0
+                text, status = file.read(), 0
         else:
-            written, status = run_script(given)
+            text, status = run_script(given)
     except (Wrong, NotBuilt, OSError) as error:
         tell(NAME, str(error))
         return error.status if isinstance(error, Wrong) else NO_PROGRAM
-    refused = tell_all(read_script(given.script), written)
+    refused = tell_all(read_script(given.script), text)
     return status if status else REFUSED if refused else 0

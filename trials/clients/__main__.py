@@ -1,4 +1,3 @@
-#!/usr/bin/env python3
 """Goes through the schedules of clients that write beside each other, and checks the pairs of the store at each moment.
 
     python3 trials/clients                        each schedule of all cases, and 20,000 that are drawn
