@@ -1,4 +1,5 @@
 pub mod ChangeLists
 pub mod Fronts
+pub mod Plain
 pub mod Rows
 pub mod Widths

@@ -43,13 +43,32 @@ abbrev pub marks_at : List ℕ → Option (ℕ × List ℕ)
 marks_at (a ∷ b ∷ c ∷ d ∷ rest) = Some (a * 16777216 + b * 65536 + c * 256 + d, rest)
 marks_at _ = None
 
+-- the marks of a row with NULL, behind the first byte
+abbrev pub marked_front : ℕ → ℕ → List ℕ → Option (ℕ × List ℕ)
+marked_front columns k bytes = if k == columns + 64
+    then (marks_at bytes >>= λ m. if m.0 == 0 then None else Some m) else None
+
 -- the marks, behind the first byte
 unfoldable pub front_at : ℕ → ℕ → List ℕ → Option (ℕ × List ℕ)
-front_at columns k bytes = if k == columns then Some (0, bytes) else if k == columns + 64
-    then (marks_at bytes >>= λ m. if m.0 == 0 then None else Some m) else None
+front_at columns k bytes = if k == columns then Some (0, bytes) else marked_front columns k bytes
 
 -- all of the bytes
 unfoldable pub row_decoded : List ColType → List ℕ → Option (List Value)
 row_decoded ts [] = None
 row_decoded ts (k ∷ bytes) = front_at (length ts) k bytes >>= λ m. fields_at ts m.0 m.1 >>= λ x. if length x.1 == 0
+    then Some x.0 else None
+
+-- the same in two: whether the first byte is that of a row without NULL, and what such a row and one with NULL are
+
+abbrev pub is_plain : List ColType → List ℕ → Bool
+is_plain ts [] = false
+is_plain ts (k ∷ bytes) = k == length ts
+
+unfoldable pub plain_decoded : List ColType → List ℕ → Option (List Value)
+plain_decoded ts [] = None
+plain_decoded ts (k ∷ bytes) = fields_at ts 0 bytes >>= λ x. if length x.1 == 0 then Some x.0 else None
+
+unfoldable pub marked_decoded : List ColType → List ℕ → Option (List Value)
+marked_decoded ts [] = None
+marked_decoded ts (k ∷ bytes) = marked_front (length ts) k bytes >>= λ m. fields_at ts m.0 m.1 >>= λ x. if length x.1 == 0
     then Some x.0 else None

@@ -1,11 +1,11 @@
 //! From row codes to rows.
-ghost use Rattle.std.specs.Prelude.{◌≡◌, List, length, IfOk, IfSome, IfNone};
+ghost use Rattle.std.specs.Prelude.{◌≡◌, List, Some, None, length, if◌then◌else◌, IfOk, IfSome, IfNone};
 ghost use Rattle.std.specs.Option.{option_map};
 ghost use Rattle.std.specs.Int.{w16, w64};
 ghost use Rattle.pq_base.specs.declared.value.Value.{Value};
 ghost use Rattle.pq_base.specs.Values.{AllFit, kind_of_type, room_of};
 ghost use Rattle.pq_row_code.specs.RowCode.{row_code};
-ghost use Rattle.pq_row_code.specs.RowReading.{bits_at, flag_at, string_at, field_at, cell_at, fields_at, marks_at, front_at, row_decoded};
+ghost use Rattle.pq_row_code.specs.RowReading.{bits_at, flag_at, string_at, field_at, cell_at, fields_at, marks_at, marked_front, marked_decoded, is_plain, plain_decoded, row_decoded};
 
 use pq_base::{ColType, DataKind, NoMem, PText, Row, Value, known_types};
 use pq_key_code::checked_text;
@@ -71,16 +71,16 @@ fn field_of(alloc: Global, ty: ColType, bytes: &[u8]) -> Result<Option<(Value, &
     ensures { IfOk result (λ read. option_map (λ x. (x.0, x.1.now)) read
         ≡ field_at (kind_of_type ty) (room_of ty) bytes.now) }
 {
-    match ty {
-        ColType::Int | ColType::NullInt => match u64_of(bytes) {
+    match ty.kind() {
+        DataKind::Int => match u64_of(bytes) {
             Some((bits, rest)) => Ok(Some((Value::Int(bits.cast_signed()), rest))),
             None => Ok(None),
         },
-        ColType::Bool | ColType::NullBool => match flag_of(bytes) {
+        DataKind::Bool => match flag_of(bytes) {
             Some((truth, rest)) => Ok(Some((Value::Bool(truth), rest))),
             None => Ok(None),
         },
-        ColType::Text(most) | ColType::NullText(most) => match string_of(alloc, most, bytes)? {
+        DataKind::Text => match string_of(alloc, ty.room(), bytes)? {
             Some((text, rest)) => Ok(Some((Value::Text(text), rest))),
             None => Ok(None),
         },
@@ -126,8 +126,6 @@ fn plain_fields_of<'a>(
     Ok(Some((row, rest)))
 }
 
-// Out of line, so that reading a row without NULL stays one loop.
-#[inline(never)]
 fn marked_fields_of<'a>(
     alloc: Global,
     types: &[ColType],
@@ -154,20 +152,6 @@ fn marked_fields_of<'a>(
     }
 }
 
-fn fields_of<'a>(
-    alloc: Global,
-    types: &[ColType],
-    marks: u32,
-    bytes: &'a [u8],
-) -> Result<Option<(Row, &'a [u8])>, NoMem>
-    ensures { IfOk result (λ read. option_map (λ x. (x.0, x.1.now)) read ≡ fields_at types.now marks bytes.now) }
-{
-    if marks == 0 {
-        return plain_fields_of(alloc, types, bytes);
-    }
-    marked_fields_of(alloc, types, marks, bytes)
-}
-
 fn marks_of(bytes: &[u8]) -> Option<(u32, &[u8])>
     ensures { option_map (λ x. (x.0, x.1.now)) result ≡ marks_at bytes.now }
 {
@@ -177,13 +161,10 @@ fn marks_of(bytes: &[u8]) -> Option<(u32, &[u8])>
     Some((u32::from_be_bytes([*a, *b, *c, *d]), rest))
 }
 
-#[tactic(auto, unfolding(crate::specs::RowReading::front_at))]
+// The marks and the bytes behind them, where the first byte tells that there are marks.
 fn front_of<'a>(types: &[ColType], count: u8, bytes: &'a [u8]) -> Option<(u32, &'a [u8])>
-    ensures { option_map (λ x. (x.0, x.1.now)) result ≡ front_at (length types.now) count bytes.now }
+    ensures { option_map (λ x. (x.0, x.1.now)) result ≡ marked_front (length types.now) count bytes.now }
 {
-    if count as usize == types.len() {
-        return Some((0, bytes));
-    }
     if count as usize != types.len() + 0x40 {
         return None;
     }
@@ -193,9 +174,9 @@ fn front_of<'a>(types: &[ColType], count: u8, bytes: &'a [u8]) -> Option<(u32, &
     }
 }
 
-#[tactic(auto, unfolding(crate::specs::RowReading::row_decoded))]
-fn row_read(alloc: Global, bytes: &[u8], types: &[ColType]) -> Result<Option<Row>, NoMem>
-    ensures { IfOk result (λ row. row ≡ row_decoded types.now bytes.now) }
+#[tactic(auto, unfolding(crate::specs::RowReading::marked_decoded))]
+fn marked_row(alloc: Global, bytes: &[u8], types: &[ColType]) -> Result<Option<Row>, NoMem>
+    ensures { IfOk result (λ row. row ≡ marked_decoded types.now bytes.now) }
 {
     let [count, rest @ ..] = bytes else {
         return Ok(None);
@@ -203,10 +184,66 @@ fn row_read(alloc: Global, bytes: &[u8], types: &[ColType]) -> Result<Option<Row
     let Some((marks, rest)) = front_of(types, *count, rest) else {
         return Ok(None);
     };
-    let Some((row, rest)) = fields_of(alloc, types, marks, rest)? else {
+    let Some((row, rest)) = marked_fields_of(alloc, types, marks, rest)? else {
+        return Ok(None);
+    };
+    if !rest.is_empty() {
+        return Ok(None);
+    }
+    Ok(Some(row))
+}
+
+// Whether there is a row with NULL, which `row` then is. Out of line and with nothing to answer in memory, so that
+// reading a row without NULL stays one loop.
+#[inline(never)]
+fn put_marked(alloc: Global, bytes: &[u8], types: &[ColType], row: &mut Row) -> Result<bool, NoMem>
+    ensures { IfOk result (λ found. (if found then Some row.new else None) ≡ marked_decoded types.now bytes.now) }
+{
+    match marked_row(alloc, bytes, types)? {
+        Some(read) => {
+            *row = read;
+            Ok(true)
+        }
+        None => Ok(false),
+    }
+}
+
+// Whether the first byte is that of a row without NULL.
+fn is_plain(bytes: &[u8], types: &[ColType]) -> bool
+    ensures { result ≡ is_plain types.now bytes.now }
+{
+    match bytes {
+        [count, ..] => *count as usize == types.len(),
+        [] => false,
+    }
+}
+
+#[tactic(auto, unfolding(crate::specs::RowReading::plain_decoded))]
+fn plain_row(alloc: Global, bytes: &[u8], types: &[ColType]) -> Result<Option<Row>, NoMem>
+    ensures { IfOk result (λ row. row ≡ plain_decoded types.now bytes.now) }
+{
+    let [_, rest @ ..] = bytes else {
+        return Ok(None);
+    };
+    let Some((row, rest)) = plain_fields_of(alloc, types, rest)? else {
         return Ok(None);
     };
     if rest.is_empty() {
+        Ok(Some(row))
+    } else {
+        Ok(None)
+    }
+}
+
+#[inline(always)]
+fn row_read(alloc: Global, bytes: &[u8], types: &[ColType]) -> Result<Option<Row>, NoMem>
+    ensures { IfOk result (λ row. row ≡ row_decoded types.now bytes.now) }
+{
+    if is_plain(bytes, types) {
+        return plain_row(alloc, bytes, types);
+    }
+    let mut row = Row::new(alloc);
+    if put_marked(alloc, bytes, types, &mut row)? {
         Ok(Some(row))
     } else {
         Ok(None)
