@@ -2,7 +2,7 @@
 ghost use Rattle.std.specs.Prelude.{◌≡◌, ◌≤◌, ◌+◌, ◌*◌, ◌⊎◌, false, Some, length, IfOk, IfErr, IfSome, OnOk, OnErr};
 ghost use Rattle.pq_content.specs.Pairs.{is_of_rows};
 ghost use Rattle.pq_store.specs.Breaks.{IfDamaged, IsPresent, IsUndamaged};
-ghost use Rattle.pq_store.specs.Content.{HasBrokeCause, Content};
+ghost use Rattle.pq_store.specs.Content.{HasBrokeCause};
 ghost use Rattle.pq_intent.specs.Spending.{TakesAtMost};
 ghost use Rattle.pq_intent.specs.Changing.{StaysUntold};
 ghost use Rattle.pq_builds.specs.Bounds.{build_bound, left_bound};

@@ -1,5 +1,5 @@
 //! The entries of all rows of a table, read by ranges.
-ghost use Rattle.std.specs.Prelude.{◌≡◌, ◌≤◌, ◌+◌, ◌/◌, true, None, length, map, take, IfOk, IfErr, IfSome, OnOk, OnErr};
+ghost use Rattle.std.specs.Prelude.{◌≡◌, ◌≤◌, ◌+◌, ◌/◌, true, None, length, map, IfOk, IfErr, IfSome, OnOk, OnErr};
 ghost use Rattle.pq_content.specs.Pairs.{is_in_space};
 ghost use Rattle.pq_store.specs.Breaks.{IfDamaged};
 ghost use Rattle.pq_store.specs.Content.{pairs_within, HasBrokeCause, entry};

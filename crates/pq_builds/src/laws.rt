@@ -11,14 +11,14 @@ ghost use Rattle.pq_schema.specs.Tables.{table_at};
 ghost use Rattle.pq_store.specs.Content.{key_cmp, Content, pairs_within};
 ghost use Rattle.pq_store.specs.Counts.{Counts};
 ghost use Rattle.pq_content.specs.Pairs.{Pair, AreBeside, AreCatalog, is_in_space, is_of_rows, content_pairs, HoldsRows};
-ghost use Rattle.pq_content.specs.Tables.{Rows, IsTableNumber, Keeps, rows_of, types_of};
+ghost use Rattle.pq_content.specs.Tables.{Rows, Keeps, rows_of, types_of};
 ghost use Rattle.pq_builds.specs.declared.build.Built.{Built};
 ghost use Rattle.pq_builds.specs.declared.target.NewQuery.{NewQuery};
 ghost use Rattle.pq_builds.specs.declared.target.Target.{Target};
-ghost use Rattle.pq_builds.specs.Bounds.{fixed_bound, prepare_bound, build_bound, left_bound};
+ghost use Rattle.pq_builds.specs.Bounds.{fixed_bound, prepare_bound, build_bound};
 ghost use Rattle.pq_builds.specs.Filling.{row_pairs_in};
-ghost use Rattle.pq_builds.specs.Stages.{building_value, Takes, TakesBuild, left_ops};
-ghost use Rattle.pq_builds.specs.Standing.{defined_content, IsFilling, Origin, IsTarget, IsNewIn, HoldsOrigin, HoldsIndex, Makes, rows_in, tables_with, whole_content};
+ghost use Rattle.pq_builds.specs.Stages.{building_value, Takes, TakesBuild};
+ghost use Rattle.pq_builds.specs.Standing.{defined_content, IsFilling, Origin, IsTarget, IsNewIn, Makes, rows_in, tables_with, whole_content};
 
 /// What is told by a content in which an index is being filled.
 pub fn filling_law()

@@ -1,7 +1,6 @@
 //! From one kind of step to the next one that there is.
-ghost use Rattle.std.specs.Prelude.{◌≡◌, ◌∷◌, [], map, IfOk, List as Items};
-ghost use Rattle.std.specs.List.{AllByRecursion};
-ghost use Rattle.pq_clients.specs.Fitting.{MayWrite, FitsStage, IsCheck, IsTest, IsLate};
+ghost use Rattle.std.specs.Prelude.{◌≡◌, ◌∷◌, [], map, IfOk};
+ghost use Rattle.pq_clients.specs.Fitting.{MayWrite};
 ghost use Rattle.pq_clients.specs.Seen.{flight, seen_check, seen_stage};
 ghost use Rattle.pq_clients.specs.Steps.{testing, adding, checking, clearing, undoing};
 ghost use Rattle.pq_clients.specs.Flights.{fresh_entries, stale_entries, flight_checks, flight_tests};

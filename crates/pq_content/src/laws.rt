@@ -1,8 +1,8 @@
 //! What the definitions promise by themselves: each law is the contract of a call that does nothing.
-ghost use Rattle.std.specs.Prelude.{◌≡◌, ℕ, ◌+◌, ◌≤◌, ◌++◌, ◌∷◌, [], true, Bool, List, Option, Some, None, option_map, length, map, take, slice_get, Contains, IsPermutation, All, false};
+ghost use Rattle.std.specs.Prelude.{◌≡◌, ℕ, ◌+◌, ◌≤◌, ◌++◌, ◌∷◌, [], true, Bool, List, Some, None, option_map, length, map, take, slice_get, Contains, IsPermutation, All, false};
 ghost use Rattle.std.specs.List.{AllByRecursion};
 ghost use Rattle.std.specs.Option.{option_to_list};
-ghost use Rattle.std.specs.FinMap.{get, insert, remove, empty, find, is_sorted, entries, from_entries};
+ghost use Rattle.std.specs.FinMap.{get, insert, remove, empty, find, is_sorted, entries};
 ghost use Rattle.pq_base.specs.Columns.{set_of};
 ghost use Rattle.pq_base.specs.declared.value.Value.{Value};
 ghost use Rattle.pq_base.specs.Order.{position_cmp};

@@ -1,6 +1,5 @@
 //! The rows that entries name.
-ghost use Rattle.std.specs.Prelude.{◌≡◌, List, IfOk, IfErr, IfSome, length};
-ghost use Rattle.std.specs.List.{AllByRecursion};
+ghost use Rattle.std.specs.Prelude.{◌≡◌, List, IfOk, IfErr, IfSome};
 ghost use Rattle.pq_base.specs.Members.{In};
 ghost use Rattle.pq_base.specs.Values.{AllFit};
 ghost use Rattle.pq_base.specs.declared.value.Value.{Value};

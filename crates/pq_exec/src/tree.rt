@@ -1,5 +1,5 @@
 //! The tree of a plan, run from its innermost node on.
-ghost use Rattle.std.specs.Prelude.{◌≡◌, [], ◌∷◌, length, option_copied, IfOk, IfErr};
+ghost use Rattle.std.specs.Prelude.{◌≡◌, [], ◌∷◌, option_copied, IfOk, IfErr};
 ghost use Rattle.pq_calls.specs.World.{world, Affords, Reads};
 ghost use Rattle.pq_plan.specs.Cost.{cost};
 ghost use Rattle.pq_plan.specs.Nodes.{nodes};

@@ -3,10 +3,9 @@ ghost use Rattle.std.specs.Prelude.{◌≡◌, ◌≤◌, ◌<◌, ◌*◌, ◌^
 ghost use Rattle.std.specs.List.{list_any, sum_by, count_by};
 ghost use Rattle.pq_base.specs.Columns.{has_col};
 ghost use Rattle.pq_schema.specs.Sound.{AreColumns, AreParts};
-ghost use Rattle.pq_schema.specs.Tables.{table_at};
 ghost use Rattle.pq_content.specs.Standing.{write_ops};
 ghost use Rattle.pq_index_keep.specs.Bounds.{tested_foreign, tested_limits, tested_n, refers, referring_count, tests, most_changes, write_tests, write_bound};
-ghost use Rattle.pq_index_keep.specs.Sound.{AreWritable, IsWritable, IsWrite};
+ghost use Rattle.pq_index_keep.specs.Sound.{AreWritable, IsWrite};
 ghost use Rattle.pq_index_keep.specs.Tested.{touches, touches_index};
 
 use crate::write::{Scope, Write};

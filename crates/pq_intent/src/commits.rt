@@ -1,7 +1,7 @@
 //! Committing changes: all of them or none, whichever call of the store is the last one.
 ghost use Rattle.std.specs.Prelude.{◌≡◌, ◌≤◌, ◌<◌, ◌+◌, ◌⊎◌, None, Some, length, map, IfOk, IfErr, IfSome, IsErr, IsErrOf, OnOk, OnErr};
 ghost use Rattle.std.specs.FinMap.{insert};
-ghost use Rattle.pq_row_code.specs.Changes.{changes_code, AreChanges};
+ghost use Rattle.pq_row_code.specs.Changes.{AreChanges};
 ghost use Rattle.pq_content.specs.Pairs.{changed_content};
 ghost use Rattle.pq_content.specs.Standing.{change_of, AreIntended};
 ghost use Rattle.pq_key_code.specs.KeyCode.{intent_key};

@@ -1,15 +1,14 @@
 //! Settling: the changes of an intent that was left are made, and it is removed.
 ghost use Rattle.std.specs.Prelude.{◌≡◌, ◌⊎◌, ◌+◌, ◌≤◌, ◌<◌, ◌^◌, ◌++◌, ◌∷◌, [], None, Some, length, map, IfOk, IfErr, IfSome, OnOk, OnErr};
 ghost use Rattle.std.specs.FinMap.{get};
-ghost use Rattle.pq_row_code.specs.declared.changes.Change.{Change as Coded};
 ghost use Rattle.pq_content.specs.Standing.{change_of};
 ghost use Rattle.pq_key_code.specs.KeyCode.{intent_key};
 ghost use Rattle.pq_store.specs.Content.{HasBrokeCause, Content};
 ghost use Rattle.pq_intent.specs.Changing.{content_after, IsPartway};
-ghost use Rattle.pq_intent.specs.Counting.{nothing_settled, settled_changes, CountsChanges, CountsIntent, HasNumbers};
+ghost use Rattle.pq_intent.specs.Counting.{nothing_settled, settled_changes, CountsChanges, HasNumbers};
 ghost use Rattle.pq_store.specs.Breaks.{IsUndamaged};
 ghost use Rattle.pq_intent.specs.Errors.{ShowsNoIntent};
-ghost use Rattle.pq_intent.specs.Settling.{IsIntentOf, IsNoIntent, IsSettled, Settles, LeavesSettled};
+ghost use Rattle.pq_intent.specs.Settling.{IsSettled, Settles, LeavesSettled};
 ghost use Rattle.pq_intent.specs.Spending.{IsWithinSettling, IsWithinSettlingOf};
 
 use crate::intent::intent_of;

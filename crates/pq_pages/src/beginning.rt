@@ -1,5 +1,5 @@
 //! What a RUN is refused for before any call of the store, and where its page begins.
-ghost use Rattle.std.specs.Prelude.{◌≡◌, ◌≤◌, ◌+◌, length, map, None, option_copied, IfOk};
+ghost use Rattle.std.specs.Prelude.{◌≡◌, ◌≤◌, ◌+◌, length, None, option_copied, IfOk};
 ghost use Rattle.pq_base.specs.Answers.{Answers, Passes};
 ghost use Rattle.pq_base.specs.Values.{AllFit};
 ghost use Rattle.pq_schema.specs.Resolved.{IsResolved, ref_type};
