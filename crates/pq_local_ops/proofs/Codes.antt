@@ -56,7 +56,7 @@ module _ (tables : List Table) (query : Query) where
 
   module _ (sound : IsQuery tables query) (resolved : IsResolved tables query) (rows : Rows) (params : List Value) where
     -- values that fit the position columns are in order by their codes
-    codes_are : (xs ys : List Value) → AllFit (position_types tables query) xs → AllFit (position_types tables query) ys → key_cmp (code_of (dirs_of tables query) xs) (code_of (dirs_of tables query) ys) ≡ by_position (question tables query rows params) xs ys
+    pub codes_are : (xs ys : List Value) → AllFit (position_types tables query) xs → AllFit (position_types tables query) ys → key_cmp (code_of (dirs_of tables query) xs) (code_of (dirs_of tables query) ys) ≡ by_position (question tables query rows params) xs ys
     codes_are xs ys f g =
         let types = position_types tables query in
         let a = of_kinds types xs f in

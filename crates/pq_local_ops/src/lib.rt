@@ -10,5 +10,5 @@ mod position;
 mod sort;
 
 pub use keep::{first_k, keep_after, keep_matching};
-pub use position::{position_of, project};
+pub use position::{Places, code_at, places_of, position_of, project};
 pub use sort::sort_combos;

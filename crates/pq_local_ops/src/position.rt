@@ -20,13 +20,13 @@ use std::alloc::Global;
 
 /// The position columns of a query, and their directions.
 #[derive(Drop)]
-pub(crate) struct Places {
-    pub(crate) cols: List<ColRef>,
-    pub(crate) dirs: List<Dir>,
+pub struct Places {
+    pub cols: List<ColRef>,
+    pub dirs: List<Dir>,
 }
 
 /// The position columns of a query, and their directions.
-pub(crate) fn places_of(alloc: Global, catalog: &Catalog, query: &Query) -> Result<Places, NoMem>
+pub fn places_of(alloc: Global, catalog: &Catalog, query: &Query) -> Result<Places, NoMem>
     requires { IsResolved catalog.now.tables query.now }
     ensures places { IfOk result (ArePlaces catalog.now.tables query.now) }
     ensures sound { IfOk result (λ _. IsQuery catalog.now.tables query.now) }
@@ -63,12 +63,7 @@ pub(crate) fn values_at(alloc: Global, combo: &Combo, cols: &[ColRef]) -> Result
 }
 
 /// The key code of a combination's values at some columns, each in its direction.
-pub(crate) fn code_at(
-    alloc: Global,
-    combo: &Combo,
-    cols: &[ColRef],
-    dirs: &[Dir],
-) -> Result<Bytes, NoMem>
+pub fn code_at(alloc: Global, combo: &Combo, cols: &[ColRef], dirs: &[Dir]) -> Result<Bytes, NoMem>
     requires { length cols.now ≡ length dirs.now }
     ensures { IfOk result (λ code. code ≡ code_of dirs.now (values_at combo.now cols.now)) }
 {

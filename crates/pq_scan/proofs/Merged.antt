@@ -26,9 +26,9 @@ use Rattle.pq_serving.specs.Scanning.{position_directions, found, scan as scanne
 use Rattle.pq_serving.proofs.Found.{found_is}
 use Rattle.pq_serving.proofs.Scans.{sort_by-map}
 use Rattle.pq_serving.proofs.Whole.{stop_scans, position_codes}
-use Rattle.pq_scan.specs.declared.candidates.Candidate.{Candidate}
 use Rattle.pq_scan.specs.declared.prepared.Scan.{Scan}
-use Rattle.pq_scan.specs.Candidates.{row_candidate, all_candidates, place_of_candidate, AreCombosOf}
+use Rattle.pq_scan.specs.Candidates.{Candidate, row_candidate, all_candidates, AreCombosOf}
+use Rattle.pq_scan.specs.Merging.{place_of}
 use Rattle.pq_scan.specs.Prepared.{asked_over, item_directions, IsScannable}
 use Rattle.pq_scan.proofs.Told.{map_map}
 
@@ -149,7 +149,7 @@ module _ (scan : Scan) (ready : IsScannable scan) (rows : Rows) (after : Option 
     all = triples 0 inputs
 
     abbrev sorted : List Triple
-    sorted = sort_by key_cmp (λ t. place_of_candidate (as_candidate t)) all
+    sorted = sort_by key_cmp (λ t. place_of (as_candidate t)) all
 
     combos_fit : AllByRecursion (FitsTables q.tables q.query p) (map as_combo all)
     combos_fit = each_maps (FitsTables q.tables q.query p) all (each_so (IsTriple 0 inputs) (λ t. FitsTables q.tables q.query p (as_combo t)) (λ t f.
@@ -181,11 +181,11 @@ module _ (scan : Scan) (ready : IsScannable scan) (rows : Rows) (after : Option 
         let one : f ≡ t.1 ++ t.2 ∷ [] = a.0 rows others t.2 h row refl ∙ ap (λ (n : ℕ). get_or inputs n [] ++ t.2 ∷ []) place ∙ ap (λ c. c ++ t.2 ∷ []) triple.input in
         λ i. one i ∷ fetched ts g.1 fs a.1 i
 
-    pub stop_scan_made : (candidates first : List Candidate) → candidates ≡ all_candidates scan rows k after 0 inputs → first ≡ take k (sort_by key_cmp place_of_candidate candidates) → (found : List (List (List Value))) → AreCombosOf scan told inputs first found → found ≡ first_past q after k (in_order q (read q p inputs))
+    pub stop_scan_made : (candidates first : List Candidate) → candidates ≡ all_candidates scan rows k after 0 inputs → first ≡ take k (sort_by key_cmp place_of candidates) → (found : List (List (List Value))) → AreCombosOf scan told inputs first found → found ≡ first_past q after k (in_order q (read q p inputs))
     stop_scan_made candidates first same cut found a =
         let first_is : first ≡ map as_candidate (take k sorted) =
-        cut ∙ ap (λ cs. take k (sort_by key_cmp place_of_candidate cs)) (same ∙ candidates_of 0 inputs)
-        ∙ ap (take k) (sort_by-map key_cmp place_of_candidate as_candidate all)
+        cut ∙ ap (λ cs. take k (sort_by key_cmp place_of cs)) (same ∙ candidates_of 0 inputs)
+        ∙ ap (take k) (sort_by-map key_cmp place_of as_candidate all)
         ∙ take-map as_candidate k sorted in
-        fetched (take k sorted) (each_take (IsTriple 0 inputs) k sorted (each-sort_by key_cmp (λ t. place_of_candidate (as_candidate t)) (IsTriple 0 inputs) all (triples_are 0 inputs fit))) found (subst (λ cs. AreCombosOf scan told inputs cs found) first_is a)
+        fetched (take k sorted) (each_take (IsTriple 0 inputs) k sorted (each-sort_by key_cmp (λ t. place_of (as_candidate t)) (IsTriple 0 inputs) all (triples_are 0 inputs fit))) found (subst (λ cs. AreCombosOf scan told inputs cs found) first_is a)
         ∙ means

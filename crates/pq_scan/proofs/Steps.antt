@@ -16,9 +16,8 @@ use Rattle.pq_calls.specs.Calls.{Uses}
 use Rattle.pq_calls.specs.declared.calls.Calls.{Calls}
 use Rattle.pq_calls.proofs.Steps.{reads_then, reads_within}
 use Rattle.pq_content.specs.Tables.{values_of}
-use Rattle.pq_scan.specs.declared.candidates.Candidate.{Candidate}
 use Rattle.pq_scan.specs.declared.prepared.Scan.{Scan}
-use Rattle.pq_scan.specs.Candidates.{held_of, fetches, input_candidates, all_candidates, AddsCandidates, AreCandidates, IsComboOf, AreCombosOf}
+use Rattle.pq_scan.specs.Candidates.{Candidate, held_of, fetches, input_candidates, all_candidates, AddsCandidates, AreCandidates, IsComboOf, AreCombosOf}
 use Rattle.pq_scan.specs.Prepared.{IsPrepared}
 
 module _ {S L : Type 0} (content : S → Option Content) (faults : S → ℕ) where

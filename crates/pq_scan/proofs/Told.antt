@@ -151,6 +151,5 @@ module _ (scan : Scan) (sound : IsPrepared scan) (rows : Rows) (after : Option (
         ∙ map_same (λ r. candidate_at scan input.constants place (held_of scan.access scan.sequence r)) (row_candidate scan rows place combo) some (λ r here i.
         record {
           place = (ap (code_of scan.position_dirs) ((λ j. filled_values (constants_are j) (drop (count_ones (sound.fixed_is j)) (shown_held scan.access scan.sequence r j))) ∙ sym (position_of k r here))) i;
-          input = place;
-          held = held_of scan.access scan.sequence r;
+          item = record { input = place; held = held_of scan.access scan.sequence r };
         })

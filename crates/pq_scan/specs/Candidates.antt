@@ -19,7 +19,8 @@ use Rattle.pq_entries.specs.Entries.{IsEntryThere, AreFirstRows, AreFirstValues}
 use Rattle.pq_plan.specs.Answer.{position}
 use Rattle.pq_serving.specs.Scanning.{found}
 use Rattle.pq_serving.specs.Starts.{filled_values}
-use Rattle.pq_scan.specs.declared.candidates.Candidate.{Candidate}
+use Rattle.pq_scan.specs.declared.candidates.Found.{Found}
+use Rattle.pq_scan.specs.declared.merge.Placed.{Placed}
 use Rattle.pq_scan.specs.declared.prepared.Scan.{Scan}
 use Rattle.pq_scan.specs.Prepared.{asked_over}
 
@@ -54,6 +55,9 @@ AreFirst t table (Secondary index) low high limit held content =
 
 -- ---- candidates
 
+abbrev pub Candidate : Type 0
+Candidate = Placed Found
+
 -- the code of the position, by the constants of an input
 abbrev pub place_code : Scan → List (Option Value) → List Value → List ℕ
 place_code scan constants held =
@@ -61,15 +65,15 @@ place_code scan constants held =
     (drop (count_ones scan.fixed) (shown_values scan.access scan.sequence held)))
 
 abbrev pub candidate_at : Scan → List (Option Value) → ℕ → List Value → Candidate
-candidate_at scan constants input held = record { place = place_code scan constants held; input = input; held = held }
+candidate_at scan constants input held =
+    record { place = place_code scan constants held; item = record { input = input; held = held } }
 
 -- the candidate of a row behind the input at a place
 abbrev pub row_candidate : Scan → Rows → ℕ → List (List Value) → List Value → Candidate
 row_candidate scan rows input combo row =
     record {
       place = code_of scan.position_dirs (position (asked_over scan rows) (combo ++ row ∷ []));
-      input = input;
-      held = held_of scan.access scan.sequence row;
+      item = record { input = input; held = held_of scan.access scan.sequence row };
     }
 
 abbrev pub input_candidates : Scan → Rows → ℕ → Option (List Value) → ℕ → List (List Value) → List Candidate
@@ -84,8 +88,8 @@ all_candidates scan rows k after place (combo ∷ inputs) =
 
 -- over any store: of one of so many inputs, and what is kept fits
 pub record IsCandidate (scan : Scan) (told : Option Content) (count : ℕ) (candidate : Candidate) : Type 0 where
-  pub input : candidate.input < count
-  pub held : IsHeld scan told candidate.held
+  pub input : candidate.item.input < count
+  pub held : IsHeld scan told candidate.item.held
 
 -- over a content that holds rows, those of one input come behind what was there
 abbrev pub AddsCandidates : Scan → Option Content → ℕ → Option (List Value) → ℕ → List (List Value)
@@ -100,9 +104,6 @@ abbrev pub AreCandidates : Scan → Option Content → ℕ → Option (List Valu
 AreCandidates scan told k after inputs candidates =
     (rows : Rows) (others : List Pair) → HoldsRows told scan.catalog.now.tables rows others
     → candidates ≡ all_candidates scan rows k after 0 inputs
-
-abbrev pub place_of_candidate : Candidate → List ℕ
-place_of_candidate candidate = candidate.place
 
 -- how many calls and entries the fetch of so many rows takes
 abbrev pub fetches : Access → ℕ → ℕ
@@ -119,8 +120,8 @@ IsRowOf scan told held found =
 abbrev pub IsComboOf : Scan → Option Content → List (List (List Value)) → Candidate → List (List Value) → Type 0
 IsComboOf scan told inputs candidate found =
     (rows : Rows) (others : List Pair) (row : List Value) → HoldsRows told scan.catalog.now.tables rows others
-    → In row (rows_of scan.number rows) → candidate.held ≡ held_of scan.access scan.sequence row
-    → found ≡ slice_index_or inputs candidate.input [] ++ row ∷ []
+    → In row (rows_of scan.number rows) → candidate.item.held ≡ held_of scan.access scan.sequence row
+    → found ≡ slice_index_or inputs candidate.item.input [] ++ row ∷ []
 
 abbrev pub AreCombosOf : Scan → Option Content → List (List (List Value)) → List Candidate
     → List (List (List Value)) → Type 0

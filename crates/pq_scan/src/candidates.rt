@@ -5,6 +5,7 @@ ghost use Rattle.pq_schema.specs.Sequences.{columns_of};
 ghost use Rattle.pq_scan.specs.Candidates.{place_code, candidate_at};
 
 use crate::keys::place_of;
+use crate::merge::Placed;
 use crate::places::copied;
 use crate::prepared::Scan;
 use pq_base::{Bytes, List, NoMem, Row, Value};
@@ -13,14 +14,15 @@ use std::alloc::Global;
 
 /// A row, or the values of an entry, that a scan found for an input.
 #[derive(Drop)]
-pub(crate) struct Candidate {
-    /// The code of its position.
-    pub place: Bytes,
+pub(crate) struct Found {
     /// The place of its input, from 0.
     pub input: usize,
     /// The row where the primary sequence serves, and else the values of the entry.
     pub held: Row,
 }
+
+/// What a scan found, with the code of its position.
+pub(crate) type Candidate = Placed<Found>;
 
 /// The value of a row at a column, or the value of a column that isn't there.
 fn value_of(alloc: Global, row: &Row, col: u8) -> Result<Value, NoMem>
@@ -73,10 +75,9 @@ pub(crate) fn add_candidates(
         let place = place_code(alloc, scan, constants, &row)?;
         found.push(
             alloc,
-            Candidate {
+            Placed {
                 place,
-                input,
-                held: row,
+                item: Found { input, held: row },
             },
         )?;
     }

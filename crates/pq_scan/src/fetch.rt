@@ -70,8 +70,8 @@ fn combo_of<S: Store<L>, L: Ledger>(
     ensures fits { IfOk result (FitsTables scan.now.catalog.now.tables scan.now.query.now scan.now.rel) }
     ensures answer { IfOk result (IsComboOf scan.now (S.content calls.old.store.now) inputs.now candidate.now) }
 {
-    let row = row_of(alloc, scan, &candidate.held, calls)?;
-    let mut combo = inputs[candidate.input].copy(alloc)?;
+    let row = row_of(alloc, scan, &candidate.item.held, calls)?;
+    let mut combo = inputs[candidate.item.input].copy(alloc)?;
     combo.push(alloc, row)?;
     Ok(combo)
 }

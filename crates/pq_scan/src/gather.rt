@@ -7,11 +7,12 @@ ghost use Rattle.pq_calls.specs.Calls.{Uses, Fails};
 ghost use Rattle.pq_calls.specs.World.{Affords, where_told};
 ghost use Rattle.pq_nodes.specs.Combos.{FitsTables};
 ghost use Rattle.pq_nodes.specs.Operators.{AreInputs, IsCursor, ShowsRead};
-ghost use Rattle.pq_scan.specs.Candidates.{IsCandidate, AreCandidates, place_of_candidate};
+ghost use Rattle.pq_scan.specs.Candidates.{IsCandidate, AreCandidates};
+ghost use Rattle.pq_scan.specs.Merging.{place_of};
 ghost use Rattle.pq_scan.specs.Prepared.{IsScannable};
 
 use crate::candidates::Candidate;
-use crate::merge::Merge;
+use crate::merge::Heads;
 use crate::prepared::Scan;
 use crate::reads::scan_input;
 use pq_base::{List, NoMem, Row};
@@ -66,7 +67,7 @@ pub(crate) fn first_few(
     found: List<Candidate>,
     k: usize,
 ) -> Result<List<Candidate>, NoMem>
-    ensures { IfOk result (λ first. first ≡ take k (sort_by key_cmp place_of_candidate found)) }
+    ensures { IfOk result (λ first. first ≡ take k (sort_by key_cmp place_of found)) }
 {
-    Merge::over(alloc, found)?.first(alloc, k)
+    Heads::over(alloc, found)?.first(alloc, k)
 }

@@ -18,4 +18,5 @@ mod reads;
 mod scanning;
 mod starts;
 
+pub use merge::{Heads, Placed};
 pub use scanning::scan_inputs;

@@ -3,8 +3,7 @@ use Rattle.std.proofs.lemmas.Grind.{common_steps}
 use Rattle.std.specs.List.{AllByRecursion}
 use Rattle.std.specs.Option.{option_copied}
 use Rattle.pq_serving.specs.Scanning.{passes}
-use Rattle.pq_scan.specs.declared.candidates.Candidate.{Candidate}
-use Rattle.pq_scan.specs.Candidates.{IsCandidate, candidate_at}
+use Rattle.pq_scan.specs.Candidates.{Candidate, IsCandidate, candidate_at}
 use Rattle.pq_scan.specs.Prepared.{asked_over}
 use Rattle.pq_scan.proofs.Reading.{adds, kept_more}
 use Rattle.pq_scan.proofs.reads.scan_input.Goals as goal

@@ -3,8 +3,7 @@ use Rattle.std.specs.List.{AllByRecursion}
 use Rattle.std.specs.Option.{option_copied}
 use Rattle.pq_store.specs.Content.{Content}
 use Rattle.pq_calls.proofs.Steps.{rest_left}
-use Rattle.pq_scan.specs.declared.candidates.Candidate.{Candidate}
-use Rattle.pq_scan.specs.Candidates.{IsCandidate, AreCombosOf}
+use Rattle.pq_scan.specs.Candidates.{Candidate, IsCandidate, AreCombosOf}
 use Rattle.pq_scan.proofs.Merged.{stop_scan_made}
 use Rattle.pq_scan.proofs.Running.{fetch_within, first_kept, first_length}
 use Rattle.pq_scan.proofs.Steps.{uses_then}
