@@ -23,9 +23,9 @@ use Rattle.pq_clients.specs.Stepping.{IsClient, view_of}
 use Rattle.pq_clients.specs.declared.client.Client.{Client}
 use Rattle.pq_clients.specs.declared.outcome.Told.{Told}
 use Rattle.pq_clients.specs.declared.outcome.Wrote.{Wrote}
-use Rattle.pq_session.specs.Model.{Model}
-use Rattle.pq_session.specs.Stands.{Stands, content_of, catalog_pairs}
-use Rattle.pq_session.proofs.Catalogs.{are_beside}
+use Rattle.pq_step.specs.Model.{Model}
+use Rattle.pq_step.specs.Stands.{Stands, content_of, catalog_pairs}
+use Rattle.pq_step.proofs.Catalogs.{are_beside}
 use Rattle.pq_client_shell.specs.Dealing.{hands, seated, dealt}
 use Rattle.pq_client_shell.specs.Runs.{RanClients, TellsCause}
 use Rattle.pq_client_shell.proofs.Dealt.{hands_all, hands_few, hands_small, hands_length, calls, dealt_fresh, dealt_few, dealt_clients, dealt_length, dealt_is}

@@ -5,7 +5,7 @@ use Rattle.pq_schema.specs.Schema.{Schema, empty_schema}
 use Rattle.pq_text.specs.Pieces.{Place, Plain, Split, after_front, after_piece, all_told, behind, is_cut, joined_split, is_unfinished, piece_list, pieces_of, rest_of, split_from, told_piece as piece_of}
 use Rattle.pq_text.specs.declared.piece.Piece.{Piece}
 use Rattle.pq_print.specs.Report.{is_refusal}
-use Rattle.pq_session.specs.Actions.{action_of}
+use Rattle.pq_statement.specs.Actions.{action_of}
 use Rattle.pq_plan_report.specs.Plans.{IsSummed}
 use Rattle.pq_plan_report.specs.Told.{AreSummed, is_refused, report_of, rest_text, schema_behind, some_refused, told_piece, told_pieces, told_script}
 use Rattle.pq_plan_report.specs.declared.telling.Telling.{Telling}

@@ -7,8 +7,8 @@ use Rattle.pq_plan.specs.Nodes.{plan_nodes}
 use Rattle.pq_plan_lines.specs.Lines.{plan_lines, sum_of}
 use Rattle.pq_plan_lines.specs.Texts.{line_text}
 use Rattle.pq_plan_lines.specs.declared.node_line.NodeLine.{NodeLine}
-use Rattle.pq_session.specs.Actions.{Action, Creates, Writes, Prepares, Explains, Runs, Shows}
-use Rattle.pq_session.specs.Planning.{PlannedDefinition}
+use Rattle.pq_statement.specs.Actions.{Action, Creates, Writes, Prepares, Explains, Runs, Shows}
+use Rattle.pq_statement.specs.Planning.{PlannedDefinition}
 
 -- the nodes of the plan, from the innermost on, with what each costs and gives
 abbrev pub lines_of : List Table → PlannedDefinition → List NodeLine

@@ -2,8 +2,8 @@
 ghost use Rattle.std.specs.Prelude.{◌≡◌, ◌<◌, ◌+◌, ◌^◌, ◌++◌, ◌||◌, [], false, length, if◌then◌else◌, string_bytes, IfOk, OnOk};
 ghost use Rattle.pq_print.specs.Report.{is_refusal, printed_report};
 ghost use Rattle.pq_base.specs.declared.refusal.Refusal.TheVariants as Refusal;
-ghost use Rattle.pq_session.specs.Actions.{action_of};
-ghost use Rattle.pq_session.specs.Step.{unread_report};
+ghost use Rattle.pq_statement.specs.Actions.{action_of};
+ghost use Rattle.pq_step.specs.Step.{unread_report};
 ghost use Rattle.pq_schema.specs.Schema.{empty_schema};
 ghost use Rattle.pq_text.specs.Pieces.{pieces_of};
 ghost use Rattle.pq_plan_report.specs.Plans.{IsSummed};

@@ -12,13 +12,13 @@ use Rattle.pq_content.proofs.Keys.{catalog_beside}
 use Rattle.pq_content.proofs.Settling.{settles_once}
 use Rattle.pq_content.proofs.Unique.{one_table}
 use Rattle.pq_store.specs.Content.{Content}
-use Rattle.pq_session.specs.Model.{Model}
-use Rattle.pq_session.specs.Opening.{SchemaAndMark}
-use Rattle.pq_session.specs.Stands.{Holds, Opens, IsFillingLast, content_of, catalog_pairs, earlier_pairs, last_query}
-use Rattle.pq_session.proofs.Catalogs.{are_beside}
-use Rattle.pq_session.proofs.Lefts.{earlier_catalog}
-use Rattle.pq_session.proofs.Made.{types_at}
-use Rattle.pq_session.proofs.Reopening.{schema_in, mark_in, mark_held, held_tells}
+use Rattle.pq_step.specs.Model.{Model}
+use Rattle.pq_opening.specs.Opening.{SchemaAndMark}
+use Rattle.pq_step.specs.Stands.{Holds, Opens, IsFillingLast, content_of, catalog_pairs, earlier_pairs, last_query}
+use Rattle.pq_step.proofs.Catalogs.{are_beside}
+use Rattle.pq_opening.proofs.Lefts.{earlier_catalog}
+use Rattle.pq_step.proofs.Made.{types_at}
+use Rattle.pq_opening.proofs.Reopening.{schema_in, mark_in, mark_held, held_tells}
 
 pairs_same : (m n : Model) → m.schema ≡ n.schema → content_of m ≡ content_of n
     → content_pairs m.schema.tables m.rows (catalog_pairs m.schema) ≡ content_pairs m.schema.tables n.rows (catalog_pairs m.schema)

@@ -14,8 +14,8 @@ use Rattle.pq_print.specs.declared.report.End.TheVariants.{Done, Refused, Rows}
 use Rattle.pq_print.specs.declared.report.Line.{Line}
 use Rattle.pq_print.specs.declared.report.Line.TheVariants.{Row}
 use Rattle.pq_print.specs.declared.report.Report.{Report}
-use Rattle.pq_session.specs.Model.{Model}
-use Rattle.pq_session.specs.Step.{page_of}
+use Rattle.pq_step.specs.Model.{Model}
+use Rattle.pq_step.specs.Step.{page_of}
 
 -- a query with PAGINATE k over valid definitions, which the rows keep
 pub record IsPaged (m : Model) (query : Query) (k : ℕ) : Type 0 where

@@ -16,11 +16,11 @@ use Rattle.pq_text.proofs.Cuts.{pieces_from-start, unfinished_from-start}
 use Rattle.pq_print.specs.Report.{damage_line, is_refusal, printed_report}
 use Rattle.pq_print.specs.declared.report.Opened.{Opened}
 use Rattle.pq_print.specs.declared.report.Report.{Report}
-use Rattle.pq_session.specs.Checks.{without_rows}
-use Rattle.pq_session.specs.Model.{Model}
-use Rattle.pq_session.specs.Matches.{Matches}
-use Rattle.pq_session.specs.Stands.{Opens}
-use Rattle.pq_session.proofs.Standing.{settled_opens}
+use Rattle.pq_step.specs.Checks.{without_rows}
+use Rattle.pq_step.specs.Model.{Model}
+use Rattle.pq_step.specs.Matches.{Matches}
+use Rattle.pq_step.specs.Stands.{Opens}
+use Rattle.pq_step.proofs.Standing.{settled_opens}
 use Rattle.pq_shell.specs.Fold.{Moment, MadeReports, ServedItems, StoppedItem}
 use Rattle.pq_shell.specs.Forms.{HasItems, HasOpening, OpensAt, StandsIn, close, shown_report}
 use Rattle.pq_shell.specs.Items.{Item, Cut, Rest, cut_items, rest_items, items_of}

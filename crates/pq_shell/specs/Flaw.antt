@@ -3,7 +3,7 @@ use Rattle.std.specs.Prelude.{◌≡◌, ℕ, List, Option, Some, Result, Ok, Er
 use Rattle.std.specs.Io.KnownBytes.{append_known}
 use Rattle.pq_store.specs.Content.{Content}
 use Rattle.pq_print.specs.Report.{damage_line}
-use Rattle.pq_session.specs.Opening.{ShowsFlaw}
+use Rattle.pq_opening.specs.Opening.{ShowsFlaw}
 use Rattle.pq_shell.specs.declared.status.Status.{Status}
 use Rattle.pq_shell.specs.declared.status.Status.TheVariants as status
 use Rattle.pq_shell.specs.declared.stop.Stop.{Stop}

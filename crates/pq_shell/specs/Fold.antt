@@ -11,14 +11,14 @@ use Rattle.pq_store.specs.Counts.{Counts}
 use Rattle.pq_intent.specs.Spending.{TakesAtMost}
 use Rattle.pq_print.specs.declared.report.Report.{Report}
 use Rattle.pq_print.specs.Report.{is_refusal}
-use Rattle.pq_session.specs.Actions.{asked_bound, asked_schema}
-use Rattle.pq_session.specs.Evidence.{IsEvidence}
-use Rattle.pq_session.specs.Model.{Model}
-use Rattle.pq_session.specs.Matches.{Matches}
-use Rattle.pq_session.specs.Promise.{IsBound, IsWithinFixed, OnlyReads, StopsAsked}
-use Rattle.pq_session.specs.Refusing.{CanEnd}
-use Rattle.pq_session.specs.Step.{unread_report}
-use Rattle.pq_session.specs.Written.{IsPrepareOf, IsDefinedAs}
+use Rattle.pq_statement.specs.Actions.{asked_bound, asked_schema}
+use Rattle.pq_step.specs.Evidence.{IsEvidence}
+use Rattle.pq_step.specs.Model.{Model}
+use Rattle.pq_step.specs.Matches.{Matches}
+use Rattle.pq_step.specs.Promise.{IsBound, IsWithinFixed, OnlyReads, StopsAsked}
+use Rattle.pq_step.specs.Refusing.{CanEnd}
+use Rattle.pq_step.specs.Step.{unread_report}
+use Rattle.pq_step.specs.Written.{IsPrepareOf, IsDefinedAs}
 use Rattle.pq_shell.specs.Forms.{item_step, asked_item, shown_report, HasOpening, StandsIn, OpensAt}
 use Rattle.pq_shell.specs.Items.{Item, Cut, Rest}
 use Rattle.pq_shell.specs.Outside.{IsCut}

@@ -8,11 +8,10 @@ use Rattle.pq_store.specs.Content.{Content}
 use Rattle.pq_store.specs.Counts.{Counts}
 use Rattle.pq_print.specs.Report.{opening_line}
 use Rattle.pq_print.specs.declared.report.Opened.{Opened}
-use Rattle.pq_session.specs.Matches.{IsOpening}
-use Rattle.pq_session.specs.Model.{Model}
-use Rattle.pq_session.specs.Opening.{IsQuiet, LeavesFlawed, LeavesRead, ShowsBuildLeft, ShowsFlaw}
-use Rattle.pq_session.specs.Stands.{Opens}
-use Rattle.pq_session.specs.Within.{IsBounded, IsWithinOpening, StopsWithin}
+use Rattle.pq_step.specs.Model.{Model}
+use Rattle.pq_opening.specs.Opening.{IsQuiet, LeavesFlawed, LeavesRead, ShowsBuildLeft, ShowsFlaw, IsOpening}
+use Rattle.pq_step.specs.Stands.{Opens}
+use Rattle.pq_opening.specs.Within.{IsBounded, IsWithinOpening, StopsWithin}
 use Rattle.pq_shell.specs.Fold.{Moment}
 use Rattle.pq_shell.specs.Forms.{HasOpening, Starts, IsOpened, StandsIn, front}
 use Rattle.pq_shell.specs.Outside.{IsCut}

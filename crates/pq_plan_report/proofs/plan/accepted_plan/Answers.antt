@@ -1,4 +1,4 @@
-use Rattle.pq_session.specs.Actions.{asked_text}
+use Rattle.pq_statement.specs.Actions.{asked_text}
 use Rattle.pq_plan_report.proofs.Plans.{stopped_told}
 use Rattle.pq_plan_report.proofs.plan.accepted_plan.Goals as goal
 

@@ -1,4 +1,4 @@
-use Rattle.pq_session.proofs.Statements.{text_piece, other_piece, long_piece}
+use Rattle.pq_statement.proofs.Statements.{text_piece, other_piece, long_piece}
 use Rattle.pq_plan_report.proofs.Plans.{refused_told}
 use Rattle.pq_plan_report.proofs.plan.piece_plan.Goals as goal
 

@@ -1,5 +1,5 @@
 use Rattle.std.proofs.Common.{string_bytes, subst}
-use Rattle.pq_session.specs.Actions.{action_of}
+use Rattle.pq_statement.specs.Actions.{action_of}
 use Rattle.pq_plan_report.specs.Plans.{TellsAsked}
 use Rattle.pq_plan_report.proofs.Plans.{piece_told, summed_of}
 use Rattle.pq_plan_report.proofs.telling.put_piece.Goals as goal

@@ -1,4 +1,4 @@
-use Rattle.pq_session.proofs.Rereading.{table_read, query_read}
+use Rattle.pq_opening.proofs.Rereading.{table_read, query_read}
 use Rattle.pq_session.proofs.laws.reading_back_law.Goals as goal
 
 pub returns-clause-tables : goal.returns-clause-tables

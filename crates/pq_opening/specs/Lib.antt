@@ -1,0 +1,3 @@
+pub mod Opened
+pub mod Opening
+pub mod Within

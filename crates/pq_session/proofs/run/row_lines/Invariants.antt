@@ -1,6 +1,0 @@
-use Rattle.std.proofs.Common.{◌≡◌, map}
-use Rattle.pq_print.specs.declared.report.Line.TheVariants.{Row}
-use Rattle.pq_session.proofs.run.row_lines.Given as goal
-
-abbrev pub invariant-loop-row : goal.invariant-loop-row
-invariant-loop-row l = l.lines ≡ map Row l.yielded

@@ -1,0 +1,7 @@
+pub mod Asked
+pub mod Found
+pub mod Lists
+pub mod Names
+pub mod Plans
+pub mod Shown
+pub mod Statements

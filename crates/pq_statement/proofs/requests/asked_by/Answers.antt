@@ -1,0 +1,91 @@
+use Rattle.std.proofs.Common.{◌≡◌, ℕ, List, Option, Result, Err, Ok, ap, ◌∙◌, sym, subst, refl, inl, inr, option_copied}
+use Rattle.std.proofs.lemmas.Result.{err_from_is_err_and}
+use Rattle.pq_base.specs.Answers.{Refuses}
+use Rattle.pq_index_keep.specs.Checking.{IsWriting, checked_write}
+use Rattle.pq_pages.specs.Running.{Running, running_of}
+use Rattle.pq_statement.specs.Actions.{Creates, Explains, Prepares, Runs, Writes, action_from}
+use Rattle.pq_statement.specs.Names.{IsNamedStatement}
+use Rattle.pq_statement.specs.Planned.{IsPlanned}
+use Rattle.pq_statement.specs.Planning.{PlannedDefinition, arranged_from, explained_name}
+use Rattle.pq_statement.specs.Requests.{RunsAs}
+use Rattle.pq_statement.proofs.Asked.{answer_refused, asking_refused, explains, may_be_defined, prepares, stopped_explained, writes_asked}
+use Rattle.pq_statement.proofs.requests.asked_by.Goals as goal
+
+pub returns-in-Create-clause-asks : goal.returns-in-Create-clause-asks
+returns-in-Create-clause-asks c = rw c.in-Create.is (subst (IsNamedStatement c.args.tokens.now) c.in-Create.is c.requires.named, refl)
+
+pub returns-in_err-plan-in-Prepare-clause-refused : goal.returns-in_err-plan-in-Prepare-clause-refused
+returns-in_err-plan-in-Prepare-clause-refused c =
+    let p = err_from_is_err_and c.from_residual.result c.from_residual.ensures.1 in
+    rw (p.1, p.2, c.in-Prepare.is) (asking_refused Prepares _ _ c.in_err-plan-in-Prepare.ensures.refused)
+
+pub returns-in_ok-plan-in-Prepare-clause-asks : goal.returns-in_ok-plan-in-Prepare-clause-asks
+returns-in_ok-plan-in-Prepare-clause-asks c =
+    let named = subst (IsNamedStatement c.args.tokens.now) c.in-Prepare.is c.requires.named in
+    let e = c.in_ok-plan-in-Prepare.ensures in
+    rw c.in-Prepare.is (
+      may_be_defined c.args.catalog.now c.in-Prepare.name c.args.text.now c.args.tokens.now c.in-Prepare.from _ named.0 e.planned e.free,
+      prepares c.args.catalog.now c.in-Prepare.name c.args.text.now c.args.tokens.now c.in-Prepare.from _ e.planned e.free,
+    )
+
+pub returns-in_err-plan-in-Explain-clause-refused : goal.returns-in_err-plan-in-Explain-clause-refused
+returns-in_err-plan-in-Explain-clause-refused c =
+    let p = err_from_is_err_and c.from_residual-in_err-plan-in-Explain.result c.from_residual-in_err-plan-in-Explain.ensures.1 in
+    let refused : Refuses {A = PlannedDefinition} c.in_err-plan-in-Explain.field-0.0 (arranged_from c.args.catalog.now explained_name c.args.text.now c.args.tokens.now c.in-Explain.from) =
+    rw (← c.in_ok-name-in-Explain.ensures) c.in_err-plan-in-Explain.ensures.refused in
+    rw (p.1, p.2, c.in-Explain.is) (asking_refused Explains _ _ (stopped_explained c.args.catalog.now c.args.text.now c.args.tokens.now c.in-Explain.from _ refused))
+
+pub returns-in_ok-plan-in-Explain-clause-asks : goal.returns-in_ok-plan-in-Explain-clause-asks
+returns-in_ok-plan-in-Explain-clause-asks c =
+    let planned : IsPlanned c.args.catalog.now explained_name (arranged_from c.args.catalog.now explained_name c.args.text.now c.args.tokens.now c.in-Explain.from) c.in_ok-plan-in-Explain.plan =
+    rw (← c.in_ok-name-in-Explain.ensures) c.in_ok-plan-in-Explain.ensures.planned in
+    rw c.in-Explain.is (planned.computed_is, explains c.args.catalog.now c.args.text.now c.args.tokens.now c.in-Explain.from _ planned)
+
+pub returns-in_err-run-in-Run-clause-refused : goal.returns-in_err-run-in-Run-clause-refused
+returns-in_err-run-in-Run-clause-refused c =
+    let p = err_from_is_err_and c.from_residual-in_err-run-in-Run.result c.from_residual-in_err-run-in-Run.ensures.1 in
+    rw (p.1, p.2, c.in-Run.is) (asking_refused Runs _ _ (subst (λ (o : Option (List ℕ)). Refuses {A = Running} c.in_err-run-in-Run.field-0.0 (running_of c.args.catalog.now c.in-Run.name c.in-Run.values o)) c.as_ref.ensures.value c.in_err-run-in-Run.ensures.refused))
+
+pub returns-in_ok-run-in-Run-clause-asks : goal.returns-in_ok-run-in-Run-clause-asks
+returns-in_ok-run-in-Run-clause-asks c =
+    let found = running_of c.args.catalog.now c.in-Run.name c.in-Run.values c.in-Run.after in
+    rw c.in-Run.is (found, subst (λ (o : Option (List ℕ)). RunsAs c.args.catalog.now c.in_ok-run-in-Run.run' (running_of c.args.catalog.now c.in-Run.name c.in-Run.values o)) c.as_ref.ensures.value c.in_ok-run-in-Run.ensures.runs, refl)
+
+pub check_write-requires : goal.check_write-requires
+check_write-requires c =
+    let writing : IsWriting c.args.statement = elim c.in-Insert.is [
+      | inl i ↦ subst IsWriting (sym i.3) tt
+      | inr rest ↦ elim rest [
+        | inl u ↦ subst IsWriting (sym u.3) tt
+        | inr d ↦ subst IsWriting (sym d.2) tt
+      ]
+    ] in
+    record { writing = writing }
+
+pub returns-in_err-write-in-Insert-clause-refused : goal.returns-in_err-write-in-Insert-clause-refused
+returns-in_err-write-in-Insert-clause-refused c =
+    let writing : IsWriting c.args.statement = elim c.in-Insert.is [
+      | inl i ↦ subst IsWriting (sym i.3) tt
+      | inr rest ↦ elim rest [
+        | inl u ↦ subst IsWriting (sym u.3) tt
+        | inr d ↦ subst IsWriting (sym d.2) tt
+      ]
+    ] in
+    let p = err_from_is_err_and c.from_residual-in_err-write-in-Insert.result c.from_residual-in_err-write-in-Insert.ensures.1 in
+    rw (p.1, p.2, writes_asked c.args.catalog.now c.args.text.now c.args.tokens.now c.args.statement writing)
+    (asking_refused Writes _ _ (answer_refused _ (checked_write c.args.catalog.now c.args.statement) c.in_err-write-in-Insert.ensures.answer))
+
+pub returns-in_ok-write-in-Insert-clause-asks : goal.returns-in_ok-write-in-Insert-clause-asks
+returns-in_ok-write-in-Insert-clause-asks c =
+    let answered : checked_write c.args.catalog.now c.args.statement ≡ Ok c.in_ok-write-in-Insert.write = c.in_ok-write-in-Insert.ensures.answer in
+    let writing : IsWriting c.args.statement = elim c.in-Insert.is [
+      | inl i ↦ subst IsWriting (sym i.3) tt
+      | inr rest ↦ elim rest [
+        | inl u ↦ subst IsWriting (sym u.3) tt
+        | inr d ↦ subst IsWriting (sym d.2) tt
+      ]
+    ] in
+    rw (writes_asked c.args.catalog.now c.args.text.now c.args.tokens.now c.args.statement writing) (
+      c.in_ok-write-in-Insert.ensures.write,
+      ap (action_from Writes) answered,
+    )

@@ -1,0 +1,30 @@
+use Rattle.std.proofs.Common.{◌≡◌, ◌<◌, ◌≤◌, length, subst}
+use Rattle.std.proofs.lemmas.Result.{err_from_is_err_and}
+use Rattle.pq_statement.proofs.Statements.{too_long, asked_read, stopped_reading}
+use Rattle.pq_statement.proofs.Names.{named_statement}
+use Rattle.pq_statement.proofs.requests.asked_text.Goals as goal
+
+pub returns-then-bytes-gt-STATEMENT_BYTES-clause-refused :
+    goal.returns-then-bytes-gt-STATEMENT_BYTES-clause-refused
+returns-then-bytes-gt-STATEMENT_BYTES-clause-refused c =
+    let many : 65536 < length c.args.text.now = rw (← c.bytes.ensures.value) c.if-bytes-gt-STATEMENT_BYTES.true in
+    too_long c.args.catalog.now c.args.text.now many
+
+pub returns-in_err-statement-clause-refused : goal.returns-in_err-statement-clause-refused
+returns-in_err-statement-clause-refused c =
+    let few : length c.args.text.now ≤ 65536 = rw (← c.bytes.ensures.value) c.if-bytes-gt-STATEMENT_BYTES.false in
+    let p = err_from_is_err_and c.from_residual-in_err-statement.result c.from_residual-in_err-statement.ensures.1 in
+    rw (p.1, p.2) (stopped_reading c.args.catalog.now c.args.text.now c.in_ok-found.found c.in_err-statement.field-0.0 few c.in_ok-found.ensures.found c.in_err-statement.ensures.stops)
+
+pub asked_by-requires-clause-named : goal.asked_by-requires-clause-named
+asked_by-requires-clause-named c = named_statement c.args.text.now c.in_ok-found.found c.in_ok-statement.statement c.in_ok-found.ensures.found c.in_ok-statement.ensures.reads
+
+pub returns-clause-asks : goal.returns-clause-asks
+returns-clause-asks c =
+    let few : length c.args.text.now ≤ 65536 = rw (← c.bytes.ensures.value) c.if-bytes-gt-STATEMENT_BYTES.false in
+    rw (asked_read c.args.catalog.now c.args.text.now c.in_ok-found.found c.in_ok-statement.statement few c.in_ok-found.ensures.found c.in_ok-statement.ensures.reads) c.asked_by.ensures.asks
+
+pub returns-clause-refused : goal.returns-clause-refused
+returns-clause-refused c =
+    let few : length c.args.text.now ≤ 65536 = rw (← c.bytes.ensures.value) c.if-bytes-gt-STATEMENT_BYTES.false in
+    rw (asked_read c.args.catalog.now c.args.text.now c.in_ok-found.found c.in_ok-statement.statement few c.in_ok-found.ensures.found c.in_ok-statement.ensures.reads) c.asked_by.ensures.refused

@@ -1,0 +1,6 @@
+pub mod Actions
+pub mod Lines
+pub mod Names
+pub mod Planned
+pub mod Planning
+pub mod Requests

@@ -1,0 +1,184 @@
+//! What a piece of a script asks for, as far as the definitions decide it.
+ghost use Rattle.std.specs.Prelude.{◌≡◌, ◌≤◌, None, length, option_copied, IfOk, IfErr};
+ghost use Rattle.pq_base.specs.Answers.{Passes, Refuses};
+ghost use Rattle.pq_pages.specs.Running.{running_of};
+ghost use Rattle.pq_schema.specs.Definitions.{definition_refusal};
+ghost use Rattle.pq_text.specs.Tokens.{tokens_of};
+ghost use Rattle.pq_statement.specs.Actions.{action_of, asked_by, asked_text};
+ghost use Rattle.pq_statement.specs.Names.{IsNamedStatement};
+ghost use Rattle.pq_statement.specs.Planned.{IsPlanned};
+ghost use Rattle.pq_statement.specs.Planning.{arranged_from, explained_name, prepared_from};
+ghost use Rattle.pq_statement.specs.Requests.{Asks, RunsAs};
+
+use crate::planning::{PlannedQuery, plan_arranged};
+use pq_base::{List, NoMem, PText, Refusal, Row, Stopped, count_word};
+use pq_def_read::{Statement, read_statement};
+use pq_index_keep::{Write, check_write};
+use pq_pages::begin;
+use pq_schema::{Catalog, DEFINITIONS, TableDef};
+use pq_text::{Piece, Token, tokens};
+use std::alloc::Global;
+
+/// The greatest number of bytes of a statement.
+const STATEMENT_BYTES: usize = 65536;
+
+/// A defined query, by its number, with parameters and the position behind which its page begins.
+#[derive(Debug, Drop)]
+pub struct RunRequest {
+    pub query: u16,
+    pub params: Row,
+    pub after: Option<Row>,
+}
+
+/// What a piece asks for.
+#[derive(Debug, Drop)]
+pub enum Request {
+    /// Whether a table is refused is found as it is added.
+    Create(TableDef),
+    Write(Write),
+    Prepare(PlannedQuery),
+    Explain(PlannedQuery),
+    Run(RunRequest),
+    Show,
+}
+
+/// The name that the query of an EXPLAIN has in its report.
+fn explained_name(alloc: Global) -> Result<PText, NoMem>
+    ensures { IfOk result (λ name. name ≡ explained_name) }
+{
+    match PText::from_bytes(alloc, b"explain")? {
+        Some(name) => Ok(name),
+        None => unreachable!(),
+    }
+}
+
+/// What a piece asks for, or the first refusal that needs no call of the store.
+pub fn asked(alloc: Global, catalog: &Catalog, piece: &Piece) -> Result<Request, Stopped>
+    ensures asks { IfOk result (λ request. Asks catalog.now request (action_of catalog.now piece.now)) }
+    ensures refused { IfErr result (λ stopped. Refuses stopped (action_of catalog.now piece.now)) }
+{
+    match piece {
+        Piece::Statement(text) => asked_text(alloc, catalog, text),
+        Piece::NotUtf8 => Err(Stopped::Refused(Refusal::NotUtf8)),
+        Piece::TooLong => Err(Stopped::Refused(Refusal::StatementLong)),
+    }
+}
+
+/// What the statement of a text asks for.
+fn asked_text(alloc: Global, catalog: &Catalog, text: &PText) -> Result<Request, Stopped>
+    ensures asks { IfOk result (λ request. Asks catalog.now request (asked_text catalog.now text.now)) }
+    ensures refused { IfErr result (λ stopped. Refuses stopped (asked_text catalog.now text.now)) }
+{
+    if text.bytes().len() > STATEMENT_BYTES {
+        return Err(Stopped::Refused(Refusal::StatementLong));
+    }
+    let found = tokens(alloc, text)?;
+    let statement = read_statement(alloc, text, &found)?;
+    asked_by(alloc, catalog, text, &found, statement)
+}
+
+/// What a statement that was read asks for.
+fn asked_by(
+    alloc: Global,
+    catalog: &Catalog,
+    text: &PText,
+    tokens: &List<Token>,
+    statement: Statement,
+) -> Result<Request, Stopped>
+    requires spelled { tokens.now ≡ tokens_of text.now }
+    requires named { IsNamedStatement tokens.now statement }
+    ensures asks { IfOk result
+        (λ request. Asks catalog.now request (asked_by catalog.now text.now tokens.now statement)) }
+    ensures refused { IfErr result (λ stopped. Refuses stopped (asked_by catalog.now text.now tokens.now statement)) }
+{
+    match statement {
+        Statement::Create(def) => Ok(Request::Create(def)),
+        Statement::Prepare { name, from } => {
+            let plan = definable(alloc, catalog, name, text, tokens, from)?;
+            Ok(Request::Prepare(plan))
+        }
+        Statement::Explain { from } => {
+            let name = explained_name(alloc)?;
+            let plan = plan_arranged(alloc, catalog, name, text, tokens, from)?;
+            Ok(Request::Explain(plan))
+        }
+        Statement::Run {
+            name,
+            values,
+            after,
+        } => {
+            let run = asked_run(alloc, catalog, name, values, after.as_ref())?;
+            Ok(Request::Run(run))
+        }
+        Statement::Show => Ok(Request::Show),
+        written @ (Statement::Insert { .. }
+        | Statement::Update { .. }
+        | Statement::Delete { .. }) => {
+            let write = check_write(alloc, catalog, &written)?;
+            Ok(Request::Write(write))
+        }
+    }
+}
+
+/// The query of this name that the tokens from a place on spell, arranged, with its plan, where it may be
+/// defined.
+fn definable(
+    alloc: Global,
+    catalog: &Catalog,
+    name: PText,
+    text: &PText,
+    tokens: &List<Token>,
+    from: u32,
+) -> Result<PlannedQuery, Stopped>
+    requires spelled { tokens.now ≡ tokens_of text.now }
+    requires within { from ≤ length tokens.now }
+    ensures planned { IfOk result (IsPlanned catalog.now name
+        (arranged_from catalog.now name text.now tokens.now from)) }
+    ensures free { IfOk result (λ plan. definition_refusal catalog.now plan.query.name ≡ None) }
+    ensures refused { IfErr result
+        (λ stopped. Refuses stopped (prepared_from catalog.now name text.now tokens.now from)) }
+{
+    let plan = plan_arranged(alloc, catalog, name, text, tokens, from)?;
+    check_definition(alloc, catalog, &plan.query.name)?;
+    Ok(plan)
+}
+
+/// Refuses one definition more than there may be, and a name that is taken.
+fn check_definition(alloc: Global, catalog: &Catalog, name: &PText) -> Result<(), Stopped>
+    ensures { Passes result (definition_refusal catalog.now name.now) }
+{
+    if catalog.defs() as usize >= DEFINITIONS {
+        return Err(Stopped::Refused(Refusal::Count {
+            word: count_word::DEFINITIONS,
+        }));
+    }
+    if catalog.is_taken(name) {
+        let name = name.copy(alloc)?;
+        return Err(Stopped::Refused(Refusal::NameTaken { name }));
+    }
+    Ok(())
+}
+
+/// The run of the query of this name, with these parameters, behind this cursor.
+fn asked_run(
+    alloc: Global,
+    catalog: &Catalog,
+    name: PText,
+    params: Row,
+    after: Option<&PText>,
+) -> Result<RunRequest, Stopped>
+    ensures runs { IfOk result
+        (λ run. RunsAs catalog.now run (running_of catalog.now name params (option_copied after.entry))) }
+    ensures refused { IfErr result
+        (λ stopped. Refuses stopped (running_of catalog.now name params (option_copied after.entry))) }
+{
+    let Some(query) = catalog.find_query(&name) else {
+        return Err(Stopped::Refused(Refusal::NoQuery { name }));
+    };
+    let after = begin(alloc, catalog, query, &params, after)?;
+    Ok(RunRequest {
+        query,
+        params,
+        after,
+    })
+}

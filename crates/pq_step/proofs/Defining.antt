@@ -1,0 +1,258 @@
+-- What a definition makes of what a content stands for.
+use Rattle.std.proofs.Common.{lit≤, ◌≡◌, ℕ, ◌+◌, ◌-◌, get_or, ◌<◌, Bool, true, false, true≢false, List, [], ◌∷◌, ◌++◌, length, Option, Some, None, Result, Ok, Err, refl, sym, ap, ◌∙◌, subst, arith, inl, inr}
+use Rattle.std.specs.Prelude.{is_none, IfSome, IfOk, IfErr, OnOk, OnErr}
+use Rattle.std.proofs.Math.Seq.{get_or-append_seam}
+use Rattle.std.specs.FinMap.{get, insert}
+use Rattle.std.proofs.lemmas.List.{length-append}
+use Rattle.pq_base.specs.declared.number.Bound.{Bound}
+use Rattle.pq_base.specs.declared.refusal.Refusal.{Refusal}
+use Rattle.pq_schema.specs.declared.definition.TableDef.{TableDef}
+use Rattle.pq_schema.specs.declared.made.Definition.{Definition}
+use Rattle.pq_schema.specs.declared.made.Definition.TheVariants.{OfTable, OfQuery}
+use Rattle.pq_schema.specs.declared.table.Table.{Table}
+use Rattle.pq_schema.specs.declared.query.Query.{Query}
+use Rattle.pq_schema.specs.Candidates.{Candidate}
+use Rattle.pq_schema.specs.Definitions.{definition_refusal, new_table, or_ok}
+use Rattle.pq_schema.specs.Schema.{Schema, with_table, with_query}
+use Rattle.pq_key_code.specs.KeyCode.{catalog_key}
+use Rattle.pq_content.specs.Tables.{Keeps}
+use Rattle.pq_content.proofs.MoreTables.{keeps-more}
+use Rattle.pq_print.specs.declared.report.Line.{Line}
+use Rattle.pq_print.specs.declared.report.End.TheVariants.{Done}
+use Rattle.pq_store.specs.Content.{Content}
+use Rattle.pq_store.specs.Counts.{Counts, charged_counts}
+use Rattle.pq_store.specs.declared.damage.Broke.{Broke}
+use Rattle.pq_store.specs.declared.damage.Broke.TheVariants as broke
+use Rattle.pq_intent.specs.Changing.{IfDamagedSame}
+use Rattle.pq_step.specs.Evidence.{TellsEvidence}
+use Rattle.pq_store.specs.declared.damage.Damage.{Damage}
+use Rattle.pq_schema.specs.Names.{IsName, IsTableDef}
+use Rattle.pq_schema.specs.declared.table.NewIndex.{NewIndex}
+use Rattle.pq_schema.specs.Valid.{IsValid, IsDefined}
+use Rattle.pq_schema.specs.Valid.IsValid.{then_table, then_query}
+use Rattle.pq_step.specs.Calls.{PutsNew, MayPut}
+use Rattle.pq_store.specs.Breaks.{IfDamaged, IsPresent, IsUndamaged}
+use Rattle.pq_step.specs.Model.{Model}
+use Rattle.pq_print.specs.declared.report.Report.{Report}
+use Rattle.pq_schema.specs.Tables.{table_at, no_table}
+use Rattle.pq_step.specs.Extends.{Extends}
+use Rattle.pq_intent.specs.Spending.{TakesAtMost}
+use Rattle.pq_step.specs.Promise.{OnlyReads, DoneStatement as Promised, BrokenStatement, Promises, IsBound, IsWithinFixed}
+use Rattle.pq_step.specs.Reports.{define_report}
+use Rattle.pq_step.specs.Stands.{HoldsModel, Stands, content_of, value_at, last_key, last_value}
+use Rattle.pq_builds.specs.Bounds.{bound}
+use Rattle.pq_statement.specs.Actions.{Action, Creates, Prepares, action_bound, action_schema, action_from}
+use Rattle.pq_statement.specs.Planning.{PlannedDefinition, planned_definition}
+use Rattle.pq_step.specs.Step.{Step, report_of, action_step, table_step, prepared_over, explanation}
+use Rattle.pq_statement.specs.Lines.{table_lines, query_lines, planned_lines}
+use Rattle.pq_statement.specs.Planned.{IsComputed, IsPlanOf}
+use Rattle.pq_statement.specs.declared.planning.PlannedQuery.{PlannedQuery}
+use Rattle.pq_plan.specs.Cost.{cost}
+use Rattle.pq_step.proofs.Definitions.{next_absent, put_table, put_query}
+use Rattle.pq_step.proofs.Standing.{settled_opens}
+use Rattle.pq_step.proofs.Made.{made_of, made_room, small_of}
+use Rattle.pq_step.proofs.Promises.{damaged_kept, shown_still, within_step}
+
+-- the model with one more definition
+abbrev pub defined : Model → ℕ → Schema → List Line → Step
+defined m number next lines = record { model = record m { schema = next }; report = report_of number lines Done (bound 1 0) }
+
+-- a model that its next definition leads to
+pub record Leads (m : Model) (next : Schema) : Type 0 where
+  pub valid : IsValid next
+  pub keeps : Keeps next.tables m.rows
+  pub absent : get (content_of m) (last_key next) ≡ None
+  pub put : insert (content_of m) (last_key next) (last_value next) ≡ content_of (record m { schema = next })
+
+pub one_more : (definitions : List Definition) (last : Definition) → length definitions + 1 ≡ length (definitions ++ last ∷ [])
+one_more definitions last = omega (arith, length-append definitions (last ∷ []))
+
+pub leads_table : {old : Option Content} (m : Model) (def : TableDef) (table : Table) → HoldsModel old m → IsTableDef def → new_table m.schema def ≡ Ok table → Leads m (with_table m.schema table)
+leads_table m def table s is_def made =
+    let few : length m.schema.definitions < 65535 = omega (arith, made_room m.schema def table made) in
+    let more : length m.schema.definitions + 1 ≡ length (with_table m.schema table).definitions = one_more m.schema.definitions (OfTable (length m.schema.tables + 1) (length table.columns) (length table.indexes)) in
+    record {
+      valid = then_table m.schema def table s.valid is_def made;
+      keeps = keeps-more m.schema.tables table m.rows s.keeps;
+      absent = subst (λ n. get (content_of m) (catalog_key n) ≡ None) more (next_absent m few);
+      put = subst (λ n. insert (content_of m) (catalog_key n) (value_at (with_table m.schema table) n) ≡ content_of (record m { schema = with_table m.schema table })) more (put_table m table s.valid (made_of m.schema s.valid) s.keeps few);
+    }
+
+pub leads_query : {old : Option Content} (m : Model) (query : Query) → HoldsModel old m → IsDefined m.schema query None → Leads m (with_query m.schema query None)
+leads_query m query s defined =
+    let few : length m.schema.definitions < 65535 = omega (arith, small_of m.schema s.valid) in
+    let more : length m.schema.definitions + 1 ≡ length (with_query m.schema query None).definitions = one_more m.schema.definitions (OfQuery query None) in
+    record {
+      valid = then_query m.schema query None s.valid defined;
+      keeps = s.keeps;
+      absent = subst (λ n. get (content_of m) (catalog_key n) ≡ None) more (next_absent m few);
+      put = subst (λ n. insert (content_of m) (catalog_key n) (value_at (with_query m.schema query None) n) ≡ content_of (record m { schema = with_query m.schema query None })) more (put_query m query few);
+    }
+
+-- a key that is no longer absent has a value
+pub present_of : (old : Option Content) (key : List ℕ) (damage : Damage) (done : Bool) → done ≡ false → damage.key ≡ key → damage.value ≡ None → IfSome old (λ pairs. done ≡ is_none (get pairs key)) → IfSome old (λ pairs. IfDamaged (IsPresent key pairs) (broke.Damaged damage))
+present_of None key damage done not_done at has told = tt
+present_of (Some content) key damage done not_done at has told = by (get content key) refl
+  where
+    by : (o : Option (List ℕ)) → get content key ≡ o → IsPresent key content damage
+    by None none = absurd (true≢false (sym (sym not_done ∙ told ∙ ap is_none none)))
+    by (Some value) there = record { value = value; at = at; has = has; there = there }
+
+-- the next definition's key shows the damage
+present_shown : (old : Option Content) (schema : Schema) (broke : Broke) → IfSome old (λ pairs. IfDamaged (IsPresent (catalog_key (length schema.definitions + 1)) pairs) broke) → IfSome old (λ content. TellsEvidence schema content broke)
+present_shown None schema broke shows = tt
+present_shown (Some content) schema broke.Failed shows = tt
+present_shown (Some content) schema broke.NoMem shows = tt
+present_shown (Some content) schema (broke.Damaged damage) shows = inr (inr shows)
+
+module _ (number : ℕ) (lines : List Line) (action : Action) (old now : Option Content) (schema next : Schema)
+    (leads : (m : Model) → Stands old schema m → Leads m next × (action_step m number action ≡ defined m number next lines))
+    (one : action_bound schema action ≡ Some (bound 1 0)) (writes : OnlyReads (Ok action) → ⊥) (behind : next ≡ action_schema schema action) where
+  added : (m : Model) → Stands old schema m → now ≡ Some (insert (content_of m) (last_key next) (last_value next)) → HoldsModel now (record m { schema = next })
+  added m s is =
+      let l = (leads m s).0 in
+      record { valid = l.valid; keeps = l.keeps; told = is ∙ ap Some l.put }
+
+  pub define_done : (before : Counts) → PutsNew true (last_key next) (last_value next) old now
+      → Promised number (Ok action) old now schema next before (charged_counts before 0) (define_report number lines)
+  define_done before puts = record {
+    matches = λ m s. rw (leads m s).1 (record { same = refl; ops = lit≤ tt; entries = lit≤ tt });
+    made = λ m s.
+        let p = subst (λ o. PutsNew true (last_key next) (last_value next) o now) s.settled.told puts in
+        subst (λ (x : Step). Stands now next x.model) (sym (leads m s).1) (record { settled = added m s p.1; known = refl });
+    ops = refl;
+    entries = refl;
+    few_ops = lit≤ tt;
+    few_entries = lit≤ tt;
+    bound = subst (λ (o : Option Bound). IsBound o (bound 1 0)) (sym one) refl;
+    refused = λ refusal. absurd refusal;
+    accepted = λ _. behind;
+    numbered = refl;
+    unread = tt;
+    can = tt;
+    reads = λ reads. absurd (writes reads);
+  }
+
+  -- the key is absent, so that no damage is found
+  pub define_broken : (before after : Counts) (broke : Broke) → MayPut (last_key next) (last_value next) old now
+      → IfSome old (λ pairs. get pairs (last_key next) ≡ None → IsUndamaged broke) → TakesAtMost (bound 1 0) before after
+      → length schema.definitions + 1 ≡ length next.definitions → IfSome old (λ pairs. IfDamaged (IsPresent (last_key next) pairs) broke)
+      → IfDamagedSame old now broke → BrokenStatement number (Ok action) old now schema before after broke
+  define_broken before after broke may sound within more shows same = record {
+    stopped = λ m s. elim (subst (λ o. MayPut (last_key next) (last_value next) o now) s.settled.told may) [
+      | inl same ↦ inl (settled_opens (record { valid = s.settled.valid; keeps = s.settled.keeps; told = same }))
+      | inr put ↦ inr (settled_opens (subst (λ (x : Step). HoldsModel now x.model) (sym (leads m s).1) (added m s put.1)))
+    ];
+    sound = λ m s. subst (λ o. IfSome o (λ pairs. get pairs (last_key next) ≡ None → IsUndamaged broke)) s.settled.told sound (leads m s).0.absent;
+    within = subst (λ (b : Option Bound). IsWithinFixed b before after) (sym one) within;
+    within_own = λ m s. within_step number action old schema (bound 1 0) before after one within m s;
+    kept = damaged_kept schema (Ok action) old now broke same;
+    reads = λ reads. absurd (writes reads);
+    shown = here more shows;
+    lasting = shown_still old now schema broke same (here more shows);
+  }
+    where
+      here : length schema.definitions + 1 ≡ length next.definitions → IfSome old (λ pairs. IfDamaged (IsPresent (last_key next) pairs) broke) → IfSome old (λ content. TellsEvidence schema content broke)
+      here more shows = present_shown old schema broke (subst (λ n. IfSome old (λ pairs. IfDamaged (IsPresent (catalog_key n) pairs) broke)) (sym more) shows)
+
+-- ---- tables
+
+leads_created : (old : Option Content) (schema : Schema) (number : ℕ) (def : TableDef) (table : Table) → IsTableDef def → new_table schema def ≡ Ok table
+    → (m : Model) → Stands old schema m → Leads m (with_table schema table) × (table_step m number table ≡ defined m number (with_table schema table) (table_lines table))
+leads_created old schema number def table is_def made m s =
+    let here : new_table m.schema def ≡ Ok table = ap (λ (x : Schema). new_table x def) (sym s.known) ∙ made in
+    subst (λ (x : Schema). Leads m (with_table x table) × (table_step m number table ≡ defined m number (with_table x table) (table_lines table))) (sym s.known)
+    (leads_table m def table s.settled is_def here, refl)
+
+-- the last table has the number behind the others
+last_table : (tables : List Table) (table : Table) (t : ℕ) → t ≡ length tables + 1 → table_at (tables ++ table ∷ []) t ≡ table
+last_table tables table t is =
+    let place : t - 1 ≡ length tables = omega arith in
+    ap (λ k. get_or (tables ++ table ∷ []) k no_table) place ∙ get_or-append_seam tables table [] no_table
+
+-- what the write of a table's definition promises
+abbrev pub IsWritten : Option Content → Option Content → Schema → ℕ → List Line → Counts → Counts → Result (Schema × Report) Broke → Type 0
+IsWritten old now next number lines before after result =
+    IfOk result (λ made. (made.0 ≡ next) × (made.1 ≡ define_report number lines))
+    × OnOk result (PutsNew true (last_key next) (last_value next) old now)
+    × OnErr result (MayPut (last_key next) (last_value next) old now)
+    × IfErr result (λ broke. IfSome old (λ pairs. get pairs (last_key next) ≡ None → IsUndamaged broke))
+    × OnOk result (after ≡ charged_counts before 0)
+    × TakesAtMost (bound 1 0) before after
+    × IfErr result (λ broke. IfSome old (λ pairs. IfDamaged (IsPresent (last_key next) pairs) broke))
+    × IfErr result (IfDamagedSame old now)
+
+written_as : (action : Action) (old now : Option Content) (schema next : Schema) (number : ℕ) (lines : List Line) (before after : Counts) (result : Result (Schema × Report) Broke)
+    → ((m : Model) → Stands old schema m → Leads m next × (action_step m number action ≡ defined m number next lines)) → action_bound schema action ≡ Some (bound 1 0) → (OnlyReads (Ok action) → ⊥) → next ≡ action_schema schema action
+    → length schema.definitions + 1 ≡ length next.definitions → IsWritten old now next number lines before after result → Promises number (Ok action) old now schema before after result
+written_as action old now schema next number lines before after (Ok made) leads one writes behind more h =
+    rw (h.0.0, h.0.1, h.4) (define_done number lines action old now schema next leads one writes behind before h.1)
+written_as action old now schema next number lines before after (Err broke) leads one writes behind more h =
+    define_broken number lines action old now schema next leads one writes behind before after broke h.2 h.3 h.5 more h.6 h.7
+
+pub table_written : (old now : Option Content) (schema planned : Schema) (number : ℕ) (def : TableDef) → IsTableDef def → (t : ℕ) (before after : Counts) (result : Result (Schema × Report) Broke)
+    → Extends schema def planned (Ok t) → IsWritten old now planned number (table_lines (table_at planned.tables t)) before after result
+    → Promises number (action_from Creates (new_table schema def)) old now schema before after result
+table_written old now schema planned number def is_def t before after result e all =
+    let table = e.0 in
+    let next = with_table schema table in
+    let there = subst (λ (s : Schema). IsWritten old now s number (table_lines (table_at s.tables t)) before after result) e.2 all in
+    let lined = subst (λ (x : Table). IsWritten old now next number (table_lines x) before after result) (last_table schema.tables table t e.3) there in
+    subst (λ (r : Result Table Refusal). Promises number (action_from Creates r) old now schema before after result) (sym e.1)
+    (written_as (Creates table) old now schema next number (table_lines table) before after result (leads_created old schema number def table is_def e.1)
+    refl (λ reads. reads) refl (one_more schema.definitions (OfTable (length schema.tables + 1) (length table.columns) (length table.indexes))) lined)
+
+-- ---- queries
+
+-- a query that wants no index is one write
+module _ (schema : Schema) (number : ℕ) (query : Query) (best : Candidate) where
+  abbrev plain : PlannedDefinition
+  plain = planned_definition query best None
+
+  query_made : (m : Model) → m.schema ≡ schema → prepared_over m number plain None ≡ defined m number (with_query schema query None) (query_lines schema.tables plain)
+  query_made m same = ap (λ (s : Schema). defined m number (with_query s query None) (query_lines s.tables plain)) same
+
+  leads_prepared : (old : Option Content) → IsDefined schema query None → (m : Model) → Stands old schema m
+      → Leads m (with_query schema query None) × (prepared_over m number plain None ≡ defined m number (with_query schema query None) (query_lines schema.tables plain))
+  leads_prepared old is m s =
+      let here : IsDefined m.schema query None = subst (λ (x : Schema). IsDefined x query None) s.known is in
+      (subst (λ (x : Schema). Leads m (with_query x query None)) (sym s.known) (leads_query m query s.settled here), query_made m (sym s.known))
+
+  pub query_written : (old now : Option Content) (before after : Counts) (result : Result (Schema × Report) Broke) (lines : List Line) → IsDefined schema query None → lines ≡ query_lines schema.tables plain
+      → IsWritten old now (with_query schema query None) number lines before after result
+      → Promises number (Ok (Prepares plain)) old now schema before after result
+  query_written old now before after result lines is lined all =
+      written_as (Prepares plain) old now schema (with_query schema query None) number (query_lines schema.tables plain) before after result (leads_prepared old is)
+      refl (λ reads. reads) refl (one_more schema.definitions (OfQuery query None))
+      (subst (λ (ls : List Line). IsWritten old now (with_query schema query None) number ls before after result) lined all)
+
+-- a query that was planned and is not refused may be defined
+pub computed_defined : (schema : Schema) (computed : PlannedQuery) (wanted : Option NewIndex) → computed.compiled.wanted ≡ wanted → IsName computed.query.name → IsComputed schema.tables computed → definition_refusal schema computed.query.name ≡ None
+    → IsDefined schema computed.query wanted
+computed_defined schema computed wanted is named are free =
+    subst (IsDefined schema computed.query) is (record {
+      name = named;
+      resolved = are.resolved;
+      chosen = record { best = are.compiled.best; chosen = are.compiled.least };
+      accepted = ap (λ (o : Option Refusal). or_ok o (with_query schema computed.query computed.compiled.wanted)) free;
+    })
+
+-- a plan as it is computed
+module _ (tables : List Table) (number : ℕ) (computed : PlannedQuery) (plan : PlannedDefinition) (is : IsPlanOf computed plan) (wanted : Option NewIndex) (wants : computed.compiled.wanted ≡ wanted) where
+  pub plan_is : planned_definition computed.query plan.chosen.best wanted ≡ plan
+  plan_is = λ i. record { query = sym is.query i; chosen = record { best = plan.chosen.best; wanted = sym (is.wanted ∙ wants) i } }
+
+  pub lines_are : planned_lines tables computed.query.name computed.compiled.choice (cost computed.compiled.plan) computed.compiled.wanted ≡ query_lines tables (planned_definition computed.query plan.chosen.best wanted)
+  unfolding query_lines
+  lines_are = λ i. planned_lines tables computed.query.name (sym is.choice i) (sym is.bound i) (wants i)
+
+  -- the promise of the plan is that of its parts
+  pub planned_promise : (old now : Option Content) (schema : Schema) (before after : Counts) (result : Result (Schema × Report) Broke)
+      → Promises number (Ok (Prepares (planned_definition computed.query plan.chosen.best wanted))) old now schema before after result
+      → Promises number (Ok (Prepares plan)) old now schema before after result
+  planned_promise old now schema before after result promise =
+      subst (λ (p : PlannedDefinition). Promises number (Ok (Prepares p)) old now schema before after result) plan_is promise
+
+  -- and so are the lines of its explanation
+  pub explained_lines : report_of number (planned_lines tables computed.query.name computed.compiled.choice (cost computed.compiled.plan) computed.compiled.wanted) Done (bound 0 0) ≡ explanation tables number plan
+  explained_lines = ap (λ (lines : List Line). report_of number lines Done (bound 0 0)) (lines_are ∙ ap (query_lines tables) plan_is)

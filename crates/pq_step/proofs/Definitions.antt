@@ -1,0 +1,77 @@
+-- What one more definition makes of what a content stands for.
+use Rattle.std.proofs.Common.{◌≡◌, ℕ, ◌+◌, ◌<◌, length, List, [], ◌∷◌, ◌++◌, Option, None, refl, sym, ap, ◌∙◌, arith}
+use Rattle.std.specs.Prelude.{option_map}
+use Rattle.std.specs.FinMap.{find, get, insert}
+use Rattle.pq_schema.specs.declared.table.Table.{Table}
+use Rattle.pq_schema.specs.declared.query.Query.{Query}
+use Rattle.pq_schema.specs.declared.made.Definition.{Definition}
+use Rattle.pq_schema.specs.declared.made.Definition.TheVariants.{OfTable, OfQuery}
+use Rattle.pq_schema.specs.Schema.{Schema, made_of, with_table, with_wanted, with_query}
+use Rattle.pq_schema.specs.Valid.{IsValid, IsDefined}
+use Rattle.pq_schema.proofs.Valid.{valid_made}
+use Rattle.pq_schema.specs.declared.table.NewIndex.{NewIndex}
+use Rattle.pq_runnable.proofs.Growing.{grown_table}
+use Rattle.pq_key_code.specs.KeyCode.{catalog_key}
+use Rattle.pq_content.specs.Pairs.{Pair, content_pairs}
+use Rattle.pq_store.specs.Content.{key_cmp}
+use Rattle.pq_content.specs.Tables.{Keeps}
+use Rattle.pq_content.proofs.MoreTables.{pairs-more}
+use Rattle.pq_content.proofs.Others.{get_other, insert_other}
+use Rattle.pq_schema.specs.Sound.{AreMade}
+use Rattle.pq_step.specs.Model.{Model}
+use Rattle.pq_step.specs.Stands.{content_of, value_at, catalog_pairs}
+use Rattle.pq_step.proofs.Next.{absent_above, ending_pairs, pairs_stay}
+use Rattle.pq_step.proofs.Known.{definitions_of, grown_defined}
+
+-- ---- the pair of the next definition
+
+pub next_key_absent : (m : Model) → length m.schema.definitions < 65535 → find key_cmp (catalog_key (length m.schema.definitions + 1)) (catalog_pairs m.schema) ≡ None
+next_key_absent m few = absent_above m.schema.tables 1 (length m.schema.definitions + 1) m.schema.definitions (omega arith) (omega arith)
+
+-- the pair is put behind the others of the catalog
+put_next : (m : Model) (value : List ℕ) → length m.schema.definitions < 65535
+    → insert (content_of m) (catalog_key (length m.schema.definitions + 1)) value ≡ content_pairs m.schema.tables m.rows (catalog_pairs m.schema ++ (catalog_key (length m.schema.definitions + 1), value) ∷ [])
+unfolding content_of
+put_next m value few = insert_other m.schema.tables m.rows (catalog_pairs m.schema) (catalog_key (length m.schema.definitions + 1)) value refl (next_key_absent m few)
+
+pub next_absent : (m : Model) → length m.schema.definitions < 65535 → get (content_of m) (catalog_key (length m.schema.definitions + 1)) ≡ None
+unfolding content_of
+next_absent m few = get_other m.schema.tables m.rows (catalog_pairs m.schema) (catalog_key (length m.schema.definitions + 1)) refl ∙ next_key_absent m few
+
+-- the pairs of a schema with one more table: those of the others, and the last
+pub table_pairs : (schema : Schema) (table : Table) → IsValid schema → AreMade schema.tables
+    → catalog_pairs (with_table schema table) ≡ catalog_pairs schema ++ (catalog_key (length schema.definitions + 1), value_at (with_table schema table) (length schema.definitions + 1)) ∷ []
+table_pairs schema table valid made =
+    let tables = schema.tables in
+    let more : List Table = tables ++ table ∷ [] in
+    let definitions = schema.definitions in
+    let definition : Definition = OfTable (length tables + 1) (length table.columns) (length table.indexes) in
+    let last : Pair = (catalog_key (length definitions + 1), value_at (with_table schema table) (length definitions + 1)) in
+    ending_pairs more definitions definition ∙ ap (λ (front : List Pair). front ++ last ∷ []) (pairs_stay tables more 1 definitions (grown_table tables table) made (definitions_of schema valid))
+
+-- and with one more query
+pub query_pairs : (schema : Schema) (query : Query) (wanted : Option NewIndex) → IsValid schema → IsDefined schema query wanted
+    → catalog_pairs (with_query schema query wanted) ≡ catalog_pairs schema ++ (catalog_key (length schema.definitions + 1), value_at (with_query schema query wanted) (length schema.definitions + 1)) ∷ []
+query_pairs schema query wanted valid defined =
+    let tables = schema.tables in
+    let more : List Table = with_wanted tables wanted in
+    let definitions = schema.definitions in
+    let last : Pair = (catalog_key (length definitions + 1), value_at (with_query schema query wanted) (length definitions + 1)) in
+    ending_pairs more definitions (OfQuery query (option_map made_of wanted))
+    ∙ ap (λ (front : List Pair). front ++ last ∷ []) (pairs_stay tables more 1 definitions (grown_defined schema query wanted defined) (valid_made valid) (definitions_of schema valid))
+
+pub put_table : (m : Model) (table : Table) → IsValid m.schema → AreMade m.schema.tables → Keeps m.schema.tables m.rows → length m.schema.definitions < 65535
+    → insert (content_of m) (catalog_key (length m.schema.definitions + 1)) (value_at (with_table m.schema table) (length m.schema.definitions + 1)) ≡ content_of (record m { schema = with_table m.schema table })
+unfolding content_of
+put_table m table valid made keeps few =
+    let tables = m.schema.tables in
+    put_next m (value_at (with_table m.schema table) (length m.schema.definitions + 1)) few
+    ∙ ap (content_pairs tables m.rows) (sym (table_pairs m.schema table valid made))
+    ∙ sym (pairs-more tables table m.rows (catalog_pairs (with_table m.schema table)) keeps.known)
+
+pub put_query : (m : Model) (query : Query) → length m.schema.definitions < 65535
+    → insert (content_of m) (catalog_key (length m.schema.definitions + 1)) (value_at (with_query m.schema query None) (length m.schema.definitions + 1)) ≡ content_of (record m { schema = with_query m.schema query None })
+unfolding content_of
+put_query m query few =
+    put_next m (value_at (with_query m.schema query None) (length m.schema.definitions + 1)) few
+    ∙ ap (content_pairs m.schema.tables m.rows) (sym (ending_pairs m.schema.tables m.schema.definitions (OfQuery query None)))

@@ -1,0 +1,17 @@
+pub mod Building
+pub mod Built
+pub mod Catalogs
+pub mod Checked
+pub mod Defining
+pub mod Definitions
+pub mod Kept
+pub mod Known
+pub mod Made
+pub mod Next
+pub mod Prepared
+pub mod Promises
+pub mod Runs
+pub mod Standing
+pub mod Texts
+pub mod Writing
+pub mod Written

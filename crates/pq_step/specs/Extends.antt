@@ -1,0 +1,22 @@
+-- A catalog after a definition.
+use Rattle.std.specs.Prelude.{◌≡◌, ℕ, ◌+◌, length, Option, Result, Ok, Err}
+use Rattle.pq_base.specs.declared.refusal.Refusal.{Refusal}
+use Rattle.pq_schema.specs.declared.definition.TableDef.{TableDef}
+use Rattle.pq_schema.specs.declared.query.Query.{Query}
+use Rattle.pq_schema.specs.declared.table.NewIndex.{NewIndex}
+use Rattle.pq_schema.specs.declared.table.Table.{Table}
+use Rattle.pq_schema.specs.Definitions.{new_table, new_query}
+use Rattle.pq_schema.specs.Schema.{Schema, with_table, with_query}
+
+-- the table was added, with this number; or the definition is refused, and nothing changed
+abbrev pub Extends : Schema → TableDef → Schema → Result ℕ Refusal → Type 0
+Extends old def next (Ok number) = (table : Table) × (new_table old def ≡ Ok table)
+    × (next ≡ with_table old table) × (number ≡ length old.tables + 1)
+Extends old def next (Err why) = (new_table old def ≡ Err why) × (next ≡ old)
+
+-- the query was added with its index, with this number; or it is refused, and nothing changed
+abbrev pub ExtendsBy : Schema → Query → Option NewIndex → Schema → Result ℕ Refusal → Type 0
+ExtendsBy old query wanted next (Ok number) =
+    (new_query old query wanted ≡ Ok (with_query old query wanted)) × (next ≡ with_query old query wanted)
+    × (number ≡ length old.definitions + 1)
+ExtendsBy old query wanted next (Err why) = (new_query old query wanted ≡ Err why) × (next ≡ old)

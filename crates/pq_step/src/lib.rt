@@ -1,0 +1,13 @@
+//! Statements over a store: each makes one step of the model.
+#![tactic(auto)]
+
+mod checking;
+mod define;
+mod format;
+mod planned;
+mod reports;
+mod run;
+mod write;
+
+pub use format::{Mark, has_format, last_format, marked_text};
+pub use planned::PlannedCatalog;

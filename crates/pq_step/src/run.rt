@@ -1,0 +1,99 @@
+//! RUN: a page of a query that was defined.
+ghost use Rattle.std.specs.Prelude.{◌≡◌, ◌<◌, length, map, option_copied, IfOk, Ok};
+ghost use Rattle.pq_base.specs.Values.{AllFit};
+ghost use Rattle.pq_schema.specs.Schema.{query_at};
+ghost use Rattle.pq_store.specs.Content.{HasBrokeCause};
+ghost use Rattle.pq_nodes.specs.Operators.{IsCursor};
+ghost use Rattle.pq_pages.specs.Running.{IsQueryNumber, running_with};
+ghost use Rattle.pq_statement.specs.Actions.{Runs};
+ghost use Rattle.pq_step.specs.Kept.{IsKeptPlan};
+ghost use Rattle.pq_step.specs.Promise.{Promises};
+ghost use Rattle.pq_step.specs.Reports.{page_report};
+
+use crate::planned::PlannedCatalog;
+use pq_base::{List, NoMem, Row};
+use pq_pages::{Page, run_page};
+use pq_plan::BoundedPlan;
+use pq_print::{End, Line, Report};
+use pq_store::{Broke, Meter, Store};
+use std::alloc::Global;
+use std::sync::ledger::Ledger;
+
+/// The lines of rows.
+fn row_lines(alloc: Global, rows: List<Row>) -> Result<List<Line>, NoMem>
+    ensures { IfOk result (λ lines. lines ≡ map Line.Row rows) }
+{
+    let mut lines = List::new(alloc);
+    for row in rows.into_vec() {
+        lines.push(alloc, Line::Row(row))?;
+    }
+    Ok(lines)
+}
+
+/// The report of a page.
+fn page_report(alloc: Global, number: u32, page: Page) -> Result<Report, NoMem>
+    requires { length page.rows < 4294967296 }
+    ensures { IfOk result (λ report. report ≡ page_report number page) }
+{
+    let Page {
+        rows,
+        next,
+        bound,
+        used,
+    } = page;
+    let count = rows.items().len() as u32;
+    Ok(Report {
+        number,
+        lines: row_lines(alloc, rows)?,
+        end: End::Rows { count, next },
+        bound,
+        used,
+    })
+}
+
+impl PlannedCatalog {
+    /// The plan of the query of this definition's number.
+    pub(crate) fn kept_plan(&self, query: u16) -> &BoundedPlan
+        requires { IsQueryNumber self.now query }
+        ensures { IsKeptPlan self.now.tables (query_at self.now query) result.now }
+    {
+        match &self.plans.items()[query as usize - 1] {
+            Some(plan) => plan,
+            None => unreachable!(),
+        }
+    }
+
+    /// Runs the query of this definition's number, whose parameters fit, behind a position.
+    pub(crate) fn run_query<S: Store<L>, L: Ledger>(
+        self,
+        alloc: Global,
+        number: u32,
+        query: u16,
+        params: &Row,
+        after: Option<&Row>,
+        store: &mut S,
+        meter: &mut Meter<L>,
+    ) -> Result<(PlannedCatalog, Report), Broke>
+        requires number { IsQueryNumber self query }
+        requires fits { AllFit (query_at self query).params params.now }
+        requires cursor { IsCursor self.tables (query_at self query) (option_copied after) }
+        ensures step { Promises number
+            (Ok (Runs (running_with query (query_at self query) params.now (option_copied after.entry))))
+            (S.content store.old) (S.content store.new) self meter.old meter.new result }
+        ensures cause { HasBrokeCause (S.faults store.old) (S.faults store.new) result }
+    {
+        let plan = self.kept_plan(query);
+        let page = run_page(
+            alloc,
+            &self.catalog,
+            query,
+            plan,
+            params,
+            after,
+            store,
+            meter,
+        )?;
+        let report = page_report(alloc, number, page)?;
+        Ok((self, report))
+    }
+}
