@@ -26,7 +26,7 @@ use Rattle.pq_store.specs.declared.damage.Broke.{Broke}
 use Rattle.pq_store.specs.declared.damage.Broke.TheVariants.{Failed, NoMem, Damaged}
 use Rattle.pq_step.specs.declared.format.Mark.{Mark}
 use Rattle.pq_step.specs.declared.format.Mark.TheVariants.{Ready, Building}
-use Rattle.pq_opening.specs.declared.starting.Begun.{Begun}
+use Rattle.pq_opening.specs.declared.begun.Begun.{Begun}
 use Rattle.pq_step.specs.Model.{Model}
 use Rattle.pq_opening.specs.Opening.{SchemaAndMark, none_added, opening_of, started_of, completion_bound, added_from, catalog_in, IsStarted, IsLeft, IsAsMarked, rows_of_made, rows_left, rows_of_mark, TellsSchema, NamesPair, NamesFlaw, HasFewLeft, ShowsMarked, intent_ops, HasBuild, IsOpeningBound, IsOpening}
 use Rattle.pq_step.specs.Stands.{HoldsModel, Stands, Opens, Holds, IsFillingLast, content_of}

@@ -18,7 +18,7 @@ use Rattle.pq_intent.specs.declared.settles.Settled.{Settled}
 use Rattle.pq_builds.specs.Bounds.{bound}
 use Rattle.pq_builds.specs.Stages.{Takes, IsWithinBuild as BuildsWithin, left_ops}
 use Rattle.pq_step.specs.declared.format.Mark.{Mark}
-use Rattle.pq_opening.specs.declared.starting.Begun.{Begun}
+use Rattle.pq_opening.specs.declared.begun.Begun.{Begun}
 use Rattle.pq_step.specs.Model.{Model}
 use Rattle.pq_opening.specs.Opening.{none_added, opening_of, completion_bound, opening_bound, intent_ops, catalog_in, AreFewRows, IsStarted, IsAsMarked, rows_of_mark, HasBuild, IsOpeningBound}
 use Rattle.pq_step.specs.Stands.{Opens, Holds}

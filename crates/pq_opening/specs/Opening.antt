@@ -37,7 +37,7 @@ use Rattle.pq_builds.specs.Stages.{Takes, ShowsLeft, StopsFilling}
 use Rattle.pq_builds.specs.Targets.{target_of}
 use Rattle.pq_builds.specs.declared.target.NewQuery.{NewQuery}
 use Rattle.pq_builds.specs.declared.target.Target.{Target}
-use Rattle.pq_opening.specs.declared.starting.Begun.{Begun}
+use Rattle.pq_opening.specs.declared.begun.Begun.{Begun}
 use Rattle.pq_step.specs.declared.format.Mark.{Mark}
 use Rattle.pq_step.specs.declared.format.Mark.TheVariants.{Ready, Building}
 use Rattle.pq_step.specs.Format.{marked_text, has_format}

@@ -1,8 +1,8 @@
 //! The opening of a store: what its catalog tells, and a build that was left.
 #![tactic(auto)]
 
+mod begun;
 mod last;
 mod opening;
-mod starting;
 
-pub use starting::{Begun, start};
+pub use begun::{Begun, start};

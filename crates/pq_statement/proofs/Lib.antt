@@ -1,4 +1,4 @@
-pub mod Asked
+pub mod Asking
 pub mod Found
 pub mod Lists
 pub mod Names

@@ -8,7 +8,7 @@ use Rattle.pq_statement.specs.Names.{IsNamedStatement}
 use Rattle.pq_statement.specs.Planned.{IsPlanned}
 use Rattle.pq_statement.specs.Planning.{PlannedDefinition, arranged_from, explained_name}
 use Rattle.pq_statement.specs.Requests.{RunsAs}
-use Rattle.pq_statement.proofs.Asked.{answer_refused, asking_refused, explains, may_be_defined, prepares, stopped_explained, writes_asked}
+use Rattle.pq_statement.proofs.Asking.{answer_refused, asking_refused, explains, may_be_defined, prepares, stopped_explained, writes_asked}
 use Rattle.pq_statement.proofs.requests.asked_by.Goals as goal
 
 pub returns-in-Create-clause-asks : goal.returns-in-Create-clause-asks

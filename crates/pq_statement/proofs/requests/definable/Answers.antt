@@ -1,5 +1,5 @@
 use Rattle.std.proofs.lemmas.Result.{err_from_is_err_and}
-use Rattle.pq_statement.proofs.Asked.{stopped_plan, stopped_definition}
+use Rattle.pq_statement.proofs.Asking.{stopped_plan, stopped_definition}
 use Rattle.pq_statement.proofs.requests.definable.Goals as goal
 
 pub returns-in_err-plan-clause-refused : goal.returns-in_err-plan-clause-refused

@@ -4,7 +4,7 @@ use Rattle.pq_store.specs.Counts.{Counts}
 use Rattle.pq_store.specs.declared.store.Pair.{Pair as Stored}
 use Rattle.pq_opening.specs.Opening.{none_added}
 use Rattle.pq_opening.proofs.Openings.{read_from, opened_marked, none_marked, as_many}
-use Rattle.pq_opening.proofs.starting.read_catalog.Goals as goal
+use Rattle.pq_opening.proofs.begun.read_catalog.Goals as goal
 
 pub returns-clause-marked : goal.returns-clause-marked
 returns-clause-marked g c =

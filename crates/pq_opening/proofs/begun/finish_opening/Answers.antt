@@ -7,7 +7,7 @@ use Rattle.pq_step.specs.declared.format.Mark.{Mark}
 use Rattle.pq_step.specs.declared.format.Mark.TheVariants.{Building}
 use Rattle.pq_opening.specs.Opening.{GoesOnLeft, IsAsMarked, LeavesMarked, ShowsMarked}
 use Rattle.pq_opening.proofs.Leaving.{itself}
-use Rattle.pq_opening.proofs.starting.finish_opening.Goals as goal
+use Rattle.pq_opening.proofs.begun.finish_opening.Goals as goal
 
 pub returns-in_err-rows-in-Building-clause-stopped : goal.returns-in_err-rows-in-Building-clause-stopped
 returns-in_err-rows-in-Building-clause-stopped g c =
