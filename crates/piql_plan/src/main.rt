@@ -2,7 +2,7 @@
 //! nodes of its plan. The exit status is how that ended.
 #![tactic(auto)]
 
-ghost use Rattle.std.specs.Prelude.{◌≤◌, length, IfOk};
+ghost use Rattle.std.specs.Prelude.{◌≤◌, ◌+◌, length, IfOk};
 ghost use Rattle.pq_shell.specs.Reading.{script_limit};
 
 use pq_base::{Bytes, List, NoMem};
@@ -17,7 +17,8 @@ const ROOM: usize = 4096;
 
 /// Reads the source to its end, if that comes within the limit.
 fn read_script<I: Source>(alloc: Global, source: &mut I) -> Result<Bytes, Status>
-    ensures { IfOk result (λ script. length script ≤ script_limit) }
+    ensures within { IfOk result (λ script. length script ≤ script_limit) }
+    ensures reads { I.count source.new ≤ I.count source.old + (script_limit + 1) }
 {
     let mut script = List::new(alloc);
     let mut room = [0u8; ROOM];

@@ -4,7 +4,7 @@ ghost use Rattle.std.specs.Io.KnownBytes.{prepend_known};
 ghost use Rattle.pq_schema.specs.Valid.{IsValid};
 ghost use Rattle.pq_store.specs.Content.{HasRisen};
 ghost use Rattle.pq_shell.specs.Making.{moment};
-ghost use Rattle.pq_shell.specs.Reading.{script_limit};
+ghost use Rattle.pq_shell.specs.Reading.{CountsBytes, script_limit};
 ghost use Rattle.pq_shell.specs.Run.{IsPlain, run_world};
 ghost use Rattle.pq_shell.specs.Stops.{Causes};
 ghost use Rattle.pq_client_shell.specs.Runs.{OpensStore, StopsOpening, MadeRead, HaltsRead, FinishedClients, BrokenClients, Ends, Suffices};
@@ -95,6 +95,8 @@ fn run_script<S: Store<L>, I: Source, O: Sink, L: Ledger>(
     ensures causes { Causes (S.faults store.old) (S.faults store.new) (O.faults sink.old) (O.faults sink.new) result }
     ensures taken { (taken : List ℕ) × (I.left source.old ≡ prepend_known taken (I.left source.new))
         × (length taken ≤ script_limit + 1) }
+    ensures counted { IfOk result (λ ended. CountsBytes ended.ending (I.count source.old) (I.count source.new)) }
+    ensures reads { I.count source.new ≤ I.count source.old + (script_limit + 1) }
     ensures read_fault { IfOk result (λ ended. ended.ending ≡ Ending.Faulted
         → HasRisen (I.faults source.old) (I.faults source.new)) }
 {
@@ -135,6 +137,10 @@ pub fn run_piql_clients<S: Store<L>, I: Source, O: Sink, L: Ledger>(
     ensures store_fault { result ≡ Status.StoreFault → HasRisen (S.faults store.old) (S.faults store.new) }
     ensures taken { (taken : List ℕ) × (I.left source.old ≡ prepend_known taken (I.left source.new))
         × (length taken ≤ script_limit + 1) }
+    // Whether the source tells or not, at most as many bytes are taken as a script may have, and one; and so many
+    // where the script is too long.
+    ensures reads { I.count source.new ≤ I.count source.old + (script_limit + 1) }
+    ensures too_long { result ≡ Status.TooLong → I.count source.new ≡ I.count source.old + (script_limit + 1) }
     // With a script within the limit, over a store that opens, and without a fault, the run is made to its end.
     ensures complete { (k : ℕ) → AreWords k words.now
         → ¬ HasRisen (I.faults source.old) (I.faults source.new)
@@ -168,6 +174,8 @@ fn run<S: Store<L>, I: Source, O: Sink, L: Ledger>(
     ensures store_fault { result ≡ Status.StoreFault → HasRisen (S.faults store.old) (S.faults store.new) }
     ensures taken { (taken : List ℕ) × (I.left source.old ≡ prepend_known taken (I.left source.new))
         × (length taken ≤ script_limit + 1) }
+    ensures reads { I.count source.new ≤ I.count source.old + (script_limit + 1) }
+    ensures too_long { result ≡ Status.TooLong → I.count source.new ≡ I.count source.old + (script_limit + 1) }
 {
     let outcome = run_script(alloc, k, source, store, meter, sink);
     close(alloc, outcome, sink)

@@ -3,7 +3,7 @@ ghost use Rattle.std.specs.Prelude.{◌≡◌, ◌≤◌, ◌+◌, ◌^◌, ℕ,
 ghost use Rattle.std.specs.Io.KnownBytes.{prepend_known};
 ghost use Rattle.pq_store.specs.Content.{HasRisen};
 ghost use Rattle.pq_text.specs.Pieces.{rest_of, is_unfinished};
-ghost use Rattle.pq_shell.specs.Reading.{TookBytes, script_limit};
+ghost use Rattle.pq_shell.specs.Reading.{CountsBytes, TookBytes, script_limit};
 ghost use Rattle.pq_client_shell.specs.Lines.{leaves_rest};
 ghost use Rattle.pq_client_shell.specs.Runs.{IsRead};
 
@@ -30,6 +30,8 @@ fn read_bytes<I: Source>(source: &mut I, bytes: &mut Vec<u8>) -> Result<Ending, 
     ensures took { IfOk result (λ ending. TookBytes ending (I.left source.old) (I.left source.new) bytes.new.items) }
     ensures taken { (taken : Items ℕ) × (I.left source.old ≡ prepend_known taken (I.left source.new))
         × (length taken ≤ script_limit + 1) }
+    ensures counted { IfOk result (λ ending. CountsBytes ending (I.count source.old) (I.count source.new)) }
+    ensures reads { I.count source.new ≤ I.count source.old + (script_limit + 1) }
     ensures later { I.faults source.old ≤ I.faults source.new }
     ensures read_fault { IfOk result (λ ending. ending ≡ Ending.Faulted
         → HasRisen (I.faults source.old) (I.faults source.new)) }
@@ -67,6 +69,8 @@ pub fn read_script<I: Source>(alloc: Global, source: &mut I) -> Result<Script, N
     ensures read { IfOk result (λ script. IsRead (I.left source.old) (I.left source.new) script) }
     ensures taken { (taken : Items ℕ) × (I.left source.old ≡ prepend_known taken (I.left source.new))
         × (length taken ≤ script_limit + 1) }
+    ensures counted { IfOk result (λ script. CountsBytes script.ending (I.count source.old) (I.count source.new)) }
+    ensures reads { I.count source.new ≤ I.count source.old + (script_limit + 1) }
     ensures later { I.faults source.old ≤ I.faults source.new }
     ensures read_fault { IfOk result (λ script. script.ending ≡ Ending.Faulted
         → HasRisen (I.faults source.old) (I.faults source.new)) }

@@ -25,9 +25,10 @@ calls_after failed calls = record {
       then raised_count calls.faults else calls.faults;
 }
 
--- what a source in memory has left
+-- what a source in memory has left, and how many bytes it gave
 pub record GivenBytes : Type 0 where
   pub left : List ℕ
+  pub count : ℕ
   pub calls : Calls
 
 -- what a sink in memory holds, and how many bytes it holds at most

@@ -1,5 +1,5 @@
 -- What was read of a source.
-use Rattle.std.specs.Prelude.{◌≡◌, ℕ, ◌≤◌, List, [], ◌∷◌, ◌++◌, length, Option}
+use Rattle.std.specs.Prelude.{◌≡◌, ℕ, ◌+◌, ◌≤◌, List, [], ◌∷◌, ◌++◌, length, Option}
 use Rattle.std.specs.Io.KnownBytes.{prepend_known, IsAtEnd}
 use Rattle.pq_shell.specs.declared.reading.Ending.{Ending}
 use Rattle.pq_shell.specs.declared.reading.Ending.TheVariants.{Whole, Faulted, TooLong}
@@ -15,3 +15,16 @@ TookBytes Whole left left_now bytes = (left ≡ prepend_known bytes left_now) ×
 TookBytes Faulted left left_now bytes = (left ≡ prepend_known bytes left_now) × (length bytes ≤ script_limit)
 TookBytes TooLong left left_now bytes = (next : ℕ) × (left ≡ prepend_known (bytes ++ next ∷ []) left_now)
     × (length bytes ≡ script_limit)
+
+-- between these counts of a source, told or not: one byte more than a script may have where there were more,
+-- and else at most as many
+abbrev pub CountsBytes : Ending → ℕ → ℕ → Type 0
+CountsBytes Whole count count_now = count_now ≤ count + script_limit
+CountsBytes Faulted count count_now = count_now ≤ count + script_limit
+CountsBytes TooLong count count_now = count_now ≡ count + (script_limit + 1)
+
+-- how many bytes were taken behind the limit
+abbrev pub bytes_past : Ending → ℕ
+bytes_past Whole = 0
+bytes_past Faulted = 0
+bytes_past TooLong = 1

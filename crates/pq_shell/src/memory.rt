@@ -77,7 +77,7 @@ impl Model for MemSource {
 
     ghost Value = { GivenBytes };
 
-    ghost view = { λ s. record { left = drop s.at s.bytes; calls = s.calls } };
+    ghost view = { λ s. record { left = drop s.at s.bytes; count = s.at; calls = s.calls } };
 
     ghost invariant = { λ s. s.at ≤ length s.bytes };
 }
@@ -86,6 +86,7 @@ impl MemSource {
     /// The source of these bytes. Its calls are numbered from 1, and the listed ones fail.
     pub fn new(bytes: Bytes, fails: List<u64>) -> MemSource
         ensures left { result.left ≡ bytes }
+        ensures count { result.count ≡ 0 }
         ensures fails { result.calls.fails ≡ fails }
         ensures made { result.calls.made ≡ 0 }
         ensures faults { result.calls.faults ≡ 0 }
@@ -101,6 +102,7 @@ impl MemSource {
     fn give(&mut self, room: &mut [u8]) -> usize
         ensures size { result ≡ min (length room.old) (length self.old.left) }
         ensures taken { self.old.left ≡ take result room.new ++ self.new.left }
+        ensures counted { self.new.count ≡ self.old.count + result }
         ensures calls { self.new.calls ≡ self.old.calls }
     {
         let bytes = self.bytes.items();
@@ -116,6 +118,8 @@ impl Source for MemSource {
 
     ghost left = { λ s. Some s.left };
 
+    ghost count = { λ s. s.count };
+
     ghost faults = { λ s. s.calls.faults };
 
     fn read(&mut self, room: &mut [u8]) -> Result<usize, Failed>
@@ -124,6 +128,8 @@ impl Source for MemSource {
         ensures taken { IfOk result (λ n. self.old.left ≡ take n room.new ++ self.new.left) }
         ensures end { IfOk result (λ n. n ≡ 0 → self.new.left ≡ []) }
         ensures kept { OnErr result (self.new.left ≡ self.old.left) }
+        ensures counted { IfOk result (λ n. self.new.count ≡ self.old.count + n) }
+        ensures uncounted { OnErr result (self.new.count ≡ self.old.count) }
         ensures cause { HasFaultCause self.old.calls.faults self.new.calls.faults result }
         ensures failed { IsErr result ↔ IsTrue (is_listed self.old.calls) }
         ensures calls { self.new.calls ≡ calls_after (is_listed self.old.calls) self.old.calls }

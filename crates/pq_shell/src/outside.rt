@@ -1,5 +1,5 @@
 //! What a script is read from and what its reports are written to.
-ghost use Rattle.std.specs.Prelude.{◌≡◌, ℕ, ◌<◌, ◌≤◌, List, Option, length, take, IfOk, OnOk, OnErr};
+ghost use Rattle.std.specs.Prelude.{◌≡◌, ℕ, ◌+◌, ◌<◌, ◌≤◌, List, Option, length, take, IfOk, OnOk, OnErr};
 ghost use Rattle.std.specs.Io.KnownBytes.{append_known, prepend_known, IsAtEnd};
 ghost use Rattle.pq_shell.specs.Outside.{HasFaultCause, IsCut};
 
@@ -15,6 +15,9 @@ pub trait Source {
     /// The bytes that are left, where it tells.
     ghost left: { Self → Option (List ℕ) };
 
+    /// How many bytes were taken of it so far, whether it tells them or not.
+    ghost count: { Self → ℕ };
+
     /// How often it has failed.
     ghost faults: { Self → ℕ };
 
@@ -26,6 +29,8 @@ pub trait Source {
         ensures taken { IfOk result (λ n. left self.old ≡ prepend_known (take n room.new) (left self.new)) }
         ensures end { IfOk result (λ n. n ≡ 0 → IsAtEnd (left self.new)) }
         ensures kept { OnErr result (left self.new ≡ left self.old) }
+        ensures counted { IfOk result (λ n. count self.new ≡ count self.old + n) }
+        ensures uncounted { OnErr result (count self.new ≡ count self.old) }
         ensures cause { HasFaultCause (faults self.old) (faults self.new) result };
 }
 

@@ -1,8 +1,8 @@
 //! How far a source is read.
-ghost use Rattle.std.specs.Prelude.{◌≡◌, ◌≤◌, [], ℕ, List, Option, length};
+ghost use Rattle.std.specs.Prelude.{◌≡◌, ◌≤◌, ◌+◌, [], ℕ, List, Option, length};
 ghost use Rattle.std.specs.Io.KnownBytes.{prepend_known};
 ghost use Rattle.pq_store.specs.Content.{HasRisen};
-ghost use Rattle.pq_shell.specs.Reading.{TookBytes, script_limit};
+ghost use Rattle.pq_shell.specs.Reading.{TookBytes, bytes_past, script_limit};
 
 use crate::outside::{Failed, Source};
 
@@ -26,6 +26,7 @@ pub fn read_past_limit<I: Source>(source: &mut I) -> Ending
         → left ≡ prepend_known bytes (I.left source.old) → TookBytes result left (I.left source.new) bytes }
     ensures taken { (taken : List ℕ) × (I.left source.old ≡ prepend_known taken (I.left source.new))
         × (length taken ≤ 1) }
+    ensures counted { I.count source.new ≡ I.count source.old + bytes_past result }
     ensures later { I.faults source.old ≤ I.faults source.new }
     ensures cause { result ≡ Ending.Faulted → HasRisen (I.faults source.old) (I.faults source.new) }
 {

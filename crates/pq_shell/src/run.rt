@@ -1,5 +1,5 @@
 //! The top call: words, a source, a store and a sink; and how the run ended.
-ghost use Rattle.std.specs.Prelude.{◌≡◌, ◌≢◌, ◌⊎◌, ◌↔◌, ◌+◌, ◌^◌, ◌<◌, ◌≤◌, ℕ, List, Option, IfOk, IfErr, IfSome, IsErrOf, length};
+ghost use Rattle.std.specs.Prelude.{◌≡◌, ◌≢◌, ◌⊎◌, ◌↔◌, ◌+◌, ◌^◌, ◌<◌, ◌≤◌, ℕ, List, Option, IfOk, IfErr, OnErr, IfSome, IsErrOf, length};
 ghost use Rattle.std.specs.Io.KnownBytes.{prepend_known};
 ghost use Rattle.pq_fill.specs.Words.{IsForm};
 ghost use Rattle.pq_fill.specs.declared.words.Form.{Form as Declared};
@@ -10,7 +10,7 @@ ghost use Rattle.pq_shell.specs.Flaw.{IsFlaw, StopsAtFlaw, EndsAtFlaw};
 ghost use Rattle.pq_shell.specs.Forms.{HasOpening};
 ghost use Rattle.pq_shell.specs.Making.{ReadsSource, moment};
 ghost use Rattle.pq_shell.specs.Openings.{OpensWith, StoppedOpening};
-ghost use Rattle.pq_shell.specs.Reading.{script_limit};
+ghost use Rattle.pq_shell.specs.Reading.{CountsBytes, script_limit};
 ghost use Rattle.pq_shell.specs.Run.{BrokenRun, Closes, Ends, EndsDamaged, FinishedRun, IsMeant, IsPlain, Suffices, status_of, run_world};
 ghost use Rattle.pq_shell.specs.Serving.{ConsumedSource, StoppedAmong};
 ghost use Rattle.pq_shell.specs.Stops.{Causes};
@@ -127,6 +127,8 @@ fn run_source<S: Store<L>, I: Source, O: Sink, L: Ledger>(
     ensures causes { Causes (S.faults store.old) (S.faults store.new) (O.faults sink.old) (O.faults sink.new) result }
     ensures taken { (taken : List ℕ) × (I.left source.old ≡ prepend_known taken (I.left source.new))
         × (length taken ≤ script_limit + 1) }
+    ensures counted { IfOk result (λ ending. CountsBytes ending (I.count source.old) (I.count source.new)) }
+    ensures stopped { OnErr result (I.count source.new ≤ I.count source.old + script_limit) }
     ensures later { I.faults source.old ≤ I.faults source.new }
     ensures read_fault { IfOk result (λ ending. ending ≡ Ending.Faulted
         → HasRisen (I.faults source.old) (I.faults source.new)) }
@@ -181,6 +183,8 @@ fn run_script<S: Store<L>, I: Source, O: Sink, L: Ledger>(
     ensures causes { Causes (S.faults store.old) (S.faults store.new) (O.faults sink.old) (O.faults sink.new) result }
     ensures taken { (taken : List ℕ) × (I.left source.old ≡ prepend_known taken (I.left source.new))
         × (length taken ≤ script_limit + 1) }
+    ensures counted { IfOk result (λ ended. CountsBytes ended.ending (I.count source.old) (I.count source.new)) }
+    ensures stopped { OnErr result (I.count source.new ≤ I.count source.old + script_limit) }
     ensures later { I.faults source.old ≤ I.faults source.new }
     ensures read_fault { IfOk result (λ ended. ended.ending ≡ Ending.Faulted
         → HasRisen (I.faults source.old) (I.faults source.new)) }
@@ -254,6 +258,8 @@ fn run_form<S: Store<L>, I: Source, O: Sink, L: Ledger>(
     ensures causes { Causes (S.faults store.old) (S.faults store.new) (O.faults sink.old) (O.faults sink.new) result }
     ensures taken { (taken : List ℕ) × (I.left source.old ≡ prepend_known taken (I.left source.new))
         × (length taken ≤ script_limit + 1) }
+    ensures counted { IfOk result (λ ended. CountsBytes ended.ending (I.count source.old) (I.count source.new)) }
+    ensures stopped { OnErr result (I.count source.new ≤ I.count source.old + script_limit) }
     ensures read_fault { IfOk result (λ ended. ended.ending ≡ Ending.Faulted
         → HasRisen (I.faults source.old) (I.faults source.new)) }
 {
@@ -331,6 +337,8 @@ fn run<S: Store<L>, I: Source, O: Sink, L: Ledger>(
     ensures store_fault { result ≡ Status.StoreFault → HasRisen (S.faults store.old) (S.faults store.new) }
     ensures taken { (taken : List ℕ) × (I.left source.old ≡ prepend_known taken (I.left source.new))
         × (length taken ≤ script_limit + 1) }
+    ensures reads { I.count source.new ≤ I.count source.old + (script_limit + 1) }
+    ensures too_long { result ≡ Status.TooLong ↔ I.count source.new ≡ I.count source.old + (script_limit + 1) }
 {
     let outcome = run_form(alloc, form, source, store, meter, sink);
     close(alloc, outcome, sink)
@@ -371,6 +379,10 @@ pub fn run_piql<S: Store<L>, I: Source, O: Sink, L: Ledger>(
     ensures store_fault { result ≡ Status.StoreFault → HasRisen (S.faults store.old) (S.faults store.new) }
     ensures taken { (taken : List ℕ) × (I.left source.old ≡ prepend_known taken (I.left source.new))
         × (length taken ≤ script_limit + 1) }
+    // Whether the source tells or not, at most as many bytes are taken as a script may have, and one; and so many
+    // exactly where the script is too long.
+    ensures reads { I.count source.new ≤ I.count source.old + (script_limit + 1) }
+    ensures too_long { result ≡ Status.TooLong ↔ I.count source.new ≡ I.count source.old + (script_limit + 1) }
     ensures complete { (form : Declared) → IsForm form words.now
         → (ReadsSource form → ¬ HasRisen (I.faults source.old) (I.faults source.new))
         → ¬ HasRisen (O.faults sink.old) (O.faults sink.new)

@@ -1,22 +1,32 @@
-//! A reader and a writer of the system as source and sink. They tell nothing, and count their faults.
-ghost use Rattle.std.specs.Prelude.{◌≡◌, ◌≤◌};
+//! A reader and a writer of the system as source and sink. They tell nothing, and count their faults; the source
+//! counts its bytes too.
+ghost use Rattle.std.specs.Prelude.{◌≡◌, ◌≤◌, ◌+◌, ◌<◌, length, IfOk, OnErr};
+ghost use Rattle.std.specs.Io.KnownBytes.{ReadConsumes};
+ghost use Rattle.pq_shell.specs.Outside.{HasFaultCause};
 
 use crate::outside::{Failed, Sink, Source};
 use std::io::{Read, Write};
 
-/// A source over a reader. Its count of faults stands still at its last value.
+/// A source over a reader. Its count of faults stands still at its last value. A read that could pass the last value
+/// of its count of bytes is a fault, and the reader isn't asked.
 #[derive(Drop)]
 pub struct StdSource<R: Read> {
     reader: R,
+    count: u64,
     faults: u64,
 }
 
 impl<R: Read> StdSource<R> {
-    /// The source of the bytes that the reader gives. It has no fault yet.
+    /// The source of the bytes that the reader gives. None was taken yet, and it has no fault yet.
     pub fn new(reader: R) -> StdSource<R>
-        ensures { result.faults ≡ 0 }
+        ensures count { result.count ≡ 0 }
+        ensures faults { result.faults ≡ 0 }
     {
-        StdSource { reader, faults: 0 }
+        StdSource {
+            reader,
+            count: 0,
+            faults: 0,
+        }
     }
 }
 
@@ -25,16 +35,27 @@ impl<R: Read> Source for StdSource<R> {
 
     ghost left = { λ _. None };
 
+    ghost count = { λ s. s.count };
+
     ghost faults = { λ s. s.faults };
 
-    fn read(&mut self, room: &mut [u8]) -> Result<usize, Failed> {
-        match self.reader.read(room) {
-            Ok(n) => Ok(n),
-            Err(_) => {
-                self.faults = self.faults.saturating_add(1);
-                Err(Failed)
+    fn read(&mut self, room: &mut [u8]) -> Result<usize, Failed>
+        requires { 0 < length room.old }
+        ensures within { IfOk result (λ n. n ≤ length room.old) }
+        // What the reader gives, if that is known, is just what is passed on and counted.
+        ensures passed { ReadConsumes (R.remaining self.old.reader) (R.remaining self.new.reader) result room.new }
+        ensures counted { IfOk result (λ n. self.new.count ≡ self.old.count + n) }
+        ensures uncounted { OnErr result (self.new.count ≡ self.old.count) }
+        ensures cause { HasFaultCause self.old.faults self.new.faults result }
+    {
+        if room.len() as u64 <= u64::MAX - self.count {
+            if let Ok(n) = self.reader.read(room) {
+                self.count += n as u64;
+                return Ok(n);
             }
         }
+        self.faults = self.faults.saturating_add(1);
+        Err(Failed)
     }
 }
 

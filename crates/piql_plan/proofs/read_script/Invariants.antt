@@ -5,6 +5,7 @@ use Rattle.piql_plan.proofs.read_script.Given as goal
 abbrev pub invariant-script : goal.invariant-script
 invariant-script g l = record {
   long : length l.script ≡ l.taken;
+  counted : g.I.Source.count l.source ≡ g.I.Source.count l.initial.source + l.taken;
   within : l.taken ≤ script_limit + 1;
 }
 

@@ -1,4 +1,5 @@
 use Rattle.std.proofs.lemmas.Result.{err_from_is_err_and, IfOk-weaker, IfErr-weaker}
+use Rattle.pq_client_shell.proofs.Counting.{counted_ending}
 use Rattle.pq_client_shell.proofs.Closing.{stops_opening, stops_reading, finished_clients, broken_clients}
 use Rattle.pq_client_shell.proofs.run.run_script.Goals as goal
 
@@ -18,3 +19,6 @@ returns-clause-ok g c = IfOk-weaker c.run_read.result _ _ (λ ended made. finish
 
 pub returns-clause-err : goal.returns-clause-err
 returns-clause-err g c = IfErr-weaker c.run_read.result _ _ (λ stop halts. broken_clients c.args.k stop _ _ _ _ _ _ _ _ _ _ _ c.in-Ok.script c.in_ok-session.ensures.ok c.in-Ok.ensures.read halts) c.run_read.ensures.err
+
+pub returns-clause-counted : goal.returns-clause-counted
+returns-clause-counted g c = counted_ending c.run_read.result c.in-Ok.script.ending _ _ c.in-Ok.ensures.counted (IfOk-weaker c.run_read.result _ _ (λ ended made. made.ending_is) c.run_read.ensures.ok)

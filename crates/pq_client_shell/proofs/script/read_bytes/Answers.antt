@@ -18,7 +18,7 @@ read_none : (left mid now : Option (List ℕ)) (bytes room : List ℕ) (n : ℕ)
 read_none left mid now bytes room n first next none = first ∙ ap (prepend_known bytes) (next ∙ ap (λ k. prepend_known (take k room) now) none ∙ prepend_known-none now)
 
 pub loop-taken-init : goal.loop-taken-init
-loop-taken-init g c = record { within = search rules; long = ap length c.requires; read = none_read _ _ c.requires; later = search rules }
+loop-taken-init g c = record { within = search rules; long = ap length c.requires; read = none_read _ _ c.requires; counted = search rules; later = search rules }
 
 pub returns-in-Err-clause-took : goal.returns-in-Err-clause-took
 returns-in-Err-clause-took g c =
@@ -54,6 +54,7 @@ loop-taken-preserved g c =
       within = omega (arith, c.in-Ok.ensures.within, length-take c.min-want.result c.loop-taken.room, c.min-want.ensures);
       long = omega (arith, ap length ext, length-append bytes part, room_long n c.read.new.room behind within, so_far.long);
       read = read_more _ _ _ bytes part so_far.read next ∙ ap (λ b. prepend_known b (g.I.Source.left c.read.new.self)) (sym ext);
+      counted = omega (arith, c.loop-taken.invariant.counted, c.in-Ok.ensures.counted);
       later = search rules;
     }
 

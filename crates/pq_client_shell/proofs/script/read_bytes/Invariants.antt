@@ -1,4 +1,4 @@
-use Rattle.std.proofs.Common.{◌≡◌, ◌-◌, ◌≤◌, length}
+use Rattle.std.proofs.Common.{◌≡◌, ◌+◌, ◌-◌, ◌≤◌, length}
 use Rattle.std.specs.Io.KnownBytes.{prepend_known}
 use Rattle.pq_shell.specs.Reading.{script_limit}
 use Rattle.pq_client_shell.proofs.script.read_bytes.Given as goal
@@ -8,6 +8,7 @@ invariant-loop-taken g l = record {
   within : l.taken ≤ script_limit;
   long : length l.bytes.items ≡ l.taken;
   read : g.I.Source.left l.initial.source ≡ prepend_known l.bytes.items (g.I.Source.left l.source);
+  counted : g.I.Source.count l.source ≡ g.I.Source.count l.initial.source + l.taken;
   later : g.I.Source.faults l.initial.source ≤ g.I.Source.faults l.source;
 }
 

@@ -1,3 +1,4 @@
+use Rattle.pq_shell.proofs.Counting.{counted_run}
 use Rattle.pq_shell.proofs.Ending.{Ends-of}
 use Rattle.pq_shell.proofs.Flaws.{ends_at_flaw}
 use Rattle.pq_shell.proofs.run.run.Goals as goal
@@ -7,3 +8,9 @@ returns-clause-ends g c = Ends-of c.args.form c.run_form-outcome.result _ _ _ _ 
 
 pub returns-clause-flawed : goal.returns-clause-flawed
 returns-clause-flawed g c = λ some. ends_at_flaw _ c.run_form-outcome.result _ _ _ _ (c.run_form-outcome.ensures.flawed some) c.close.ensures.closes
+
+pub returns-clause-reads : goal.returns-clause-reads
+returns-clause-reads g c = (counted_run c.run_form-outcome.result _ _ _ _ _ c.run_form-outcome.ensures.counted c.run_form-outcome.ensures.stopped c.close.ensures.closes).reads
+
+pub returns-clause-too_long : goal.returns-clause-too_long
+returns-clause-too_long g c = (counted_run c.run_form-outcome.result _ _ _ _ _ c.run_form-outcome.ensures.counted c.run_form-outcome.ensures.stopped c.close.ensures.closes).too_long

@@ -1,4 +1,5 @@
 use Rattle.std.proofs.lemmas.Result.{err_from_is_err_and, IfOk-weaker, IfErr-weaker}
+use Rattle.pq_shell.proofs.Counting.{counted_rest, stopped_rest}
 use Rattle.pq_shell.proofs.Ending.{Finished-of, Stopped-among, Stopped-at_rest, Stopped-opening}
 use Rattle.pq_shell.proofs.Flaws.{never_at_flaw}
 use Rattle.pq_shell.proofs.run.run_script.Goals as goal
@@ -34,3 +35,9 @@ returns-in_err-ending-clause-flawed g c = λ some. never_at_flaw _ _ (c.in_ok-be
 
 pub returns-clause-flawed : goal.returns-clause-flawed
 returns-clause-flawed g c = λ some. never_at_flaw _ _ (c.in_ok-begun.ensures.flawed some)
+
+pub returns-clause-counted : goal.returns-clause-counted
+returns-clause-counted g c = counted_rest c.finish.result _ _ _ _ _ _ c.in_ok-ending.ensures.counted c.finish.ensures.ok
+
+pub returns-clause-stopped : goal.returns-clause-stopped
+returns-clause-stopped g c = stopped_rest c.finish.result _ _ _ _ _ _ c.in_ok-ending.ensures.counted c.finish.ensures.err

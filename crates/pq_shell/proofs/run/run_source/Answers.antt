@@ -8,7 +8,7 @@ use Rattle.pq_shell.proofs.SoFar.{SoFar-start, SoFar-more, SoFar-taken, SoFar-fa
 use Rattle.pq_shell.proofs.run.run_source.Goals as goal
 
 pub loop-taken-init : goal.loop-taken-init
-loop-taken-init g c = record { within = search rules; store_later = search rules; sink_later = search rules; source_later = search rules; unmoved = search rules; so_far = SoFar-start _ _ _ _ _ }
+loop-taken-init g c = record { within = search rules; store_later = search rules; sink_later = search rules; source_later = search rules; counted = search rules; unmoved = search rules; so_far = SoFar-start _ _ _ _ _ }
 
 pub returns-in-Err-clause-ok : goal.returns-in-Err-clause-ok
 returns-in-Err-clause-ok g c = (_, SoFar-faulted c.loop-taken.invariant.so_far c.in-Err.ensures.kept (search rules))
@@ -45,6 +45,7 @@ loop-taken-preserved g c =
       store_later = search rules;
       sink_later = search rules;
       source_later = search rules;
+      counted = omega (arith, c.loop-taken.invariant.counted, c.in-Ok.ensures.counted);
       unmoved = search rules;
       so_far = SoFar-more n (take n (c.read.new.room ++ behind)) c.loop-taken.invariant.so_far next (room_long n c.read.new.room behind within) c.in_ok-session.ensures.ok;
     }
