@@ -1,9 +1,12 @@
-//! Tests of whole runs over other stores than the one in memory: over parts, and over a database in memory and in a file.
+//! Tests of whole runs over other stores than the one in memory: over parts, over one that stands still, and over a
+//! database in memory and in a file.
 #![tactic(auto)]
 
 #[cfg(test)]
 mod databases;
 #[cfg(test)]
 mod files;
+#[cfg(test)]
+mod frozen;
 #[cfg(test)]
 mod parts;
