@@ -75,6 +75,11 @@ CASES = (
 )
 
 
+def too_long(script: str) -> bytes:
+    """The script with as many blanks behind it that it is one byte too long."""
+    return script.encode().ljust(TOO_LONG)
+
+
 class WordsTest(unittest.TestCase):
     """Over a program that only tells its words."""
 
@@ -127,9 +132,20 @@ class ClientsTest(unittest.TestCase):
         self.assertEqual(run.returncode, 4)
 
     def test_a_script_that_is_too_long_is_made_as_far_as_it_is_read(self) -> None:
-        script = (NUMBERS + "INSERT INTO m VALUES (1, 7);").encode()
-        run = self.run_program("2", script + b" " * (TOO_LONG - len(script)))
+        run = self.run_program("2", too_long(NUMBERS + "INSERT INTO m VALUES (1, 7); INSERT"))
         self.assertEqual((run.stdout.decode(), run.returncode), (MADE + "told 1 1 done\n", 8))
+
+    def test_too_long_goes_before_refused(self) -> None:
+        script = NUMBERS + "INSERT INTO m VALUES (1, 7); SHOW; INSERT INTO m VALUES (1, 8);"
+        run = self.run_program("2", too_long(script))
+        lines = MADE + "3 skipped\ntold 2 1 conflict\ntold 1 1 done\n"
+        self.assertEqual((run.stdout.decode(), run.returncode), (lines, 8))
+
+    def test_lines_that_cannot_be_written_go_before_too_long(self) -> None:
+        assert PROGRAM
+        with open("/dev/full", "wb") as full:
+            run = subprocess.run([PROGRAM, "2"], input=too_long(NUMBERS), stdout=full)
+        self.assertEqual(run.returncode, 4)
 
 
 if __name__ == "__main__":

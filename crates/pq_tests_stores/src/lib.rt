@@ -1,7 +1,17 @@
 //! Tests of whole runs over other stores than the one in memory: over parts, over one that stands still, and over a
-//! database in memory and in a file.
+//! database in memory and in a file; and of runs of clients over stores that fail, find no memory or are damaged.
 #![tactic(auto)]
 
+#[cfg(test)]
+mod client_damage;
+#[cfg(test)]
+mod client_pairs;
+#[cfg(test)]
+mod client_runs;
+#[cfg(test)]
+mod client_stops;
+#[cfg(test)]
+mod clients;
 #[cfg(test)]
 mod databases;
 #[cfg(test)]
@@ -10,3 +20,5 @@ mod files;
 mod frozen;
 #[cfg(test)]
 mod parts;
+#[cfg(test)]
+mod scarce;

@@ -1,0 +1,4 @@
+use Rattle.pq_tests_stores.proofs.clients.unlike.Given as goal
+
+abbrev pub ghosts-first_unlike : goal.ghosts-first_unlike
+ghosts-first_unlike a = record { name = a.blank.name; parts = a.blank.parts }
