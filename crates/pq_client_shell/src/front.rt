@@ -1,5 +1,5 @@
 //! The pieces before the first write: they are made and reported as by a run.
-ghost use Rattle.std.specs.Prelude.{◌≡◌, ◌<◌, ◌^◌, ◌+◌, false, length, IfOk, IfErr};
+ghost use Rattle.std.specs.Prelude.{◌<◌, ◌^◌, ◌+◌, false, length, IfOk, IfErr};
 ghost use Rattle.pq_fill.specs.declared.words.Form.TheVariants as Form;
 ghost use Rattle.pq_shell.specs.Fold.{ServedItems, StoppedItem};
 ghost use Rattle.pq_shell.specs.Items.{cut_items};

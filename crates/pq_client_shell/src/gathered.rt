@@ -1,7 +1,6 @@
 //! The pieces from the first write on: the writes among them are dealt to the clients.
-ghost use Rattle.std.specs.Prelude.{◌≡◌, ◌≤◌, ◌<◌, ◌^◌, ◌+◌, ◌++◌, ◌||◌, false, is_some, not, All, IfOk, IfErr, IfSome, OnOk, OnErr, IsErrOf, length, string_bytes, drop};
+ghost use Rattle.std.specs.Prelude.{◌≡◌, ◌≤◌, ◌<◌, ◌^◌, ◌+◌, ◌++◌, ◌||◌, false, is_some, not, IfOk, IfErr, OnOk, OnErr, length, string_bytes, drop};
 ghost use Rattle.std.specs.List.{AllByRecursion, list_any};
-ghost use Rattle.std.specs.Io.KnownBytes.{append_known};
 ghost use Rattle.pq_index_keep.specs.Sound.{IsWrite};
 ghost use Rattle.pq_shell.specs.Making.{moment};
 ghost use Rattle.pq_shell.specs.Serving.{rest_text};

@@ -1,7 +1,6 @@
 //! The top call for clients.
-ghost use Rattle.std.specs.Prelude.{◌≡◌, ◌↔◌, ◌≤◌, ◌<◌, ◌+◌, ◌^◌, ℕ, List, IfOk, IfErr, IsErrOf, length};
+ghost use Rattle.std.specs.Prelude.{◌≡◌, ◌↔◌, ◌≤◌, ◌<◌, ◌+◌, ◌^◌, ℕ, List, IfOk, IfErr, length};
 ghost use Rattle.std.specs.Io.KnownBytes.{prepend_known};
-ghost use Rattle.pq_schema.specs.Valid.{IsValid};
 ghost use Rattle.pq_store.specs.Content.{HasRisen};
 ghost use Rattle.pq_shell.specs.Making.{moment};
 ghost use Rattle.pq_shell.specs.Reading.{CountsBytes, script_limit};

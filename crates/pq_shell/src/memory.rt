@@ -1,6 +1,5 @@
 //! A source and a sink in memory, whose listed calls fail.
-ghost use Rattle.std.specs.Prelude.{◌≡◌, ◌≤◌, ◌<◌, ◌+◌, ◌-◌, ◌↔◌, ◌++◌, [], ℕ, List, min, take, drop, length, true, false, OnErr, IfOk, IsTrue, IsErr};
-ghost use Rattle.std.specs.Io.KnownBytes.{append_known, prepend_known, IsAtEnd};
+ghost use Rattle.std.specs.Prelude.{◌≡◌, ◌≤◌, ◌<◌, ◌+◌, ◌-◌, ◌↔◌, ◌++◌, [], List, min, take, drop, length, OnErr, IfOk, IsTrue, IsErr};
 ghost use Rattle.pq_store.specs.Content.{HasRisen};
 ghost use Rattle.pq_shell.specs.Outside.{HasFaultCause};
 ghost use Rattle.pq_shell.specs.Memory.{is_listed, calls_after, is_refusing};
@@ -153,7 +152,7 @@ pub struct MemSink {
 }
 
 impl Model for MemSink {
-    ghost use Rattle.std.specs.Prelude.{take, length, ◌≤◌, vec_len};
+    ghost use Rattle.std.specs.Prelude.{take, length, ◌≤◌};
     ghost use Rattle.pq_shell.specs.Memory.{TakenBytes};
 
     ghost Value = { TakenBytes };

@@ -1,5 +1,5 @@
 //! How far a source is read.
-ghost use Rattle.std.specs.Prelude.{◌≡◌, ◌≤◌, ◌+◌, [], ℕ, List, Option, length};
+ghost use Rattle.std.specs.Prelude.{◌≡◌, ◌≤◌, ◌+◌, ℕ, List, Option, length};
 ghost use Rattle.std.specs.Io.KnownBytes.{prepend_known};
 ghost use Rattle.pq_store.specs.Content.{HasRisen};
 ghost use Rattle.pq_shell.specs.Reading.{TookBytes, bytes_past, script_limit};

@@ -1,15 +1,12 @@
 //! The pieces of a script, made and reported as they are cut.
-ghost use Rattle.std.specs.Prelude.{◌≡◌, ℕ, ◌+◌, ◌^◌, ◌<◌, ◌≤◌, ◌||◌, [], ◌∷◌, false, List as Items, length, OnOk, IfOk, IfErr};
-ghost use Rattle.std.specs.Io.KnownBytes.{append_known};
-ghost use Rattle.pq_store.specs.Content.{HasRisen};
+ghost use Rattle.std.specs.Prelude.{◌≡◌, ◌+◌, ◌^◌, ◌<◌, ◌||◌, [], ◌∷◌, false, length, OnOk, IfOk, IfErr};
 ghost use Rattle.pq_text.specs.Summaries.{start_summary, pieces_from};
-ghost use Rattle.pq_print.specs.Report.{printed_report};
 ghost use Rattle.pq_fill.specs.declared.words.Form.TheVariants as Form;
 ghost use Rattle.pq_shell.specs.Fold.{ServedItems, StoppedItem};
 ghost use Rattle.pq_shell.specs.Items.{Cut, cut_items};
 ghost use Rattle.pq_shell.specs.Making.{BreaksAt, ReadsSource, MakesItem, moment};
 ghost use Rattle.pq_shell.specs.Serving.{ProgressedRun, ReportsRest, StoppedAtRest, has_rest, rest_report};
-ghost use Rattle.pq_shell.specs.Stops.{CutsOff, Causes};
+ghost use Rattle.pq_shell.specs.Stops.{Causes};
 
 use crate::outside::Sink;
 use crate::reading::Ending;

@@ -1,5 +1,5 @@
 //! The lines of a run, written as they are made.
-ghost use Rattle.std.specs.Prelude.{◌≡◌, ◌≤◌, OnOk, IfErr};
+ghost use Rattle.std.specs.Prelude.{◌≡◌, OnOk, IfErr};
 ghost use Rattle.std.specs.Io.KnownBytes.{append_known};
 ghost use Rattle.pq_fill.specs.Summary.{summary_text};
 ghost use Rattle.pq_print.specs.Report.{printed_report, opening_line, damage_line};
