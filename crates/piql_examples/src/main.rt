@@ -1,5 +1,5 @@
-//! `piql_examples`: each word names an example (`examples`), each line of standard input is a case (`cases`). A line says
-//! for each whether it does what the files beside it say.
+//! `piql_examples`: each word names an example (`examples`), each line of standard input is a case (`cases`). A line
+//! says for each whether it does what the files beside it say.
 #![tactic(auto)]
 
 mod cases;

@@ -37,7 +37,8 @@ impl Sorted {
     /// Adds the write of a piece with this number, or the line that it is skipped.
     fn add(&mut self, alloc: Global, number: u32, found: Option<Write>) -> Result<(), NoMem>
         ensures writes { OnOk result (self.new.writes ≡ self.old.writes ++ one_write found) }
-        ensures lines { OnOk result (string_bytes self.new.lines ≡ string_bytes self.old.lines ++ unless_found number found) }
+        ensures lines { OnOk result (string_bytes self.new.lines
+            ≡ string_bytes self.old.lines ++ unless_found number found) }
         ensures skipped { OnOk result (self.new.skipped ≡ (self.old.skipped || not (is_some found))) }
     {
         match found {
