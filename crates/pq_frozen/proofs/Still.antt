@@ -1,8 +1,8 @@
 -- What only reads leaves the model as it is; and a call over a store that never fails is told no more than want of memory.
-use Rattle.std.proofs.Common.{◌≡◌, ℕ, ◌+◌, ◌≤◌, ◌<◌, ◌++◌, [], ◌∷◌, List, length, drop, get_or, drop-cons, add-one, Some, Result, Ok, Err, refl, sym, ap, ◌∙◌, subst, arith, inl, inr}
+use Rattle.std.proofs.Common.{◌≡◌, ℕ, ◌+◌, ◌≤◌, ◌<◌, ◌++◌, [], ◌∷◌, List, length, drop, get_or, Some, Result, Ok, Err, refl, sym, ap, ◌∙◌, subst, arith, inl, inr}
 use Rattle.std.specs.Prelude.{IfOk, IfErr, All}
-use Rattle.std.proofs.lemmas.List.{append_assoc, append-nil, drop_all}
-use Rattle.std.proofs.lemmas.List.Elements.{All-drop}
+use Rattle.std.proofs.lemmas.List.{append_assoc, append-nil, drop_all, drop_more}
+use Rattle.std.proofs.lemmas.List.Elements.{All-drop, All-head}
 use Rattle.std.proofs.lemmas.Option.{same_Some}
 use Rattle.pq_base.specs.declared.refusal.Refusal.{Refusal}
 use Rattle.pq_print.specs.declared.report.Report.{Report}
@@ -22,6 +22,7 @@ use Rattle.pq_step.specs.Promise.{OnlyReads}
 use Rattle.pq_step.specs.Stands.{HoldsModel, Opens, Stands}
 use Rattle.pq_step.specs.Step.{acted_as, step}
 use Rattle.pq_step.proofs.Standing.{settled_opens}
+use Rattle.pq_frozen.specs.Frozen.{Stilled}
 use Rattle.pq_frozen.specs.Reading.{AllRead, AreAnswers, model_behind}
 
 -- ---- the model
@@ -52,8 +53,8 @@ told_no_memory (Damaged damage) failed sound = absurd sound
 
 no_memory : {A : Type 0} (P Q : Model → Type 0) → ((m : Model) → Q m → P m) → (result : Result A Broke) → HasBrokeCause 0 0 result
     → IfErr result (λ broke. (m : Model) → P m → IsUndamaged broke) → IfErr result (λ broke. (m : Model) → Q m → broke ≡ NoMem)
-no_memory P Q to (Ok made) cause sound = tt
-no_memory P Q to (Err broke) cause sound = λ m holds. told_no_memory broke (λ is. no_rise (cause.failed (ap Err is))) (sound m (to m holds))
+no_memory P Q leads (Ok made) cause sound = tt
+no_memory P Q leads (Err broke) cause sound = λ m holds. told_no_memory broke (λ is. no_rise (cause.failed (ap Err is))) (sound m (leads m holds))
 
 -- ---- an opening, and a statement
 
@@ -104,28 +105,29 @@ pub known_reads : (m : Model) (pieces : List Piece) (place : ℕ) (piece : Piece
 known_reads m pieces place piece session held cut all stands =
     let rest : All (λ (p : Piece). OnlyReads (action_of m.schema p)) (piece ∷ drop (place + 1) pieces) =
     subst (λ (ps : List Piece). All (λ (p : Piece). OnlyReads (action_of m.schema p)) ps) cut (All-drop (λ (p : Piece). OnlyReads (action_of m.schema p)) place pieces all) in
-    subst (λ (schema : Schema). OnlyReads (action_of schema piece)) (sym stands.known) rest.0
+    subst (λ (schema : Schema). OnlyReads (action_of schema piece)) (sym stands.known) (All-head (λ (p : Piece). OnlyReads (action_of m.schema p)) piece (drop (place + 1) pieces) rest)
 
 -- the piece at a place, and those behind it
 pub cut_at : (pieces : List Piece) (place : ℕ) (piece : Piece) → place < length pieces → piece ≡ get_or pieces place piece → drop place pieces ≡ piece ∷ drop (place + 1) pieces
-cut_at pieces place piece within is = drop-cons pieces place piece within ∙ rw (add-one, ← is)
+cut_at pieces place piece within is = drop_more pieces place piece within ∙ ap (λ (p : Piece). p ∷ drop (place + 1) pieces) (sym is)
 
 pub read_next : (m : Model) (pieces : List Piece) (place number : ℕ) (piece : Piece) (held now : Content) (session next : Schema) (reports longer : List Report) (report : Report)
     → number ≡ place + 1 → drop place pieces ≡ piece ∷ drop (place + 1) pieces → longer ≡ reports ++ report ∷ [] → AllRead m.schema pieces
     → IsReading m pieces place held session reports
     → (Stands (Some held) session m → OnlyReads (action_of session piece) → Matches (step m number piece).report report × Stands (Some now) next m)
     → IsReading m pieces (place + 1) now next longer
-read_next m pieces place number piece held now session next reports longer report is cut pushed all reading answers = record {
-  stands = made.1;
-  rest = λ more others.
-      let told : Matches (step m (place + 1) piece).report report = subst (λ (n : ℕ). Matches (step m n piece).report report) is made.0 in
-      let from : AreAnswers m (place + 1) (drop place pieces) (report ∷ more) =
-      subst (λ (ps : List Piece). AreAnswers m (place + 1) ps (report ∷ more)) (sym cut) (told, others) in
-      subst (λ (rs : List Report). AreAnswers m 1 pieces rs) (sym (ap (λ (rs : List Report). rs ++ more) pushed ∙ append_assoc reports (report ∷ []) more))
-      (reading.rest (report ∷ more) from);
-} where
-  made : Matches (step m number piece).report report × Stands (Some now) next m
-  made = answers reading.stands (known_reads m pieces place piece session held cut all reading.stands)
+read_next m pieces place number piece held now session next reports longer report is cut pushed all reading answers =
+    let reads : OnlyReads (action_of session piece) = known_reads m pieces place piece session held cut all reading.stands in
+    let made : Matches (step m number piece).report report × Stands (Some now) next m = answers reading.stands reads in
+    let told : Matches (step m (place + 1) piece).report report = subst (λ (n : ℕ). Matches (step m n piece).report report) is made.0 in
+    record {
+      stands = made.1;
+      rest = λ more others.
+          let behind : AreAnswers m (place + 1) (drop place pieces) (report ∷ more) =
+          subst (λ (ps : List Piece). AreAnswers m (place + 1) ps (report ∷ more)) (sym cut) (told, others) in
+          subst (λ (rs : List Report). AreAnswers m 1 pieces rs) (sym (ap (λ (rs : List Report). rs ++ more) pushed ∙ append_assoc reports (report ∷ []) more))
+          (reading.rest (report ∷ more) behind);
+    }
 
 -- one model has one content
 pub held_still : (old now : Content) (session : Schema) (m : Model) → HoldsModel (Some old) m → Stands (Some now) session m → now ≡ old
@@ -162,3 +164,7 @@ read_whole m pieces place held session reports past reading =
     let none : drop place pieces ≡ [] = drop_all place pieces past in
     subst (λ (rs : List Report). AreAnswers m 1 pieces rs) (append-nil reports)
     (reading.rest [] (subst (λ (ps : List Piece). AreAnswers m (place + 1) ps []) (sym none) tt))
+
+-- what is pinned is what was there
+pub pinned_holds : (pinned : Stilled) (now : Content) (m : Model) → pinned ≡ record { held = now; refused = 0 } → HoldsModel (Some now) m → HoldsModel (Some pinned.held) m
+pinned_holds pinned now m is holds = subst (λ (content : Content). HoldsModel (Some content) m) (sym (ap (λ (store : Stilled). store.held) is)) holds

@@ -7,4 +7,4 @@ mod reading;
 
 pub use frozen::Frozen;
 pub use pinning::pinned_behind;
-pub use reading::{answer, open, read_all};
+pub use reading::{answer, open_frozen, read_all};

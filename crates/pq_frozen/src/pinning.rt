@@ -1,5 +1,5 @@
 //! What a writer holds behind some of its statements.
-ghost use Rattle.std.specs.Prelude.{◌≡◌, ◌+◌, ◌<◌, ◌^◌, Some, IfOk, length};
+ghost use Rattle.std.specs.Prelude.{◌+◌, ◌<◌, ◌^◌, Some, IfOk, length};
 ghost use Rattle.pq_frozen.specs.Reading.{model_behind};
 ghost use Rattle.pq_step.specs.Model.{Model as Tables};
 ghost use Rattle.pq_step.specs.Stands.{HoldsModel, Opens};

@@ -21,7 +21,7 @@ use std::sync::ledger::Ledger;
 
 /// Opens a store that stands still. Over a quiet content an opening writes nothing; so what it holds is still
 /// there, and the session stands for the model of it. Want of memory alone can keep it from that.
-pub fn open<L: Ledger>(
+pub fn open_frozen<L: Ledger>(
     alloc: Global,
     store: &mut Frozen,
     meter: &mut Meter<L>,
@@ -73,7 +73,7 @@ pub fn read_all<L: Ledger>(
     ensures no_memory { IfErr result (λ broke. (m : Tables) → HoldsModel (Some store.old.held) m
         → AllRead m.schema pieces.now → broke ≡ Broke.NoMem) }
 {
-    let started = open(alloc, store, meter)?;
+    let started = open_frozen(alloc, store, meter)?;
     let mut session = started.session;
     let mut reports = List::new(alloc);
     let mut number = 1;

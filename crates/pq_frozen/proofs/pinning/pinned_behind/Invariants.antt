@@ -5,5 +5,7 @@ use Rattle.pq_frozen.proofs.Still.{IsMade}
 use Rattle.pq_frozen.proofs.pinning.pinned_behind.Given as goal
 
 abbrev pub invariant-loop-piece : goal.invariant-loop-piece
-invariant-loop-piece g l = (l.number ≡ l.piece-index + 1)
-    × ((m : Model) → Opens (Some l.initial.store) m → IsMade m l.pieces l.piece-index l.store l.session)
+invariant-loop-piece g l = record {
+  number : l.number ≡ l.piece-index + 1;
+  made : (m : Model) → Opens (Some l.initial.store) m → IsMade m l.pieces l.piece-index l.store l.session;
+}

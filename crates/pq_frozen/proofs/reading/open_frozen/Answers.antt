@@ -1,6 +1,6 @@
 use Rattle.std.proofs.lemmas.Option.{same_Some}
 use Rattle.pq_frozen.proofs.Still.{opened, open_no_memory}
-use Rattle.pq_frozen.proofs.reading.open.Goals as goal
+use Rattle.pq_frozen.proofs.reading.open_frozen.Goals as goal
 
 pub returns-clause-still : goal.returns-clause-still
 returns-clause-still g c = λ quiet. same_Some _ _ (c.start.ensures.rests quiet)
