@@ -7,5 +7,5 @@ use Rattle.pq_frozen.proofs.pinning.pinned_behind.Given as goal
 abbrev pub invariant-loop-piece : goal.invariant-loop-piece
 invariant-loop-piece g l = record {
   number : l.number ≡ l.piece-index + 1;
-  made : (m : Model) → Opens (Some l.initial.store) m → IsMade m l.pieces l.piece-index l.store l.session;
+  made : (m : Model) → Opens (Some l.fn.store) m → IsMade m l.pieces l.piece-index l.store l.session;
 }

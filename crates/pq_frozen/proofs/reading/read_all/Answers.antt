@@ -1,4 +1,4 @@
-use Rattle.std.proofs.Common.{◌≡◌, ◌≤◌, ◌∙◌, length, refl, arith}
+use Rattle.std.proofs.Common.{◌≤◌, ◌∙◌, length, refl, arith}
 use Rattle.std.proofs.lemmas.Result.{err_from_is_err_and}
 use Rattle.pq_opening.proofs.Leaving.{held_quiet}
 use Rattle.pq_frozen.proofs.Still.{cut_at, held_still, known_reads, read_next, read_none, read_whole}

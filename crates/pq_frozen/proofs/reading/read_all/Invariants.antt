@@ -8,5 +8,5 @@ use Rattle.pq_frozen.proofs.reading.read_all.Given as goal
 abbrev pub invariant-loop-piece : goal.invariant-loop-piece
 invariant-loop-piece g l = record {
   number : l.number ≡ l.piece-index + 1;
-  reading : (m : Model) → HoldsModel (Some l.initial.store.held) m → AllRead m.schema l.pieces → IsReading m l.pieces l.piece-index l.store.held l.session l.reports;
+  reading : (m : Model) → HoldsModel (Some l.fn.store.held) m → AllRead m.schema l.pieces → IsReading m l.pieces l.piece-index l.store.held l.session l.reports;
 }

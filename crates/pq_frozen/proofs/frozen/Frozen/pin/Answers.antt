@@ -1,7 +1,6 @@
 use Rattle.std.proofs.Common.{◌∙◌, ap}
 use Rattle.std.specs.FinMap.{same_entries_map}
 use Rattle.pq_store.specs.Content.{Content}
-use Rattle.pq_frozen.specs.Frozen.{Stilled}
 use Rattle.pq_frozen.proofs.frozen.Frozen.pin.Goals as goal
 
 pub returns-in-Ok : goal.returns-in-Ok
