@@ -13,7 +13,7 @@ from .refusals import refusal_of
 from .reports import Report, Work, read_report
 from .scripts import place_at
 from .schema import Query, Schema, read_schema
-from .statements import DEFINES, NUMBERED, READS, Kind, Sent, Statement, read_statement
+from .statements import Kind, Sent, Statement, read_statement, run_of
 from .values import quoted, quoted_text
 
 if TYPE_CHECKING:
@@ -33,7 +33,7 @@ def fillings_of(statement: Statement, parameters: Parameters) -> tuple[str, ...]
     if len(parameters) != statement.params:
         text = statement.text[:200]
         raise ProgrammingError(f"{statement.params} values are wanted, {len(parameters)} are given: {text}")
-    return tuple([quoted(value) for value in parameters])
+    return tuple(map(quoted, parameters))
 
 
 class Connection:
@@ -93,7 +93,7 @@ class Connection:
         kind, data = sent.statement.kind, sent.data()
         with self._lock:
             link = self._link or self.link()
-            text = link.exchange(data, kind in READS)
+            text = link.exchange(data, kind.reads)
             self._sent += 1
         try:
             report = read_report(text)
@@ -101,7 +101,7 @@ class Connection:
             raise InternalError(str(error)) from error
         if " refused " in report.ending:
             raise self.refusal(sent, report.end.refusal)
-        if kind in DEFINES:
+        if kind.defines:
             self._schema = None
         return report
 
@@ -115,13 +115,13 @@ class Connection:
 
     def answer(self, statement: Statement, parameters: Parameters, after: str | None = None) -> Report:
         """The report of a statement with its values, behind a cursor of pages; a SELECT is prepared where it isn't."""
-        values = fillings_of(statement, parameters)
+        kind, values = statement.kind, fillings_of(statement, parameters)
         behind = "" if after is None else f" AFTER {quoted_text(after)}"
-        if statement.kind is Kind.SELECT:
+        if kind.is_prepared:
             return self.answer_select(statement, values, behind)
-        if behind and statement.kind is not Kind.RUN:
+        if behind and not kind.has_pages:
             raise ProgrammingError("only a SELECT or a RUN has pages")
-        return self.report(Sent(statement, "", statement.numbered() if statement.kind in NUMBERED else values, behind))
+        return self.report(Sent(statement, "", statement.numbered() if kind.is_numbered else values, behind))
 
     def answer_select(self, statement: Statement, values: tuple[str, ...], behind: str) -> Report:
         """The report of the RUN of a SELECT. Where the file was changed for another, the definitions are read anew."""
@@ -138,8 +138,7 @@ class Connection:
         """The report of the RUN of a SELECT, which is prepared where it isn't."""
         self.schema()
         name = self._names.get(statement.name) or self.define(statement)
-        run = statement._replace(kind=Kind.RUN, template="%s")
-        return self.report(Sent(run, f"RUN {name} (", (", ".join(values),), ")" + behind))
+        return self.report(Sent(run_of(statement, name), "", values, behind))
 
     def define(self, statement: Statement) -> str:
         """Prepares a SELECT under the name of its tokens, unless another connection has done so meanwhile."""

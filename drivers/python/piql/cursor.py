@@ -6,13 +6,10 @@ from typing import TYPE_CHECKING, NamedTuple
 from .errors import InterfaceError, ProgrammingError
 from .reports import Report, Row, Work
 from .scripts import pieces
-from .statements import WRITES, Kind, Statement, read_statement
+from .statements import Kind, Statement, read_statement
 
 if TYPE_CHECKING:
     from .connection import Connection, Parameters
-
-ROWS = (Kind.RUN, Kind.SELECT)
-ANSWERS = (*ROWS, Kind.SHOW, Kind.EXPLAIN)
 
 
 class ColumnDescription(NamedTuple):
@@ -95,9 +92,9 @@ class Cursor:
         report = self._report = connection.answer(statement, parameters, after)
         self._statement = statement
         kind = statement.kind
-        if kind in ROWS:
+        if kind.has_pages:
             self._rows = report.rows
-        elif kind in WRITES:
+        elif kind.writes:
             self._made = 1
         elif kind is Kind.SHOW:
             self._rows = [(line.number, line.text) for line in report.definitions()]
@@ -110,7 +107,7 @@ class Cursor:
         connection = self._open()
         self._forget()
         statement = read_statement(operation)
-        if statement.kind in ANSWERS:
+        if statement.kind.has_pages or statement.kind in (Kind.SHOW, Kind.EXPLAIN):
             raise ProgrammingError("executemany is for statements without an answer")
         self._made = 0
         for parameters in seq_of_parameters:
@@ -139,7 +136,7 @@ class Cursor:
         return self._described
 
     def _describe(self, statement: Statement) -> Sequence[ColumnDescription] | None:
-        if statement.kind not in ROWS:
+        if not statement.kind.has_pages:
             return {Kind.SHOW: SHOWN, Kind.EXPLAIN: EXPLAINED}.get(statement.kind)
         schema, query = self._open().find_query(statement.name)
         return tuple(

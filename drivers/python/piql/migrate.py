@@ -12,7 +12,7 @@ from .errors import Error, InterfaceError, ProgrammingError
 from .links import FileLink, Link, MemoryLink
 from .reports import Report
 from .scripts import first_token, pieces, place_at
-from .statements import DEFINES, Sent, read_statement
+from .statements import Sent, read_statement
 
 
 class Wanted(NamedTuple):
@@ -41,7 +41,7 @@ def define_each(scratch: Connection, script: str, source: str) -> list[Report]:
         text = data[piece.start : piece.end]
         try:
             statement = read_statement(text.decode())
-            if statement.kind not in DEFINES:
+            if not statement.kind.defines:
                 raise ProgrammingError("a schema has CREATE TABLE and PREPARE alone")
             reports.append(scratch.report(Sent(statement, "", ())))
         except Error as error:

@@ -104,7 +104,8 @@ class Report:
         return [line for line in self.lines if isinstance(line, DefinitionLine)]
 
 
-VALUE = re.compile(r"'((?:[^']|'')*)'|(-?\d+)|(true|false|NULL)")
+# Possessive: nothing is given back, and a text is passed over in one step for each of its quotes.
+VALUE = re.compile(r"'[^']*+(?:''[^']*+)*+'|[^', ]++")
 WORDS: dict[str, Value] = {"true": True, "false": False, "NULL": None}
 NUMBERS = r"bound (\d+) (\d+) used (\d+) (\d+)"
 OPENING = re.compile(r"open defs (\d+) " + NUMBERS)
@@ -119,10 +120,7 @@ def read_values(text: str) -> Row:
     """The values of a row as a report prints them, behind the word `row`."""
     if "," not in text:
         return (read_value(text),)
-    return tuple([
-        int(number) if number else WORDS[word] if word else quoted.replace("''", "'")
-        for quoted, number, word in VALUE.findall(text)
-    ])
+    return tuple(map(read_value, VALUE.findall(text)))
 
 
 def read_value(text: str) -> Value:
@@ -192,11 +190,13 @@ def read_reports(text: str) -> Iterator[Report | OpeningLine | DamageLine]:
             rows.append(read_values(text_line[4:]))
 
 
-def read_rows(text: str, count: int) -> list[Row]:
-    """So many rows of an answer, from their lines. With as many line feeds as rows, none stands in a text."""
-    if count == 1:
+def read_rows(text: str, ending: str) -> list[Row]:
+    """The rows of an answer, from their lines and its end line, `N ok rows R ..`."""
+    feeds = text.count("\n")
+    if feeds == 1:
         return [read_values(text[4:-1])]
-    lines = text[:-1].split("\n") if text.count("\n") == count else cut_lines(text)
+    # With as many line feeds as rows, none is in a text.
+    lines = text[:-1].split("\n") if feeds == int(ending.split(" ", 4)[3]) else cut_lines(text)
     return [read_values(line[4:]) for line in lines]
 
 
@@ -204,11 +204,8 @@ def read_report(text: str) -> Report:
     """The one report that the text is. A text that is none is a ValueError."""
     start = text.rfind("\n", 0, -1) + 1
     ending = text[start:-1]
-    if text.startswith("row "):
-        # The end line of an answer is `N ok rows R ..`.
-        words = ending.split(" ", 4)
-        if len(words) == 5 and words[2] == "rows":
-            return Report(read_rows(text[:start], int(words[3])), [], ending)
+    if " ok rows " in ending and text.startswith("row "):
+        return Report(read_rows(text[:start], ending), [], ending)
     if read_end(ending) is None:
         raise ValueError(f"no report ends so: {ending[:200]!r}")
     return Report([], [line for line in map(read_line, cut_lines(text[:start])) if line is not None], ending)

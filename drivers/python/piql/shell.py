@@ -20,7 +20,7 @@ from .engine import find_program
 from .errors import Error
 from .reports import Work
 from .scripts import Place, pieces
-from .statements import Kind, read_statement
+from .statements import read_statement
 from .tables import table
 
 HISTORY = "~/.piql_history"
@@ -86,7 +86,7 @@ class Shell:
             cursor = self.connection.execute(text, after=after)
         except Error as error:
             return told(error)
-        if read_statement(text).kind in (Kind.SELECT, Kind.RUN):
+        if read_statement(text).kind.has_pages:
             self.paged = (text, cursor.next_page) if cursor.next_page else None
         return answer(cursor)
 

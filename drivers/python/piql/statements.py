@@ -11,7 +11,10 @@ from .scripts import KEYWORDS, STATEMENT_BYTES, Token, character_at, place_at, t
 
 
 class Kind(Enum):
-    """What a statement does, by its first word."""
+    """What a statement does, by its first word.
+
+    What is asked of each statement that is sent is an attribute: to compare members takes longer.
+    """
 
     SELECT = "SELECT"
     RUN = "RUN"
@@ -24,11 +27,15 @@ class Kind(Enum):
     SHOW = "SHOW"
     OTHER = "OTHER"
 
-
-READS = (Kind.RUN, Kind.EXPLAIN, Kind.SHOW)
-DEFINES = (Kind.CREATE, Kind.PREPARE)
-WRITES = (Kind.INSERT, Kind.UPDATE, Kind.DELETE)
-NUMBERED = (Kind.SELECT, Kind.PREPARE, Kind.EXPLAIN)
+    def __init__(self, word: str) -> None:
+        self.reads = word in ("RUN", "EXPLAIN", "SHOW")
+        self.defines = word in ("CREATE", "PREPARE")
+        self.writes = word in ("INSERT", "UPDATE", "DELETE")
+        # Its answer is rows, page by page.
+        self.has_pages = word in ("SELECT", "RUN")
+        self.is_prepared = word == "SELECT"
+        # A `?` in it is a numbered parameter, and takes no value.
+        self.is_numbered = word in ("SELECT", "PREPARE", "EXPLAIN")
 
 
 class Statement(NamedTuple):
@@ -158,11 +165,18 @@ def read_statement(text: str) -> Statement:
     kind = Kind(first) if first in Kind.__members__ and first != "OTHER" else Kind.OTHER
     places = [token for token in found if token.text == "?"]
     texts = numbered_tokens(found)
-    if places and kind in NUMBERED and any(token.is_mark("[") for token in found):
+    if places and kind.is_numbered and any(token.is_mark("[") for token in found):
         raise ProgrammingError("a statement has either ? or numbered parameters, and not both")
     starts = [0, *(token.end for token in places)]
     ends = [*(token.start for token in places), found[-1].end]
     parts = tuple(text[start:end] for start, end in zip(starts, ends))
-    params = param_count(texts) if kind is Kind.SELECT else len(places) if kind not in NUMBERED else 0
+    params = param_count(texts) if kind is Kind.SELECT else 0 if kind.is_numbered else len(places)
     template = "%s".join(part.replace("%", "%%") for part in parts)
     return Statement(text, kind, name_in(kind, found, texts), parts, params, template)
+
+
+@lru_cache(maxsize=1024)
+def run_of(select: Statement, name: str) -> Statement:
+    """The RUN of a SELECT that is prepared under this name. Its text is still the SELECT's, for who reads a refusal."""
+    places = ", ".join(["%s"] * select.params)
+    return select._replace(kind=Kind.RUN, template=f"RUN {name} ({places})")
