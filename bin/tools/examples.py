@@ -1,15 +1,18 @@
 """Runs the scripts of examples/, and compares what they write with the files beside them and with the documents."""
 
 import difflib
+import os
 import pathlib
 import re
 import subprocess
+import sys
 from collections.abc import Iterator
 
 from tools import names
 from tools.documents import LEFT_OUT, blocks
 from tools.programs import find_program
 from tools.repository import TOP
+from tools.statuses import USAGE
 
 REFUSAL = re.compile(rb"^\d+ refused ", re.MULTILINE)
 EXAMPLES = TOP / "examples"
@@ -92,6 +95,9 @@ def main(words: list[str]) -> int:
         return 1 if found else 0
     scripts = sorted(EXAMPLES.glob("*.piql"))
     program = words[0] if words else find_program("piql").path
+    if not os.access(program, os.X_OK):
+        print(f"examples: there is no program {program}", file=sys.stderr)
+        return USAGE
     is_right = True
     for script in scripts:
         found = differences(program, script)

@@ -1,10 +1,13 @@
 """Tests of bin/examples: parts of a block, stored runs, the documents' blocks, and the examples over the engine."""
 
+import contextlib
+import io
 import subprocess
 import unittest
 
 from tools import examples
 from tools.repository import TOP
+from tools.statuses import USAGE
 from tools.tests.copies import built
 
 PIQL = built("piql")
@@ -12,6 +15,12 @@ TEXT = "a\nb\nc\nb\nd\n"
 
 
 class BlocksTest(unittest.TestCase):
+    def test_a_program_that_is_not_there_is_told(self) -> None:
+        told = io.StringIO()
+        with contextlib.redirect_stderr(told):
+            self.assertEqual(examples.main(["nothing"]), USAGE)
+        self.assertEqual(told.getvalue(), "examples: there is no program nothing\n")
+
     def test_the_parts_of_a_block_stand_in_order(self) -> None:
         for block in ("a\nb\n", "b\nc\n", "a\n..\nd\n", "b\n..\nb\n"):
             self.assertTrue(examples.stands_in(block, TEXT), block)
