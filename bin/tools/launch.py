@@ -4,13 +4,14 @@ import ctypes
 import signal
 import subprocess
 import sys
+from collections.abc import Callable
 from typing import BinaryIO
 
 from tools.kept import NotBuilt
 from tools.programs import Program, find_program, proved_program
 from tools.statuses import NO_PROGRAM, STORE_FAULT, USAGE, meaning
 from tools.versions import MEANING, NUMBER
-from tools.words import Asked, Wrong, help_of, read_words, shown, usage
+from tools.words import Asked, Wrong, check_script, help_of, read_words, shown, usage
 
 AT_A_TERMINAL = "type statements, each with a ; at its end: each is answered at once. Control-D ends the script"
 UNPROVED = "this run is not proved, and is slow; bin/prove proves and builds the program"
@@ -88,6 +89,15 @@ def written(name: str, words: list[str], script: str) -> tuple[str, int]:
     if line := meaning(name, run.returncode):
         print(line, file=sys.stderr)
     return run.stdout.decode(errors="replace"), run.returncode
+
+
+def written_of(script: str, kept: str | None, run: Callable[[], tuple[str, int]]) -> tuple[str, int]:
+    """What a run of a script writes, and its status; or what a run before wrote, where its file is given."""
+    check_script(script)
+    if not kept:
+        return run()
+    with open(kept, encoding="utf-8", errors="replace") as file:
+        return file.read(), 0
 
 
 def run_asked(name: str, asked: Asked) -> int:

@@ -7,12 +7,12 @@ import sys
 from piql.refusals import refusal_of
 from piql.scripts import place_at, tokens
 from tools.kept import NotBuilt
-from tools.launch import tell, written
+from tools.launch import tell, written, written_of
 from tools.picture import Band, page, work_text
 from tools.plans import Told, read_plans
 from tools.statuses import NO_PROGRAM, REFUSED
 from tools.tell import Script, read_script
-from tools.words import Wrong, check_script
+from tools.words import Wrong
 
 NAME = "plan"
 PROGRAM = "piql_plan"
@@ -60,12 +60,7 @@ def read_given(words: list[str]) -> argparse.Namespace:
 def main(words: list[str]) -> int:
     given = read_given(words)
     try:
-        check_script(given.script)
-        if given.lines:
-            with open(given.lines, encoding="utf-8", errors="replace") as file:
-                text, status = file.read(), 0
-        else:
-            text, status = written(PROGRAM, [], given.script)
+        text, status = written_of(given.script, given.lines, lambda: written(PROGRAM, [], given.script))
         script = read_script(given.script)
         found = list(read_plans(text))
         bands = [band for told in found if (band := band_of(told, script))]

@@ -11,11 +11,11 @@ from piql.reports import DamageLine, DefinitionLine, IndexLine, OpeningLine, Que
 from piql.scripts import Piece, Token, character_at, pieces, place_at, tokens
 from piql.tables import table
 from tools.kept import NotBuilt
-from tools.launch import tell, written
+from tools.launch import tell, written, written_of
 from tools.pointing import pointed
 from tools.shapes import Shapes
 from tools.statuses import NO_PROGRAM, REFUSED
-from tools.words import Wrong, check_script, read_words
+from tools.words import Wrong, read_words
 
 NAME = "tell"
 # A longer line is shown around its caret.
@@ -175,12 +175,7 @@ def read_given(words: list[str]) -> argparse.Namespace:
 def main(words: list[str]) -> int:
     given = read_given(words)
     try:
-        check_script(given.script)
-        if given.report:
-            with open(given.report, encoding="utf-8", errors="replace") as file:
-                text, status = file.read(), 0
-        else:
-            text, status = run_script(given)
+        text, status = written_of(given.script, given.report, lambda: run_script(given))
     except (Wrong, NotBuilt, OSError) as error:
         tell(NAME, str(error))
         return error.status if isinstance(error, Wrong) else NO_PROGRAM
