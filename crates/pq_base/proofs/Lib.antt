@@ -1,4 +1,5 @@
 pub mod Members
+pub mod SameValues
 pub mod Sets
 pub mod Sorts
 pub mod WordOrder

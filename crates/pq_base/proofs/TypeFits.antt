@@ -1,7 +1,7 @@
 -- Values that fit types.
 use Rattle.std.proofs.Common.{◌≡◌, T, suc, Bool, true, false, List, [], ◌∷◌, length, refl, ap, subst, sym}
 use Rattle.std.specs.Prelude.{◌&&◌, Some}
-use Rattle.std.proofs.lemmas.Bool.{leb-true, false≢true, and_parts}
+use Rattle.std.proofs.lemmas.Bool.{leb-true, le-leb, false≢true, and_from, and_parts}
 use Rattle.pq_base.specs.declared.value.ColType.{ColType}
 use Rattle.pq_base.specs.declared.value.DataKind.{DataKind}
 use Rattle.pq_base.specs.declared.value.DataKind.TheVariants as kind
@@ -126,3 +126,17 @@ pub fits_exact : (t : ColType) (x : Value) → IsValue x → fits_type t x ≡ t
 fits_exact t x known fits =
     let parts = and_parts (is_beside (Some (kind_of_type t)) (kind_of x)) (admits t x) fits in
     (of_kind_by (kind_of_type t) x known parts.0, admits_exact t x parts.1)
+
+truth_again : (b : Bool) → T b → b ≡ true
+truth_again true h = refl
+truth_again false h = absurd h
+
+admits_again : (t : ColType) (x : Value) → Admits t x → admits t x ≡ true
+admits_again t value.Null h = truth_again (is_nullable t) h
+admits_again t (value.Int n) h = refl
+admits_again t (value.Bool b) h = refl
+admits_again t (value.Text s) h = le-leb (length s) (room_of t) h
+
+-- the test holds of a value that fits
+pub fits_again : (t : ColType) (x : Value) → FitsType t x → fits_type t x ≡ true
+fits_again t x fits = and_from _ _ (of_kind_test (kind_of_type t) x fits.0) (admits_again t x fits.1)

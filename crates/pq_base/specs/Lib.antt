@@ -1,7 +1,9 @@
 pub mod Answers
+pub mod Cells
 pub mod Columns
 pub mod Members
 pub mod Order
+pub mod Shapes
 pub mod Sorting
 pub mod Values
 pub mod Words

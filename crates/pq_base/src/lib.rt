@@ -4,6 +4,7 @@
 //! a number whose bits are the columns. Whatever may need memory answers `NoMem` where there is none.
 #![tactic(auto)]
 
+mod cell;
 mod col_set;
 pub mod count_word;
 pub mod laws;
@@ -15,6 +16,7 @@ mod text;
 mod value;
 mod word_table;
 
+pub use cell::{copied_value, no_value, value_of};
 pub use col_set::ColSet;
 pub use list::{Bytes, List, NoMem};
 pub use number::{Bound, Choice, Used};

@@ -5,15 +5,15 @@ use Rattle.std.specs.List.{AllByRecursion}
 use Rattle.std.specs.Option.{option_map}
 use Rattle.std.specs.FinMap.{insert}
 use Rattle.std.proofs.lemmas.List.{map-append}
-use Rattle.pq_base.specs.declared.value.ColType.{ColType}
 use Rattle.pq_base.specs.declared.value.Value.{Value}
+use Rattle.pq_base.specs.Shapes.{RowShape}
 use Rattle.pq_base.specs.Values.{AllFit}
-use Rattle.pq_row_code.specs.RowCode.{code_as}
+use Rattle.pq_row_code.specs.StoredRow.{code_as}
 use Rattle.pq_store.specs.Content.{Content, written_content, pairs_within}
 use Rattle.pq_content.specs.Pairs.{Pair, Change, changed_content, is_in_space}
 use Rattle.pq_intent.specs.Changing.{MayChange}
 use Rattle.pq_builds.specs.declared.target.Target.{Target}
-use Rattle.pq_builds.specs.Filling.{entry_at, entry_change, entered_rows, AreDecoded, Enters, EntersSome, IsEntryIn}
+use Rattle.pq_builds.specs.Filling.{target_shape, entry_at, entry_change, entered_rows, AreDecoded, Enters, EntersSome, IsEntryIn}
 use Rattle.pq_builds.proofs.Ranges.{range_insert}
 
 each_append : {X : Type 0} (P : X → Type 0) (xs ys : List X) → AllByRecursion P xs → AllByRecursion P ys → AllByRecursion P (xs ++ ys)
@@ -27,10 +27,10 @@ changed-append (x ∷ xs) ys c = changed-append xs ys (written_content x.0 x.1 c
 pub entered-append : (target : Target) (xs ys : List (List Value)) (c : Content) → entered_rows target (xs ++ ys) c ≡ entered_rows target ys (entered_rows target xs c)
 entered-append target xs ys c = ap (λ (l : List Change). changed_content l c) (map-append (entry_change target) xs ys) ∙ changed-append (map (entry_change target) xs) (map (entry_change target) ys) c
 
-decoded-append : (types : List ColType) (ps qs : List Pair) (xs ys : List (List Value)) → AreDecoded types ps xs → AreDecoded types qs ys → AreDecoded types (ps ++ qs) (xs ++ ys)
-decoded-append types ps qs xs ys a b = record {
-  fit = each_append (AllFit types) xs ys a.fit b.fit;
-  codes = map-append (code_as types) xs ys ∙ (λ i. a.codes i ++ b.codes i) ∙ sym (map-append (λ (pair : Pair). pair.1) ps qs);
+decoded-append : (shape : RowShape) (ps qs : List Pair) (xs ys : List (List Value)) → AreDecoded shape ps xs → AreDecoded shape qs ys → AreDecoded shape (ps ++ qs) (xs ++ ys)
+decoded-append shape ps qs xs ys a b = record {
+  fit = each_append (AllFit shape.types) xs ys a.fit b.fit;
+  codes = map-append (code_as shape) xs ys ∙ (λ i. a.codes i ++ b.codes i) ∙ sym (map-append (λ (pair : Pair). pair.1) ps qs);
 }
 
 -- ---- none, one, more
@@ -43,7 +43,7 @@ enters_then target ps qs old mid now a b =
     let mid_is : mid ≡ entered_rows target a.rows old = some_same mid (entered_rows target a.rows old) a.is in
     record {
       rows = a.rows ++ b.rows;
-      decoded = decoded-append target.types ps qs a.rows b.rows a.decoded b.decoded;
+      decoded = decoded-append (target_shape target) ps qs a.rows b.rows a.decoded b.decoded;
       is = b.is ∙ ap (λ (c : Content). Some (entered_rows target b.rows c)) mid_is ∙ ap (λ (c : Content). Some c) (sym (entered-append target a.rows b.rows old));
     }
   where

@@ -19,7 +19,7 @@ use Rattle.pq_schema.specs.Tables.{table_at}
 use Rattle.pq_store.specs.Content.{key_cmp, Content, pairs_within}
 use Rattle.pq_content.specs.Pairs.{Pair, AreBeside, AreCatalog, is_in_space, is_of_rows, row_pair, content_pairs, HoldsRows}
 use Rattle.pq_content.specs.Standing.{is_numbered, is_entry_of}
-use Rattle.pq_content.specs.Tables.{Rows, rows_of, types_of, values_of, dirs_of, Keeps, stored_code}
+use Rattle.pq_content.specs.Tables.{Rows, rows_of, types_of, shape_of, values_of, dirs_of, Keeps, stored_code}
 use Rattle.pq_content.proofs.Building.{part_range, get_part}
 use Rattle.pq_content.proofs.Others.{no_intent, insert_other, rising_catalog_range}
 use Rattle.pq_content.proofs.Ranges.{in_range}
@@ -92,7 +92,7 @@ rows_filling tables rows others made query content t keeps beside key f =
 
 rows_from : (table : Table) (t : ℕ) (xs ys : List (List Value)) → All IsType (types_of table) → AllByRecursion (AllFit (types_of table)) xs → AllByRecursion (AllFit (types_of table)) ys
     → map (row_pair t table) xs ≡ map (row_pair t table) ys → xs ≡ ys
-rows_from table t xs ys sound f g e = by_codes (types_of table) xs ys sound f g (sym (seconds xs) ∙ ap (map (λ (p : Pair). p.1)) e ∙ seconds ys)
+rows_from table t xs ys sound f g e = by_codes (shape_of table) xs ys sound f g (sym (seconds xs) ∙ ap (map (λ (p : Pair). p.1)) e ∙ seconds ys)
   where
     seconds : (xs : List (List Value)) → map (λ (p : Pair). p.1) (map (row_pair t table) xs) ≡ map (stored_code table) xs
     seconds [] = refl

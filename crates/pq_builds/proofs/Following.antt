@@ -7,10 +7,10 @@ use Rattle.pq_store.specs.declared.damage.Broke.TheVariants.{Failed, NoMem, Dama
 use Rattle.pq_store.specs.Breaks.{IfDamaged}
 use Rattle.pq_store.specs.declared.store.Pair.{Pair as Stored}
 use Rattle.pq_store.specs.Content.{entry, Content, is_within, pairs_within}
-use Rattle.pq_base.specs.declared.value.ColType.{ColType}
+use Rattle.pq_base.specs.Shapes.{RowShape}
 use Rattle.pq_content.specs.Pairs.{Pair, is_in_space}
 use Rattle.pq_builds.specs.declared.target.Target.{Target}
-use Rattle.pq_builds.specs.Filling.{entered_rows, first_key, past_key, row_pairs_in, Enters, EntersSome, IsPast, Follows, IsNoRowAmong, IsMiscounted, ShowsRange}
+use Rattle.pq_builds.specs.Filling.{target_shape, entered_rows, first_key, past_key, row_pairs_in, Enters, EntersSome, IsPast, Follows, IsNoRowAmong, IsMiscounted, ShowsRange}
 use Rattle.pq_builds.proofs.Ranges.{after_some, range_space}
 use Rattle.pq_builds.proofs.Entering.{enters_more, enters_then, some_front, some_back, some_more, range_entered}
 
@@ -108,13 +108,13 @@ contains_front (suc n) (x ∷ l) p (suc k, less, at) = let r = contains_front n 
 contains_behind : (n : ℕ) (l : List Pair) (p : Pair) → Contains (drop n l) p → Contains l p
 contains_behind n l p (k, less, at) = (n + k, omega (arith, length-drop n l), sym (get_or-drop n l k p) ∙ at)
 
-pub no_row_from : (types : List ColType) (number t : ℕ) (low : List ℕ) (old : Option Content) (found : List Pair) (broke : Broke)
-    → IfSome old (λ c. found ≡ take 256 (pairs_within c low (past_key t))) → IfDamaged (IsNoRowAmong types found) broke
-    → IfSome old (λ c. ShowsRange types number (pairs_within c low (past_key t)) broke)
-no_row_from types number t low None found broke answer shows = tt
-no_row_from types number t low (Some c) found Failed answer shows = tt
-no_row_from types number t low (Some c) found NoMem answer shows = tt
-no_row_from types number t low (Some c) found (Damaged damage) answer shows =
+pub no_row_from : (shape : RowShape) (number t : ℕ) (low : List ℕ) (old : Option Content) (found : List Pair) (broke : Broke)
+    → IfSome old (λ c. found ≡ take 256 (pairs_within c low (past_key t))) → IfDamaged (IsNoRowAmong shape found) broke
+    → IfSome old (λ c. ShowsRange shape number (pairs_within c low (past_key t)) broke)
+no_row_from shape number t low None found broke answer shows = tt
+no_row_from shape number t low (Some c) found Failed answer shows = tt
+no_row_from shape number t low (Some c) found NoMem answer shows = tt
+no_row_from shape number t low (Some c) found (Damaged damage) answer shows =
     inr (record { pair = shows.pair; there = contains_front 256 (pairs_within c low (past_key t)) shows.pair (subst (λ (l : List Pair). Contains l shows.pair) answer shows.there); no_row = shows.no_row })
 
 -- ---- one range after others
@@ -155,8 +155,8 @@ follows_stops target low m (Some c) mid now next next_in a b =
 -- where the rows were counted, no range has another number
 pub follows_damage : (target : Target) (m number count : ℕ) (old mid : Option Content) (next : List ℕ) (broke : Broke) → is_in_space 2 next ≡ true
     → ((l : List Pair) → length l ≡ count → length (take 256 (drop m l)) ≡ number)
-    → IfSome old (λ c. Follows target (first_key target.table) m c mid next) → IfSome mid (λ c. ShowsRange target.types number (pairs_within c next (past_key target.table)) broke)
-    → IfSome old (λ c. length (row_pairs_in target.table c) ≡ count → IfDamaged (IsNoRowAmong target.types (row_pairs_in target.table c)) broke)
+    → IfSome old (λ c. Follows target (first_key target.table) m c mid next) → IfSome mid (λ c. ShowsRange (target_shape target) number (pairs_within c next (past_key target.table)) broke)
+    → IfSome old (λ c. length (row_pairs_in target.table c) ≡ count → IfDamaged (IsNoRowAmong (target_shape target) (row_pairs_in target.table c)) broke)
 follows_damage target m number count None mid next broke next_in counted a b = tt
 follows_damage target m number count (Some c) mid next Failed next_in counted a b = λ _. tt
 follows_damage target m number count (Some c) mid next NoMem next_in counted a b = λ _. tt
@@ -165,7 +165,7 @@ follows_damage target m number count (Some c) mid next (Damaged damage) next_in 
     let l = row_pairs_in target.table c in
     let d = entered_rows target a.enters.rows c in
     let same : pairs_within d next high ≡ drop m l = range_entered target a.enters.rows c next high next_in refl ∙ a.rest in
-    let b' : IsMiscounted number (pairs_within d next high) damage ⊎ IsNoRowAmong target.types (pairs_within d next high) damage = subst (λ (o : Option Content). IfSome o (λ c. ShowsRange target.types number (pairs_within c next high) (Damaged damage))) a.enters.is b in
+    let b' : IsMiscounted number (pairs_within d next high) damage ⊎ IsNoRowAmong (target_shape target) (pairs_within d next high) damage = subst (λ (o : Option Content). IfSome o (λ c. ShowsRange (target_shape target) number (pairs_within c next high) (Damaged damage))) a.enters.is b in
     elim b' [
       | inl wrong ↦ absurd (wrong.other (ap (λ (k : List Pair). length (take 256 k)) same ∙ counted l many))
       | inr broken ↦ record { pair = broken.pair; there = contains_behind m l broken.pair (subst (λ (k : List Pair). Contains k broken.pair) same broken.there); no_row = broken.no_row }

@@ -11,7 +11,7 @@ use Rattle.pq_content.specs.Pairs.{Pair, is_of_rows}
 use Rattle.pq_intent.specs.Changing.{StaysUntold}
 use Rattle.pq_builds.specs.declared.target.NewQuery.{NewQuery}
 use Rattle.pq_builds.specs.declared.target.Target.{Target}
-use Rattle.pq_builds.specs.Filling.{first_key, past_key, row_pairs_in, Enters, IsNoRowAmong}
+use Rattle.pq_builds.specs.Filling.{target_shape, first_key, past_key, row_pairs_in, Enters, IsNoRowAmong}
 use Rattle.pq_builds.specs.Stages.{ShowsBuild, StopsBuilding, StopsFilling, building_value, marked_content, ready_value}
 use Rattle.pq_builds.proofs.Entering.{range_entered}
 use Rattle.pq_builds.proofs.Ranges.{range_insert, no_row_key}
@@ -33,11 +33,11 @@ module _ (target : Target) (query : NewQuery) (key : is_of_rows query.key ≡ fa
       subst (HasRowsOf c) (sym ready.is)
       (put_rows (ready_value query) ready.filled ∙ entered_same (row_pairs_in target.table c) c (Some ready.filled) ready.enters)
 
-  among_still : (c : Content) (now : Option Content) (damage : Damage) → HasRowsOf (marked_content query c) now → IsNoRowAmong target.types (row_pairs_in target.table c) damage
+  among_still : (c : Content) (now : Option Content) (damage : Damage) → HasRowsOf (marked_content query c) now → IsNoRowAmong (target_shape target) (row_pairs_in target.table c) damage
       → IfSome now (λ n. ShowsBuild target query n (Damaged damage))
   among_still c None damage same among = tt
   among_still c (Some n) damage same among =
-      inr (subst (λ (l : List Pair). IsNoRowAmong target.types l damage) (sym (same ∙ put_rows (building_value query) c)) among)
+      inr (subst (λ (l : List Pair). IsNoRowAmong (target_shape target) l damage) (sym (same ∙ put_rows (building_value query) c)) among)
 
   -- a build that stopped shows what it showed: the rows are those that were there, and nothing was put over a pair
   pub shows_still : (c : Content) (now : Option Content) (broke : Broke) → StopsBuilding target query c now → ShowsBuild target query c broke

@@ -16,7 +16,7 @@ use Rattle.pq_content.specs.Pairs.{Pair, is_of_rows}
 use Rattle.pq_intent.specs.Changing.{MayChange}
 use Rattle.pq_builds.specs.declared.target.NewQuery.{NewQuery}
 use Rattle.pq_builds.specs.declared.target.Target.{Target}
-use Rattle.pq_builds.specs.Filling.{first_key, past_key, row_pairs_in, Enters, EntersSome, IsNoRowAmong}
+use Rattle.pq_builds.specs.Filling.{target_shape, first_key, past_key, row_pairs_in, Enters, EntersSome, IsNoRowAmong}
 use Rattle.pq_builds.specs.Stages.{ready_value, building_value, marked_content, IsReady, StopsFilling, IsMarked, IsBuilt, StopsBuilding, ShowsBuild, IsCounted, Takes, IsWithinBuild, left_ops}
 use Rattle.pq_builds.proofs.Entering.{some_none}
 use Rattle.pq_builds.proofs.Ranges.{range_insert, no_row_key}
@@ -88,15 +88,15 @@ module _ (target : Target) (query : NewQuery) (key : is_of_rows query.key ≡ fa
   shows_taken (Some c) NoMem h = λ _. tt
   shows_taken (Some c) (Damaged damage) h = λ _. inl h
 
-  pub shows_built : (old mid : Option Content) (broke : Broke) → IfSome old (λ c. IsMarked query c mid) → IfSome mid (λ c. length (row_pairs_in target.table c) ≡ n → IfDamaged (IsNoRowAmong target.types (row_pairs_in target.table c)) broke)
+  pub shows_built : (old mid : Option Content) (broke : Broke) → IfSome old (λ c. IsMarked query c mid) → IfSome mid (λ c. length (row_pairs_in target.table c) ≡ n → IfDamaged (IsNoRowAmong (target_shape target) (row_pairs_in target.table c)) broke)
       → IfSome old (λ c. length (row_pairs_in target.table c) ≡ n → ShowsBuild target query c broke)
   shows_built None mid broke m r = tt
   shows_built (Some c) mid Failed m r = λ _. tt
   shows_built (Some c) mid NoMem m r = λ _. tt
   shows_built (Some c) mid (Damaged damage) m r = λ many.
       let same : row_pairs_in target.table (marked_content query c) ≡ row_pairs_in target.table c = rows_marked target.table query c key in
-      let r' : length (row_pairs_in target.table (marked_content query c)) ≡ n → IsNoRowAmong target.types (row_pairs_in target.table (marked_content query c)) damage = subst (λ (o : Option Content). IfSome o (λ c. length (row_pairs_in target.table c) ≡ n → IfDamaged (IsNoRowAmong target.types (row_pairs_in target.table c)) (Damaged damage))) m.is r in
-      inr (subst (λ (l : List Pair). IsNoRowAmong target.types l damage) same (r' (ap (λ (l : List Pair). length l) same ∙ many)))
+      let r' : length (row_pairs_in target.table (marked_content query c)) ≡ n → IsNoRowAmong (target_shape target) (row_pairs_in target.table (marked_content query c)) damage = subst (λ (o : Option Content). IfSome o (λ c. length (row_pairs_in target.table c) ≡ n → IfDamaged (IsNoRowAmong (target_shape target) (row_pairs_in target.table c)) (Damaged damage))) m.is r in
+      inr (subst (λ (l : List Pair). IsNoRowAmong (target_shape target) l damage) same (r' (ap (λ (l : List Pair). length l) same ∙ many)))
 
 -- ---- the count
 

@@ -10,9 +10,10 @@ use Rattle.std.proofs.lemmas.List.{length-map, take-map, take_all, get_or-set_sa
 use Rattle.pq_base.specs.declared.value.ColType.{ColType}
 use Rattle.pq_base.specs.declared.value.Value.{Value}
 use Rattle.pq_base.specs.Order.{position_cmp}
+use Rattle.pq_base.specs.Shapes.{RowShape, row_shape}
 use Rattle.pq_base.specs.Values.{IsType, AllFit}
-use Rattle.pq_row_code.specs.RowCode.{code_as}
-use Rattle.pq_row_code.proofs.Rows.{row_code_injective}
+use Rattle.pq_row_code.specs.StoredRow.{code_as}
+use Rattle.pq_row_code.proofs.Stored.{code_as_injective}
 use Rattle.pq_schema.specs.declared.table.Table.{Table}
 use Rattle.pq_schema.specs.Sequences.{primary_sequence, index_sequence}
 use Rattle.pq_schema.specs.Tables.{table_at, no_table}
@@ -21,7 +22,7 @@ use Rattle.pq_content.specs.Pairs.{Pair, AreBeside, is_in_space, row_pair, entry
 use Rattle.pq_base.specs.Sorting.{sort_by}
 use Rattle.pq_content.specs.Standing.{IsFilledPartOf, is_entry_of}
 use Rattle.pq_schema.specs.Schema.{with_new_index, with_wanted}
-use Rattle.pq_content.specs.Tables.{Rows, rows_of, types_of, values_of, dirs_of, Keeps, stored_code}
+use Rattle.pq_content.specs.Tables.{Rows, rows_of, types_of, shape_of, values_of, dirs_of, Keeps, stored_code}
 use Rattle.pq_content.proofs.Building.{keeps-index, none_filled, get_entry, part_written, all_filled, part_range}
 use Rattle.pq_content.proofs.Changes.{same_content}
 use Rattle.pq_content.proofs.Keys.{key_itself}
@@ -37,21 +38,21 @@ use Rattle.pq_content.proofs.TableRows.{AreRows, rows_are}
 use Rattle.pq_store.specs.declared.damage.Damage.{Damage}
 use Rattle.pq_builds.specs.declared.target.NewQuery.{NewQuery}
 use Rattle.pq_builds.specs.declared.target.Target.{Target}
-use Rattle.pq_builds.specs.Filling.{entry_at, entered_rows, first_key, past_key, row_pairs_in, AreDecoded, Enters, EntersSome, IsNoRowAmong}
+use Rattle.pq_builds.specs.Filling.{target_shape, entry_at, entered_rows, first_key, past_key, row_pairs_in, AreDecoded, Enters, EntersSome, IsNoRowAmong}
 use Rattle.pq_builds.specs.Stages.{ready_value, building_value, marked_content, IsReady, StopsFilling}
 use Rattle.pq_builds.proofs.Ranges.{range_space, range_insert, no_row_key}
 use Rattle.pq_builds.specs.Standing.{Origin, new_index_of, IsTarget, IsNewIn, rows_in, before, whole_content, FillsIndex, IsMarkedOrReady}
 
 -- ---- rows by their codes
 
-pub by_codes : (types : List ColType) (xs ys : List (List Value)) → All IsType types → AllByRecursion (AllFit types) xs → AllByRecursion (AllFit types) ys → map (code_as types) xs ≡ map (code_as types) ys → xs ≡ ys
-by_codes types [] [] sound f g e = refl
-by_codes types [] (y ∷ ys) sound f g e = cc
-by_codes types (x ∷ xs) [] sound f g e = cc
-by_codes types (x ∷ xs) (y ∷ ys) sound f g e =
-    let head : code_as types x ≡ code_as types y = cc in
-    let rest : map (code_as types) xs ≡ map (code_as types) ys = cc in
-    λ i. row_code_injective types x y sound f.0 g.0 head i ∷ by_codes types xs ys sound f.1 g.1 rest i
+pub by_codes : (shape : RowShape) (xs ys : List (List Value)) → All IsType shape.types → AllByRecursion (AllFit shape.types) xs → AllByRecursion (AllFit shape.types) ys → map (code_as shape) xs ≡ map (code_as shape) ys → xs ≡ ys
+by_codes shape [] [] sound f g e = refl
+by_codes shape [] (y ∷ ys) sound f g e = cc
+by_codes shape (x ∷ xs) [] sound f g e = cc
+by_codes shape (x ∷ xs) (y ∷ ys) sound f g e =
+    let head : code_as shape x ≡ code_as shape y = cc in
+    let rest : map (code_as shape) xs ≡ map (code_as shape) ys = cc in
+    λ i. code_as_injective shape x y sound f.0 g.0 head i ∷ by_codes shape xs ys sound f.1 g.1 rest i
 
 pub each_fits : (table : Table) (rows : List (List Value)) → AreRows table rows → AllByRecursion (AllFit (types_of table)) rows
 each_fits table [] h = tt
@@ -156,15 +157,23 @@ module _ (origin : Origin) (target : Target) (query : NewQuery) (s : IsNewIn ori
   sorted_there : AllByRecursion (λ row. In (target.table, row) origin.rows) sorted
   sorted_there = each_by_in (λ row. In (target.table, row) origin.rows) sorted (λ row i. in_rows_of target.table origin.rows row (in_permuted row sorted (rows_of target.table origin.rows) (IsPermutation-sym (rows_of target.table origin.rows) sorted (IsPermutation-sort_by (position_cmp (dirs_of (primary_sequence (table_at more target.table)))) (values_of (primary_sequence (table_at more target.table))) (rows_of target.table origin.rows))) i))
 
+  -- the index changes nothing in how rows are stored
+  own_code : (row : List Value) → stored_code (table_at more target.table) row ≡ stored_code table row
+  own_code row = ap (λ (x : Table). stored_code x row) own_table
+
   second_of : (xs : List (List Value)) → map (λ (pair : Pair). pair.1) (map pair_of xs) ≡ map (stored_code table) xs
   second_of [] = refl
-  second_of (x ∷ xs) = ap (λ (l : List (List ℕ)). stored_code table x ∷ l) (second_of xs)
+  second_of (x ∷ xs) = λ i. own_code x i ∷ second_of xs i
+
+  shape_is : target_shape target ≡ shape_of table
+  shape_is = λ i. row_shape (w.types i) (w.fillers i)
 
   -- rows that were decoded are the first rows of the table
-  decoded_rows : (n : ℕ) (rs : List (List Value)) → AreDecoded target.types (take n (map pair_of sorted)) rs → rs ≡ take n sorted
+  decoded_rows : (n : ℕ) (rs : List (List Value)) → AreDecoded (target_shape target) (take n (map pair_of sorted)) rs → rs ≡ take n sorted
   decoded_rows n rs d =
-      by_codes (types_of table) rs (take n sorted) w.sound (subst (λ (ts : List ColType). AllByRecursion (AllFit ts) rs) w.types d.fit) (each_take (AllFit (types_of table)) n sorted sorted_fit)
-      (d.codes ∙ ap (map (λ (pair : Pair). pair.1)) (take-map pair_of n sorted) ∙ second_of (take n sorted))
+      let e : AreDecoded (shape_of table) (take n (map pair_of sorted)) rs = subst (λ (shape : RowShape). AreDecoded shape (take n (map pair_of sorted)) rs) shape_is d in
+      by_codes (shape_of table) rs (take n sorted) w.sound e.fit (each_take (AllFit (types_of table)) n sorted sorted_fit)
+      (e.codes ∙ ap (map (λ (pair : Pair). pair.1)) (take-map pair_of n sorted) ∙ second_of (take n sorted))
 
   -- ---- entries
 
@@ -203,8 +212,8 @@ module _ (origin : Origin) (target : Target) (query : NewQuery) (s : IsNewIn ori
 
   -- ---- stages
 
-  first_rows : (n : ℕ) (c : Content) (rs : List (List Value)) → FillsIndex origin target query c → AreDecoded target.types (take n (row_pairs_in target.table c)) rs → rs ≡ take n sorted
-  first_rows n c rs f d = decoded_rows n rs (subst (λ (l : List Pair). AreDecoded target.types (take n l) rs) (part_rows (building_value query) c f.part) d)
+  first_rows : (n : ℕ) (c : Content) (rs : List (List Value)) → FillsIndex origin target query c → AreDecoded (target_shape target) (take n (row_pairs_in target.table c)) rs → rs ≡ take n sorted
+  first_rows n c rs f d = decoded_rows n rs (subst (λ (l : List Pair). AreDecoded (target_shape target) (take n l) rs) (part_rows (building_value query) c f.part) d)
 
   -- whatever entries were written, the index is being filled
   pub still_filling : (c : Content) (now : Option Content) → FillsIndex origin target query c → EntersSome target (row_pairs_in target.table c) c now → (d : Content) × (now ≡ Some d) × FillsIndex origin target query d
@@ -222,7 +231,7 @@ module _ (origin : Origin) (target : Target) (query : NewQuery) (s : IsNewIn ori
       let n = length (map pair_of sorted) in
       let taken : take n (map pair_of sorted) ≡ map pair_of sorted = take_all n (map pair_of sorted) (omega arith) in
       let rs_are : rs ≡ sorted =
-      decoded_rows n rs (subst (λ (l : List Pair). AreDecoded target.types l rs) (all ∙ sym taken) e.decoded) ∙ take_all n sorted (omega (arith, length-map sorted pair_of)) in
+      decoded_rows n rs (subst (λ (l : List Pair). AreDecoded (target_shape target) l rs) (all ∙ sym taken) e.decoded) ∙ take_all n sorted (omega (arith, length-map sorted pair_of)) in
       let there : AllByRecursion (λ row. In (target.table, row) origin.rows) rs = subst (AllByRecursion (λ (row : List Value). In (target.table, row) origin.rows)) (sym rs_are) sorted_there in
       let d_is : d ≡ entered_rows target rs c = some_same d (entered_rows target rs c) e.is in
       let part : IsFilledPartOf (is_entry_of target.table (1 + length table.indexes)) (whole_content origin target query (building_value query)) (entered_rows target rs c) =
@@ -282,20 +291,21 @@ module _ (origin : Origin) (target : Target) (query : NewQuery) (s : IsNewIn ori
   -- ---- no damage
 
   -- a row that is there has a code
-  pub no_broken : (c : Content) (damage : Damage) → row_pairs_in target.table c ≡ map pair_of sorted → IsNoRowAmong target.types (row_pairs_in target.table c) damage → ⊥
+  pub no_broken : (c : Content) (damage : Damage) → row_pairs_in target.table c ≡ map pair_of sorted → IsNoRowAmong (target_shape target) (row_pairs_in target.table c) damage → ⊥
   no_broken c damage all broken =
       let i : In broken.pair (map pair_of sorted) = in_from_contains (map pair_of sorted) broken.pair (subst (λ (l : List Pair). Contains l broken.pair) all broken.there) in
       let r = in_map sorted broken.pair i in
       let fits : AllFit target.types r.0 = subst (λ (ts : List ColType). AllFit ts r.0) (sym w.types) (each_in (AllFit (types_of table)) sorted sorted_fit r.0 r.1) in
-      broken.no_row.no_row r.0 fits (ap (λ (pair : Pair). pair.1) r.2)
+      let code : code_as (target_shape target) r.0 ≡ stored_code (table_at more target.table) r.0 = ap (λ (shape : RowShape). code_as shape r.0) shape_is ∙ sym (own_code r.0) in
+      broken.no_row.no_row r.0 fits (code ∙ ap (λ (pair : Pair). pair.1) r.2)
     where
       in_map : (xs : List (List Value)) (p : Pair) → In p (map pair_of xs) → (x : List Value) × In x xs × (pair_of x ≡ p)
       in_map [] p i = absurd i
       in_map (x ∷ xs) p (inl e) = (x, inl refl, e)
       in_map (x ∷ xs) p (inr i) = let r = in_map xs p i in (r.0, inr r.1, r.2)
 
-  pub sound_filling : (c : Content) (damage : Damage) → FillsIndex origin target query c → IsNoRowAmong target.types (row_pairs_in target.table c) damage → ⊥
+  pub sound_filling : (c : Content) (damage : Damage) → FillsIndex origin target query c → IsNoRowAmong (target_shape target) (row_pairs_in target.table c) damage → ⊥
   sound_filling c damage f broken = no_broken c damage (part_rows (building_value query) c f.part) broken
 
-  pub sound_before : (damage : Damage) → IsNoRowAmong target.types (row_pairs_in target.table (before origin)) damage → ⊥
+  pub sound_before : (damage : Damage) → IsNoRowAmong (target_shape target) (row_pairs_in target.table (before origin)) damage → ⊥
   sound_before damage broken = no_broken (before origin) damage (sym (marked_rows (before origin)) ∙ part_rows (building_value query) (marked_content query (before origin)) marked_part) broken

@@ -1,11 +1,11 @@
 -- Entries of one index that are written for rows, one after the other.
 use Rattle.std.specs.Prelude.{◌≡◌, ◌≢◌, ◌⊎◌, ℕ, ◌+◌, ◌/◌, ◌≤◌, List, [], ◌∷◌, ◌++◌, map, take, drop, length, Contains, Option, Some, None, IsSome}
 use Rattle.std.specs.List.{AllByRecursion}
-use Rattle.pq_base.specs.declared.value.ColType.{ColType}
 use Rattle.pq_base.specs.declared.value.Value.{Value}
+use Rattle.pq_base.specs.Shapes.{RowShape, row_shape}
 use Rattle.pq_base.specs.Values.{AllFit}
 use Rattle.pq_key_code.specs.KeyCode.{row_key, entry_key, past_code}
-use Rattle.pq_row_code.specs.RowCode.{code_as, IsNoRowCode}
+use Rattle.pq_row_code.specs.StoredRow.{code_as, IsNoRowCode}
 use Rattle.pq_store.specs.Breaks.{IfDamaged}
 use Rattle.pq_store.specs.Content.{Content, pairs_within}
 use Rattle.pq_store.specs.declared.damage.Broke.{Broke}
@@ -13,6 +13,10 @@ use Rattle.pq_store.specs.declared.damage.Damage.{Damage}
 use Rattle.pq_content.specs.Pairs.{Pair, Change, changed_content}
 use Rattle.pq_content.specs.Tables.{dirs_of, values_of}
 use Rattle.pq_builds.specs.declared.target.Target.{Target}
+
+-- how the target's table stores its rows
+abbrev pub target_shape : Target → RowShape
+target_shape target = row_shape target.types target.fillers
 
 -- the key of a row's entry
 abbrev pub entry_at : Target → List Value → List ℕ
@@ -36,14 +40,14 @@ abbrev pub row_pairs_in : ℕ → Content → List Pair
 row_pairs_in table content = pairs_within content (first_key table) (past_key table)
 
 -- rows that fit the types, and whose codes are the values of these pairs
-pub record AreDecoded (types : List ColType) (pairs : List Pair) (rows : List (List Value)) : Type 0 where
-  pub fit : AllByRecursion (AllFit types) rows
-  pub codes : map (code_as types) rows ≡ map (λ pair. pair.1) pairs
+pub record AreDecoded (shape : RowShape) (pairs : List Pair) (rows : List (List Value)) : Type 0 where
+  pub fit : AllByRecursion (AllFit shape.types) rows
+  pub codes : map (code_as shape) rows ≡ map (λ pair. pair.1) pairs
 
 -- the entries of the rows of these pairs were written
 pub record Enters (target : Target) (pairs : List Pair) (old : Content) (now : Option Content) : Type 0 where
   pub rows : List (List Value)
-  pub decoded : AreDecoded target.types pairs rows
+  pub decoded : AreDecoded (target_shape target) pairs rows
   pub is : now ≡ Some (entered_rows target rows old)
 
 -- of some of them, from the first on
@@ -54,24 +58,24 @@ pub record EntersSome (target : Target) (pairs : List Pair) (old : Content) (now
 -- ---- what shows damage
 
 -- a pair whose value is the code of no row that fits
-pub record IsNoRowPair (types : List ColType) (pair : Pair) (damage : Damage) : Type 0 where
+pub record IsNoRowPair (shape : RowShape) (pair : Pair) (damage : Damage) : Type 0 where
   pub at : damage.key ≡ pair.0
   pub has : damage.value ≡ Some pair.1
-  pub no_row : IsNoRowCode types pair.1
+  pub no_row : IsNoRowCode shape pair.1
 
 -- one of some pairs
-pub record IsNoRowAmong (types : List ColType) (pairs : List Pair) (damage : Damage) : Type 0 where
+pub record IsNoRowAmong (shape : RowShape) (pairs : List Pair) (damage : Damage) : Type 0 where
   pub pair : Pair
   pub there : Contains pairs pair
-  pub no_row : IsNoRowPair types pair damage
+  pub no_row : IsNoRowPair shape pair damage
 
 -- a range has not as many pairs as were counted
 pub record IsMiscounted (number : ℕ) (pairs : List Pair) (damage : Damage) : Type 0 where
   pub has : damage.value ≡ None
   pub other : length (take 256 pairs) ≢ number
 
-abbrev pub ShowsRange : List ColType → ℕ → List Pair → Broke → Type 0
-ShowsRange types number pairs = IfDamaged (λ damage. IsMiscounted number pairs damage ⊎ IsNoRowAmong types pairs damage)
+abbrev pub ShowsRange : RowShape → ℕ → List Pair → Broke → Type 0
+ShowsRange shape number pairs = IfDamaged (λ damage. IsMiscounted number pairs damage ⊎ IsNoRowAmong shape pairs damage)
 
 -- damage has a value; or it has none, and names this key
 abbrev pub HasValue : Broke → Type 0
@@ -86,7 +90,7 @@ NamesKey key = IfDamaged (λ damage. damage.value ≡ None → damage.key ≡ ke
 pub record IsEntryIn (target : Target) (pair : Pair) (key : List ℕ) : Type 0 where
   pub row : List Value
   pub fits : AllFit target.types row
-  pub code : code_as target.types row ≡ pair.1
+  pub code : code_as (target_shape target) row ≡ pair.1
   pub is : key ≡ entry_at target row
 
 -- a key is the first one past the last of some pairs, or where there are none it is as it was

@@ -11,7 +11,7 @@ use Rattle.pq_builds.specs.declared.build.Built.TheVariants as built
 use Rattle.pq_builds.specs.declared.mark.TheConstants.{READY, BUILDING}
 use Rattle.pq_builds.specs.declared.target.NewQuery.{NewQuery}
 use Rattle.pq_builds.specs.declared.target.Target.{Target}
-use Rattle.pq_builds.specs.Filling.{Enters, EntersSome, row_pairs_in, IsNoRowAmong}
+use Rattle.pq_builds.specs.Filling.{Enters, EntersSome, target_shape, row_pairs_in, IsNoRowAmong}
 
 -- the format of a definition, its mark and its text
 abbrev pub marked_value : NewQuery → ℕ → List ℕ
@@ -79,7 +79,7 @@ StopsBuilding target query old now = (now ≡ Some old) ⊎ IsBegun target query
 -- in a build: the definition's key, which was to be absent, or a pair of the table's rows that is no row's
 abbrev pub ShowsBuild : Target → NewQuery → Content → Broke → Type 0
 ShowsBuild target query content = IfDamaged (λ damage.
-    IsPresent query.key content damage ⊎ IsNoRowAmong target.types (row_pairs_in target.table content) damage)
+    IsPresent query.key content damage ⊎ IsNoRowAmong (target_shape target) (row_pairs_in target.table content) damage)
 
 -- the definition's key, whose index's table has more rows than an index is filled for
 pub record HasTooMany (target : Target) (query : NewQuery) (content : Content) (damage : Damage) : Type 0 where
@@ -90,7 +90,7 @@ pub record HasTooMany (target : Target) (query : NewQuery) (content : Content) (
 -- a pair of the table's rows that is no row's, where these are few enough
 pub record HasNoRow (target : Target) (content : Content) (damage : Damage) : Type 0 where
   pub few : length (row_pairs_in target.table content) ≤ 1000000
-  pub no_row : IsNoRowAmong target.types (row_pairs_in target.table content) damage
+  pub no_row : IsNoRowAmong (target_shape target) (row_pairs_in target.table content) damage
 
 -- in a build that was left: the definition's key, where there are too many rows; and else a pair that is no row's
 abbrev pub ShowsLeft : Target → NewQuery → Content → Broke → Type 0

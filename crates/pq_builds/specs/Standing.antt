@@ -47,6 +47,7 @@ pub record IsTarget (origin : Origin) (target : Target) : Type 0 where
   pub number : IsTableNumber origin.tables target.table
   pub next : target.index ≡ 1 + length (table_at origin.tables target.table).indexes
   pub types : target.types ≡ types_of (table_at origin.tables target.table)
+  pub fillers : target.fillers ≡ (table_at origin.tables target.table).fillers
   pub parts : target.parts ≡ index_sequence (table_at origin.tables target.table) origin.index
   pub sound : All IsType (types_of (table_at origin.tables target.table))
 

@@ -9,4 +9,10 @@ use Rattle.pq_builds.specs.declared.target.Target.{Target}
 -- an index of a table, by both numbers
 abbrev pub target_of : ℕ → ℕ → Table → Index → Target
 target_of number place table index =
-    record { table = number; index = place; types = types_of table; parts = index_sequence table index }
+    record {
+      table = number;
+      index = place;
+      types = types_of table;
+      fillers = table.fillers;
+      parts = index_sequence table index;
+    }

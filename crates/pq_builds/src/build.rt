@@ -6,7 +6,7 @@ ghost use Rattle.pq_store.specs.Content.{HasBrokeCause};
 ghost use Rattle.pq_intent.specs.Spending.{TakesAtMost};
 ghost use Rattle.pq_intent.specs.Changing.{StaysUntold};
 ghost use Rattle.pq_builds.specs.Bounds.{build_bound, left_bound};
-ghost use Rattle.pq_builds.specs.Filling.{row_pairs_in, IsNoRowAmong, NamesKey, fill_ops};
+ghost use Rattle.pq_builds.specs.Filling.{target_shape, row_pairs_in, IsNoRowAmong, NamesKey, fill_ops};
 ghost use Rattle.pq_builds.specs.Stages.{marked_value, IsMarked, IsReady, IsBuilt, StopsFilling, StopsBuilding, ShowsBuild, ShowsLeft, RanBuild, Takes, TakesBuild, IsFew, IsWithinBuild, build_ops, left_ops};
 ghost use Rattle.pq_builds.specs.Standing.{Origin, HoldsOrigin, HoldsFilling, IsMarkedOrReady, Makes, Leaves, rows_in};
 
@@ -86,7 +86,7 @@ fn finish<S: Store<L>, L: Ledger>(
         length (row_pairs_in target.now.table c) ≡ count → StopsFilling target.now query.now c (S.content store.new))) }
     ensures shown { IfErr result (λ broke. IfSome (S.content store.old) (λ c.
         length (row_pairs_in target.now.table c) ≡ count
-        → IfDamaged (IsNoRowAmong target.now.types (row_pairs_in target.now.table c)) broke)) }
+        → IfDamaged (IsNoRowAmong (target_shape target.now) (row_pairs_in target.now.table c)) broke)) }
     ensures names { IfErr result (NamesKey query.now.key) }
     ensures takes { OnOk result (Takes (fill_ops count + 1) count meter.old meter.new) }
     ensures few_ops { meter.new.ops ≤ meter.old.ops + (fill_ops count + 1) }

@@ -1,16 +1,16 @@
 //! Entries that are written for the pairs of rows.
 ghost use Rattle.std.specs.Prelude.{◌≡◌, ◌≤◌, ◌+◌, ◌∷◌, [], Some, length, map, IfOk, IfErr, IfSome, IfNone, OnOk, OnErr};
 ghost use Rattle.std.specs.Option.{option_map};
-ghost use Rattle.pq_row_code.specs.RowCode.{IsNoRowCode};
+ghost use Rattle.pq_row_code.specs.StoredRow.{IsNoRowCode};
 ghost use Rattle.pq_store.specs.Breaks.{IfDamaged, IsUndamaged};
 ghost use Rattle.pq_store.specs.Content.{HasBrokeCause, entry, written_content};
 ghost use Rattle.pq_store.specs.Counts.{charged_counts};
 ghost use Rattle.pq_intent.specs.Changing.{MayChange, StaysUntold};
-ghost use Rattle.pq_builds.specs.Filling.{IsEntryIn, Enters, EntersSome, IsNoRowPair, IsNoRowAmong, HasValue};
+ghost use Rattle.pq_builds.specs.Filling.{IsEntryIn, Enters, EntersSome, target_shape, IsNoRowPair, IsNoRowAmong, HasValue};
 
 use crate::target::{Target, entry_of};
 use pq_base::{Bytes, NoMem};
-use pq_row_code::decode_row;
+use pq_row_code::decode_filled;
 use pq_store::{Broke, Damage, Guard, Meter, Pair, Store};
 use std::alloc::Global;
 use std::sync::ledger::Ledger;
@@ -40,9 +40,14 @@ pub(crate) fn put<S: Store<L>, L: Ledger>(
 /// The key of the entry of the row that a pair has, None where its value is the code of no row.
 fn entry_in(alloc: Global, target: &Target, pair: &Pair) -> Result<Option<Bytes>, NoMem>
     ensures found { IfOk result (λ key. IfSome key (IsEntryIn target.now (entry pair.now))) }
-    ensures none { IfOk result (λ key. IfNone key (IsNoRowCode target.now.types pair.now.value)) }
+    ensures none { IfOk result (λ key. IfNone key (IsNoRowCode (target_shape target.now) pair.now.value)) }
 {
-    match decode_row(alloc, pair.value.items(), target.types.items())? {
+    match decode_filled(
+        alloc,
+        pair.value.items(),
+        target.types.items(),
+        &target.fillers,
+    )? {
         None => Ok(None),
         Some(row) => Ok(Some(entry_of(alloc, target, &row)?)),
     }
@@ -71,7 +76,7 @@ fn write_entry<S: Store<L>, L: Ledger>(
         Enters target.now (entry pair.now ∷ []) c (S.content store.new))) }
     ensures stopped { OnErr result (IfSome (S.content store.old) (λ c.
         EntersSome target.now (entry pair.now ∷ []) c (S.content store.new))) }
-    ensures damage { IfErr result (IfDamaged (IsNoRowPair target.now.types (entry pair.now))) }
+    ensures damage { IfErr result (IfDamaged (IsNoRowPair (target_shape target.now) (entry pair.now))) }
     ensures one { OnOk result (meter.new.ops ≡ meter.old.ops + 1) }
     ensures few { meter.new.ops ≤ meter.old.ops + 1 }
     ensures entries { meter.new.entries ≡ meter.old.entries }
@@ -96,7 +101,7 @@ pub(crate) fn write_entries<S: Store<L>, L: Ledger>(
         Enters target.now (map entry pairs.now) c (S.content store.new))) }
     ensures stopped { OnErr result (IfSome (S.content store.old) (λ c.
         EntersSome target.now (map entry pairs.now) c (S.content store.new))) }
-    ensures damage { IfErr result (IfDamaged (IsNoRowAmong target.now.types (map entry pairs.now))) }
+    ensures damage { IfErr result (IfDamaged (IsNoRowAmong (target_shape target.now) (map entry pairs.now))) }
     ensures valued { IfErr result HasValue }
     ensures each { OnOk result (meter.new.ops ≡ meter.old.ops + length pairs.now) }
     ensures few { meter.new.ops ≤ meter.old.ops + length pairs.now }

@@ -4,7 +4,7 @@ ghost use Rattle.pq_content.specs.Pairs.{is_in_space};
 ghost use Rattle.pq_store.specs.Breaks.{IfDamaged};
 ghost use Rattle.pq_store.specs.Content.{pairs_within, HasBrokeCause, entry};
 ghost use Rattle.pq_intent.specs.Changing.{StaysUntold};
-ghost use Rattle.pq_builds.specs.Filling.{first_key, past_key, row_pairs_in, IsPast, Enters, EntersSome, Follows, ShowsRange, IsNoRowAmong, NamesKey, fill_ops};
+ghost use Rattle.pq_builds.specs.Filling.{first_key, past_key, row_pairs_in, IsPast, Enters, EntersSome, Follows, target_shape, ShowsRange, IsNoRowAmong, NamesKey, fill_ops};
 
 use crate::entries::write_entries;
 use crate::target::Target;
@@ -72,7 +72,7 @@ fn fill_next<S: Store<L>, L: Ledger>(
     ensures stopped { OnErr result (IfSome (S.content store.old) (λ c.
         EntersSome target.now (pairs_within c low (past_key target.now.table)) c (S.content store.new))) }
     ensures damage { IfErr result (λ broke. IfSome (S.content store.old) (λ c.
-        ShowsRange target.now.types number (pairs_within c low (past_key target.now.table)) broke)) }
+        ShowsRange (target_shape target.now) number (pairs_within c low (past_key target.now.table)) broke)) }
     ensures names { IfErr result (NamesKey key.now) }
     ensures each { OnOk result (meter.new.ops ≡ meter.old.ops + (number + 1)) }
     ensures each_entry { OnOk result (meter.new.entries ≡ meter.old.entries + number) }
@@ -114,7 +114,7 @@ pub(crate) fn fill_rows<S: Store<L>, L: Ledger>(
         EntersSome target.now (row_pairs_in target.now.table c) c (S.content store.new))) }
     ensures damage { IfErr result (λ broke. IfSome (S.content store.old) (λ c.
         length (row_pairs_in target.now.table c) ≡ count
-        → IfDamaged (IsNoRowAmong target.now.types (row_pairs_in target.now.table c)) broke)) }
+        → IfDamaged (IsNoRowAmong (target_shape target.now) (row_pairs_in target.now.table c)) broke)) }
     // Over every store, told or not.
     ensures names { IfErr result (NamesKey key.now) }
     ensures each { OnOk result (meter.new.ops ≡ meter.old.ops + fill_ops count) }

@@ -2,23 +2,24 @@
 ghost use Rattle.std.specs.Prelude.{◌≡◌, IfOk};
 ghost use Rattle.pq_schema.specs.Sequences.{IsAccess, index_numbered};
 ghost use Rattle.pq_schema.specs.Sound.{IsTable, AreColumns, AreParts};
-ghost use Rattle.pq_content.specs.Tables.{value_of, values_of};
+ghost use Rattle.pq_content.specs.Tables.{values_of};
 ghost use Rattle.pq_builds.specs.Filling.{entry_at};
 ghost use Rattle.pq_builds.specs.Targets.{target_of};
 
-use pq_base::{Bytes, ColType, List, NoMem, Row, Value};
+use pq_base::{Bytes, ColType, List, NoMem, Row, Value, value_of};
 use pq_calls::types_of;
 use pq_key_code::entry_key;
 use pq_schema::{Access, KeyPart, NewIndex, Table, dirs_of, index_sequence, sequence};
 use std::alloc::Global;
 
-/// An index that is filled: the table's number and its own, from 1, the types of the table's columns,
-/// and the index's sequence.
+/// An index that is filled: the table's number and its own, from 1, the types of the table's columns and
+/// the defaults of those that were added, and the index's sequence.
 #[derive(Drop)]
 pub struct Target {
     pub table: u8,
     pub index: u8,
     pub types: List<ColType>,
+    pub fillers: List<Option<Value>>,
     pub parts: List<KeyPart>,
 }
 
@@ -28,6 +29,27 @@ pub struct NewQuery {
     pub key: Bytes,
     pub format: u8,
     pub text: Bytes,
+}
+
+/// A copy of the default of a column.
+fn copied_filler(alloc: Global, filler: &Option<Value>) -> Result<Option<Value>, NoMem>
+    ensures { IfOk result (λ copy. copy ≡ filler.now) }
+{
+    match filler {
+        None => Ok(None),
+        Some(value) => Ok(Some(value.copy(alloc)?)),
+    }
+}
+
+/// A copy of the defaults of some columns.
+fn copied_fillers(alloc: Global, fillers: &[Option<Value>]) -> Result<List<Option<Value>>, NoMem>
+    ensures { IfOk result (λ copy. copy ≡ fillers.now) }
+{
+    let mut copy = List::with_room(alloc, fillers.len())?;
+    for filler in fillers {
+        copy.push(alloc, copied_filler(alloc, filler)?)?;
+    }
+    Ok(copy)
 }
 
 impl Target {
@@ -41,6 +63,7 @@ impl Target {
             table: new.table,
             index: new.number,
             types: types_of(alloc, table)?,
+            fillers: copied_fillers(alloc, table.fillers.items())?,
             parts: index_sequence(alloc, table, &new.index)?,
         })
     }
@@ -55,17 +78,9 @@ impl Target {
             table: number,
             index,
             types: types_of(alloc, table)?,
+            fillers: copied_fillers(alloc, table.fillers.items())?,
             parts: sequence(alloc, table, Access::Secondary(index))?,
         })
-    }
-}
-
-fn value_of(alloc: Global, row: &[Value], col: u8) -> Result<Value, NoMem>
-    ensures { IfOk result (λ value. value ≡ value_of row.now col) }
-{
-    match row.get(col as usize) {
-        Some(value) => value.copy(alloc),
-        None => Ok(Value::Bool(false)),
     }
 }
 

@@ -1,17 +1,18 @@
 //! Rows by their keys.
 ghost use Rattle.std.specs.Prelude.{◌≡◌, option_map, IfOk, IfErr, IfSome};
 ghost use Rattle.std.specs.FinMap.{get as value_at};
+ghost use Rattle.pq_base.specs.Shapes.{row_shape};
 ghost use Rattle.pq_base.specs.Values.{AllFit};
 ghost use Rattle.pq_key_code.specs.KeyCode.{row_key};
-ghost use Rattle.pq_schema.specs.Rows.{types_of};
+ghost use Rattle.pq_schema.specs.Rows.{types_of, shape_of};
 ghost use Rattle.pq_calls.specs.Calls.{Uses, Fails};
 ghost use Rattle.pq_calls.specs.Evidence.{IsRead, IsNoRowAt};
 ghost use Rattle.pq_calls.specs.World.{Affords};
 
 use crate::calls::Calls;
-use pq_base::{Bytes, ColType, List, NoMem, Row};
+use pq_base::{Bytes, ColType, List, NoMem, Row, Value};
 use pq_key_code::row_key;
-use pq_row_code::decode_row;
+use pq_row_code::decode_filled;
 use pq_schema::Table;
 use pq_store::{Broke, Damage, Store};
 use std::alloc::Global;
@@ -42,19 +43,21 @@ impl<'a, S: Store<L>, L: Ledger> Calls<'a, S, L> {
         alloc: Global,
         at: Bytes,
         types: &[ColType],
+        fillers: &List<Option<Value>>,
     ) -> Result<Option<StoredRow>, Broke>
         requires share { Affords self.old.allowance.now 1 1 }
         ensures uses { Uses S.content S.faults self.old self.new 1 1 }
-        ensures cause { IfErr result (Fails (IsNoRowAt types.now at) S.content S.faults self.old self.new) }
+        ensures cause { IfErr result (Fails (IsNoRowAt (row_shape types.now fillers.now) at) S.content S.faults
+            self.old self.new) }
         ensures read { IfOk result (λ found. IfSome (S.content self.old.store.now) (λ c.
-            IsRead types.now (value_at c at) (option_map (λ stored. stored.row) found))) }
+            IsRead (row_shape types.now fillers.now) (value_at c at) (option_map (λ stored. stored.row) found))) }
         ensures at { IfOk result (λ found. IfSome found (λ stored. stored.at ≡ at)) }
         ensures fits { IfOk result (λ found. IfSome found (λ stored. AllFit types.now stored.row)) }
     {
         let Some(code) = self.get(alloc, at.items())? else {
             return Ok(None);
         };
-        match decode_row(alloc, code.items(), types)? {
+        match decode_filled(alloc, code.items(), types, fillers)? {
             Some(row) => Ok(Some(StoredRow { at, row })),
             None => Err(Broke::Damaged(Damage {
                 key: at,
@@ -74,16 +77,16 @@ impl<'a, S: Store<L>, L: Ledger> Calls<'a, S, L> {
     ) -> Result<Option<StoredRow>, Broke>
         requires share { Affords self.old.allowance.now 1 1 }
         ensures uses { Uses S.content S.faults self.old self.new 1 1 }
-        ensures cause { IfErr result (Fails (IsNoRowAt (types_of table.now) (row_key number key.now)) S.content
+        ensures cause { IfErr result (Fails (IsNoRowAt (shape_of table.now) (row_key number key.now)) S.content
             S.faults self.old self.new) }
         ensures read { IfOk result (λ found. IfSome (S.content self.old.store.now) (λ c.
-            IsRead (types_of table.now) (value_at c (row_key number key.now)) (option_map
+            IsRead (shape_of table.now) (value_at c (row_key number key.now)) (option_map
             (λ stored. stored.row) found))) }
         ensures at { IfOk result (λ found. IfSome found (λ stored. stored.at ≡ row_key number key.now)) }
         ensures fits { IfOk result (λ found. IfSome found (λ stored. AllFit (types_of table.now) stored.row)) }
     {
         let types = types_of(alloc, table)?;
         let at = row_key(alloc, number, key)?;
-        self.row_at(alloc, at, types.items())
+        self.row_at(alloc, at, types.items(), &table.fillers)
     }
 }

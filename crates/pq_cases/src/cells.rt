@@ -1,7 +1,8 @@
 //! What a case is done with: the words of its line, and the texts behind them.
 //!
 //! `INT`, `BOOL`, `TEXT9`, and these with `?` behind them are types, `asc` and `desc` directions, `7`, `-7`, `true`,
-//! `null` and `'ann` values, `#7` a number and `x0aff` bytes. A text begins with `"` behind a space and ends before the
+//! `null` and `'ann` values, `=7` the default of an added column, `=` a column that was not added, `#7` a number and
+//! `x0aff` bytes. A text begins with `"` behind a space and ends before the
 //! next such, or with the line. In values and texts `%0a` is the byte of these two digits; in texts `{9 ab}` is `ab` nine
 //! times.
 ghost use Rattle.std.specs.Prelude.{IfOk, IfSome, All};
@@ -19,6 +20,7 @@ pub struct Cells<'a> {
     pub types: Vec<ColType>,
     pub dirs: Vec<Dir>,
     pub row: Row,
+    pub fillers: List<Option<Value>>,
     pub numbers: Vec<u32>,
     pub code: Bytes,
     pub texts: List<Bytes>,
@@ -247,6 +249,16 @@ fn row_of(alloc: Global, words: &[&str]) -> Result<Row, NoMem>
     Ok(row)
 }
 
+fn fillers_of(alloc: Global, words: &[&str]) -> Result<List<Option<Value>>, NoMem> {
+    let mut fillers = List::new(alloc);
+    for word in words {
+        if let Some(word) = word.strip_prefix("=") {
+            fillers.push(alloc, value_of(alloc, word)?)?;
+        }
+    }
+    Ok(fillers)
+}
+
 fn word_at<'a>(words: &[&'a str], place: usize) -> &'a str {
     match words.get(place) {
         Some(word) => word,
@@ -262,6 +274,7 @@ fn cells_with<'a>(alloc: Global, words: &[&'a str], texts: List<Bytes>) -> Resul
         command: word_at(words, 0),
         what: word_at(words, 1),
         row: row_of(alloc, words)?,
+        fillers: fillers_of(alloc, words)?,
         types: types_of(alloc, words)?,
         dirs: dirs_of(alloc, words)?,
         numbers: numbers_of(alloc, words)?,

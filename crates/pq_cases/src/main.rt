@@ -38,6 +38,8 @@ fn put_codes(alloc: Global, cells: &Cells, out: &mut Bytes) -> Result<(), NoMem>
         "other_keys" => keys::others(alloc, cells, out),
         "row" => rows::row(alloc, cells, out),
         "row_of" => rows::row_of(alloc, cells, out),
+        "stored" => rows::stored(alloc, cells, out),
+        "stored_of" => rows::stored_of(alloc, cells, out),
         "changes_of" => rows::changes_of(alloc, cells, out),
         "cursor" => cursors::cursor(alloc, cells, out),
         "cursor_of" => cursors::cursor_of(alloc, cells, out),

@@ -15,7 +15,7 @@ use Rattle.pq_content.proofs.Keys.{keys_apart}
 use Rattle.pq_content.proofs.Values.{key_of_kinds}
 use Rattle.pq_store.specs.Content.{Content}
 use Rattle.pq_index_keep.specs.Sound.{AreWritable}
-use Rattle.pq_clients.specs.Held.{present_code, stored_row}
+use Rattle.pq_clients.specs.Held.{present_code, decoded_row}
 use Rattle.pq_clients.specs.Present.{present_at, present_rows}
 use Rattle.pq_clients.specs.Invariant.{key_table, IsShaped}
 use Rattle.pq_clients.proofs.Cells.{row_decodes}
@@ -25,7 +25,7 @@ use Rattle.pq_clients.proofs.Ends.{row_shown, shows_row, present_sound, all_from
 
 module _ (tables : List Table) (sound : AreWritable tables) (others : List ℕ → Option (List ℕ)) where
   abbrev pub row_of : ℕ → Option (List ℕ) → Option (List Value)
-  row_of t code = option_and_then (stored_row (table_at tables t)) code
+  row_of t code = option_and_then (decoded_row (table_at tables t)) code
 
   -- ---- the present rows by their keys
   pub present_row_at : (c : Content) (shape : IsShaped tables c others) (t : ℕ) (key : List Value) → AllOfKinds (key_types (table_at tables t)) key → row_at tables (present_rows tables c) t key ≡ row_of t (present_code (get c (row_key t key)))

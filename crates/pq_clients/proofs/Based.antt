@@ -17,7 +17,7 @@ use Rattle.pq_index_keep.specs.Sound.{AreWritable}
 use Rattle.pq_clients.specs.declared.outcome.Outcome.{Outcome}
 use Rattle.pq_clients.specs.declared.outcome.Outcome.TheVariants as outcome
 use Rattle.pq_clients.specs.declared.outcome.Wrote.{Wrote}
-use Rattle.pq_clients.specs.Held.{present_in, present_code, held_value, stored_row}
+use Rattle.pq_clients.specs.Held.{present_in, present_code, held_value, decoded_row}
 use Rattle.pq_clients.specs.Flights.{Flight, row_made, flight_key, old_row, new_row, new_code, stale_entries}
 use Rattle.pq_clients.specs.Clients.{Checking, Adding, Testing, Putting, Clearing, Freeing, Undoing, Releasing, Next, Reading, Taking, Looking, Flying, View, write_at}
 use Rattle.pq_clients.specs.Steps.{is_just, Then, On, Puts, Ends, damaged, clearing, gone_on, is_fault, After, after_call, told_view, Fate, Answers, NotDone, DoneUnseen, NoMemory, met}
@@ -39,7 +39,7 @@ use Rattle.pq_clients.proofs.Written.{LostAt, LostHeld, OtherAt, other_same, oth
 module _ (tables : List Table) (sound : AreWritable tables) (others : List ℕ → Option (List ℕ)) where
   -- the row of a code under a key
   abbrev row_of : ℕ → Option (List ℕ) → Option (List Value)
-  row_of t code = option_and_then (stored_row (table_at tables t)) code
+  row_of t code = option_and_then (decoded_row (table_at tables t)) code
 
   by_code : (t : ℕ) (key : List Value) (code : Option (List ℕ)) → code_row tables (row_key t key) code ≡ row_of t code
   unfolding code_row

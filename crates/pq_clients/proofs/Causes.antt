@@ -16,7 +16,7 @@ use Rattle.pq_index_keep.specs.declared.write.Write.TheVariants as write
 use Rattle.pq_clients.specs.declared.outcome.Outcome.{Outcome}
 use Rattle.pq_clients.specs.declared.outcome.Outcome.TheVariants as outcome
 use Rattle.pq_clients.specs.declared.outcome.Step.TheVariants as step
-use Rattle.pq_clients.specs.Held.{stored_row, Cell, Free, Held, cell_of, present_row, held_value}
+use Rattle.pq_clients.specs.Held.{decoded_row, Cell, Free, Held, cell_of, present_row, held_value}
 use Rattle.pq_clients.specs.Flights.{row_made, table_of, pair_key, Flight, Check, Parent, Child, flight_table, flight_key, new_code, fresh_entries, stale_entries, flight_checks, flight_tests, check_refusal, test_refusal, tested_front, tested_limit}
 use Rattle.pq_clients.specs.Clients.{Stage, Checking, Adding, Testing, Putting, Clearing, Freeing, Undoing, Releasing, Next, Reading, Taking, Looking, Flying, View, write_at, is_over}
 use Rattle.pq_clients.specs.Steps.{counted, is_just, taking_short, after_row, after_code, after_cell, after_read, read_on, is_held_by_other, Then, On, Puts, Ends, testing, adding, checking, clearing, undoing, passes, has_room, refused, damaged, if_own, flown, gone_on, is_fault, after_call, told_view, Fate, Answers, NotDone, DoneUnseen, NoMemory, met, stepped}
@@ -161,7 +161,7 @@ module _ (tables : List Table) where
 
   cell_lands : (client : ℕ) (w : Write) (value : List ℕ) (cell : Cell) → flies (after_cell tables client w value cell) ≡ false
   unfolding flies
-  cell_lands client w value (Free code) = code_lands w value (stored_row (table_of tables w) value)
+  cell_lands client w value (Free code) = code_lands w value (decoded_row (table_of tables w) value)
   cell_lands client w value (Held holder number present) = by (is_held_by_other (table_of tables w) client (Held holder number present))
     where
       by : (b : Bool) → flies (cond b (Ends (outcome.Busy value)) (damaged (pair_key tables w) (Some value))) ≡ false

@@ -8,8 +8,9 @@ use Rattle.std.proofs.lemmas.Bool.Decides.{nat_tests}
 use Rattle.pq_base.specs.declared.value.Value.{Value}
 use Rattle.pq_base.specs.Values.{IsType, AllFit}
 use Rattle.pq_base.proofs.TypeFits.{length_from_fits}
-use Rattle.pq_row_code.proofs.Rows.{row_again}
+use Rattle.pq_row_code.proofs.Stored.{stored_few, filled_again}
 use Rattle.pq_row_code.specs.RowCode.{fields, null_marks, mark_bytes, row_front}
+use Rattle.pq_row_code.specs.StoredRow.{stored_row}
 use Rattle.pq_row_code.proofs.Widths.{wide32}
 use Rattle.pq_schema.specs.declared.table.Column.{Column}
 use Rattle.pq_schema.specs.declared.table.Table.{Table}
@@ -17,12 +18,12 @@ use Rattle.pq_schema.proofs.TypeKinds.{type_sized}
 use Rattle.pq_schema.specs.Sound.{IsSized}
 use Rattle.pq_schema.specs.Tables.{table_at}
 use Rattle.pq_content.specs.Pairs.{is_in_space}
-use Rattle.pq_content.specs.Tables.{IsTableNumber, types_of, stored_code}
+use Rattle.pq_content.specs.Tables.{IsTableNumber, types_of, shape_of, stored_code}
 use Rattle.pq_store.specs.Content.{Content}
 use Rattle.std.specs.FinMap.{get}
 use Rattle.pq_index_keep.specs.Sound.{IsWritable, AreWritable}
 use Rattle.pq_index_keep.proofs.Inserting.{writable_at, each_is, each_by}
-use Rattle.pq_clients.specs.Held.{Cell, Free, Held, cell_of, held_value, code_or_nothing, something, stored_row}
+use Rattle.pq_clients.specs.Held.{Cell, Free, Held, cell_of, held_value, code_or_nothing, something, decoded_row}
 use Rattle.pq_clients.specs.Invariant.{IsRowAt, MayStandAt, cell_at, present_at_cell}
 use Rattle.pq_clients.proofs.Basics.{cell_is}
 
@@ -37,8 +38,8 @@ types_are tables t sound number =
     each_is IsType (types_of table) (are_types table.columns (each_by (λ (column : Column). IsSized column.ty) table.columns w.made.sized))
 
 -- a row is read back from its code
-pub row_decodes : (tables : List Table) (t : ℕ) (row : List Value) → AreWritable tables → IsTableNumber tables t → AllFit (types_of (table_at tables t)) row → stored_row (table_at tables t) (stored_code (table_at tables t) row) ≡ Some row
-row_decodes tables t row sound number fits = row_again (types_of (table_at tables t)) row (types_are tables t sound number) fits
+pub row_decodes : (tables : List Table) (t : ℕ) (row : List Value) → AreWritable tables → IsTableNumber tables t → AllFit (types_of (table_at tables t)) row → decoded_row (table_at tables t) (stored_code (table_at tables t) row) ≡ Some row
+row_decodes tables t row sound number fits = filled_again (shape_of (table_at tables t)) row (types_are tables t sound number) fits
 
 -- ---- a row's code is no held value
 
@@ -46,14 +47,14 @@ length_types : (columns : List Column) → length (map (λ (column : Column). co
 length_types [] = refl
 length_types (c ∷ cs) = ap suc (length_types cs)
 
-short_row : (tables : List Table) (t : ℕ) (row : List Value) → AreWritable tables → IsTableNumber tables t → AllFit (types_of (table_at tables t)) row → length row ≤ 32
+short_row : (tables : List Table) (t : ℕ) (row : List Value) → AreWritable tables → IsTableNumber tables t → AllFit (types_of (table_at tables t)) row → length (stored_row (table_at tables t).fillers row) ≤ 32
 short_row tables t row sound number fits =
     let table = table_at tables t in
     let w : IsWritable tables table = writable_at tables t sound number in
     let long : length row ≡ length (types_of table) = length_from_fits (types_of table) row fits in
     let columns : length (types_of table) ≡ length table.columns = length_types table.columns in
     let few : length table.columns ≤ 32 = w.made.few_columns in
-    omega (arith, long, columns, few)
+    stored_few table.fillers row (omega (arith, long, columns, few))
 
 unmarked : (n : ℕ) (bs : List ℕ) → n < 128 → cell_of (n ∷ bs) ≡ Free (n ∷ bs)
 unfolding cell_of
@@ -69,7 +70,8 @@ unmarked_front n marks bs few =
 
 pub free_cell : (tables : List Table) (k code : List ℕ) → AreWritable tables → IsRowAt tables k code → cell_of code ≡ Free code
 free_cell tables k code sound at =
-    subst (λ (code : List ℕ). cell_of code ≡ Free code) at.code_is (unmarked_front (length at.row) (null_marks at.row) (fields at.row) (short_row tables at.table at.row sound at.number at.fits))
+    let stored = stored_row (table_at tables at.table).fillers at.row in
+    subst (λ (code : List ℕ). cell_of code ≡ Free code) at.code_is (unmarked_front (length stored) (null_marks stored) (fields stored) (short_row tables at.table at.row sound at.number at.fits))
 
 -- what a row's pair holds that nobody holds
 abbrev pub plain : Option (List ℕ) → Option Cell
@@ -88,7 +90,9 @@ plain_present (Some code) = refl
 
 some_code : (tables : List Table) (k : List ℕ) (p : Option (List ℕ)) → MayStandAt tables k p → something (code_or_nothing p) ≡ p
 some_code tables k None stands = refl
-some_code tables k (Some code) stands = subst (λ (code : List ℕ). something code ≡ Some code) stands.code_is (some_front (length stands.row) (null_marks stands.row) (fields stands.row))
+some_code tables k (Some code) stands =
+    let stored = stored_row (table_at tables stands.table).fillers stands.row in
+    subst (λ (code : List ℕ). something code ≡ Some code) stands.code_is (some_front (length stored) (null_marks stored) (fields stored))
   where
     some_front : (n marks : ℕ) (bs : List ℕ) → something (row_front n marks ++ bs) ≡ Some (row_front n marks ++ bs)
     some_front n marks bs = elim (marks == 0) as (λ b. something (cond b (n ∷ []) ((n + 64) ∷ mark_bytes marks) ++ bs) ≡ Some (cond b (n ∷ []) ((n + 64) ∷ mark_bytes marks) ++ bs)) [ true ↦ refl | false ↦ refl ]

@@ -19,7 +19,7 @@ use Rattle.pq_index_keep.specs.Effects.{stays, limit_at}
 use Rattle.pq_index_keep.specs.Sound.{AreWritable, IsWrite}
 use Rattle.pq_index_keep.specs.Tested.{touches, scope_of, with_sets}
 use Rattle.pq_index_keep.proofs.Updating.{fit_sets, kept_values, kept_key}
-use Rattle.pq_clients.specs.Held.{stored_row}
+use Rattle.pq_clients.specs.Held.{decoded_row}
 use Rattle.pq_clients.specs.Flights.{Flight, table_number, table_of, pair_key, row_made, flight_table, flight_key, old_row, new_row, new_code, entry_keys, keys_of_row, old_entries, new_entries, has_entry, fresh_entries, stale_entries, gives, is_tested, limit_tests, tests_of, flight_tests, group_front, front_of, tested_front, tested_limit}
 use Rattle.pq_clients.specs.Invariant.{key_table, code_row, has_code_entry, IsRowAt, MayStandAt, Names, Group, is_limit, shares, row_in_group, in_group, group_bound, front_of_group, is_old, is_new, has_place, FlightFits}
 use Rattle.pq_clients.proofs.Basics.{or_first, or_second, and_of, shared_of, has-left_out}
@@ -46,7 +46,7 @@ module _ (tables : List Table) where
   unfolding code_row
   row_of_code sound k code at =
       subst (λ (k : List ℕ). (key_table k ≡ at.table) × (code_row tables k (Some code) ≡ Some at.row)) at.key_is
-      (refl, subst (λ (code : List ℕ). stored_row (table_at tables at.table) code ≡ Some at.row) at.code_is (row_decodes tables at.table at.row sound at.number at.fits))
+      (refl, subst (λ (code : List ℕ). decoded_row (table_at tables at.table) code ≡ Some at.row) at.code_is (row_decodes tables at.table at.row sound at.number at.fits))
 
   pub no_entries : (k e : List ℕ) → has_code_entry tables k None e ≡ false
   unfolding has_code_entry code_row
@@ -95,7 +95,7 @@ module _ (tables : List Table) where
   old_by_read : AreWritable tables → (f : Flight) (read : Option (List ℕ)) → f.read ≡ read → MayStandAt tables (flight_key tables f) read → (row : List Value) → old_row tables f ≡ Some row → IsOwnRow f row
   unfolding code_row
   old_by_read sound f None is at row h =
-      let none : code_row tables (flight_key tables f) None ≡ None = ap (λ b. cond b (option_and_then (stored_row (table_at tables (key_table (flight_key tables f)))) None) None) (key_space f.write) in
+      let none : code_row tables (flight_key tables f) None ≡ None = ap (λ b. cond b (option_and_then (decoded_row (table_at tables (key_table (flight_key tables f)))) None) None) (key_space f.write) in
       let wrong : ◌≡◌ {A = Option (List Value)} None (Some row) = sym none ∙ ap (code_row tables (flight_key tables f)) (sym is) ∙ old_is f ∙ h in absurd (cc)
   old_by_read sound f (Some code) is at row h =
       let same : ◌≡◌ {A = Option (List Value)} (Some at.row) (Some row) = sym (row_of_code sound (flight_key tables f) code at).1 ∙ ap (code_row tables (flight_key tables f)) (sym is) ∙ old_is f ∙ h in

@@ -29,7 +29,7 @@ use Rattle.pq_content.proofs.Values.{same_from_test, key_of_kinds}
 use Rattle.pq_store.specs.Content.{Content, key_cmp}
 use Rattle.pq_index_keep.specs.Effects.{limit_at}
 use Rattle.pq_index_keep.specs.Sound.{AreWritable}
-use Rattle.pq_clients.specs.Held.{Cell, Free, Held, cell_of, present_in, present_row, stored_row}
+use Rattle.pq_clients.specs.Held.{Cell, Free, Held, cell_of, present_in, present_row, decoded_row}
 use Rattle.pq_clients.specs.Flights.{has_entry, entry_keys}
 use Rattle.pq_clients.specs.Present.{present_at, as_row, rows_in, rows_among, present_rows}
 use Rattle.pq_clients.specs.Promises.{HasEntries, KeepsPresent}
@@ -150,15 +150,15 @@ module _ (tables : List Table) (sound : AreWritable tables) where
   Stands pair = is_in_space 2 pair.0 ≡ true → MayStandAt tables pair.0 (present_in (cell_of pair.1))
 
   -- the row is decoded from the code under its own key
-  rows_at_key : (t : ℕ) (key : List Value) (v code : List ℕ) (row : List Value) → present_in (cell_of v) ≡ Some code → stored_row (table_at tables t) code ≡ Some row → rows_in tables (row_key t key) v ≡ (t, row) ∷ []
-  rows_at_key t key v code row present decoded = ap (λ (o : Option (List ℕ)). as_row t (option_and_then (stored_row (table_at tables t)) o)) present ∙ ap (as_row t) decoded
+  rows_at_key : (t : ℕ) (key : List Value) (v code : List ℕ) (row : List Value) → present_in (cell_of v) ≡ Some code → decoded_row (table_at tables t) code ≡ Some row → rows_in tables (row_key t key) v ≡ (t, row) ∷ []
+  rows_at_key t key v code row present decoded = ap (λ (o : Option (List ℕ)). as_row t (option_and_then (decoded_row (table_at tables t)) o)) present ∙ ap (as_row t) decoded
 
   rows_none : (k v : List ℕ) → present_in (cell_of v) ≡ None → rows_in tables k v ≡ []
   rows_none [] v none = refl
   rows_none (space ∷ []) v none = refl
   rows_none (space ∷ t ∷ code) v none =
       elim (space == 2) as (λ b. cond b (as_row t (present_row (table_at tables t) (Some v))) [] ≡ []) [
-        | true ↦ ap (λ (o : Option (List ℕ)). as_row t (option_and_then (stored_row (table_at tables t)) o)) none
+        | true ↦ ap (λ (o : Option (List ℕ)). as_row t (option_and_then (decoded_row (table_at tables t)) o)) none
         | false ↦ refl
       ]
 
@@ -172,7 +172,7 @@ module _ (tables : List Table) (sound : AreWritable tables) where
     record { code = present ∙ ap Some (sym at.code_is); key = sym at.key_is; number = at.number; fits = at.fits; short = at.short },
     subst (λ (k : List ℕ). rows_in tables k v ≡ (at.table, at.row) ∷ []) at.key_is
         (rows_at_key at.table (key_of (table_at tables at.table) at.row) v code at.row present
-        (subst (λ (code : List ℕ). stored_row (table_at tables at.table) code ≡ Some at.row) at.code_is (row_decodes tables at.table at.row sound at.number at.fits))),
+        (subst (λ (code : List ℕ). decoded_row (table_at tables at.table) code ≡ Some at.row) at.code_is (row_decodes tables at.table at.row sound at.number at.fits))),
   )
 
   pair_rows : (pair : List ℕ × List ℕ) → Stands pair → (rows_in tables pair.0 pair.1 ≡ []) ⊎ ((e : ℕ × List Value) × ShownRow pair.0 pair.1 e × (rows_in tables pair.0 pair.1 ≡ e ∷ []))

@@ -13,7 +13,7 @@ use Rattle.pq_index_keep.specs.declared.write.Write.{Write}
 use Rattle.pq_index_keep.specs.declared.write.Write.TheVariants as write
 use Rattle.pq_clients.specs.declared.outcome.Outcome.{Outcome}
 use Rattle.pq_clients.specs.declared.outcome.Outcome.TheVariants as outcome
-use Rattle.pq_clients.specs.Held.{stored_row, Cell, Free, Held, cell_of}
+use Rattle.pq_clients.specs.Held.{decoded_row, Cell, Free, Held, cell_of}
 use Rattle.pq_clients.specs.Flights.{row_made, table_of, pair_key, Flight, flight_table}
 use Rattle.pq_clients.specs.Clients.{Taking}
 use Rattle.pq_clients.specs.Steps.{taking_short, after_row, after_code, after_cell, after_read, read_on, is_held_by_other, Then, On, Puts, Ends, refused, damaged}
@@ -52,7 +52,7 @@ module _ (tables : List Table) (q : Outcome → Bool) (refusals : (r : Refusal) 
   code_not w code (Some row) = row_not w (Some code) (Some row)
 
   cell_not : (client : ℕ) (w : Write) (value : List ℕ) (cell : Cell) → ends_with q (after_cell tables client w value cell) ≡ false
-  cell_not client w value (Free code) = code_not w value (stored_row (table_of tables w) value)
+  cell_not client w value (Free code) = code_not w value (decoded_row (table_of tables w) value)
   cell_not client w value (Held holder number present) =
       if_not q (is_held_by_other (table_of tables w) client (Held holder number present)) (Ends (outcome.Busy value)) (damaged (pair_key tables w) (Some value)) (busy value) (damages _)
 

@@ -15,7 +15,7 @@ use Rattle.pq_index_keep.specs.declared.write.Write.TheVariants as write
 use Rattle.pq_clients.specs.declared.outcome.Outcome.{Outcome}
 use Rattle.pq_clients.specs.declared.outcome.Outcome.TheVariants as outcome
 use Rattle.pq_clients.specs.declared.outcome.Step.TheVariants as step
-use Rattle.pq_clients.specs.Held.{something, stored_row, Cell, Free, Held, cell_of, is_held_value}
+use Rattle.pq_clients.specs.Held.{something, decoded_row, Cell, Free, Held, cell_of, is_held_value}
 use Rattle.pq_clients.specs.Flights.{row_made, table_of, pair_key, Flight, flight_table, flight_key}
 use Rattle.pq_clients.specs.Clients.{Next, Taking, Looking, View, is_over}
 use Rattle.pq_clients.specs.Steps.{taking_short, after_row, after_code, after_cell, after_read, read_on, is_held_by_other, Then, On, Ends, refused, damaged, gone_on, after_call, Fate, Answers, met, stepped}
@@ -59,7 +59,7 @@ module _ (tables : List Table) where
     no_row_told (write.Delete t key) r h = ends_step (write.Delete t key) None (outcome.Refused (refusal.NoRow (table_of tables (write.Delete t key)).name)) r refl
 
     -- a row's code
-    row_read : (w : Write) (code : List ℕ) (row : List Value) → is_held_value code ≡ false → stored_row (table_of tables w) code ≡ Some row → after_read tables v.number w (Some code) ≡ after_row tables w (Some code) (Some row)
+    row_read : (w : Write) (code : List ℕ) (row : List Value) → is_held_value code ≡ false → decoded_row (table_of tables w) code ≡ Some row → after_read tables v.number w (Some code) ≡ after_row tables w (Some code) (Some row)
     row_read w code row free is =
         ap (after_cell tables v.number w code) (free_cell code free)
         ∙ ap (after_code tables w code) is

@@ -14,6 +14,7 @@ use Rattle.pq_key_code.specs.KeyCode.{row_key, entry_key}
 use Rattle.pq_base.specs.declared.refusal.Refusal.TheVariants as refusal
 use Rattle.pq_base.specs.declared.value.Dir.TheVariants.{Asc}
 use Rattle.pq_row_code.specs.RowReading.{row_decoded, fields_at, cell_at, front_at, field_at}
+use Rattle.pq_row_code.specs.StoredRow.{filled_decoded, short_decoded, filled}
 use Rattle.pq_index_keep.specs.Groups.{group_key}
 use Rattle.pq_store.specs.Content.{Content, key_cmp}
 use Rattle.pq_index_keep.specs.declared.write.Write.{Write}
@@ -57,7 +58,7 @@ entries_none = no_length (entries no_pairs) (sym (len-entries no_pairs) ∙ len-
 
 -- a table of two numbers whose key is the first
 abbrev m : Table
-m = record { name = 109 ∷ []; columns = record { name = 105 ∷ []; ty = type.Int } ∷ record { name = 118 ∷ []; ty = type.Int } ∷ []; key = 0 ∷ []; limits = []; foreign = []; indexes = [] }
+m = record { name = 109 ∷ []; columns = record { name = 105 ∷ []; ty = type.Int } ∷ record { name = 118 ∷ []; ty = type.Int } ∷ []; fillers = None ∷ None ∷ []; key = 0 ∷ []; limits = []; foreign = []; indexes = [] }
 
 abbrev pub pair : ℕ → ℕ → List Value
 pair a b = value.Int (pos a) ∷ value.Int (pos b) ∷ []
@@ -88,11 +89,11 @@ abbrev after_conflict : Run
 after_conflict = run (m ∷ []) (begun no_pairs (client 1 1 7 ∷ client 2 1 8 ∷ [])) (turns (0 ∷ 1 ∷ 0 ∷ 1 ∷ 0 ∷ 1 ∷ 0 ∷ []))
 
 told_conflict : after_conflict.told ≡ tell 2 1 (outcome.Conflict None (Some (held_value 1 1 (Some (stored_code m (pair 1 7)))))) ∷ tell 1 1 outcome.Done ∷ []
-unfolding ones pair_key held_value cell_of old_row new_row new_code entry_keys old_entries new_entries flight_checks flight_tests group_key group_front tested_front counted present_rows row_decoded fields_at cell_at front_at field_at
+unfolding ones pair_key held_value cell_of old_row new_row new_code entry_keys old_entries new_entries flight_checks flight_tests group_key group_front tested_front counted present_rows filled_decoded short_decoded filled row_decoded fields_at cell_at front_at field_at
 told_conflict = simp (get-insert {X = List ℕ} nat_list_cmp_total, get-remove {X = List ℕ} nat_list_cmp_total, get-empty {X = List ℕ} key_cmp, entries-insert {X = List ℕ} nat_list_cmp_total, entries-remove, entries_none)
 
 present_conflict : present_rows (m ∷ []) after_conflict.content ≡ (1, pair 1 7) ∷ []
-unfolding ones pair_key held_value cell_of old_row new_row new_code entry_keys old_entries new_entries flight_checks flight_tests group_key group_front tested_front counted present_rows row_decoded fields_at cell_at front_at field_at
+unfolding ones pair_key held_value cell_of old_row new_row new_code entry_keys old_entries new_entries flight_checks flight_tests group_key group_front tested_front counted present_rows filled_decoded short_decoded filled row_decoded fields_at cell_at front_at field_at
 present_conflict = simp (get-insert {X = List ℕ} nat_list_cmp_total, get-remove {X = List ℕ} nat_list_cmp_total, get-empty {X = List ℕ} key_cmp, entries-insert {X = List ℕ} nat_list_cmp_total, entries-remove, entries_none)
 
 -- two writes find no row, a third is told that its key is held, and the other client's two are done
@@ -118,30 +119,30 @@ between_queue = record {
 }
 
 begins_queue : run (m ∷ []) (begun no_pairs (deleter_queue ∷ writer_queue ∷ [])) (turns (0 ∷ 1 ∷ 0 ∷ 1 ∷ 0 ∷ [])) ≡ between_queue
-unfolding ones pair_key held_value cell_of old_row new_row new_code entry_keys old_entries new_entries flight_checks flight_tests group_key group_front tested_front counted present_rows row_decoded fields_at cell_at front_at field_at
+unfolding ones pair_key held_value cell_of old_row new_row new_code entry_keys old_entries new_entries flight_checks flight_tests group_key group_front tested_front counted present_rows filled_decoded short_decoded filled row_decoded fields_at cell_at front_at field_at
 begins_queue = simp (get-insert {X = List ℕ} nat_list_cmp_total, get-remove {X = List ℕ} nat_list_cmp_total, get-empty {X = List ℕ} key_cmp, entries-insert {X = List ℕ} nat_list_cmp_total, entries-remove, entries_none)
 
 puts_queue : (run (m ∷ []) between_queue (turns (0 ∷ 1 ∷ 0 ∷ 1 ∷ []))).told ≡ refused_queue ++ tell 2 1 outcome.Done ∷ []
-unfolding ones pair_key held_value cell_of old_row new_row new_code entry_keys old_entries new_entries flight_checks flight_tests group_key group_front tested_front counted present_rows row_decoded fields_at cell_at front_at field_at
+unfolding ones pair_key held_value cell_of old_row new_row new_code entry_keys old_entries new_entries flight_checks flight_tests group_key group_front tested_front counted present_rows filled_decoded short_decoded filled row_decoded fields_at cell_at front_at field_at
 puts_queue = simp (get-insert {X = List ℕ} nat_list_cmp_total, get-remove {X = List ℕ} nat_list_cmp_total, get-empty {X = List ℕ} key_cmp, entries-insert {X = List ℕ} nat_list_cmp_total, entries-remove, entries_none)
 
 ends_queue : (run (m ∷ []) (begun (insert no_pairs key_of_one (stored_code m (pair 1 7))) (record writer_queue { at = 2 } ∷ [])) (turns (0 ∷ 0 ∷ 0 ∷ 0 ∷ []))).told ≡ tell 2 2 outcome.Done ∷ []
-unfolding ones pair_key held_value cell_of old_row new_row new_code entry_keys old_entries new_entries flight_checks flight_tests group_key group_front tested_front counted present_rows row_decoded fields_at cell_at front_at field_at
+unfolding ones pair_key held_value cell_of old_row new_row new_code entry_keys old_entries new_entries flight_checks flight_tests group_key group_front tested_front counted present_rows filled_decoded short_decoded filled row_decoded fields_at cell_at front_at field_at
 ends_queue = simp (get-insert {X = List ℕ} nat_list_cmp_total, get-remove {X = List ℕ} nat_list_cmp_total, get-empty {X = List ℕ} key_cmp, entries-insert {X = List ℕ} nat_list_cmp_total, entries-remove, entries_none)
 
 -- a limit of one row: the pairs of both writes in flight are counted, and both are refused
 abbrev g : Table
-g = record { name = 103 ∷ []; columns = record { name = 97 ∷ []; ty = type.Int } ∷ record { name = 98 ∷ []; ty = type.Int } ∷ []; key = 0 ∷ 1 ∷ []; limits = record { n = 1; cols = 0 ∷ [] } ∷ []; foreign = []; indexes = [] }
+g = record { name = 103 ∷ []; columns = record { name = 97 ∷ []; ty = type.Int } ∷ record { name = 98 ∷ []; ty = type.Int } ∷ []; fillers = None ∷ None ∷ []; key = 0 ∷ 1 ∷ []; limits = record { n = 1; cols = 0 ∷ [] } ∷ []; foreign = []; indexes = [] }
 
 abbrev after_full : Run
 after_full = run (g ∷ []) (begun no_pairs (client 1 1 1 ∷ client 2 1 2 ∷ [])) (turns (0 ∷ 1 ∷ 0 ∷ 1 ∷ 0 ∷ 1 ∷ 0 ∷ 1 ∷ []))
 
 told_full : after_full.told ≡ tell 1 1 (outcome.Refused (refusal.Cardinality g.name 1 1)) ∷ tell 2 1 (outcome.Refused (refusal.Cardinality g.name 1 1)) ∷ []
-unfolding ones pair_key held_value cell_of old_row new_row new_code entry_keys old_entries new_entries flight_checks flight_tests group_key group_front tested_front counted present_rows row_decoded fields_at cell_at front_at field_at
+unfolding ones pair_key held_value cell_of old_row new_row new_code entry_keys old_entries new_entries flight_checks flight_tests group_key group_front tested_front counted present_rows filled_decoded short_decoded filled row_decoded fields_at cell_at front_at field_at
 told_full = simp (get-insert {X = List ℕ} nat_list_cmp_total, get-remove {X = List ℕ} nat_list_cmp_total, get-empty {X = List ℕ} key_cmp, entries-insert {X = List ℕ} nat_list_cmp_total, entries-remove, entries_none)
 
 present_full : present_rows (g ∷ []) after_full.content ≡ []
-unfolding ones pair_key held_value cell_of old_row new_row new_code entry_keys old_entries new_entries flight_checks flight_tests group_key group_front tested_front counted present_rows row_decoded fields_at cell_at front_at field_at
+unfolding ones pair_key held_value cell_of old_row new_row new_code entry_keys old_entries new_entries flight_checks flight_tests group_key group_front tested_front counted present_rows filled_decoded short_decoded filled row_decoded fields_at cell_at front_at field_at
 present_full = simp (get-insert {X = List ℕ} nat_list_cmp_total, get-remove {X = List ℕ} nat_list_cmp_total, get-empty {X = List ℕ} key_cmp, entries-insert {X = List ℕ} nat_list_cmp_total, entries-remove, entries_none)
 
 -- one client alone: behind the first write, which is done, the second is refused
@@ -149,16 +150,16 @@ abbrev alone_full : View
 alone_full = new_view 1 (write.Insert 1 (pair 1 1) ∷ write.Insert 1 (pair 1 2) ∷ [])
 
 begins_full : (run (g ∷ []) (begun no_pairs (alone_full ∷ [])) (turns (0 ∷ 0 ∷ 0 ∷ 0 ∷ 0 ∷ []))).told ≡ tell 1 1 outcome.Done ∷ []
-unfolding ones pair_key held_value cell_of old_row new_row new_code entry_keys old_entries new_entries flight_checks flight_tests group_key group_front tested_front counted present_rows row_decoded fields_at cell_at front_at field_at
+unfolding ones pair_key held_value cell_of old_row new_row new_code entry_keys old_entries new_entries flight_checks flight_tests group_key group_front tested_front counted present_rows filled_decoded short_decoded filled row_decoded fields_at cell_at front_at field_at
 begins_full = simp (get-insert {X = List ℕ} nat_list_cmp_total, get-remove {X = List ℕ} nat_list_cmp_total, get-empty {X = List ℕ} key_cmp, entries-insert {X = List ℕ} nat_list_cmp_total, entries-remove, entries_none)
 
 told_alone_full : (run (g ∷ []) (begun (insert no_pairs (row_key 1 (pair 1 1)) (stored_code g (pair 1 1))) (record alone_full { at = 2 } ∷ [])) (turns (0 ∷ 0 ∷ 0 ∷ 0 ∷ []))).told ≡ tell 1 2 (outcome.Refused (refusal.Cardinality g.name 1 1)) ∷ []
-unfolding ones pair_key held_value cell_of old_row new_row new_code entry_keys old_entries new_entries flight_checks flight_tests group_key group_front tested_front counted present_rows row_decoded fields_at cell_at front_at field_at
+unfolding ones pair_key held_value cell_of old_row new_row new_code entry_keys old_entries new_entries flight_checks flight_tests group_key group_front tested_front counted present_rows filled_decoded short_decoded filled row_decoded fields_at cell_at front_at field_at
 told_alone_full = simp (get-insert {X = List ℕ} nat_list_cmp_total, get-remove {X = List ℕ} nat_list_cmp_total, get-empty {X = List ℕ} key_cmp, entries-insert {X = List ℕ} nat_list_cmp_total, entries-remove, entries_none)
 
 -- three clients; the call of the third one's add fails, and is not done
 abbrev h : Table
-h = record { name = 104 ∷ []; columns = record { name = 105 ∷ []; ty = type.Int } ∷ record { name = 116 ∷ []; ty = type.Int } ∷ []; key = 0 ∷ []; limits = record { n = 5; cols = 1 ∷ [] } ∷ []; foreign = []; indexes = record { cols = record { col = 1; dir = Asc } ∷ [] } ∷ [] }
+h = record { name = 104 ∷ []; columns = record { name = 105 ∷ []; ty = type.Int } ∷ record { name = 116 ∷ []; ty = type.Int } ∷ []; fillers = None ∷ None ∷ []; key = 0 ∷ []; limits = record { n = 5; cols = 1 ∷ [] } ∷ []; foreign = []; indexes = record { cols = record { col = 1; dir = Asc } ∷ [] } ∷ [] }
 
 abbrev flight_fault : ℕ → ℕ → Flight
 flight_fault a b = record { write = write.Insert 1 (pair a b); read = None }
@@ -177,7 +178,7 @@ taken_fault = begun (held_fault 3 (held_fault 2 (held_fault 1 no_pairs))) (adder
     adder a = record (client a a 1) { next = Flying (flight_fault a 1) (Adding (entry_fault a) [] []) }
 
 takes_fault : run (h ∷ []) (begun no_pairs (client 1 1 1 ∷ client 2 2 1 ∷ client 3 3 1 ∷ [])) (turns (0 ∷ 1 ∷ 2 ∷ 0 ∷ 1 ∷ 2 ∷ [])) ≡ taken_fault
-unfolding ones pair_key held_value cell_of old_row new_row new_code entry_keys old_entries new_entries flight_checks flight_tests group_key group_front tested_front counted present_rows row_decoded fields_at cell_at front_at field_at
+unfolding ones pair_key held_value cell_of old_row new_row new_code entry_keys old_entries new_entries flight_checks flight_tests group_key group_front tested_front counted present_rows filled_decoded short_decoded filled row_decoded fields_at cell_at front_at field_at
 takes_fault = simp (get-insert {X = List ℕ} nat_list_cmp_total, get-remove {X = List ℕ} nat_list_cmp_total, get-empty {X = List ℕ} key_cmp, entries-insert {X = List ℕ} nat_list_cmp_total, entries-remove, entries_none)
 
 -- the third one's add fails
@@ -193,11 +194,11 @@ added_fault = record {
     tester a = record (client a a 1) { next = Flying (flight_fault a 1) (Testing 0 [] []) }
 
 adds_fault : run (h ∷ []) taken_fault (turns (0 ∷ 1 ∷ []) ++ record { place = 2; fate = NotDone } ∷ []) ≡ added_fault
-unfolding ones pair_key held_value cell_of old_row new_row new_code entry_keys old_entries new_entries flight_checks flight_tests group_key group_front tested_front counted present_rows row_decoded fields_at cell_at front_at field_at
+unfolding ones pair_key held_value cell_of old_row new_row new_code entry_keys old_entries new_entries flight_checks flight_tests group_key group_front tested_front counted present_rows filled_decoded short_decoded filled row_decoded fields_at cell_at front_at field_at
 adds_fault = refl
 
 told_fault : (run (h ∷ []) added_fault (turns (0 ∷ 1 ∷ 2 ∷ 0 ∷ 1 ∷ 2 ∷ 0 ∷ 1 ∷ []))).told ≡ tell 3 1 outcome.Failed ∷ tell 1 1 outcome.Done ∷ tell 2 1 outcome.Done ∷ []
-unfolding ones pair_key held_value cell_of old_row new_row new_code entry_keys old_entries new_entries flight_checks flight_tests group_key group_front tested_front counted present_rows row_decoded fields_at cell_at front_at field_at
+unfolding ones pair_key held_value cell_of old_row new_row new_code entry_keys old_entries new_entries flight_checks flight_tests group_key group_front tested_front counted present_rows filled_decoded short_decoded filled row_decoded fields_at cell_at front_at field_at
 told_fault = simp (get-insert {X = List ℕ} nat_list_cmp_total, get-remove {X = List ℕ} nat_list_cmp_total, get-empty {X = List ℕ} key_cmp, entries-insert {X = List ℕ} nat_list_cmp_total, entries-remove, entries_none)
 
 -- ---- calls against their bounds
@@ -207,11 +208,11 @@ bound_conflict : calls_of_write (m ∷ []) (write.Insert 1 (pair 1 7)) ≡ 4
 bound_conflict = refl
 
 calls_conflict : steps_of (m ∷ []) (begun no_pairs (client 1 1 7 ∷ client 2 1 8 ∷ [])) (turns (0 ∷ 1 ∷ 0 ∷ 1 ∷ 0 ∷ 1 ∷ 0 ∷ 1 ∷ 0 ∷ [])) 1 1 ≡ 4
-unfolding ones pair_key held_value cell_of old_row new_row new_code entry_keys old_entries new_entries flight_checks flight_tests group_key group_front tested_front counted present_rows row_decoded fields_at cell_at front_at field_at
+unfolding ones pair_key held_value cell_of old_row new_row new_code entry_keys old_entries new_entries flight_checks flight_tests group_key group_front tested_front counted present_rows filled_decoded short_decoded filled row_decoded fields_at cell_at front_at field_at
 calls_conflict = simp (get-insert {X = List ℕ} nat_list_cmp_total, get-remove {X = List ℕ} nat_list_cmp_total, get-empty {X = List ℕ} key_cmp, entries-insert {X = List ℕ} nat_list_cmp_total, entries-remove, entries_none)
 
 calls_conflict_other : steps_of (m ∷ []) (begun no_pairs (client 1 1 7 ∷ client 2 1 8 ∷ [])) (turns (0 ∷ 1 ∷ 0 ∷ 1 ∷ 0 ∷ 1 ∷ 0 ∷ 1 ∷ 0 ∷ [])) 2 1 ≡ 3
-unfolding ones pair_key held_value cell_of old_row new_row new_code entry_keys old_entries new_entries flight_checks flight_tests group_key group_front tested_front counted present_rows row_decoded fields_at cell_at front_at field_at
+unfolding ones pair_key held_value cell_of old_row new_row new_code entry_keys old_entries new_entries flight_checks flight_tests group_key group_front tested_front counted present_rows filled_decoded short_decoded filled row_decoded fields_at cell_at front_at field_at
 calls_conflict_other = simp (get-insert {X = List ℕ} nat_list_cmp_total, get-remove {X = List ℕ} nat_list_cmp_total, get-empty {X = List ℕ} key_cmp, entries-insert {X = List ℕ} nat_list_cmp_total, entries-remove, entries_none)
 
 -- a delete that finds no row makes one
@@ -219,7 +220,7 @@ bound_queue : calls_of_write (m ∷ []) (delete 5) ≡ 4
 bound_queue = refl
 
 calls_queue : steps_of (m ∷ []) (begun no_pairs (deleter_queue ∷ writer_queue ∷ [])) (turns (0 ∷ 1 ∷ 0 ∷ 1 ∷ 0 ∷ [])) 1 1 ≡ 1
-unfolding ones pair_key held_value cell_of old_row new_row new_code entry_keys old_entries new_entries flight_checks flight_tests group_key group_front tested_front counted present_rows row_decoded fields_at cell_at front_at field_at
+unfolding ones pair_key held_value cell_of old_row new_row new_code entry_keys old_entries new_entries flight_checks flight_tests group_key group_front tested_front counted present_rows filled_decoded short_decoded filled row_decoded fields_at cell_at front_at field_at
 calls_queue = simp (get-insert {X = List ℕ} nat_list_cmp_total, get-remove {X = List ℕ} nat_list_cmp_total, get-empty {X = List ℕ} key_cmp, entries-insert {X = List ℕ} nat_list_cmp_total, entries-remove, entries_none)
 
 -- one limit and no index: five calls where the write is done, four where it is refused
@@ -227,11 +228,11 @@ bound_full : calls_of_write (g ∷ []) (write.Insert 1 (pair 1 1)) ≡ 5
 bound_full = refl
 
 calls_full : steps_of (g ∷ []) (begun no_pairs (client 1 1 1 ∷ client 2 1 2 ∷ [])) (turns (0 ∷ 1 ∷ 0 ∷ 1 ∷ 0 ∷ 1 ∷ 0 ∷ 1 ∷ [])) 1 1 ≡ 4
-unfolding ones pair_key held_value cell_of old_row new_row new_code entry_keys old_entries new_entries flight_checks flight_tests group_key group_front tested_front counted present_rows row_decoded fields_at cell_at front_at field_at
+unfolding ones pair_key held_value cell_of old_row new_row new_code entry_keys old_entries new_entries flight_checks flight_tests group_key group_front tested_front counted present_rows filled_decoded short_decoded filled row_decoded fields_at cell_at front_at field_at
 calls_full = simp (get-insert {X = List ℕ} nat_list_cmp_total, get-remove {X = List ℕ} nat_list_cmp_total, get-empty {X = List ℕ} key_cmp, entries-insert {X = List ℕ} nat_list_cmp_total, entries-remove, entries_none)
 
 alone_calls_full : steps_of (g ∷ []) (begun no_pairs (alone_full ∷ [])) (turns (0 ∷ 0 ∷ 0 ∷ 0 ∷ 0 ∷ [])) 1 1 ≡ 5
-unfolding ones pair_key held_value cell_of old_row new_row new_code entry_keys old_entries new_entries flight_checks flight_tests group_key group_front tested_front counted present_rows row_decoded fields_at cell_at front_at field_at
+unfolding ones pair_key held_value cell_of old_row new_row new_code entry_keys old_entries new_entries flight_checks flight_tests group_key group_front tested_front counted present_rows filled_decoded short_decoded filled row_decoded fields_at cell_at front_at field_at
 alone_calls_full = simp (get-insert {X = List ℕ} nat_list_cmp_total, get-remove {X = List ℕ} nat_list_cmp_total, get-empty {X = List ℕ} key_cmp, entries-insert {X = List ℕ} nat_list_cmp_total, entries-remove, entries_none)
 
 -- one limit and one index: four calls of the last six stand before the add that fails
@@ -239,7 +240,7 @@ bound_fault : calls_of_write (h ∷ []) (write.Insert 1 (pair 1 1)) ≡ 7
 bound_fault = refl
 
 calls_fault : steps_of (h ∷ []) added_fault (turns (0 ∷ 1 ∷ 2 ∷ 0 ∷ 1 ∷ 2 ∷ 0 ∷ 1 ∷ [])) 1 1 ≡ 3
-unfolding ones pair_key held_value cell_of old_row new_row new_code entry_keys old_entries new_entries flight_checks flight_tests group_key group_front tested_front counted present_rows row_decoded fields_at cell_at front_at field_at
+unfolding ones pair_key held_value cell_of old_row new_row new_code entry_keys old_entries new_entries flight_checks flight_tests group_key group_front tested_front counted present_rows filled_decoded short_decoded filled row_decoded fields_at cell_at front_at field_at
 calls_fault = simp (get-insert {X = List ℕ} nat_list_cmp_total, get-remove {X = List ℕ} nat_list_cmp_total, get-empty {X = List ℕ} key_cmp, entries-insert {X = List ℕ} nat_list_cmp_total, entries-remove, entries_none)
 
 -- ---- the premises of all promises are met by two clients that insert one key
@@ -256,6 +257,7 @@ made_m = record {
   some_columns = omega arith;
   few_columns = omega arith;
   sized = each_is (λ (column : Column). IsSized column.ty) m.columns (tt, (tt, tt));
+  fillers = (tt, (tt, tt));
   key = key_columns;
   plain = each_is (λ col. is_nullable (type_at m.columns col) ≡ false) m.key (refl, tt);
   few_limits = omega arith;

@@ -15,7 +15,7 @@ use Rattle.pq_index_keep.specs.declared.write.Write.TheVariants as write
 use Rattle.pq_clients.specs.declared.outcome.Outcome.{Outcome}
 use Rattle.pq_clients.specs.declared.outcome.Outcome.TheVariants as outcome
 use Rattle.pq_clients.specs.declared.outcome.Step.TheVariants as step
-use Rattle.pq_clients.specs.Held.{stored_row, Cell, Free, Held, cell_of, held_value}
+use Rattle.pq_clients.specs.Held.{decoded_row, Cell, Free, Held, cell_of, held_value}
 use Rattle.pq_clients.specs.Flights.{row_made, table_of, pair_key, Flight, Check, flight_table, flight_key, old_row, new_code, fresh_entries, stale_entries, flight_checks, flight_tests, check_refusal, test_refusal}
 use Rattle.pq_clients.specs.Clients.{Stage, Checking, Adding, Testing, Putting, Clearing, Freeing, Undoing, Releasing, Next, Reading, Taking, Looking, Flying, View, write_at, is_over}
 use Rattle.pq_clients.specs.Steps.{is_just, taking_short, after_row, after_code, after_cell, after_read, read_on, is_held_by_other, Then, On, Puts, Ends, testing, adding, checking, clearing, undoing, passes, has_room, refused, damaged, if_own, flown, gone_on, is_fault, after_call, told_view, Fate, Answers, NotDone, DoneUnseen, NoMemory, met, stepped}
@@ -116,7 +116,7 @@ module _ (tables : List Table) where
       if_falls w (calls_of_write tables w) (nat_lt 4096 (length (stored_code (flight_table tables f) row))) (refused (refusal.RowLong (flight_table tables f).name (length (stored_code (flight_table tables f) row)))) (On (Taking f))
       (ends_well w (outcome.Refused (refusal.RowLong (flight_table tables f).name (length (stored_code (flight_table tables f) row))))) (takes w f few)
 
-  row_falls : (w : Write) (read : Option (List ℕ)) (row : Option (List Value)) → option_and_then (stored_row (table_of tables w)) read ≡ row → Falls w (calls_of_write tables w) (after_row tables w read row)
+  row_falls : (w : Write) (read : Option (List ℕ)) (row : Option (List Value)) → option_and_then (decoded_row (table_of tables w)) read ≡ row → Falls w (calls_of_write tables w) (after_row tables w read row)
   unfolding old_row
   row_falls (write.Insert t new) read None old = takes (write.Insert t new) (record { write = write.Insert t new; read = read }) (insert_few tables t new read old)
   row_falls (write.Insert t new) read (Some row) old = ends_well (write.Insert t new) (outcome.Refused (refusal.DuplicateKey (table_of tables (write.Insert t new)).name))
@@ -130,12 +130,12 @@ module _ (tables : List Table) where
   found_falls client w None = row_falls w None None refl
   found_falls client w (Some value) = by_cell (cell_of value)
     where
-      by_row : (row : Option (List Value)) → stored_row (table_of tables w) value ≡ row → Falls w (calls_of_write tables w) (after_code tables w value row)
+      by_row : (row : Option (List Value)) → decoded_row (table_of tables w) value ≡ row → Falls w (calls_of_write tables w) (after_code tables w value row)
       by_row None is = ends_well w (outcome.Damaged (record { key = pair_key tables w; value = Some value }))
       by_row (Some row) is = row_falls w (Some value) (Some row) is
 
       by_cell : (cell : Cell) → Falls w (calls_of_write tables w) (after_cell tables client w value cell)
-      by_cell (Free code) = by_row (stored_row (table_of tables w) value) refl
+      by_cell (Free code) = by_row (decoded_row (table_of tables w) value) refl
       by_cell (Held holder number present) =
           if_falls w (calls_of_write tables w) (is_held_by_other (table_of tables w) client (Held holder number present)) (Ends (outcome.Busy value)) (damaged (pair_key tables w) (Some value))
           (ends_well w (outcome.Busy value)) (ends_well w (outcome.Damaged (record { key = pair_key tables w; value = Some value })))

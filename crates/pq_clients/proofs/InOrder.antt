@@ -12,7 +12,7 @@ use Rattle.pq_content.specs.Tables.{stored_code}
 use Rattle.pq_store.specs.Content.{Content, written_content}
 use Rattle.pq_index_keep.specs.declared.write.Write.{Write}
 use Rattle.pq_index_keep.specs.declared.write.Write.TheVariants as write
-use Rattle.pq_clients.specs.Held.{Cell, Free, Held, cell_of, stored_row, held_value}
+use Rattle.pq_clients.specs.Held.{Cell, Free, Held, cell_of, decoded_row, held_value}
 use Rattle.pq_clients.specs.Flights.{Flight, Check, row_made, table_of, pair_key, flight_table, flight_key, new_code, fresh_entries, stale_entries, flight_checks, flight_tests, check_refusal, test_refusal}
 use Rattle.pq_clients.specs.Clients.{Stage, Checking, Adding, Testing, Putting, Clearing, Freeing, Undoing, Releasing, Next, Reading, Taking, Looking, Flying, View, write_at, is_over}
 use Rattle.pq_clients.specs.Steps.{is_just, is_held_by_other, taking_short, after_row, after_code, after_cell, after_read, read_on, damaged, refused, Then, On, Puts, Ends, testing, adding, checking, clearing, undoing, passes, has_room, flown, gone_on, is_fault, After, after_call, Fate, Answers, NotDone, DoneUnseen, NoMemory, stepped}
@@ -119,7 +119,7 @@ module _ (tables : List Table) where
     code_came w code (Some row) = row_came w (Some code) (Some row)
 
     cell_came : (client : ℕ) (w : Write) (value : List ℕ) (cell : Cell) → CameThen c Reading (after_cell tables client w value cell)
-    cell_came client w value (Free code) = code_came w value (stored_row (table_of tables w) value)
+    cell_came client w value (Free code) = code_came w value (decoded_row (table_of tables w) value)
     cell_came client w value (Held holder number present) =
         either_way (CameThen c Reading) (is_held_by_other (table_of tables w) client (Held holder number present))
         (Ends (outcome.Busy value)) (damaged (pair_key tables w) (Some value)) (λ _. tt) (λ _. tt)

@@ -17,7 +17,7 @@ use Rattle.pq_clients.specs.declared.outcome.Outcome.TheVariants as outcome
 use Rattle.pq_clients.specs.declared.outcome.Step.{Step}
 use Rattle.pq_clients.specs.declared.outcome.Step.TheVariants as step
 use Rattle.pq_clients.specs.declared.outcome.Wrote.{Wrote}
-use Rattle.pq_clients.specs.Held.{stored_row, Cell, Free, Held, cell_of, held_value}
+use Rattle.pq_clients.specs.Held.{decoded_row, Cell, Free, Held, cell_of, held_value}
 use Rattle.pq_clients.specs.Flights.{row_made, table_of, pair_key, Flight, Check, flight_table, flight_key, new_code, fresh_entries, stale_entries, flight_checks, flight_tests, check_refusal, test_refusal}
 use Rattle.pq_clients.specs.Clients.{Stage, Checking, Adding, Testing, Putting, Clearing, Freeing, Undoing, Releasing, Next, Reading, Taking, Looking, Flying, View, write_at, is_over}
 use Rattle.pq_clients.specs.Steps.{is_just, taking_short, after_row, after_code, after_cell, after_read, read_on, is_held_by_other, Then, On, Puts, Ends, testing, adding, checking, clearing, undoing, passes, has_room, refused, damaged, if_own, flown, gone_on, is_fault, After, after_call, told_view, Fate, Answers, NotDone, DoneUnseen, NoMemory, stepped}
@@ -114,7 +114,7 @@ module _ (tables : List Table) where
       code_leads code (Some row) there = row_leads w refl (Some code) (Some row) refl there
 
       cell_leads : (value : List ℕ) (cell : Cell) → get c (pair_key tables w) ≡ Some value → Leads v c Reading (after_cell tables v.number w value cell)
-      cell_leads value (Free code) there = code_leads value (stored_row (table_of tables w) value) there
+      cell_leads value (Free code) there = code_leads value (decoded_row (table_of tables w) value) there
       cell_leads value (Held holder number present) there =
           if_leads Reading (is_held_by_other (table_of tables w) v.number (Held holder number present)) (Ends (outcome.Busy value)) (damaged (pair_key tables w) (Some value)) tt tt
 

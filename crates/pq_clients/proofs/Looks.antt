@@ -13,7 +13,7 @@ use Rattle.pq_index_keep.specs.declared.write.Write.TheVariants as write
 use Rattle.pq_clients.specs.declared.outcome.Outcome.{Outcome}
 use Rattle.pq_clients.specs.declared.outcome.Outcome.TheVariants as outcome
 use Rattle.pq_clients.specs.declared.outcome.Step.TheVariants as step
-use Rattle.pq_clients.specs.Held.{stored_row, Cell, Free, Held, cell_of, held_value}
+use Rattle.pq_clients.specs.Held.{decoded_row, Cell, Free, Held, cell_of, held_value}
 use Rattle.pq_clients.specs.Flights.{row_made, table_of, pair_key, Flight, flight_table, flight_key, new_code, fresh_entries, stale_entries, flight_checks, check_refusal, test_refusal}
 use Rattle.pq_clients.specs.Clients.{Stage, Checking, Adding, Testing, Putting, Clearing, Freeing, Undoing, Releasing, Next, Reading, Taking, Looking, Flying, View, write_at, is_over}
 use Rattle.pq_clients.specs.Steps.{is_just, taking_short, after_row, after_code, after_cell, after_read, read_on, is_held_by_other, Then, On, Puts, Ends, testing, adding, checking, clearing, undoing, passes, has_room, refused, damaged, if_own, flown, gone_on, is_fault, after_call, told_view, Fate, Answers, NotDone, DoneUnseen, NoMemory, met, stepped}
@@ -67,7 +67,7 @@ module _ (tables : List Table) where
   code_looks c next w code (Some row) = row_looks c next w (Some code) (Some row)
 
   cell_looks : (c : Content) (next : Next) (client : ℕ) (w : Write) (value : List ℕ) (cell : Cell) → LooksBy c next (after_cell tables client w value cell)
-  cell_looks c next client w value (Free code) = code_looks c next w value (stored_row (table_of tables w) value)
+  cell_looks c next client w value (Free code) = code_looks c next w value (decoded_row (table_of tables w) value)
   cell_looks c next client w value (Held holder number present) =
       if_looks c next (is_held_by_other (table_of tables w) client (Held holder number present)) (Ends (outcome.Busy value)) (damaged (pair_key tables w) (Some value)) tt tt
 

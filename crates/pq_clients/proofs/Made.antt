@@ -20,7 +20,7 @@ use Rattle.pq_clients.specs.declared.outcome.Outcome.{Outcome}
 use Rattle.pq_clients.specs.declared.outcome.Outcome.TheVariants as outcome
 use Rattle.pq_clients.specs.declared.outcome.Step.TheVariants as step
 use Rattle.pq_clients.specs.declared.outcome.Wrote.{Wrote}
-use Rattle.pq_clients.specs.Held.{present_in, present_code, stored_row}
+use Rattle.pq_clients.specs.Held.{present_in, present_code, decoded_row}
 use Rattle.pq_clients.specs.Flights.{new_code, flight_key}
 use Rattle.pq_clients.specs.Clients.{Checking, Adding, Testing, Putting, Clearing, Freeing, Undoing, Releasing, Next, Reading, Taking, Looking, Flying, View, write_at, is_over}
 use Rattle.pq_clients.specs.Steps.{is_just, Then, On, Puts, Ends, gone_on, is_fault, After, after_call, Fate, Answers, NotDone, DoneUnseen, NoMemory, met}
@@ -42,7 +42,7 @@ use Rattle.pq_clients.proofs.Begin.{begins_holding}
 
 module _ (tables : List Table) (sound : AreWritable tables) (others : List ℕ → Option (List ℕ)) where
   abbrev row_of : ℕ → Option (List ℕ) → Option (List Value)
-  row_of t code = option_and_then (stored_row (table_at tables t)) code
+  row_of t code = option_and_then (decoded_row (table_at tables t)) code
 
   pub record Showing (rows : Rows) (r : Run) : Type 0 where
     pub kept : AllByRecursion (LostHeld tables sound r.content) r.clients

@@ -20,7 +20,7 @@ use Rattle.pq_clients.specs.declared.outcome.Outcome.{Outcome}
 use Rattle.pq_clients.specs.declared.outcome.Outcome.TheVariants as outcome
 use Rattle.pq_clients.specs.declared.outcome.Step.{Step}
 use Rattle.pq_clients.specs.declared.outcome.Step.TheVariants as step
-use Rattle.pq_clients.specs.Held.{stored_row, something, Cell, Free, Held, cell_of, is_held_value, held_value, present_in}
+use Rattle.pq_clients.specs.Held.{decoded_row, something, Cell, Free, Held, cell_of, is_held_value, held_value, present_in}
 use Rattle.pq_clients.specs.Flights.{row_made, table_number, table_of, pair_key, Flight, Parent, Child, flight_table, flight_key, new_code, fresh_entries, stale_entries, check_refusal, test_refusal, flight_checks}
 use Rattle.pq_clients.specs.Clients.{Stage, Checking, Adding, Testing, Putting, Clearing, Freeing, Undoing, Releasing, Next, Reading, Taking, Looking, Flying, View, write_at, is_over}
 use Rattle.pq_clients.specs.Steps.{is_just, taking_short, after_row, after_code, after_cell, after_read, read_on, is_row_or_none, is_held_by_other, Then, On, Puts, Ends, testing, checking, clearing, undoing, passes, has_room, refused, damaged, if_own, flown, gone_on, after_call, Fate, Answers, NotDone, DoneUnseen, NoMemory, met, stepped}
@@ -92,11 +92,11 @@ module _ (tables : List Table) where
       if_reasoned false t u a b = b
 
       -- ---- a read
-      stored_there : (w : Write) (code : List ℕ) (at : IsRowAt tables (pair_key tables w) code) → stored_row (table_of tables w) code ≡ Some at.row
+      stored_there : (w : Write) (code : List ℕ) (at : IsRowAt tables (pair_key tables w) code) → decoded_row (table_of tables w) code ≡ Some at.row
       stored_there w code at =
           let same : table_number w ≡ at.table = sym (key_number tables w) ∙ (row_of_code tables sound (pair_key tables w) code at).0 in
-          ap (λ (t : ℕ). stored_row (table_at tables t) code) same
-          ∙ subst (λ (code : List ℕ). stored_row (table_at tables at.table) code ≡ Some at.row) at.code_is (row_decodes tables at.table at.row sound at.number at.fits)
+          ap (λ (t : ℕ). decoded_row (table_at tables t) code) same
+          ∙ subst (λ (code : List ℕ). decoded_row (table_at tables at.table) code ≡ Some at.row) at.code_is (row_decodes tables at.table at.row sound at.number at.fits)
 
       long_reason : (w : Write) (old : List Value) → is_insert w ≡ false → ReadsRow tables v c w old → (f : Flight) → flight_table tables f ≡ table_of tables w → (new : Option (List Value)) → row_made w (Some old) ≡ new → Reasoned (taking_short tables f new)
       long_reason w old update r f same None made = tt
@@ -151,7 +151,7 @@ module _ (tables : List Table) where
           stands : MayStandAt tables (pair_key tables w) (present_in (cell_of value))
           stands = shape.rows (pair_key tables w) value (key_space tables w) there
 
-          by_row : (row : Option (List Value)) → stored_row (table_of tables w) value ≡ row → cell_of value ≡ Free value → IsRowAt tables (pair_key tables w) value → Reasoned (after_code tables w value row)
+          by_row : (row : Option (List Value)) → decoded_row (table_of tables w) value ≡ row → cell_of value ≡ Free value → IsRowAt tables (pair_key tables w) value → Reasoned (after_code tables w value row)
           by_row None none e row_at = let wrong : ◌≡◌ {A = Option (List Value)} None (Some row_at.row) = sym none ∙ stored_there w value row_at in absurd (cc)
           by_row (Some row) some e row_at = row_reason w value row (value, (reading, at, there), free_value value e, some)
 
@@ -159,7 +159,7 @@ module _ (tables : List Table) where
           by_cell (Free code) e =
               let same = free_is value code e in
               let free : cell_of value ≡ Free value = e ∙ ap (λ (x : List ℕ). Free x) same in
-              by_row (stored_row (table_of tables w) value) refl free (subst (λ (x : Cell). MayStandAt tables (pair_key tables w) (present_in x)) free stands)
+              by_row (decoded_row (table_of tables w) value) refl free (subst (λ (x : Cell). MayStandAt tables (pair_key tables w) (present_in x)) free stands)
           by_cell (Held holder number present) e = by_test (is_held_by_other (table_of tables w) v.number (Held holder number present)) refl
             where
               other : (holder == v.number) ≡ false

@@ -18,7 +18,7 @@ use Rattle.pq_index_keep.specs.declared.write.Write.{Write}
 use Rattle.pq_index_keep.specs.declared.write.Write.TheVariants as write
 use Rattle.pq_index_keep.specs.Sound.{AreWritable, IsWrite}
 use Rattle.pq_clients.specs.declared.outcome.Outcome.TheVariants as outcome
-use Rattle.pq_clients.specs.Held.{Cell, Free, Held, cell_of, is_held_value, something, present_in, stored_row}
+use Rattle.pq_clients.specs.Held.{Cell, Free, Held, cell_of, is_held_value, something, present_in, decoded_row}
 use Rattle.pq_clients.specs.Flights.{Flight, table_number, table_of, pair_key, row_made, flight_table, flight_key, old_row, new_row, new_code}
 use Rattle.pq_clients.specs.Clients.{Reading, Taking, Looking, Flying, write_at}
 use Rattle.pq_clients.specs.Steps.{is_just, Then, On, Puts, Ends, refused, damaged, taking_short, after_row, after_code, is_held_by_other, after_cell, after_read}
@@ -123,7 +123,7 @@ module _ (tables : List Table) where
   at_most : (n : ℕ) → nat_lt 4096 n ≡ false → n ≤ 4096
   at_most n h = ltb-false 4096 n h
 
-  row_begins : AreWritable tables → (w : Write) → IsWrite tables w → (read : Option (List ℕ)) (row : Option (List Value)) → MayStandAt tables (pair_key tables w) read → option_and_then (stored_row (table_of tables w)) read ≡ row → Begins w (after_row tables w read row)
+  row_begins : AreWritable tables → (w : Write) → IsWrite tables w → (read : Option (List ℕ)) (row : Option (List Value)) → MayStandAt tables (pair_key tables w) read → option_and_then (decoded_row (table_of tables w)) read ≡ row → Begins w (after_row tables w read row)
   unfolding old_row new_row
   row_begins sound (write.Insert t new) w read None at is = (flight_fits sound (record { write = write.Insert t new; read = read }) w at (λ row made. let same : new ≡ row = cc in subst (λ (row : List Value). length (stored_code (table_at tables t) row) ≤ 4096) same w.short), refl)
   row_begins sound (write.Insert t new) w read (Some row) at is = tt
@@ -149,7 +149,7 @@ module _ (tables : List Table) where
   read_begins sound c others shape client w fits None is = row_begins sound w fits None None tt refl
   read_begins sound c others shape client w fits (Some value) is = by_cell (cell_of value) refl
     where
-      by_row : MayStandAt tables (pair_key tables w) (Some value) → (row : Option (List Value)) → stored_row (table_of tables w) value ≡ row → Begins w (after_code tables w value row)
+      by_row : MayStandAt tables (pair_key tables w) (Some value) → (row : Option (List Value)) → decoded_row (table_of tables w) value ≡ row → Begins w (after_code tables w value row)
       by_row at None none = tt
       by_row at (Some row) found = row_begins sound w fits (Some value) (Some row) at found
 
@@ -161,7 +161,7 @@ module _ (tables : List Table) where
       by_cell (Free code) e =
           let there = shape.rows (pair_key tables w) value (key_space tables w) is in
           let at : MayStandAt tables (pair_key tables w) (Some value) = subst (λ (code : List ℕ). MayStandAt tables (pair_key tables w) (Some code)) (free_is value code e) (subst (λ (x : Cell). MayStandAt tables (pair_key tables w) (present_in x)) e there) in
-          by_row at (stored_row (table_of tables w) value) refl
+          by_row at (decoded_row (table_of tables w) value) refl
       by_cell (Held holder number present) e = by_held (is_held_by_other (table_of tables w) client (Held holder number present))
 
   pub begun : AreWritable tables → (c : Content) (others : List ℕ → Option (List ℕ)) → IsShaped tables c others → (client : ℕ) (w : Write) → IsWrite tables w → Begins w (after_read tables client w (get c (pair_key tables w)))

@@ -14,7 +14,7 @@ use Rattle.pq_index_keep.proofs.Inserting.{each_by}
 use Rattle.pq_clients.specs.declared.outcome.Outcome.{Outcome}
 use Rattle.pq_clients.specs.declared.outcome.Outcome.TheVariants as outcome
 use Rattle.pq_clients.specs.declared.outcome.Step.TheVariants as step
-use Rattle.pq_clients.specs.Held.{present_in, present_code, stored_row, held_value}
+use Rattle.pq_clients.specs.Held.{present_in, present_code, decoded_row, held_value}
 use Rattle.pq_clients.specs.Flights.{Flight, pair_key, table_number, key_written, flight_table, flight_key, old_row, new_code, stale_entries}
 use Rattle.pq_clients.specs.Clients.{Stage, Checking, Adding, Testing, Putting, Clearing, Freeing, Undoing, Releasing, Next, Reading, Flying, View, is_freeing, write_at, is_over}
 use Rattle.pq_clients.specs.Steps.{Then, On, Puts, Ends, clearing, damaged, flown, gone_on, is_fault, after_call, tells, Fate, Answers, NotDone, DoneUnseen, NoMemory, met, stepped}
@@ -46,7 +46,7 @@ unfolding old_row
 old_some tables sound f fits = by f.read refl fits.read
   where
     by : (q : Option (List ℕ)) → f.read ≡ q → MayStandAt tables (flight_key tables f) q → is_some (old_row tables f) ≡ is_some f.read
-    by None e stands = ap (λ (q : Option (List ℕ)). is_some (option_and_then (stored_row (flight_table tables f)) q)) e ∙ sym (ap is_some e)
+    by None e stands = ap (λ (q : Option (List ℕ)). is_some (option_and_then (decoded_row (flight_table tables f)) q)) e ∙ sym (ap is_some e)
     by (Some code) e stands = ap is_some (sym (old_is tables f) ∙ ap (code_row tables (flight_key tables f)) e ∙ (row_of_code tables sound (flight_key tables f) code stands).1) ∙ sym (ap is_some e)
 
 module _ (tables : List Table) (sound : AreWritable tables) (others : List ℕ → Option (List ℕ)) where
@@ -255,7 +255,7 @@ module _ (tables : List Table) (rows : Rows) (pairs : List Pair) (clients : List
     pub finds_present : (p : ℕ) (v : View) (f : Flight) → slice_get r.clients p ≡ Some v → v.over ≡ None → v.next ≡ Flying f Putting
         → (row_at tables (present_rows tables r.content) (table_number f.write) (key_written tables f.write) ≡ old_row tables f) × (is_insert f.write ≡ not (is_some (old_row tables f)))
     unfolding old_row pair_key
-    finds_present p v f here unbroken putting = (present_row_at tables b.sound (get c0) r.content h.shaped (table_number f.write) (key_written tables f.write) (own_kinds tables f.write fits.0.write) ∙ ap (option_and_then (stored_row (flight_table tables f))) code, of.0 ∙ ap not (sym (old_some tables b.sound f fits.0)))
+    finds_present p v f here unbroken putting = (present_row_at tables b.sound (get c0) r.content h.shaped (table_number f.write) (key_written tables f.write) (own_kinds tables f.write fits.0.write) ∙ ap (option_and_then (decoded_row (flight_table tables f))) code, of.0 ∙ ap not (sym (old_some tables b.sound f fits.0)))
       where
         view : ViewFits tables v
         view = at_place (ViewFits tables) r.clients p v h.views here

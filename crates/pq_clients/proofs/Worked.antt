@@ -14,6 +14,7 @@ use Rattle.pq_base.specs.declared.value.Value.{Value}
 use Rattle.pq_base.specs.declared.value.Value.TheVariants as value
 use Rattle.pq_key_code.specs.KeyCode.{row_key, entry_key}
 use Rattle.pq_row_code.specs.RowReading.{row_decoded, fields_at, cell_at, front_at, field_at}
+use Rattle.pq_row_code.specs.StoredRow.{filled_decoded, short_decoded, filled}
 use Rattle.pq_schema.specs.Rows.{Rows, IsWithinLimit, agrees}
 use Rattle.pq_schema.specs.Sequences.{group_access}
 use Rattle.pq_schema.specs.Sound.{IsSized, AreKeyColumns, IsMadeLimit, IsMadeForeign, IsMade}
@@ -47,12 +48,13 @@ use Rattle.pq_clients.proofs.Holding.{holds_throughout}
 
 -- a table of numbers, and one whose rows name one of them each, at most one row for each number
 abbrev parents : Table
-parents = record { name = 112 ∷ []; columns = record { name = 105 ∷ []; ty = type.Int } ∷ []; key = 0 ∷ []; limits = []; foreign = []; indexes = [] }
+parents = record { name = 112 ∷ []; columns = record { name = 105 ∷ []; ty = type.Int } ∷ []; fillers = None ∷ []; key = 0 ∷ []; limits = []; foreign = []; indexes = [] }
 
 abbrev children : Table
 children = record {
   name = 99 ∷ [];
   columns = record { name = 105 ∷ []; ty = type.Int } ∷ record { name = 117 ∷ []; ty = type.Int } ∷ [];
+  fillers = None ∷ None ∷ [];
   key = 0 ∷ [];
   limits = record { n = 1; cols = 1 ∷ [] } ∷ [];
   foreign = record { cols = 1 ∷ []; table = 1 } ∷ [];
@@ -79,6 +81,7 @@ made_parents = record {
   some_columns = omega arith;
   few_columns = omega arith;
   sized = each_is (λ (column : Column). IsSized column.ty) parents.columns (tt, tt);
+  fillers = (tt, tt);
   key = first_column;
   plain = each_is (λ col. is_nullable (type_at parents.columns col) ≡ false) parents.key (refl, tt);
   few_limits = omega arith;
@@ -104,6 +107,7 @@ made_children = record {
   some_columns = omega arith;
   few_columns = omega arith;
   sized = each_is (λ (column : Column). IsSized column.ty) children.columns (tt, (tt, tt));
+  fillers = (tt, (tt, tt));
   key = key_columns;
   plain = each_is (λ col. is_nullable (type_at children.columns col) ≡ false) children.key (refl, tt);
   few_limits = omega arith;
@@ -222,19 +226,19 @@ held_by client c row = insert c child_row (held_value client 1 (Some (stored_cod
 
 -- it holds the key
 moves_take : run both (alone at_first (mover Reading)) (turns (0 ∷ 0 ∷ [])) ≡ alone (held_by 1 at_first (pair 1 1)) (mover (Flying move (Checking (Parent 0 1 (row_key 1 (one 2))) [])))
-unfolding ones pair_key held_value cell_of old_row new_row new_code entry_keys old_entries new_entries flight_checks flight_tests group_key group_front tested_front counted present_rows row_decoded fields_at cell_at front_at field_at
+unfolding ones pair_key held_value cell_of old_row new_row new_code entry_keys old_entries new_entries flight_checks flight_tests group_key group_front tested_front counted present_rows filled_decoded short_decoded filled row_decoded fields_at cell_at front_at field_at
 moves_take = simp (get-insert {X = List ℕ} nat_list_cmp_total, get-remove {X = List ℕ} nat_list_cmp_total, get-empty {X = List ℕ} key_cmp)
 
 -- its parent is there, and the new entry is added
 moves_add : run both (alone (held_by 1 at_first (pair 1 1)) (mover (Flying move (Checking (Parent 0 1 (row_key 1 (one 2))) [])))) (turns (0 ∷ 0 ∷ []))
     ≡ alone (insert (held_by 1 at_first (pair 1 1)) (entry_of 2 1) []) (mover (Flying move (Testing 0 [] [])))
-unfolding ones pair_key held_value cell_of old_row new_row new_code entry_keys old_entries new_entries flight_checks flight_tests group_key group_front tested_front counted present_rows row_decoded fields_at cell_at front_at field_at
+unfolding ones pair_key held_value cell_of old_row new_row new_code entry_keys old_entries new_entries flight_checks flight_tests group_key group_front tested_front counted present_rows filled_decoded short_decoded filled row_decoded fields_at cell_at front_at field_at
 moves_add = simp (get-insert {X = List ℕ} nat_list_cmp_total, get-remove {X = List ℕ} nat_list_cmp_total, get-empty {X = List ℕ} key_cmp)
 
 -- no row is in the group of its new number but its own
 moves_test : run both (alone (insert (held_by 1 at_first (pair 1 1)) (entry_of 2 1) []) (mover (Flying move (Testing 0 [] [])))) (turns (0 ∷ []))
     ≡ alone (insert (held_by 1 at_first (pair 1 1)) (entry_of 2 1) []) (mover (Flying move Putting))
-unfolding ones pair_key held_value cell_of old_row new_row new_code entry_keys old_entries new_entries flight_checks flight_tests group_key group_front tested_front counted present_rows row_decoded fields_at cell_at front_at field_at
+unfolding ones pair_key held_value cell_of old_row new_row new_code entry_keys old_entries new_entries flight_checks flight_tests group_key group_front tested_front counted present_rows filled_decoded short_decoded filled row_decoded fields_at cell_at front_at field_at
 moves_test = simp (entries-insert {X = List ℕ} nat_list_cmp_total, entries_none)
 
 -- its row is put
@@ -247,12 +251,12 @@ moved = record {
 }
 
 moves_put : run both (alone (insert (held_by 1 at_first (pair 1 1)) (entry_of 2 1) []) (mover (Flying move Putting))) (turns (0 ∷ [])) ≡ moved
-unfolding ones pair_key held_value cell_of old_row new_row new_code entry_keys old_entries new_entries flight_checks flight_tests group_key group_front tested_front counted present_rows row_decoded fields_at cell_at front_at field_at
+unfolding ones pair_key held_value cell_of old_row new_row new_code entry_keys old_entries new_entries flight_checks flight_tests group_key group_front tested_front counted present_rows filled_decoded short_decoded filled row_decoded fields_at cell_at front_at field_at
 moves_put = simp (get-insert {X = List ℕ} nat_list_cmp_total, get-remove {X = List ℕ} nat_list_cmp_total, get-empty {X = List ℕ} key_cmp)
 
 -- the old entry is removed, and the key is free
 moves_free : (run both moved (turns (0 ∷ 0 ∷ []))).told ≡ tell 1 1 outcome.Done ∷ []
-unfolding ones pair_key held_value cell_of old_row new_row new_code entry_keys old_entries new_entries flight_checks flight_tests group_key group_front tested_front counted present_rows row_decoded fields_at cell_at front_at field_at
+unfolding ones pair_key held_value cell_of old_row new_row new_code entry_keys old_entries new_entries flight_checks flight_tests group_key group_front tested_front counted present_rows filled_decoded short_decoded filled row_decoded fields_at cell_at front_at field_at
 moves_free = simp (get-insert {X = List ℕ} nat_list_cmp_total, get-remove {X = List ℕ} nat_list_cmp_total, get-empty {X = List ℕ} key_cmp)
 
 -- all its calls: eight, where nine are the most
@@ -276,7 +280,7 @@ deletion = record { write = deletes; read = Some (stored_code children (pair 1 1
 
 -- no table names the row's, so its put comes next
 deletes_take : run both (alone at_first (deleter Reading)) (turns (0 ∷ 0 ∷ [])) ≡ alone (held_by 2 at_first (pair 1 1)) (deleter (Flying deletion Putting))
-unfolding ones pair_key held_value cell_of old_row new_row new_code entry_keys old_entries new_entries flight_checks flight_tests group_key group_front tested_front counted present_rows row_decoded fields_at cell_at front_at field_at
+unfolding ones pair_key held_value cell_of old_row new_row new_code entry_keys old_entries new_entries flight_checks flight_tests group_key group_front tested_front counted present_rows filled_decoded short_decoded filled row_decoded fields_at cell_at front_at field_at
 deletes_take = simp (get-insert {X = List ℕ} nat_list_cmp_total, get-remove {X = List ℕ} nat_list_cmp_total, get-empty {X = List ℕ} key_cmp)
 
 abbrev deleted : Run
@@ -288,11 +292,11 @@ deleted = record {
 }
 
 deletes_put : run both (alone (held_by 2 at_first (pair 1 1)) (deleter (Flying deletion Putting))) (turns (0 ∷ [])) ≡ deleted
-unfolding ones pair_key held_value cell_of old_row new_row new_code entry_keys old_entries new_entries flight_checks flight_tests group_key group_front tested_front counted present_rows row_decoded fields_at cell_at front_at field_at
+unfolding ones pair_key held_value cell_of old_row new_row new_code entry_keys old_entries new_entries flight_checks flight_tests group_key group_front tested_front counted present_rows filled_decoded short_decoded filled row_decoded fields_at cell_at front_at field_at
 deletes_put = simp (get-insert {X = List ℕ} nat_list_cmp_total, get-remove {X = List ℕ} nat_list_cmp_total, get-empty {X = List ℕ} key_cmp)
 
 deletes_free : (run both deleted (turns (0 ∷ 0 ∷ []))).told ≡ tell 2 1 outcome.Done ∷ []
-unfolding ones pair_key held_value cell_of old_row new_row new_code entry_keys old_entries new_entries flight_checks flight_tests group_key group_front tested_front counted present_rows row_decoded fields_at cell_at front_at field_at
+unfolding ones pair_key held_value cell_of old_row new_row new_code entry_keys old_entries new_entries flight_checks flight_tests group_key group_front tested_front counted present_rows filled_decoded short_decoded filled row_decoded fields_at cell_at front_at field_at
 deletes_free = simp (get-insert {X = List ℕ} nat_list_cmp_total, get-remove {X = List ℕ} nat_list_cmp_total, get-empty {X = List ℕ} key_cmp)
 
 -- all its calls: five, which are the most
@@ -316,24 +320,24 @@ abbrev added_row : Content
 added_row = insert (insert at_first (row_key 2 (one 5)) (held_value 3 1 None)) (entry_of 1 5) []
 
 inserts_take : run both (alone at_first (inserter Reading)) (turns (0 ∷ 0 ∷ [])) ≡ alone (insert at_first (row_key 2 (one 5)) (held_value 3 1 None)) (inserter (Flying insertion (Checking (Parent 0 1 (row_key 1 (one 1))) [])))
-unfolding ones pair_key held_value cell_of old_row new_row new_code entry_keys old_entries new_entries flight_checks flight_tests group_key group_front tested_front counted present_rows row_decoded fields_at cell_at front_at field_at
+unfolding ones pair_key held_value cell_of old_row new_row new_code entry_keys old_entries new_entries flight_checks flight_tests group_key group_front tested_front counted present_rows filled_decoded short_decoded filled row_decoded fields_at cell_at front_at field_at
 inserts_take = simp (get-insert {X = List ℕ} nat_list_cmp_total, get-remove {X = List ℕ} nat_list_cmp_total, get-empty {X = List ℕ} key_cmp)
 
 inserts_add : run both (alone (insert at_first (row_key 2 (one 5)) (held_value 3 1 None)) (inserter (Flying insertion (Checking (Parent 0 1 (row_key 1 (one 1))) [])))) (turns (0 ∷ 0 ∷ []))
     ≡ alone added_row (inserter (Flying insertion (Testing 0 [] [])))
-unfolding ones pair_key held_value cell_of old_row new_row new_code entry_keys old_entries new_entries flight_checks flight_tests group_key group_front tested_front counted present_rows row_decoded fields_at cell_at front_at field_at
+unfolding ones pair_key held_value cell_of old_row new_row new_code entry_keys old_entries new_entries flight_checks flight_tests group_key group_front tested_front counted present_rows filled_decoded short_decoded filled row_decoded fields_at cell_at front_at field_at
 inserts_add = simp (get-insert {X = List ℕ} nat_list_cmp_total, get-remove {X = List ℕ} nat_list_cmp_total, get-empty {X = List ℕ} key_cmp)
 
 -- the group has two then, where one is the most
 inserts_test : run both (alone added_row (inserter (Flying insertion (Testing 0 [] [])))) (turns (0 ∷ []))
     ≡ alone added_row (inserter (Flying insertion (Undoing (entry_of 1 5) [] (refusal.Cardinality children.name 1 1))))
-unfolding ones pair_key held_value cell_of old_row new_row new_code entry_keys old_entries new_entries flight_checks flight_tests group_key group_front tested_front counted present_rows row_decoded fields_at cell_at front_at field_at
+unfolding ones pair_key held_value cell_of old_row new_row new_code entry_keys old_entries new_entries flight_checks flight_tests group_key group_front tested_front counted present_rows filled_decoded short_decoded filled row_decoded fields_at cell_at front_at field_at
 inserts_test = simp (entries-insert {X = List ℕ} nat_list_cmp_total, entries_none)
 
 -- the entry is removed, the key is free, and the refusal is told
 inserts_undo : (run both (alone added_row (inserter (Flying insertion (Undoing (entry_of 1 5) [] (refusal.Cardinality children.name 1 1))))) (turns (0 ∷ 0 ∷ []))).told
     ≡ tell 3 1 (outcome.Refused (refusal.Cardinality children.name 1 1)) ∷ []
-unfolding ones pair_key held_value cell_of old_row new_row new_code entry_keys old_entries new_entries flight_checks flight_tests group_key group_front tested_front counted present_rows row_decoded fields_at cell_at front_at field_at
+unfolding ones pair_key held_value cell_of old_row new_row new_code entry_keys old_entries new_entries flight_checks flight_tests group_key group_front tested_front counted present_rows filled_decoded short_decoded filled row_decoded fields_at cell_at front_at field_at
 inserts_undo = simp (get-insert {X = List ℕ} nat_list_cmp_total, get-remove {X = List ℕ} nat_list_cmp_total, get-empty {X = List ℕ} key_cmp)
 
 -- all its calls: seven, where eight are the most
@@ -362,16 +366,16 @@ abbrev held_parent : Content
 held_parent = insert at_first (row_key 1 (one 1)) (held_value 4 1 (Some (stored_code parents (one 1))))
 
 removes_take : run both (alone at_first (remover Reading)) (turns (0 ∷ 0 ∷ [])) ≡ alone held_parent (remover (Flying removal (Checking (Child 2 0 (group_key 2 children (1 ∷ []) (one 1))) [])))
-unfolding ones pair_key held_value cell_of old_row new_row new_code entry_keys old_entries new_entries flight_checks flight_tests group_key group_front tested_front counted present_rows row_decoded fields_at cell_at front_at field_at
+unfolding ones pair_key held_value cell_of old_row new_row new_code entry_keys old_entries new_entries flight_checks flight_tests group_key group_front tested_front counted present_rows filled_decoded short_decoded filled row_decoded fields_at cell_at front_at field_at
 removes_take = simp (get-insert {X = List ℕ} nat_list_cmp_total, get-remove {X = List ℕ} nat_list_cmp_total, get-empty {X = List ℕ} key_cmp)
 
 removes_count : run both (alone held_parent (remover (Flying removal (Checking (Child 2 0 (group_key 2 children (1 ∷ []) (one 1))) [])))) (turns (0 ∷ []))
     ≡ alone held_parent (remover (Flying removal (Releasing (refusal.Referenced children.name 1))))
-unfolding ones pair_key held_value cell_of old_row new_row new_code entry_keys old_entries new_entries flight_checks flight_tests group_key group_front tested_front counted present_rows row_decoded fields_at cell_at front_at field_at
+unfolding ones pair_key held_value cell_of old_row new_row new_code entry_keys old_entries new_entries flight_checks flight_tests group_key group_front tested_front counted present_rows filled_decoded short_decoded filled row_decoded fields_at cell_at front_at field_at
 removes_count = simp (entries-insert {X = List ℕ} nat_list_cmp_total, entries_none)
 
 removes_release : (run both (alone held_parent (remover (Flying removal (Releasing (refusal.Referenced children.name 1))))) (turns (0 ∷ []))).told ≡ tell 4 1 (outcome.Refused (refusal.Referenced children.name 1)) ∷ []
-unfolding ones pair_key held_value cell_of old_row new_row new_code entry_keys old_entries new_entries flight_checks flight_tests group_key group_front tested_front counted present_rows row_decoded fields_at cell_at front_at field_at
+unfolding ones pair_key held_value cell_of old_row new_row new_code entry_keys old_entries new_entries flight_checks flight_tests group_key group_front tested_front counted present_rows filled_decoded short_decoded filled row_decoded fields_at cell_at front_at field_at
 removes_release = simp (get-insert {X = List ℕ} nat_list_cmp_total, get-remove {X = List ℕ} nat_list_cmp_total, get-empty {X = List ℕ} key_cmp)
 
 -- a row that names none isn't inserted
@@ -379,7 +383,7 @@ abbrev orphans : Write
 orphans = write.Insert 2 (pair 5 9)
 
 told_orphan : (run both (alone at_first (new_view 5 (orphans ∷ []))) (turns (0 ∷ 0 ∷ 0 ∷ 0 ∷ []))).told ≡ tell 5 1 (outcome.Refused (refusal.NoParent children.name 1)) ∷ []
-unfolding ones pair_key held_value cell_of old_row new_row new_code entry_keys old_entries new_entries flight_checks flight_tests group_key group_front tested_front counted present_rows row_decoded fields_at cell_at front_at field_at
+unfolding ones pair_key held_value cell_of old_row new_row new_code entry_keys old_entries new_entries flight_checks flight_tests group_key group_front tested_front counted present_rows filled_decoded short_decoded filled row_decoded fields_at cell_at front_at field_at
 told_orphan = simp (get-insert {X = List ℕ} nat_list_cmp_total, get-remove {X = List ℕ} nat_list_cmp_total, get-empty {X = List ℕ} key_cmp)
 
 -- ---- a put that is done and fails: the client is told Failed, the key stays held, and the write counts as made
@@ -393,9 +397,9 @@ unseen = record {
 }
 
 fails_put : run both (alone (insert (held_by 1 at_first (pair 1 1)) (entry_of 2 1) []) (mover (Flying move Putting))) (record { place = 0; fate = DoneUnseen } ∷ []) ≡ unseen
-unfolding ones pair_key held_value cell_of old_row new_row new_code entry_keys old_entries new_entries flight_checks flight_tests group_key group_front tested_front counted present_rows row_decoded fields_at cell_at front_at field_at
+unfolding ones pair_key held_value cell_of old_row new_row new_code entry_keys old_entries new_entries flight_checks flight_tests group_key group_front tested_front counted present_rows filled_decoded short_decoded filled row_decoded fields_at cell_at front_at field_at
 fails_put = simp (get-insert {X = List ℕ} nat_list_cmp_total, get-remove {X = List ℕ} nat_list_cmp_total, get-empty {X = List ℕ} key_cmp)
 
 made_unseen : made_writes both (new_view 1 (moves ∷ []) ∷ []) unseen ≡ moves ∷ []
-unfolding ones pair_key held_value cell_of old_row new_row new_code entry_keys old_entries new_entries flight_checks flight_tests group_key group_front tested_front counted present_rows row_decoded fields_at cell_at front_at field_at
+unfolding ones pair_key held_value cell_of old_row new_row new_code entry_keys old_entries new_entries flight_checks flight_tests group_key group_front tested_front counted present_rows filled_decoded short_decoded filled row_decoded fields_at cell_at front_at field_at
 made_unseen = simp (get-insert {X = List ℕ} nat_list_cmp_total, get-remove {X = List ℕ} nat_list_cmp_total, get-empty {X = List ℕ} key_cmp)

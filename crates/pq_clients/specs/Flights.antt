@@ -18,7 +18,7 @@ use Rattle.pq_index_keep.specs.declared.write.Write.TheVariants as write
 use Rattle.pq_index_keep.specs.Effects.{stays, no_parent, referenced_refusal, no_room, limit_at}
 use Rattle.pq_index_keep.specs.Groups.{group_key}
 use Rattle.pq_index_keep.specs.Tested.{touches, scope_of, with_sets}
-use Rattle.pq_clients.specs.Held.{stored_row}
+use Rattle.pq_clients.specs.Held.{decoded_row}
 
 -- ---- writes
 
@@ -72,7 +72,7 @@ flight_key tables f = pair_key tables f.write
 
 -- the row that was read, and the row that is to be put
 unfoldable pub old_row : List Table → Flight → Option (List Value)
-old_row tables f = option_and_then (stored_row (flight_table tables f)) f.read
+old_row tables f = option_and_then (decoded_row (flight_table tables f)) f.read
 
 unfoldable pub new_row : List Table → Flight → Option (List Value)
 new_row tables f = row_made f.write (old_row tables f)

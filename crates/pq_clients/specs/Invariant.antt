@@ -15,7 +15,7 @@ use Rattle.pq_index_keep.specs.Effects.{limit_at}
 use Rattle.pq_index_keep.specs.Groups.{group_key}
 use Rattle.pq_index_keep.specs.Sound.{IsWrite}
 use Rattle.pq_clients.specs.declared.outcome.Outcome.{Outcome}
-use Rattle.pq_clients.specs.Held.{Cell, Free, Held, cell_of, present_in, stored_row, held_value}
+use Rattle.pq_clients.specs.Held.{Cell, Free, Held, cell_of, present_in, decoded_row, held_value}
 use Rattle.pq_clients.specs.Flights.{Flight, flight_key, new_code, entry_keys, keys_of_row, has_entry, flight_tests}
 pub use Rattle.pq_clients.specs.Clients.{present_of, may_show}
 use Rattle.pq_clients.specs.Clients.{Stage, Checking, Adding, Testing, Putting, Clearing, Freeing, Undoing, Releasing, Next, Reading, Taking, Looking, Flying, View, write_at}
@@ -30,7 +30,7 @@ key_table (space ∷ t ∷ rest) = t
 -- the row of this code at a row's key
 unfoldable pub code_row : List Table → List ℕ → Option (List ℕ) → Option (List Value)
 code_row tables k code =
-    if is_in_space 2 k then option_and_then (stored_row (table_at tables (key_table k))) code else None
+    if is_in_space 2 k then option_and_then (decoded_row (table_at tables (key_table k))) code else None
 
 -- whether a key is of an entry of the row with this code
 unfoldable pub has_code_entry : List Table → List ℕ → Option (List ℕ) → List ℕ → Bool

@@ -25,7 +25,7 @@ use Rattle.pq_clients.specs.declared.outcome.Step.{Step}
 use Rattle.pq_clients.specs.declared.outcome.Step.TheVariants as step
 use Rattle.pq_clients.specs.declared.outcome.Told.{Told}
 use Rattle.pq_clients.specs.declared.outcome.Wrote.{Wrote}
-use Rattle.pq_clients.specs.Held.{cell_of, is_held_value, present_code, present_row, stored_row, held_value}
+use Rattle.pq_clients.specs.Held.{cell_of, is_held_value, present_code, present_row, decoded_row, held_value}
 use Rattle.pq_clients.specs.Flights.{Flight, Parent, Child, table_number, key_written, table_of, pair_key, row_made, flight_table, flight_key, old_row, new_code, flight_checks, flight_tests, tested_front, tested_limit}
 use Rattle.pq_clients.specs.Clients.{Stage, Checking, Testing, Putting, Freeing, Undoing, Releasing, Next, Reading, Taking, Looking, Flying, View, present_of, may_show, is_freeing, flight_of, write_at, is_over, new_view}
 use Rattle.pq_clients.specs.Steps.{is_just, is_held_by_other, Fate, Answers, NotDone, DoneUnseen, NoMemory, is_fault, stepped}
@@ -236,7 +236,7 @@ Reads tables v c w found = (v.next ≡ Reading) × (write_at v.writes v.at ≡ S
 -- it answers the code of this row, which nobody holds
 abbrev pub ReadsRow : List Table → View → Content → Write → List Value → Type 0
 ReadsRow tables v c w row = (code : List ℕ) × Reads tables v c w (Some code) × (is_held_value code ≡ false)
-    × (stored_row (table_of tables w) code ≡ Some row)
+    × (decoded_row (table_of tables w) code ≡ Some row)
 
 -- what each outcome but Done, Failed and NoMem shows
 abbrev pub HasReason : List Table → View → Content → Outcome → Type 0

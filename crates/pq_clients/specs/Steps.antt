@@ -16,7 +16,7 @@ use Rattle.pq_clients.specs.declared.outcome.Outcome.{Outcome}
 use Rattle.pq_clients.specs.declared.outcome.Outcome.TheVariants as outcome
 use Rattle.pq_clients.specs.declared.outcome.Step.{Step}
 use Rattle.pq_clients.specs.declared.outcome.Step.TheVariants as step
-use Rattle.pq_clients.specs.Held.{Cell, Free, Held, cell_of, present_row, held_value, stored_row}
+use Rattle.pq_clients.specs.Held.{Cell, Free, Held, cell_of, present_row, held_value, decoded_row}
 use Rattle.pq_clients.specs.Flights.{Flight, Check, Parent, Child, table_of, pair_key, row_made, flight_table, flight_key, new_code, fresh_entries, stale_entries, flight_checks, check_refusal, flight_tests, tested_front, tested_limit, test_refusal}
 use Rattle.pq_clients.specs.Clients.{Stage, Checking, Adding, Testing, Putting, Clearing, Freeing, Undoing, Releasing, Next, Reading, Taking, Looking, Flying, View, write_at, is_over}
 
@@ -97,7 +97,7 @@ after_code tables w code (Some row) = after_row tables w (Some code) (Some row)
 -- what is held with the code of a row or with nothing
 abbrev pub is_row_or_none : Table → Option (List ℕ) → Bool
 is_row_or_none table None = true
-is_row_or_none table (Some code) = is_some (stored_row table code)
+is_row_or_none table (Some code) = is_some (decoded_row table code)
 
 -- the value is one that another client holds
 abbrev pub is_held_by_other : Table → ℕ → Cell → Bool
@@ -105,7 +105,7 @@ is_held_by_other table client (Free code) = false
 is_held_by_other table client (Held holder number present) = not (holder == client) && is_row_or_none table present
 
 abbrev pub after_cell : List Table → ℕ → Write → List ℕ → Cell → Then
-after_cell tables client w value (Free code) = after_code tables w value (stored_row (table_of tables w) value)
+after_cell tables client w value (Free code) = after_code tables w value (decoded_row (table_of tables w) value)
 after_cell tables client w value (Held holder number present) =
     if is_held_by_other (table_of tables w) client (Held holder number present) then Ends (outcome.Busy value)
     else damaged (pair_key tables w) (Some value)

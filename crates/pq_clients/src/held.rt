@@ -1,10 +1,10 @@
 //! What the pair of a row holds.
 ghost use Rattle.std.specs.Prelude.{◌≡◌, true, Some, is_some, option_and_then, IfOk, take, drop};
 ghost use Rattle.std.specs.Int.{w32, from_be_bytes};
-ghost use Rattle.pq_clients.specs.Held.{held_value, is_held_value, something, present_row, stored_row, cell_of};
+ghost use Rattle.pq_clients.specs.Held.{held_value, is_held_value, something, present_row, decoded_row, cell_of};
 ghost use Rattle.pq_clients.specs.Steps.{is_held_by_other, is_row_or_none};
 
-use crate::rows::stored_row;
+use crate::rows::decoded_row;
 use pq_base::{Bytes, NoMem};
 use pq_schema::Table;
 use std::alloc::Global;
@@ -44,15 +44,15 @@ pub(crate) fn is_held_value(bytes: &[u8]) -> bool
 
 /// Whether the bytes are a row's code.
 fn is_row(alloc: Global, table: &Table, bytes: &[u8]) -> Result<bool, NoMem>
-    ensures { IfOk result (λ answer. answer ≡ is_some (stored_row table.now bytes.now)) }
+    ensures { IfOk result (λ answer. answer ≡ is_some (decoded_row table.now bytes.now)) }
 {
-    Ok(stored_row(alloc, table, bytes)?.is_some())
+    Ok(decoded_row(alloc, table, bytes)?.is_some())
 }
 
 /// Whether a row is present behind the numbers of a held value.
 fn is_row_held(alloc: Global, table: &Table, bytes: &[u8]) -> Result<bool, NoMem>
     ensures { IfOk result (λ answer. answer
-        ≡ is_some (option_and_then (stored_row table.now) (something bytes.now))) }
+        ≡ is_some (option_and_then (decoded_row table.now) (something bytes.now))) }
 {
     if bytes.is_empty() {
         return Ok(false);

@@ -8,7 +8,7 @@ ghost use Rattle.pq_clients.specs.declared.outcome.Outcome.{Outcome};
 ghost use Rattle.pq_clients.specs.Fitting.{MayWrite, IsUpdateOf};
 ghost use Rattle.pq_clients.specs.Flights.{Flight, table_of, pair_key};
 ghost use Rattle.pq_clients.specs.Goes.{Goes, spot};
-ghost use Rattle.pq_clients.specs.Held.{cell_of, is_held_value, stored_row};
+ghost use Rattle.pq_clients.specs.Held.{cell_of, is_held_value, decoded_row};
 ghost use Rattle.pq_clients.specs.Seen.{flight, seen_course};
 ghost use Rattle.pq_clients.specs.Steps.{Ends, after_row, after_code, after_cell, after_read, damaged, refused};
 
@@ -17,7 +17,7 @@ use crate::course::in_memory;
 use crate::entries::copy_found;
 use crate::halt::Halt;
 use crate::held::{is_held_by_other, is_held_value};
-use crate::rows::{code_len, pair_key, stored_row, table_of, updated};
+use crate::rows::{code_len, decoded_row, pair_key, table_of, updated};
 use crate::stage::{Course, Ending};
 use pq_base::{Bytes, List, NoMem, Refusal, Row};
 use pq_index_keep::{SetCol, Write};
@@ -125,9 +125,9 @@ fn after_code(
     requires key { key ≡ pair_key catalog.now.tables write.now }
     ensures { IfOk result (λ course. (before : Option (Items ℕ)) → seen_course (flight write.now before) course
         ≡ after_code catalog.now.tables write.now code
-        (stored_row (table_of catalog.now.tables write.now) code)) }
+        (decoded_row (table_of catalog.now.tables write.now) code)) }
 {
-    match stored_row(alloc, table_of(catalog, write), code.items())? {
+    match decoded_row(alloc, table_of(catalog, write), code.items())? {
         None => Ok(damaged(key, Some(code))),
         Some(row) => after_row(alloc, catalog, write, Some(code), Some(row)),
     }

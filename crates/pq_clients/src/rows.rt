@@ -1,40 +1,47 @@
 //! The rows of a write: the one that was read, and the one that is to be put.
 ghost use Rattle.std.specs.Prelude.{◌≡◌, length, IfOk, IfSome, option_map};
+ghost use Rattle.pq_base.specs.Shapes.{row_shape};
 ghost use Rattle.pq_base.specs.Values.{AllFit};
 ghost use Rattle.pq_content.specs.Tables.{types_of, stored_code};
 ghost use Rattle.pq_key_code.specs.KeyCode.{IsBytes};
-ghost use Rattle.pq_row_code.specs.RowReading.{row_decoded};
+ghost use Rattle.pq_row_code.specs.StoredRow.{filled_decoded};
 ghost use Rattle.pq_index_keep.specs.Tested.{with_sets};
 ghost use Rattle.pq_clients.specs.Fitting.{MayWrite, IsMadeTable, IsUpdateOf};
 ghost use Rattle.pq_clients.specs.Flights.{table_of, table_number, pair_key, row_made, old_row, new_row, new_code};
-ghost use Rattle.pq_clients.specs.Held.{stored_row};
+ghost use Rattle.pq_clients.specs.Held.{decoded_row};
 ghost use Rattle.pq_clients.specs.Seen.{flight};
 
-use pq_base::{Bytes, ColType, List, NoMem, Row, known_types};
+use pq_base::{Bytes, ColType, List, NoMem, Row, Value, known_types};
 use pq_calls::types_of;
 use pq_index_keep::{SetCol, Write, key_at, with_sets};
 use pq_key_code::row_key;
-use pq_row_code::{decode_row, encode_row, row_code_len};
+use pq_row_code::{decode_filled, encode_stored, known_fillers, stored_code_len};
 use pq_schema::{Catalog, Table};
 use std::alloc::Global;
 
 /// The row of a table that has this code.
-pub(crate) fn stored_row(alloc: Global, table: &Table, code: &[u8]) -> Result<Option<Row>, NoMem>
-    ensures row { IfOk result (λ row. row ≡ stored_row table.now code.now) }
+pub(crate) fn decoded_row(alloc: Global, table: &Table, code: &[u8]) -> Result<Option<Row>, NoMem>
+    ensures row { IfOk result (λ row. row ≡ decoded_row table.now code.now) }
     ensures fits { IfOk result (λ row. IfSome row (AllFit (types_of table.now))) }
 {
     let types = types_of(alloc, table)?;
-    decoded(alloc, types.items(), code)
+    decoded(alloc, types.items(), &table.fillers, code)
 }
 
-/// The row of these types that has this code.
-fn decoded(alloc: Global, types: &[ColType], code: &[u8]) -> Result<Option<Row>, NoMem>
-    ensures row { IfOk result (λ row. row ≡ row_decoded types.now code.now) }
+/// The row of these types and defaults that has this code.
+fn decoded(
+    alloc: Global,
+    types: &[ColType],
+    fillers: &List<Option<Value>>,
+    code: &[u8],
+) -> Result<Option<Row>, NoMem>
+    ensures row { IfOk result (λ row. row ≡ filled_decoded (row_shape types.now fillers.now) code.now) }
     ensures fits { IfOk result (λ row. IfSome row (AllFit types.now)) }
 {
     known_types(types);
+    known_fillers(fillers.items());
     known_bytes(code);
-    decode_row(alloc, code, types)
+    decode_filled(alloc, code, types, fillers)
 }
 
 /// Tells a proof that the bytes are bytes.
@@ -95,7 +102,7 @@ pub(crate) fn old_row(
 {
     match read {
         None => Ok(None),
-        Some(code) => stored_row(alloc, table_of(catalog, write), code.items()),
+        Some(code) => decoded_row(alloc, table_of(catalog, write), code.items()),
     }
 }
 
@@ -160,7 +167,7 @@ fn encoded(alloc: Global, catalog: &Catalog, write: &Write, row: &Row) -> Result
     requires fits { AllFit (types_of (table_of catalog.now.tables write.now)) row.now }
     ensures { IfOk result (λ code. code ≡ stored_code (table_of catalog.now.tables write.now) row.now) }
 {
-    encode_row(alloc, row)
+    encode_stored(alloc, row, &table_of(catalog, write).fillers)
 }
 
 /// The number of bytes of such a code.
@@ -169,7 +176,7 @@ pub(crate) fn code_len(catalog: &Catalog, write: &Write, row: &Row) -> u32
     requires fits { AllFit (types_of (table_of catalog.now.tables write.now)) row.now }
     ensures { result ≡ length (stored_code (table_of catalog.now.tables write.now) row.now) }
 {
-    row_code_len(row)
+    stored_code_len(row, &table_of(catalog, write).fillers)
 }
 
 /// The code of a row that fits its table, or nothing of none.

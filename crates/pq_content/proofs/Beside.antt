@@ -1,10 +1,9 @@
 -- Contents that have just the pairs of some rows in the spaces of rows and entries, whatever stands beside them.
-use Rattle.std.proofs.Common.{◌≡◌, ℕ, ◌+◌, Bool, true, false, cond, not, List, [], ◌∷◌, ◌++◌, flat_map, Option, None, refl, sym, ap, ◌∙◌}
-use Rattle.std.specs.List.{AllByRecursion}
+use Rattle.std.proofs.Common.{◌≡◌, ℕ, ◌+◌, Bool, true, false, cond, not, List, [], ◌∷◌, ◌++◌, flat_map, refl, sym, ap, ◌∙◌}
 use Rattle.std.specs.Prelude.{filter}
 use Rattle.std.specs.Cmp.Lexicographic.{nat_list_cmp_total}
 use Rattle.std.specs.declared.cmp.Ordering.TheVariants.{Equal}
-use Rattle.std.specs.FinMap.{find, get, get-entries, entries, from_entries, get-from_entries}
+use Rattle.std.specs.FinMap.{find, get-entries, entries, from_entries, get-from_entries}
 use Rattle.std.specs.FinMap.Entries.{where_key, find-where_key}
 use Rattle.std.proofs.lemmas.List.{append-nil}
 use Rattle.std.proofs.lemmas.List.Elements.{filter-append}
@@ -17,7 +16,7 @@ use Rattle.pq_store.specs.Content.{key_cmp, Content}
 use Rattle.pq_content.specs.Pairs.{Pair, is_of_rows, AreBeside, row_pair, entry_pair, entries_from, pairs_of_row, row_pairs, content_pairs, pairs_of_rows, pairs_beside}
 use Rattle.pq_content.specs.Tables.{Rows}
 use Rattle.pq_content.proofs.Changes.{same_content, bytes_apart}
-use Rattle.pq_content.proofs.Find.{find-or_else, or_else, find_front, find_rest}
+use Rattle.pq_content.proofs.Find.{find_front, find_rest}
 use Rattle.pq_content.proofs.Keys.{not_beside, not_in_rows}
 use Rattle.pq_content.proofs.Ranges.{where_from, where-flat_map}
 

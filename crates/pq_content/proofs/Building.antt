@@ -29,7 +29,7 @@ use Rattle.pq_content.proofs.Ranges.{in_range}
 use Rattle.pq_content.proofs.Shapes.{SameShapes, keeps-shape}
 use Rattle.pq_content.proofs.Updates.{entry_there}
 use Rattle.pq_key_code.specs.KeyCode.{code_of}
-use Rattle.pq_content.proofs.Codes.{same_columns_code}
+use Rattle.pq_content.proofs.Codes.{same_fillers_code}
 use Rattle.pq_schema.specs.Schema.{with_wanted, with_new_index}
 
 -- ---- a part of a content
@@ -109,6 +109,7 @@ same_shapes tables t index is = record {
         record {
           key = ap (λ (x : Table). x.key) old ∙ sym (ap (λ (x : Table). x.key) one);
           columns = ap (λ (x : Table). x.columns) old ∙ sym (ap (λ (x : Table). x.columns) one);
+          fillers = ap (λ (x : Table). x.fillers) old ∙ sym (ap (λ (x : Table). x.fillers) one);
           limits = ap (λ (x : Table). x.limits) old ∙ sym (ap (λ (x : Table). x.limits) one);
           foreign = ap (λ (x : Table). x.foreign) old ∙ sym (ap (λ (x : Table). x.foreign) one);
         }
@@ -117,6 +118,7 @@ same_shapes tables t index is = record {
         record {
           key = ap (λ (x : Table). x.key) one;
           columns = ap (λ (x : Table). x.columns) one;
+          fillers = ap (λ (x : Table). x.fillers) one;
           limits = ap (λ (x : Table). x.limits) one;
           foreign = ap (λ (x : Table). x.foreign) one;
         }
@@ -215,7 +217,7 @@ module _ (tables : List Table) (t : ℕ) (index : Index) (is : IsTableNumber tab
             let k = (row_pair t old e.1).0 in
             let at : P t =
             ap (cond (eq_by_cmp key_cmp q k) (Some (stored_code old e.1))) (more_entries 1 old.indexes e.1 q other)
-            ∙ ap (λ (code : List ℕ). cond (eq_by_cmp key_cmp q k) (Some code) (find key_cmp q (entries_from t 1 (with_new_index old index) (old.indexes ++ index ∷ []) e.1))) (same_columns_code old (with_new_index old index) e.1 refl)
+            ∙ ap (λ (code : List ℕ). cond (eq_by_cmp key_cmp q k) (Some code) (find key_cmp q (entries_from t 1 (with_new_index old index) (old.indexes ++ index ∷ []) e.1))) (same_fillers_code old (with_new_index old index) e.1 refl)
             ∙ ap (λ (x : Table). find key_cmp q (pairs_of_row t x e.1)) (sym (table_at-own tables t index is)) in
             subst P (sym same) at
         | inr apart ↦

@@ -9,13 +9,13 @@ use Rattle.pq_base.specs.declared.value.Dir.{Dir}
 use Rattle.pq_base.specs.declared.value.Value.{Value}
 use Rattle.pq_base.specs.declared.value.Value.TheVariants as value
 use Rattle.pq_key_code.specs.KeyCode.{escaped_text, payload, turned_byte, component, code_of}
-use Rattle.pq_row_code.specs.RowCode.{field, fields, null_marks, row_front}
+use Rattle.pq_row_code.specs.RowCode.{field, fields, null_marks, row_front, row_code}
 use Rattle.pq_schema.specs.declared.table.Index.{Index}
 use Rattle.pq_schema.specs.declared.table.KeyPart.{KeyPart}
 use Rattle.pq_schema.specs.declared.table.Table.{Table}
 use Rattle.pq_schema.specs.Sequences.{columns_of, index_sequence}
 use Rattle.pq_content.specs.Pairs.{Pair, Change, puts, removals, entry_pair, entries_from, pairs_of_row, entry_changes, update_changes}
-use Rattle.pq_content.specs.Tables.{value_of, cells, values_of, dirs_of, same_values, stored_code}
+use Rattle.pq_content.specs.Tables.{value_of, cells, values_of, dirs_of, same_values}
 use Rattle.pq_content.proofs.Values.{same_values_decides, values_of-columns_of}
 
 -- ---- the number of changes
@@ -82,9 +82,9 @@ value_within n [] col h = tt
 value_within n (x ∷ row) zero h = h.0
 value_within n (x ∷ row) (suc col) h = value_within n row col h.1
 
--- each value of a short row is short
-pub values_within : (n : ℕ) (table : Table) (row : List Value) (cols : List ℕ) → length (stored_code table row) ≤ n → AllByRecursion (IsWithinLength n) (cells cols row)
-values_within n table row cols h =
+-- each value of a row with a short code is short
+pub values_within : (n : ℕ) (row : List Value) (cols : List ℕ) → length (row_code row) ≤ n → AllByRecursion (IsWithinLength n) (cells cols row)
+values_within n row cols h =
     let parts = length-append (row_front (length row) (null_marks row)) (fields row) in
     each cols (within_fields n row (omega arith))
   where
@@ -122,11 +122,11 @@ length-code_of n (d ∷ ds) (x ∷ xs) h =
     let rest = length-code_of n ds xs h.1 in
     omega (arith, suc-mul (length xs) (2 * n + 9))
 
--- the key of a row's entry, where the row's code has at most so many bytes
-pub length-entry_key : (n t i : ℕ) (table : Table) (sequence : List KeyPart) (row : List Value) → length (stored_code table row) ≤ n → length (entry_pair t i sequence row).0 ≤ 3 + length sequence * (2 * n + 9)
-length-entry_key n t i table sequence row h =
+-- the key of a row's entry, where the code of the whole row has at most so many bytes
+pub length-entry_key : (n t i : ℕ) (sequence : List KeyPart) (row : List Value) → length (row_code row) ≤ n → length (entry_pair t i sequence row).0 ≤ 3 + length sequence * (2 * n + 9)
+length-entry_key n t i sequence row h =
     let xs = values_of sequence row in
-    let within : AllByRecursion (IsWithinLength n) xs = subst (AllByRecursion (IsWithinLength n)) (sym (values_of-columns_of sequence row)) (values_within n table row (columns_of sequence) h) in
+    let within : AllByRecursion (IsWithinLength n) xs = subst (AllByRecursion (IsWithinLength n)) (sym (values_of-columns_of sequence row)) (values_within n row (columns_of sequence) h) in
     let short = length-code_of n (dirs_of sequence) xs within in
     let same : length xs ≡ length sequence = length-map sequence (λ (part : KeyPart). value_of row part.col) in
     let most : length (code_of (dirs_of sequence) xs) ≤ length sequence * (2 * n + 9) = subst (λ (k : ℕ). length (code_of (dirs_of sequence) xs) ≤ k * (2 * n + 9)) same short in

@@ -10,11 +10,12 @@ use Rattle.pq_schema.specs.declared.table.Table.{Table}
 use Rattle.pq_schema.specs.Tables.{table_at}
 use Rattle.pq_content.specs.Tables.{Rows, rows_of, types_of, cells, agrees, row_at, IsTableNumber, AreApart, IsWithinLimit, HasParent, Keeps, stored_code}
 use Rattle.pq_base.proofs.Members.{each_weaker}
-use Rattle.pq_content.proofs.Codes.{same_columns_code}
+use Rattle.pq_content.proofs.Codes.{same_fillers_code}
 
 pub record SameShape (a b : Table) : Type 0 where
   pub key : a.key ≡ b.key
   pub columns : a.columns ≡ b.columns
+  pub fillers : a.fillers ≡ b.fillers
   pub limits : a.limits ≡ b.limits
   pub foreign : a.foreign ≡ b.foreign
 
@@ -48,5 +49,5 @@ module _ (tables tables' : List Table) (same : SameShapes tables tables') where
       foreign = each_weaker (λ (e : ℕ × List Value). AllByRecursion (HasParent tables rows e.1) (table_at tables e.0).foreign) (λ (e : ℕ × List Value). AllByRecursion (HasParent tables' rows e.1) (table_at tables' e.0).foreign) (λ e parents.
           subst (AllByRecursion (HasParent tables' rows e.1)) (same.each e.0).foreign (each_weaker (HasParent tables rows e.1) (HasParent tables' rows e.1) (λ f there plain. subst (λ (o : Option (List Value)). IsSome o) (row_at-shape rows f.table (cells f.cols e.1)) (there plain)) (table_at tables e.0).foreign parents)) rows keeps.foreign;
     };
-    short = each_weaker (λ (e : ℕ × List Value). length (stored_code (table_at tables e.0) e.1) ≤ 4096) (λ (e : ℕ × List Value). length (stored_code (table_at tables' e.0) e.1) ≤ 4096) (λ e short. subst (λ (code : List ℕ). length code ≤ 4096) (same_columns_code (table_at tables e.0) (table_at tables' e.0) e.1 (same.each e.0).columns) short) rows keeps.short;
+    short = each_weaker (λ (e : ℕ × List Value). length (stored_code (table_at tables e.0) e.1) ≤ 4096) (λ (e : ℕ × List Value). length (stored_code (table_at tables' e.0) e.1) ≤ 4096) (λ e short. subst (λ (code : List ℕ). length code ≤ 4096) (same_fillers_code (table_at tables e.0) (table_at tables' e.0) e.1 (same.each e.0).fillers) short) rows keeps.short;
   }

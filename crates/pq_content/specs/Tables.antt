@@ -10,10 +10,10 @@ use Rattle.pq_schema.specs.declared.table.Limit.{Limit}
 use Rattle.pq_schema.specs.declared.table.Table.{Table}
 use Rattle.pq_schema.specs.Sequences.{columns_of}
 pub use Rattle.pq_schema.specs.Keys.{IsOfKind, AllOfKinds, key_types, dirs_of}
-pub use Rattle.pq_schema.specs.Rows.{Rows, rows_of, value_of, cells, types_of, key_of, same_value, same_values, agrees, has_key, row_at, group_of, IsTableNumber, AreApart, IsWithinLimit, HasParent, KeepsSchema}
+pub use Rattle.pq_schema.specs.Rows.{Rows, rows_of, value_of, cells, types_of, shape_of, key_of, same_value, same_values, agrees, has_key, row_at, group_of, IsTableNumber, AreApart, IsWithinLimit, HasParent, KeepsSchema}
 use Rattle.pq_schema.specs.Tables.{table_at}
 pub use Rattle.pq_schema.specs.Tables.{type_at, types_at}
-use Rattle.pq_row_code.specs.RowCode.{code_as}
+use Rattle.pq_row_code.specs.StoredRow.{code_as}
 
 -- the values at the columns of a sequence
 abbrev pub values_of : List KeyPart → List Value → List Value
@@ -29,7 +29,7 @@ first_columns sequence cols = take (count_ones (set_of cols)) (columns_of sequen
 
 -- the bytes that a store holds for a row of this table
 abbrev pub stored_code : Table → List Value → List ℕ
-stored_code table row = code_as (types_of table) row
+stored_code table row = code_as (shape_of table) row
 
 -- the rows keep the definitions of their tables, and each row's code is short
 pub record Keeps (tables : List Table) (rows : Rows) : Type 0 where

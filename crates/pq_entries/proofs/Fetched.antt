@@ -5,14 +5,14 @@ use Rattle.std.specs.FinMap.{get}
 use Rattle.std.proofs.lemmas.Bool.{eq-eqb, eqb-true, false≢true}
 use Rattle.pq_base.specs.Columns.{set_of}
 use Rattle.pq_base.specs.Members.{In}
+use Rattle.pq_base.specs.Shapes.{RowShape}
 use Rattle.pq_base.specs.Values.{IsType, FitsType, AllFit}
-use Rattle.pq_base.specs.declared.value.ColType.{ColType}
 use Rattle.pq_base.specs.declared.value.Value.{Value}
 use Rattle.pq_base.proofs.Members.{filter_in}
 use Rattle.pq_base.proofs.Sets.{set_members}
 use Rattle.pq_key_code.specs.KeyCode.{row_key}
-use Rattle.pq_row_code.specs.RowCode.{code_as}
-use Rattle.pq_row_code.proofs.Rows.{row_code_injective}
+use Rattle.pq_row_code.specs.StoredRow.{code_as}
+use Rattle.pq_row_code.proofs.Stored.{code_as_injective}
 use Rattle.pq_schema.specs.declared.table.Access.TheVariants.{Secondary}
 use Rattle.pq_schema.specs.declared.table.Table.{Table}
 use Rattle.pq_schema.specs.Keys.{given_value, key_types, AllOfKinds}
@@ -28,7 +28,7 @@ use Rattle.pq_calls.specs.World.{World, Explains, where_told}
 use Rattle.pq_calls.proofs.Shown.{no_row_explains}
 use Rattle.pq_calls.proofs.Steps.{explained_as}
 use Rattle.pq_content.specs.Pairs.{Pair, HoldsRows, content_pairs}
-use Rattle.pq_content.specs.Tables.{Rows, rows_of, row_at, types_of, key_of, values_of, stored_code}
+use Rattle.pq_content.specs.Tables.{Rows, rows_of, row_at, types_of, shape_of, key_of, values_of, stored_code}
 use Rattle.pq_content.proofs.Gets.{get_row}
 use Rattle.pq_content.proofs.Keeping.{row_found, rows_with_key}
 use Rattle.pq_schema.proofs.TypeKinds.{kinds_from_fit}
@@ -65,7 +65,7 @@ named_kinds table index values fits =
 
 -- ---- why a fetch gives up
 
-pub fetch_explains : (tables : List Table) (t index : ℕ) (values : List Value) → IsSequence tables t (Secondary index) → AllFit (sequence_types (table_at tables t) (Secondary index)) values → (a b : World) (error : Broke) → Explains (IsNoRowAt (types_of (table_at tables t)) (row_key t (named_key (table_at tables t) (Secondary index) values))) a b error → Explains (where_told (ShowsRead tables)) a b error
+pub fetch_explains : (tables : List Table) (t index : ℕ) (values : List Value) → IsSequence tables t (Secondary index) → AllFit (sequence_types (table_at tables t) (Secondary index)) values → (a b : World) (error : Broke) → Explains (IsNoRowAt (shape_of (table_at tables t)) (row_key t (named_key (table_at tables t) (Secondary index) values))) a b error → Explains (where_told (ShowsRead tables)) a b error
 fetch_explains tables t index values is fits a b error h =
     explained_as (where_told (IsNoRow tables)) (where_told (ShowsRead tables)) (λ told damage shown. shows told damage shown) a b error
     (no_row_explains tables t (named_key (table_at tables t) (Secondary index) values) is.number (named_kinds (table_at tables t) index values fits) a b error h)
@@ -74,7 +74,7 @@ fetch_explains tables t index values is fits a b error h =
     shows None damage shown = tt
     shows (Some content) damage shown = no_row shown
 
-pub missing_shows : (tables : List Table) (t index : ℕ) (values key : List Value) (at : List ℕ) → IsSequence tables t (Secondary index) → AllFit (sequence_types (table_at tables t) (Secondary index)) values → key ≡ named_key (table_at tables t) (Secondary index) values → at ≡ row_key t key → (told : Option Content) → IsEntryThere t (table_at tables t) index told values → IfSome told (λ content. IsRead (types_of (table_at tables t)) (get content (row_key t key)) None) → where_told (ShowsRead tables) told (record { key = at; value = None })
+pub missing_shows : (tables : List Table) (t index : ℕ) (values key : List Value) (at : List ℕ) → IsSequence tables t (Secondary index) → AllFit (sequence_types (table_at tables t) (Secondary index)) values → key ≡ named_key (table_at tables t) (Secondary index) values → at ≡ row_key t key → (told : Option Content) → IsEntryThere t (table_at tables t) index told values → IfSome told (λ content. IsRead (shape_of (table_at tables t)) (get content (row_key t key)) None) → where_told (ShowsRead tables) told (record { key = at; value = None })
 missing_shows tables t index values key at is fits names at_is None there read = tt
 missing_shows tables t index values key at is fits names at_is (Some content) there read =
     let found = some_is _ there in
@@ -96,21 +96,21 @@ missing_shows tables t index values key at is fits names at_is (Some content) th
     some_is None h = absurd (false≢true h)
     some_is (Some x) h = (x, refl)
 
-    unread : (o : Option (List ℕ)) → IsRead (types_of (table_at tables t)) o None → o ≡ None
+    unread : (o : Option (List ℕ)) → IsRead (shape_of (table_at tables t)) o None → o ≡ None
     unread None h = refl
     unread (Some code) h = absurd h
 
 -- ---- the row that is fetched
 
 -- it stands at the key, whatever the content
-pub named : (t index : ℕ) (table : Table) (values key found : List Value) → key ≡ named_key table (Secondary index) values → (told : Option Content) → IfSome told (λ content. IsRead (types_of table) (get content (row_key t key)) (Some found)) → IfSome told (IsNamedRow t table index values found)
+pub named : (t index : ℕ) (table : Table) (values key found : List Value) → key ≡ named_key table (Secondary index) values → (told : Option Content) → IfSome told (λ content. IsRead (shape_of table) (get content (row_key t key)) (Some found)) → IfSome told (IsNamedRow t table index values found)
 named t index table values key found names None read = tt
 named t index table values key found names (Some content) read =
-    ap (λ (k : List Value). get content (row_key t k)) (sym names) ∙ is_code (types_of table) (get content (row_key t key)) read
+    ap (λ (k : List Value). get content (row_key t k)) (sym names) ∙ is_code (shape_of table) (get content (row_key t key)) read
   where
-    is_code : (types : List ColType) (o : Option (List ℕ)) → IsRead types o (Some found) → o ≡ Some (code_as types found)
-    is_code types None h = absurd h
-    is_code types (Some code) h = ap Some (sym h.1)
+    is_code : (shape : RowShape) (o : Option (List ℕ)) → IsRead shape o (Some found) → o ≡ Some (code_as shape found)
+    is_code shape None h = absurd h
+    is_code shape (Some code) h = ap Some (sym h.1)
 
 -- a row of a table is found by its key
 pub found_by_key : (tables : List Table) (rows : Rows) (t : ℕ) (row : List Value) → AreApart tables rows → In row (rows_of t rows) → row_at tables rows t (key_of (table_at tables t) row) ≡ Some row
@@ -124,7 +124,7 @@ found_by_key tables rows t row apart here =
     only (Some r) (inl same) = ap Some same
     only (Some r) (inr h) = absurd h
 
-pub fetched : (tables : List Table) (t index : ℕ) (values key found : List Value) → All IsType (types_of (table_at tables t)) → key ≡ named_key (table_at tables t) (Secondary index) values → (told : Option Content) → IfSome told (λ content. IsRead (types_of (table_at tables t)) (get content (row_key t key)) (Some found)) → (rows : Rows) (others : List Pair) (row : List Value) → HoldsRows told tables rows others → In row (rows_of t rows) → values ≡ values_of (index_sequence (table_at tables t) (index_numbered (table_at tables t) index)) row → found ≡ row
+pub fetched : (tables : List Table) (t index : ℕ) (values key found : List Value) → All IsType (types_of (table_at tables t)) → key ≡ named_key (table_at tables t) (Secondary index) values → (told : Option Content) → IfSome told (λ content. IsRead (shape_of (table_at tables t)) (get content (row_key t key)) (Some found)) → (rows : Rows) (others : List Pair) (row : List Value) → HoldsRows told tables rows others → In row (rows_of t rows) → values ≡ values_of (index_sequence (table_at tables t) (index_numbered (table_at tables t) index)) row → found ≡ row
 fetched tables t index values key found types names told read rows others row holds here is =
     let table = table_at tables t in
     let sequence = index_sequence table (index_numbered table index) in
@@ -135,7 +135,7 @@ fetched tables t index values key found types names told read rows others row ho
     ap (λ (k : List Value). get (content_pairs tables rows others) (row_key t k)) own
     ∙ get_row tables rows others t (key_of table row) holds.keeps.fit (key_of_kinds table row fits) holds.beside
     ∙ ap (option_map (stored_code table)) at in
-    let shown : IsRead (types_of table) (Some (stored_code table row)) (Some found) =
-    subst (λ (o : Option (List ℕ)). IsRead (types_of table) o (Some found)) held
-    (subst (λ (o : Option Content). IfSome o (λ content. IsRead (types_of table) (get content (row_key t key)) (Some found))) holds.is read) in
-    row_code_injective (types_of table) found row types shown.0 fits shown.1
+    let shown : IsRead (shape_of table) (Some (stored_code table row)) (Some found) =
+    subst (λ (o : Option (List ℕ)). IsRead (shape_of table) o (Some found)) held
+    (subst (λ (o : Option Content). IfSome o (λ content. IsRead (shape_of table) (get content (row_key t key)) (Some found))) holds.is read) in
+    code_as_injective (shape_of table) found row types shown.0 fits shown.1

@@ -10,6 +10,7 @@ use Rattle.std.proofs.lemmas.Bool.{eqb-true, false≢true, and_parts}
 use Rattle.std.proofs.lemmas.List.{length-map, length-replicate, take-map}
 use Rattle.std.proofs.lemmas.Option.{none-some}
 use Rattle.pq_base.specs.Members.{In}
+use Rattle.pq_base.specs.Shapes.{RowShape}
 use Rattle.pq_base.specs.Values.{IsType, AllFit}
 use Rattle.pq_base.specs.declared.value.ColType.{ColType}
 use Rattle.pq_base.specs.declared.value.Dir.{Dir}
@@ -20,14 +21,14 @@ use Rattle.pq_key_code.specs.KeyCode.{IsBytes, row_key, code_of}
 use Rattle.pq_key_code.specs.KeyReading.{key_at}
 use Rattle.pq_key_code.proofs.Reading.{key_takes, key_again}
 use Rattle.pq_base.proofs.TypeFits.{length_from_fits}
-use Rattle.pq_row_code.specs.RowCode.{code_as}
-use Rattle.pq_row_code.proofs.Rows.{row_code_injective}
+use Rattle.pq_row_code.specs.StoredRow.{code_as}
+use Rattle.pq_row_code.proofs.Stored.{code_as_injective}
 use Rattle.pq_schema.specs.declared.table.Access.{Access}
 use Rattle.pq_schema.specs.declared.table.Access.TheVariants.{Primary, Secondary}
 use Rattle.pq_schema.specs.declared.table.KeyPart.{KeyPart}
 use Rattle.pq_schema.specs.declared.table.Table.{Table}
 use Rattle.pq_schema.specs.Keys.{key_types, dirs_of}
-use Rattle.pq_schema.specs.Rows.{IsTableNumber, types_of}
+use Rattle.pq_schema.specs.Rows.{IsTableNumber, types_of, shape_of}
 use Rattle.pq_schema.specs.Sequences.{IsAccess, columns_of, primary_sequence, sequence_of}
 use Rattle.pq_schema.specs.Tables.{table_at, type_at, types_at}
 use Rattle.pq_store.specs.Content.{Content, entry, is_within, is_rising, key_cmp, pairs_within, IsPartOf}
@@ -115,7 +116,7 @@ module _ (tables : List Table) (t : ℕ) (number : IsTableNumber tables t) (cont
   key_shape : length (key_types table) ≡ length (replicate (length table.key) Asc)
   key_shape = length-map table.key (type_at table.columns) ∙ sym (length-replicate (length table.key) Asc)
 
-  pub no_row_shows : Begins (key_front t Primary) pair.0 → IsNoRowPair (types_of table) pair damage → ShowsRead tables content damage
+  pub no_row_shows : Begins (key_front t Primary) pair.0 → IsNoRowPair (shape_of table) pair damage → ShowsRead tables content damage
   no_row_shows b shown =
       let ts = key_types table in
       let ds = replicate (length table.key) Asc in
@@ -235,10 +236,10 @@ of_rows make pair content low high limit pairs rows told is =
     ∙ ap (map make) (told ∙ ap (take limit) is ∙ take-map pair limit rows)
     ∙ map_both pair make (take limit rows)
 
-pub rows_read : (t : ℕ) (own : Table) (told : Option Content) (low high : List ℕ) (limit : ℕ) (pairs : List Found) (found : List (List Value)) → All IsType (types_of own) → AllByRecursion (AllFit (types_of own)) found → map (code_as (types_of own)) found ≡ map (λ (pair : Found). pair.value) pairs → IfSome told (λ content. map entry pairs ≡ take limit (pairs_within content low high)) → IfSome told (AreFirstRows t own low high limit found)
+pub rows_read : (t : ℕ) (own : Table) (told : Option Content) (low high : List ℕ) (limit : ℕ) (pairs : List Found) (found : List (List Value)) → All IsType (types_of own) → AllByRecursion (AllFit (types_of own)) found → map (code_as (shape_of own)) found ≡ map (λ (pair : Found). pair.value) pairs → IfSome told (λ content. map entry pairs ≡ take limit (pairs_within content low high)) → IfSome told (AreFirstRows t own low high limit found)
 rows_read t own None low high limit pairs found types fit codes is = tt
 rows_read t own (Some content) low high limit pairs found types fit codes is = λ rows fits range.
-    images_same (code_as (types_of own)) (AllFit (types_of own)) (λ x y p q e. row_code_injective (types_of own) x y types p q e) found (take limit rows) fit (each_taken (AllFit (types_of own)) limit rows fits)
+    images_same (code_as (shape_of own)) (AllFit (types_of own)) (λ x y p q e. code_as_injective (shape_of own) x y types p q e) found (take limit rows) fit (each_taken (AllFit (types_of own)) limit rows fits)
     (codes ∙ of_rows (λ (p : Pair). p.1) (row_pair t own) content low high limit pairs rows is range)
 
 pub keys_read : (t : ℕ) (own : Table) (access : Access) (told : Option Content) (low high : List ℕ) (limit : ℕ) (pairs : List Found) (found : List (List Value)) → AllByRecursion (AllFit (sequence_types own access)) found → map (code_of (dirs_of (sequence_of own access))) found ≡ map (λ (pair : Found). drop (length (key_front 0 access)) pair.key) pairs → IfSome told (λ content. map entry pairs ≡ take limit (pairs_within content low high)) → IfSome told (AreFirstValues t own access low high limit found)
@@ -298,7 +299,7 @@ keys_there t own access content (pair ∷ pairs) (values ∷ found) fit codes be
 
 -- ---- what is read of any content
 
-rows_within : (own : Table) (told : Option Content) (low high : List ℕ) (limit : ℕ) (pairs : List Found) (found : List (List Value)) → map (code_as (types_of own)) found ≡ map (λ (pair : Found). pair.value) pairs → IfSome told (λ content. map entry pairs ≡ take limit (pairs_within content low high)) → IfSome told (AreRowsWithin own low high limit found)
+rows_within : (own : Table) (told : Option Content) (low high : List ℕ) (limit : ℕ) (pairs : List Found) (found : List (List Value)) → map (code_as (shape_of own)) found ≡ map (λ (pair : Found). pair.value) pairs → IfSome told (λ content. map entry pairs ≡ take limit (pairs_within content low high)) → IfSome told (AreRowsWithin own low high limit found)
 rows_within own None low high limit pairs found codes is = tt
 rows_within own (Some content) low high limit pairs found codes is = codes ∙ sym (map_both entry (λ (p : Pair). p.1) pairs) ∙ ap (map (λ (p : Pair). p.1)) is
 
@@ -322,22 +323,23 @@ keys_within t own access (Some content) low high limit pairs found keys is = key
 -- ---- the answers of ranges
 
 module _ (tables : List Table) (t : ℕ) (number : IsTableNumber tables t) (low high : List ℕ) (limit : ℕ) (pairs : List Found) (part : IsPartOf low high limit (map entry pairs)) (told : Option Content) (is : IfSome told (λ content. map entry pairs ≡ take limit (pairs_within content low high))) where
-  pub rows_explained : (types : List ColType) → types ≡ types_of (table_at tables t) → AreEnds t Primary low high → {A : Type 0} (a b : World) → a.told ≡ told → (result : Result A Broke) → IfErr result (IsUnread (OneShows (IsNoRowPair types) (map entry pairs))) → IfErr result (Explains (where_told (ShowsRead tables)) a b)
-  rows_explained types same ends a b from (Ok x) h = tt
-  rows_explained types same ends a b from (Err error) h =
-      unread_explains (IsNoRowPair types) tables a b low high limit pairs
-      (λ pair content damage here there shown. no_row_shows tables t number content pair damage there (part_begins t Primary low high limit pairs pair ends part here) (subst (λ (ts : List ColType). IsNoRowPair ts pair damage) same shown))
+  pub rows_explained : (shape : RowShape) → shape ≡ shape_of (table_at tables t) → AreEnds t Primary low high → {A : Type 0} (a b : World) → a.told ≡ told → (result : Result A Broke) → IfErr result (IsUnread (OneShows (IsNoRowPair shape) (map entry pairs))) → IfErr result (Explains (where_told (ShowsRead tables)) a b)
+  rows_explained shape same ends a b from (Ok x) h = tt
+  rows_explained shape same ends a b from (Err error) h =
+      unread_explains (IsNoRowPair shape) tables a b low high limit pairs
+      (λ pair content damage here there shown. no_row_shows tables t number content pair damage there (part_begins t Primary low high limit pairs pair ends part here) (subst (λ (s : RowShape). IsNoRowPair s pair damage) same shown))
       (subst (λ (o : Option Content). IfSome o (λ content. map entry pairs ≡ take limit (pairs_within content low high))) (sym from) is)
       error h
 
-  pub rows_coded : (types : List ColType) → types ≡ types_of (table_at tables t) → (result : Result (List (List Value)) Broke) → IfOk result (λ rows. map (code_as types) rows ≡ map (λ (pair : Found). pair.value) pairs) → IfOk result (λ rows. IfSome told (AreRowsWithin (table_at tables t) low high limit rows))
-  rows_coded types same (Err error) codes = tt
-  rows_coded types same (Ok rows) codes = rows_within (table_at tables t) told low high limit pairs rows (subst (λ (ts : List ColType). map (code_as ts) rows ≡ map (λ (pair : Found). pair.value) pairs) same codes) is
+  pub rows_coded : (shape : RowShape) → shape ≡ shape_of (table_at tables t) → (result : Result (List (List Value)) Broke) → IfOk result (λ rows. map (code_as shape) rows ≡ map (λ (pair : Found). pair.value) pairs) → IfOk result (λ rows. IfSome told (AreRowsWithin (table_at tables t) low high limit rows))
+  rows_coded shape same (Err error) codes = tt
+  rows_coded shape same (Ok rows) codes = rows_within (table_at tables t) told low high limit pairs rows (subst (λ (s : RowShape). map (code_as s) rows ≡ map (λ (pair : Found). pair.value) pairs) same codes) is
 
-  pub rows_answered : (types : List ColType) → types ≡ types_of (table_at tables t) → All IsType types → (result : Result (List (List Value)) Broke) → IfOk result (λ rows. map (code_as types) rows ≡ map (λ (pair : Found). pair.value) pairs) → IfOk result (AllByRecursion (AllFit types)) → IfOk result (λ rows. IfSome told (AreFirstRows t (table_at tables t) low high limit rows))
-  rows_answered types same known (Err error) codes fit = tt
-  rows_answered types same known (Ok rows) codes fit =
-      rows_read t (table_at tables t) told low high limit pairs rows (subst (All IsType) same known) (subst (λ (ts : List ColType). AllByRecursion (AllFit ts) rows) same fit) codes is
+  pub rows_answered : (shape : RowShape) → shape ≡ shape_of (table_at tables t) → All IsType shape.types → (result : Result (List (List Value)) Broke) → IfOk result (λ rows. map (code_as shape) rows ≡ map (λ (pair : Found). pair.value) pairs) → IfOk result (AllByRecursion (AllFit shape.types)) → IfOk result (λ rows. IfSome told (AreFirstRows t (table_at tables t) low high limit rows))
+  rows_answered shape same known (Err error) codes fit = tt
+  rows_answered shape same known (Ok rows) codes fit =
+      rows_read t (table_at tables t) told low high limit pairs rows (subst (λ (s : RowShape). All IsType s.types) same known) (subst (λ (s : RowShape). AllByRecursion (AllFit s.types) rows) same fit)
+      (subst (λ (s : RowShape). map (code_as s) rows ≡ map (λ (pair : Found). pair.value) pairs) same codes) is
 
   pub keys_explained : (access : Access) → IsAccess (table_at tables t) access → (types : List ColType) (dirs : List Dir) (skipped : ℕ) → types ≡ sequence_types (table_at tables t) access → dirs ≡ dirs_of (sequence_of (table_at tables t) access) → skipped ≡ length (key_front 0 access) → AreEnds t access low high → {A : Type 0} (a b : World) → a.told ≡ told → (result : Result A Broke) → IfErr result (IsUnread (OneShows (IsNoKeyPair types dirs skipped) (map entry pairs))) → IfErr result (Explains (where_told (ShowsRead tables)) a b)
   keys_explained access is_access types dirs skipped same turned behind ends a b from (Ok x) h = tt

@@ -3,12 +3,13 @@ use Rattle.std.specs.Prelude.{◌≡◌, ◌≢◌, ℕ, List, [], ◌∷◌, �
 use Rattle.std.specs.List.{AllByRecursion}
 use Rattle.std.specs.FinMap.{get}
 use Rattle.pq_base.specs.Members.{In}
+use Rattle.pq_base.specs.Shapes.{RowShape}
 use Rattle.pq_base.specs.Values.{AllFit}
 use Rattle.pq_base.specs.declared.value.ColType.{ColType}
 use Rattle.pq_base.specs.declared.value.Dir.{Dir}
 use Rattle.pq_base.specs.declared.value.Value.{Value}
 use Rattle.pq_key_code.specs.KeyCode.{IsBytes, code_of, row_key}
-use Rattle.pq_row_code.specs.RowCode.{IsNoRowCode}
+use Rattle.pq_row_code.specs.StoredRow.{IsNoRowCode}
 use Rattle.pq_schema.specs.declared.table.Access.{Access}
 use Rattle.pq_schema.specs.declared.table.Access.TheVariants.{Primary, Secondary}
 use Rattle.pq_schema.specs.declared.table.Table.{Table}
@@ -55,10 +56,10 @@ pub record TellsPair (pair : Pair) (damage : Damage) : Type 0 where
   pub at : damage.key ≡ pair.0
   pub has : damage.value ≡ Some pair.1
 
--- its value is the code of no row of these types
-pub record IsNoRowPair (types : List ColType) (pair : Pair) (damage : Damage) : Type 0 where
+-- its value is the code of no row of this shape
+pub record IsNoRowPair (shape : RowShape) (pair : Pair) (damage : Damage) : Type 0 where
   pub tells : TellsPair pair damage
-  pub no_row : IsNoRowCode types pair.1
+  pub no_row : IsNoRowCode shape pair.1
 
 -- its key, behind the first bytes, is the code of no values of these types
 pub record IsNoKeyPair (types : List ColType) (dirs : List Dir) (skipped : ℕ) (pair : Pair) (damage : Damage) :

@@ -1,15 +1,16 @@
 //! Pairs of the store as rows and as values of a sequence.
 ghost use Rattle.std.specs.Prelude.{◌≡◌, ◌≤◌, All, map, drop, length, IfOk, IfErr};
 ghost use Rattle.std.specs.List.{AllByRecursion};
+ghost use Rattle.pq_base.specs.Shapes.{row_shape};
 ghost use Rattle.pq_base.specs.Values.{AllFit};
 ghost use Rattle.pq_key_code.specs.KeyCode.{code_of};
-ghost use Rattle.pq_row_code.specs.RowCode.{code_as};
+ghost use Rattle.pq_row_code.specs.StoredRow.{code_as};
 ghost use Rattle.pq_store.specs.Content.{entry};
 ghost use Rattle.pq_entries.specs.Entries.{IsUnread, IsNoRowPair, IsNoKeyPair, OneShows, TellsPair};
 
-use pq_base::{Bytes, ColType, Dir, List, NoMem, Row};
+use pq_base::{Bytes, ColType, Dir, List, NoMem, Row, Value};
 use pq_key_code::decode_key;
-use pq_row_code::decode_row;
+use pq_row_code::decode_filled;
 use pq_store::{Broke, Damage, Pair};
 use std::alloc::Global;
 
@@ -24,12 +25,17 @@ fn damage_at(alloc: Global, key: &[u8], value: &[u8]) -> Result<Damage, NoMem>
 }
 
 /// The row of a pair.
-fn decoded_row(alloc: Global, types: &[ColType], pair: &Pair) -> Result<Row, Broke>
-    ensures code { IfOk result (λ row. code_as types.now row ≡ pair.now.value) }
+fn decoded_row(
+    alloc: Global,
+    types: &[ColType],
+    fillers: &List<Option<Value>>,
+    pair: &Pair,
+) -> Result<Row, Broke>
+    ensures code { IfOk result (λ row. code_as (row_shape types.now fillers.now) row ≡ pair.now.value) }
     ensures fits { IfOk result (AllFit types.now) }
-    ensures cause { IfErr result (IsUnread (IsNoRowPair types.now (entry pair.now))) }
+    ensures cause { IfErr result (IsUnread (IsNoRowPair (row_shape types.now fillers.now) (entry pair.now))) }
 {
-    match decode_row(alloc, pair.value.items(), types)? {
+    match decode_filled(alloc, pair.value.items(), types, fillers)? {
         Some(row) => Ok(row),
         None => {
             let damage = damage_at(alloc, pair.key.items(), pair.value.items())?;
@@ -42,15 +48,18 @@ fn decoded_row(alloc: Global, types: &[ColType], pair: &Pair) -> Result<Row, Bro
 pub(crate) fn decoded_rows(
     alloc: Global,
     types: &[ColType],
+    fillers: &List<Option<Value>>,
     pairs: &[Pair],
 ) -> Result<List<Row>, Broke>
-    ensures codes { IfOk result (λ rows. map (code_as types.now) rows ≡ map (λ pair. pair.value) pairs.now) }
+    ensures codes { IfOk result (λ rows. map (code_as (row_shape types.now fillers.now)) rows
+        ≡ map (λ pair. pair.value) pairs.now) }
     ensures fit { IfOk result (AllByRecursion (AllFit types.now)) }
-    ensures cause { IfErr result (IsUnread (OneShows (IsNoRowPair types.now) (map entry pairs.now))) }
+    ensures cause { IfErr result (IsUnread (OneShows (IsNoRowPair (row_shape types.now fillers.now))
+        (map entry pairs.now))) }
 {
     let mut rows = List::new(alloc);
     for pair in pairs {
-        let row = decoded_row(alloc, types, pair)?;
+        let row = decoded_row(alloc, types, fillers, pair)?;
         rows.push(alloc, row)?;
     }
     Ok(rows)

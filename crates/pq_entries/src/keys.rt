@@ -7,7 +7,7 @@ ghost use Rattle.pq_schema.specs.Sound.{IsTable, AreColumns};
 ghost use Rattle.pq_schema.specs.Tables.{types_at};
 ghost use Rattle.pq_calls.specs.Keys.{sequence_key, named_key};
 
-use pq_base::{Bytes, ColSet, ColType, List, NoMem, Row, Value};
+use pq_base::{Bytes, ColSet, ColType, List, NoMem, Row, Value, no_value};
 use pq_key_code::{entry_front, put_component, row_key};
 use pq_schema::{Access, Column, KeyPart, Table, columns_in, part_at, sequence, type_at};
 use std::alloc::Global;
@@ -105,7 +105,7 @@ fn given(alloc: Global, parts: &[KeyPart], values: &[Value], col: u8) -> Result<
                 given(alloc, parts, values, col)
             }
         }
-        _ => Ok(Value::Bool(false)),
+        _ => Ok(no_value()),
     }
 }
 

@@ -65,7 +65,7 @@ pub fn range_rows<S: Store<L>, L: Ledger>(
     let table = table_of(catalog, number, Access::Primary);
     let types = types_of(alloc, table)?;
     let pairs = calls.range(alloc, low, high, limit)?;
-    decoded_rows(alloc, types.items(), pairs.items())
+    decoded_rows(alloc, types.items(), &table.fillers, pairs.items())
 }
 
 /// What the values of a sequence's keys are read by: their types and directions.

@@ -8,7 +8,7 @@ use Rattle.pq_base.specs.declared.value.Value.{Value}
 use Rattle.pq_schema.specs.declared.query.Query.{Query}
 use Rattle.pq_schema.specs.declared.table.Table.{Table}
 use Rattle.pq_schema.specs.Relations.{table_of}
-use Rattle.pq_schema.specs.Rows.{types_of}
+use Rattle.pq_schema.specs.Rows.{shape_of}
 use Rattle.pq_store.specs.Content.{Content}
 use Rattle.pq_calls.specs.Evidence.{IsRead}
 use Rattle.pq_content.specs.Tables.{stored_code}
@@ -29,7 +29,7 @@ module _ (tables : List Table) (query : Query) (params : List Value) (rel : ℕ)
       let behind : stored_code (table_of tables query rel) (row_of rel (input ++ row ∷ [])) ≡ code = ap (stored_code (table_of tables query rel)) (last input row rel (omega (arith, long, low))) ∙ is in
       λ i. (front i, behind i)
 
-  one_joined : (input : List (List Value)) → 1 ≤ rel → length input ≡ rel - 1 → (before : List (List (List Value))) (code : Option (List ℕ)) (found : Option (List Value)) → IsRead (types_of (table_of tables query rel)) code found
+  one_joined : (input : List (List Value)) → 1 ≤ rel → length input ≡ rel - 1 → (before : List (List (List Value))) (code : Option (List ℕ)) (found : Option (List Value)) → IsRead (shape_of (table_of tables query rel)) code found
       → map (coded_row tables query rel) (before ++ map (λ row. input ++ row ∷ []) (option_to_list found)) ≡ map (coded_row tables query rel) before ++ (map (λ c. (input, c)) (option_to_list code) ++ [])
   one_joined input low long before None None h = map-append (coded_row tables query rel) before []
   one_joined input low long before None (Some row) h = absurd h

@@ -8,7 +8,7 @@ use Rattle.pq_key_code.specs.KeyCode.{row_key}
 use Rattle.pq_schema.specs.declared.query.Query.{Query}
 use Rattle.pq_schema.specs.declared.table.Table.{Table}
 use Rattle.pq_schema.specs.Relations.{relation_at, table_of}
-use Rattle.pq_schema.specs.Rows.{Rows, types_of}
+use Rattle.pq_schema.specs.Rows.{Rows, shape_of}
 use Rattle.pq_store.specs.Content.{Content}
 use Rattle.pq_calls.specs.Evidence.{IsRead}
 use Rattle.pq_content.specs.Pairs.{Pair, HoldsRows}
@@ -30,7 +30,7 @@ tied_code tables query params rel content input =
 abbrev pub IsTiedRow : Option Content → List Table → Query → List Value → ℕ → List (List Value)
     → Option (List Value) → Type 0
 IsTiedRow told tables query params rel input found = IfSome told (λ content.
-    IsRead (types_of (table_of tables query rel)) (tied_code tables query params rel content input) found)
+    IsRead (shape_of (table_of tables query rel)) (tied_code tables query params rel content input) found)
 
 -- each input with the value that is tied behind it, where there is one
 abbrev pub tied_codes : List Table → Query → List Value → ℕ → Content → List (List (List Value))

@@ -19,7 +19,8 @@ use Rattle.pq_base.proofs.TypeFits.{length_from_fits}
 use Rattle.pq_key_code.specs.KeyCode.{row_key}
 use Rattle.pq_row_code.specs.declared.changes.Change.{Change as Coded}
 use Rattle.pq_row_code.specs.Changes.{IsChange}
-use Rattle.pq_row_code.specs.RowCode.{field, fields, null_marks, mark_bytes, row_front, IsShort}
+use Rattle.pq_row_code.specs.RowCode.{field, fields, null_marks, mark_bytes, row_front, row_code, IsShort}
+use Rattle.pq_row_code.proofs.Stored.{shorter_code}
 use Rattle.pq_schema.proofs.TypeKinds.{room_sized}
 use Rattle.pq_schema.specs.Sound.{IsSized}
 use Rattle.pq_schema.specs.declared.table.Column.{Column}
@@ -28,7 +29,7 @@ use Rattle.pq_schema.specs.declared.table.Table.{Table}
 use Rattle.pq_schema.specs.Sequences.{ascending_part, columns_of, without, index_sequence}
 use Rattle.pq_content.specs.Pairs.{Change, entry_pair, entries_from, pairs_of_row, entry_changes, puts, removals}
 use Rattle.pq_content.specs.Standing.{change_of, AreOfRows}
-use Rattle.pq_content.specs.Tables.{types_of, type_at, types_at, key_types, key_of, values_of, same_values, stored_code}
+use Rattle.pq_content.specs.Tables.{types_of, shape_of, type_at, types_at, key_types, key_of, values_of, same_values, stored_code}
 use Rattle.pq_content.proofs.Lengths.{length-puts, length-removals, length-pairs_of_row, length-update_changes, IsWithinLength, length-code_of, length-entry_key}
 use Rattle.pq_content.proofs.Values.{key_fits}
 use Rattle.pq_content.proofs.Settling.{inserts_of_rows, deletes_of_rows, updates_of_rows}
@@ -80,13 +81,18 @@ fields_short (x ∷ xs) h =
     let rest = fields_short xs h.1 in
     omega (arith, suc-mul (length xs) 1002)
 
-pub code_short : (tables : List Table) (table : Table) → IsWritable tables table → (row : List Value) → AllFit (types_of table) row → length (stored_code table row) ≤ 40000
-code_short tables table w row fits =
+whole_short : (tables : List Table) (table : Table) → IsWritable tables table → (row : List Value) → AllFit (types_of table) row → length (row_code row) ≤ 40000
+whole_short tables table w row fits =
     let most = fields_short row (shorts tables table w row fits) in
     let few = fit_columns tables table w row fits in
     let parts = length-append (row_front (length row) (null_marks row)) (fields row) in
     let front = length-row_front (length row) (null_marks row) in
     omega (arith, most, few, parts, front)
+
+stored_short : (tables : List Table) (table : Table) → IsWritable tables table → (row : List Value) → AllFit (types_of table) row → length (stored_code table row) ≤ 40000
+stored_short tables table w row fits =
+    let most = whole_short tables table w row fits in
+    omega (arith, shorter_code (shape_of table) row, most)
 
 -- ---- a key that fits
 
@@ -153,11 +159,11 @@ module _ (tables : List Table) (table : Table) (w : IsWritable tables table) (t 
 
   module _ (row : List Value) (fits : AllFit (types_of table) row) where
     value_coded : length (stored_code table row) < 2 ^ 32
-    value_coded = let most = code_short tables table w row fits in omega arith
+    value_coded = let most = stored_short tables table w row fits in omega arith
 
     entry_coded : (i : ℕ) (index : Index) → length index.cols ≤ 36 → length (entry_pair t i (index_sequence table index) row).0 < 2 ^ 32
     entry_coded i index narrow =
-        let most = length-entry_key 40000 t i table (index_sequence table index) row (code_short tables table w row fits) in
+        let most = length-entry_key 40000 t i (index_sequence table index) row (whole_short tables table w row fits) in
         let long = narrow_sequence index narrow in
         omega (arith, mul-le-mul_right 80009 long)
 
@@ -198,12 +204,12 @@ module _ (tables : List Table) (table : Table) (w : IsWritable tables table) (t 
         where
           new_coded : (i : ℕ) (index : Index) → length index.cols ≤ 36 → length (entry_pair t i (index_sequence table index) new).0 < 2 ^ 32
           new_coded i index narrow =
-              let most = length-entry_key 40000 t i table (index_sequence table index) new (code_short tables table w new fits_new) in
+              let most = length-entry_key 40000 t i (index_sequence table index) new (whole_short tables table w new fits_new) in
               let long = narrow_sequence index narrow in
               omega (arith, mul-le-mul_right 80009 long)
 
       new_value : length (stored_code table new) < 2 ^ 32
-      new_value = let most = code_short tables table w new fits_new in omega arith
+      new_value = let most = stored_short tables table w new fits_new in omega arith
 
       pub update_planned : ((index : Index) → touches_index of table index ≡ false → values_of (index_sequence table index) row ≡ values_of (index_sequence table index) new) → (key : List Value) (at : List ℕ) → AllFit (key_types table) key → at ≡ row_key t key
           → (changes : List Coded) → map change_of changes ≡ (at, Some (stored_code table new)) ∷ entry_changes t 1 table table.indexes row new → ArePlanned (1 + 2 * count_by (touches_index of table) table.indexes) changes

@@ -12,8 +12,8 @@ use Rattle.pq_base.specs.declared.value.Value.{Value}
 use Rattle.pq_base.specs.Values.{IsType, AllFit}
 use Rattle.pq_key_code.specs.KeyCode.{row_key}
 use Rattle.pq_row_code.specs.declared.changes.Change.{Change as Coded}
-use Rattle.pq_row_code.specs.RowCode.{IsNoRowCode}
-use Rattle.pq_row_code.proofs.Rows.{row_code_injective}
+use Rattle.pq_row_code.specs.StoredRow.{IsNoRowCode}
+use Rattle.pq_row_code.proofs.Stored.{code_as_injective}
 use Rattle.pq_schema.proofs.TypeKinds.{kinds_as}
 use Rattle.pq_schema.specs.Definitions.{or_ok}
 use Rattle.pq_schema.specs.Sound.{AreColumns, IsSized}
@@ -23,7 +23,7 @@ use Rattle.pq_schema.specs.declared.table.Foreign.{Foreign}
 use Rattle.pq_schema.specs.declared.table.Table.{Table}
 use Rattle.pq_content.specs.Pairs.{Pair, Change, entries_from, removals, changed_content, content_pairs}
 use Rattle.pq_content.specs.Standing.{change_of}
-use Rattle.pq_content.specs.Tables.{Rows, AllOfKinds, IsTableNumber, IsUnreferenced, types_of, key_types, row_at, rows_without, group_of, stored_code}
+use Rattle.pq_content.specs.Tables.{Rows, AllOfKinds, IsTableNumber, IsUnreferenced, types_of, shape_of, key_types, row_at, rows_without, group_of, stored_code}
 use Rattle.pq_content.proofs.Deletes.{delete_row}
 use Rattle.pq_content.proofs.Keeping.{row_found}
 use Rattle.pq_content.proofs.KeepingWrites.{keeps_delete}
@@ -63,21 +63,21 @@ module _ (tables : List Table) (rows : Rows) (others : List Pair) (told : Option
   types : All IsType (types_of table)
   types = each_is IsType (types_of table) (are_types table.columns (each_by (λ (column : Column). IsSized column.ty) table.columns (writable_at tables t sound number).made.sized))
 
-  read_is : (o : Option (List Value)) → row_at tables rows t key ≡ o → (row : Option (List Value)) → IsRead (types_of table) (option_map (stored_code table) o) row → row ≡ o
+  read_is : (o : Option (List Value)) → row_at tables rows t key ≡ o → (row : Option (List Value)) → IsRead (shape_of table) (option_map (stored_code table) o) row → row ≡ o
   read_is None is None read = refl
   read_is None is (Some row) read = absurd read
   read_is (Some r) is None read = absurd read
-  read_is (Some r) is (Some row) read = ap Some (row_code_injective (types_of table) row r types read.0 (row_found tables rows t key r s.keeps is).fits read.1)
+  read_is (Some r) is (Some row) read = ap Some (code_as_injective (shape_of table) row r types read.0 (row_found tables rows t key r s.keeps is).fits read.1)
 
-  pub told_row : (row : Option (List Value)) → IfSome told (λ c. IsRead (types_of table) (get c (row_key t key)) row) → row ≡ row_at tables rows t key
+  pub told_row : (row : Option (List Value)) → IfSome told (λ c. IsRead (shape_of table) (get c (row_key t key)) row) → row ≡ row_at tables rows t key
   told_row row read =
       read_is (row_at tables rows t key) refl row
-      (subst (λ (o : Option (List ℕ)). IsRead (types_of table) o row) (settled_get tables rows others told t key s kinds)
-      (subst (λ (o : Option Content). IfSome o (λ c. IsRead (types_of table) (get c (row_key t key)) row)) s.is read))
+      (subst (λ (o : Option (List ℕ)). IsRead (shape_of table) o row) (settled_get tables rows others told t key s kinds)
+      (subst (λ (o : Option Content). IfSome o (λ c. IsRead (shape_of table) (get c (row_key t key)) row)) s.is read))
 
 -- over settled pairs no row's value is the code of none
 module _ (tables : List Table) (rows : Rows) (others : List Pair) (told : Option Content) (s : HoldsRows told tables rows others) where
-  unspoiled : (t : ℕ) (key : List Value) (o : Option (List Value)) → row_at tables rows t key ≡ o → (code : List ℕ) → IsNoRowCode (types_of (table_at tables t)) code → option_map (stored_code (table_at tables t)) o ≡ Some code → ⊥
+  unspoiled : (t : ℕ) (key : List Value) (o : Option (List Value)) → row_at tables rows t key ≡ o → (code : List ℕ) → IsNoRowCode (shape_of (table_at tables t)) code → option_map (stored_code (table_at tables t)) o ≡ Some code → ⊥
   unspoiled t key None is code none e = absurd (cc)
   unspoiled t key (Some r) is code none e = none r (row_found tables rows t key r s.keeps is).fits (same_Some _ _ e)
 

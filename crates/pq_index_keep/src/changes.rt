@@ -10,7 +10,7 @@ ghost use Rattle.pq_content.specs.Tables.{stored_code};
 use crate::keys::entry_of;
 use crate::rows::same_entry;
 use pq_base::{Bytes, List, NoMem, Row};
-use pq_row_code::{Change, encode_row};
+use pq_row_code::{Change, encode_stored};
 use pq_schema::{Index, Table};
 use std::alloc::Global;
 
@@ -20,7 +20,7 @@ fn put_row(alloc: Global, at: Bytes, table: &Table, row: &Row) -> Result<Change,
     requires texts { All IsShort row.now }
     ensures { IfOk result (λ change. change_of change ≡ (at, Some (stored_code table.now row.now))) }
 {
-    let new = Some(encode_row(alloc, row)?);
+    let new = Some(encode_stored(alloc, row, &table.fillers)?);
     Ok(Change { key: at, new })
 }
 

@@ -14,7 +14,7 @@ use crate::column_values::{are_among, check_fit, refuse_columns};
 use crate::rows::all_given;
 use crate::write::Write;
 use pq_base::{List, NoMem, PText, Refusal, Row, Stopped, Value, known_values};
-use pq_row_code::row_code_len;
+use pq_row_code::stored_code_len;
 use pq_schema::{Catalog, Table, check_names, names_of, places_of};
 use std::alloc::Global;
 
@@ -106,7 +106,7 @@ fn check_length(alloc: Global, table: &Table, row: &Row) -> Result<(), Stopped>
     requires texts { All IsShort row.now }
     ensures { Passes result (long_refusal table.now row.now) }
 {
-    let length = row_code_len(row);
+    let length = stored_code_len(row, &table.fillers);
     if 4096 < length {
         let table = table.name.copy(alloc)?;
         return Err(Stopped::Refused(Refusal::RowLong { table, length }));

@@ -9,7 +9,7 @@ ghost use Rattle.pq_content.specs.Tables.{value_of, cells};
 ghost use Rattle.pq_index_keep.specs.Coded.{sequence_code};
 ghost use Rattle.pq_index_keep.specs.Tested.{given_value};
 
-use pq_base::{Bytes, ColSet, Dir, NoMem, Row, Value};
+use pq_base::{Bytes, ColSet, Dir, NoMem, Row, Value, no_value};
 use pq_key_code::{entry_front, put_component, row_front};
 use pq_schema::{Index, KeyPart, Table, columns_in, part_at};
 use std::alloc::Global;
@@ -20,7 +20,7 @@ fn put_cell(alloc: Global, out: &mut Bytes, dir: Dir, row: &[Value], col: u8) ->
 {
     match row.get(col as usize) {
         Some(value) => put_component(alloc, out, dir, value),
-        None => put_component(alloc, out, dir, &Value::Bool(false)),
+        None => put_component(alloc, out, dir, &no_value()),
     }
 }
 
@@ -43,7 +43,7 @@ fn put_given(
                 put_given(alloc, out, dir, cols, values, col)
             }
         }
-        _ => put_component(alloc, out, dir, &Value::Bool(false)),
+        _ => put_component(alloc, out, dir, &no_value()),
     }
 }
 

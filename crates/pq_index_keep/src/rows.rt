@@ -6,18 +6,9 @@ ghost use Rattle.pq_schema.specs.Sequences.{then_key, index_sequence};
 ghost use Rattle.pq_content.specs.Tables.{value_of, cells, values_of, same_value, same_values};
 ghost use Rattle.pq_index_keep.specs.Tested.{given_value};
 
-use pq_base::{ColSet, List, NoMem, Row, Value, cmp_values};
+use pq_base::{ColSet, List, NoMem, Row, Value, cmp_values, no_value, value_of};
 use pq_schema::{Index, KeyPart, Table, columns_in};
 use std::alloc::Global;
-
-fn value_of(alloc: Global, row: &[Value], col: u8) -> Result<Value, NoMem>
-    ensures { IfOk result (λ value. value ≡ value_of row.now col) }
-{
-    match row.get(col as usize) {
-        Some(value) => value.copy(alloc),
-        None => Ok(Value::Bool(false)),
-    }
-}
 
 /// The values at some columns.
 pub fn values_at(alloc: Global, row: &[Value], cols: &[u8]) -> Result<Row, NoMem>
@@ -42,7 +33,7 @@ fn given(alloc: Global, cols: &[u8], values: &[Value], col: u8) -> Result<Value,
                 given(alloc, cols, values, col)
             }
         }
-        _ => Ok(Value::Bool(false)),
+        _ => Ok(no_value()),
     }
 }
 
@@ -85,7 +76,7 @@ pub fn null_at(cols: &[u8], row: &[Value]) -> bool
 fn same_at(a: &[Value], b: &[Value], col: u8) -> bool
     ensures { result ≡ same_value (value_of a.now col) (value_of b.now col) }
 {
-    let none = Value::Bool(false);
+    let none = no_value();
     let place = col as usize;
     let first = a.get(place).unwrap_or(&none);
     let second = b.get(place).unwrap_or(&none);

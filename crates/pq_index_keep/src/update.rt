@@ -29,7 +29,7 @@ use crate::refusals::tested_refusal;
 use crate::write::{Scope, SetCol, Write};
 use pq_base::{List, NoMem, Refusal, Row, Value};
 use pq_calls::{Calls, StoredRow};
-use pq_row_code::row_code_len;
+use pq_row_code::stored_code_len;
 use pq_schema::{Catalog, Table};
 use pq_store::{Broke, Store};
 use std::alloc::Global;
@@ -79,7 +79,7 @@ fn long_refusal(alloc: Global, table: &Table, row: &Row) -> Result<Option<Refusa
         ≡ refused_if (nat_lt 4096 (length (stored_code table.now row.now)))
         (Refusal.RowLong table.now.name (length (stored_code table.now row.now)))) }
 {
-    let length = row_code_len(row);
+    let length = stored_code_len(row, &table.fillers);
     if 4096 < length {
         let table = table.name.copy(alloc)?;
         return Ok(Some(Refusal::RowLong { table, length }));

@@ -10,7 +10,7 @@ ghost use Rattle.pq_nodes.specs.Combos.{FitsTables, position_types};
 ghost use Rattle.pq_local_ops.specs.Lists.{IsPositionOf};
 ghost use Rattle.pq_local_ops.specs.Places.{ArePlaces};
 
-use pq_base::{Bytes, Dir, List, NoMem, Row, Value};
+use pq_base::{Bytes, Dir, List, NoMem, Row, Value, copied_value};
 use pq_key_code::encode_key;
 use pq_operands::cell;
 use pq_plan::Combo;
@@ -45,10 +45,7 @@ pub fn places_of(alloc: Global, catalog: &Catalog, query: &Query) -> Result<Plac
 fn value_at(alloc: Global, combo: &Combo, col: ColRef) -> Result<Value, NoMem>
     ensures { IfOk result (λ value. value ≡ slice_index_or (row_of col.rel combo.now) col.col no_value) }
 {
-    match cell(combo, col) {
-        Some(value) => value.copy(alloc),
-        None => Ok(Value::Bool(false)),
-    }
+    copied_value(alloc, cell(combo, col))
 }
 
 /// The values of a combination at some columns.

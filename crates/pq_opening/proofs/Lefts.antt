@@ -138,6 +138,7 @@ module _ (tables : List Table) (new : NewIndex) (is : IsTableNumber tables new.t
           record {
             key = ap (λ (x : Table). x.key) one ∙ ap (λ (x : Table). x.key) old;
             columns = ap (λ (x : Table). x.columns) one ∙ ap (λ (x : Table). x.columns) old;
+            fillers = ap (λ (x : Table). x.fillers) one ∙ ap (λ (x : Table). x.fillers) old;
             limits = ap (λ (x : Table). x.limits) one ∙ ap (λ (x : Table). x.limits) old;
             foreign = ap (λ (x : Table). x.foreign) one ∙ ap (λ (x : Table). x.foreign) old;
           }
@@ -146,6 +147,7 @@ module _ (tables : List Table) (new : NewIndex) (is : IsTableNumber tables new.t
           record {
             key = ap (λ (x : Table). x.key) one;
             columns = ap (λ (x : Table). x.columns) one;
+            fillers = ap (λ (x : Table). x.fillers) one;
             limits = ap (λ (x : Table). x.limits) one;
             foreign = ap (λ (x : Table). x.foreign) one;
           }

@@ -6,7 +6,7 @@ ghost use Rattle.pq_schema.specs.Rows.{no_value};
 ghost use Rattle.pq_operands.specs.Ties.{value_tied, cells_tied};
 
 use crate::operands::side;
-use pq_base::{NoMem, Row, Value};
+use pq_base::{NoMem, Row, Value, copied_value};
 use pq_plan::Combo;
 use pq_predicates::ties;
 use pq_schema::{Pred, Query};
@@ -51,10 +51,7 @@ fn tied_cell(
 ) -> Result<Value, NoMem>
     ensures { IfOk result (λ value. value ≡ unwrap_or (value_tied query.now params.now rel combo.now col) no_value) }
 {
-    match tied_value(query, params, rel, combo, col) {
-        Some(value) => value.copy(alloc),
-        None => Ok(Value::Bool(false)),
-    }
+    copied_value(alloc, tied_value(query, params, rel, combo, col))
 }
 
 /// The tied values of some columns.

@@ -8,6 +8,7 @@ use Rattle.pq_base.specs.declared.value.ColType.{ColType}
 use Rattle.pq_base.specs.declared.value.ColType.TheVariants as type
 use Rattle.pq_base.specs.declared.value.Dir.TheVariants as dir
 use Rattle.pq_base.specs.declared.value.Value.TheVariants as value
+use Rattle.pq_schema.specs.Definitions.{no_fillers}
 use Rattle.pq_schema.specs.Schema.{Schema}
 use Rattle.pq_schema.specs.declared.query.Op.TheVariants as op
 use Rattle.pq_schema.specs.declared.query.Operand.TheVariants as operand
@@ -33,7 +34,7 @@ abbrev with_type : List ℕ → ColType → Column
 with_type name ty = record { name = name; ty = ty }
 
 abbrev table_of : List ℕ → List Column → Table
-table_of name columns = record { name = name; columns = columns; key = 0 ∷ []; limits = []; foreign = []; indexes = [] }
+table_of name columns = record { name = name; columns = columns; fillers = no_fillers columns; key = 0 ∷ []; limits = []; foreign = []; indexes = [] }
 
 abbrev site : Schema
 site = record {

@@ -3,18 +3,14 @@ use Rattle.std.proofs.Common.{◌≡◌, ℕ, pos, zero, suc, ◌+◌, ◌-◌, 
 use Rattle.std.specs.Prelude.{nat_lt, nat_le, IfSome, option_map, position, slice_index_or}
 use Rattle.std.specs.List.{AllByRecursion, IsDistinct, list_any, position_or_len}
 use Rattle.std.specs.Str.{bytes_eq}
-use Rattle.std.specs.Prelude.{T}
-use Rattle.std.proofs.lemmas.Bool.{and_from}
 use Rattle.std.proofs.lemmas.Bool.Decides.{nat_tests}
 use Rattle.std.proofs.lemmas.List.{length-map}
 use Rattle.std.proofs.lemmas.Slice.Eq.{bytes_eq-Decides}
-use Rattle.pq_base.specs.Values.{FitsType, fits_type, IsOfDataKind, is_beside, kind_of, kind_of_type, Admits, admits, is_nullable}
-use Rattle.pq_base.specs.declared.value.DataKind.{DataKind}
-use Rattle.pq_base.specs.declared.value.DataKind.TheVariants as kind
+use Rattle.pq_base.specs.Values.{fits_type}
+use Rattle.pq_base.proofs.TypeFits.{fits_again}
+use Rattle.pq_base.specs.declared.value.ColType.{ColType}
 use Rattle.pq_base.specs.declared.refusal.Refusal.{Refusal}
 use Rattle.pq_base.specs.declared.refusal.Refusal.TheVariants as refusal
-use Rattle.pq_base.specs.declared.value.ColType.{ColType}
-use Rattle.pq_base.specs.declared.value.ColType.TheVariants as type
 use Rattle.pq_base.specs.declared.value.Dir.{Dir}
 use Rattle.pq_base.specs.declared.value.Value.{Value}
 use Rattle.pq_base.specs.declared.value.Value.TheVariants as value
@@ -120,31 +116,6 @@ stop_again (stop.Limit k) fits = rw (size_again k fits.0 fits.1) refl
 stop_again (stop.Paginate k) fits = rw (size_again k fits.0 fits.1) refl
 
 -- ---- values
-
-kinds_again : (k : DataKind) (v : Value) → IsOfDataKind k v → is_beside (Some k) (kind_of v) ≡ true
-kinds_again k value.Null h = refl
-kinds_again kind.Int (value.Int n) h = refl
-kinds_again kind.Bool (value.Bool b) h = refl
-kinds_again kind.Text (value.Text t) h = refl
-kinds_again kind.Int (value.Bool b) h = absurd h
-kinds_again kind.Int (value.Text t) h = absurd h
-kinds_again kind.Bool (value.Int n) h = absurd h
-kinds_again kind.Bool (value.Text t) h = absurd h
-kinds_again kind.Text (value.Int n) h = absurd h
-kinds_again kind.Text (value.Bool b) h = absurd h
-
-truth : (b : Bool) → T b → b ≡ true
-truth true h = refl
-truth false h = absurd h
-
-admits_again : (t : ColType) (v : Value) → Admits t v → admits t v ≡ true
-admits_again t value.Null h = truth (is_nullable t) h
-admits_again t (value.Int n) h = refl
-admits_again t (value.Bool b) h = refl
-admits_again t (value.Text s) h = grind (arith, nat_tests)
-
-fits_again : (t : ColType) (v : Value) → FitsType t v → fits_type t v ≡ true
-fits_again t v fits = and_from _ _ (kinds_again (kind_of_type t) v fits.0) (admits_again t v fits.1)
 
 constant_again : (o : Op) (t : ColType) (v : Value) → IsConstant o t v → (is_null_test o || fits_type t v) ≡ true
 constant_again o t v is = by (is_null_test o) refl

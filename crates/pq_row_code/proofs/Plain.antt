@@ -1,5 +1,5 @@
 -- A row code is that of a row without NULL or that of one with NULL, by its first byte.
-use Rattle.std.proofs.Common.{◌≡◌, ℕ, Bool, true, false, List, [], ◌∷◌, refl}
+use Rattle.std.proofs.Common.{◌≡◌, ℕ, true, false, List, [], ◌∷◌, refl}
 use Rattle.pq_base.specs.declared.value.ColType.{ColType}
 use Rattle.pq_row_code.specs.RowReading.{front_at, is_plain, plain_decoded, marked_decoded, row_decoded}
 

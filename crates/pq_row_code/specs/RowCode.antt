@@ -1,11 +1,9 @@
 -- The row code: the number of columns, which of them are NULL, and each other column's bytes.
-use Rattle.std.specs.Prelude.{◌≢◌, ℕ, ◌≤◌, ◌+◌, ◌*◌, ◌/◌, ◌%◌, ◌==◌, if◌then◌else◌, List, [], ◌∷◌, ◌++◌, length}
+use Rattle.std.specs.Prelude.{ℕ, ◌≤◌, ◌+◌, ◌*◌, ◌/◌, ◌%◌, ◌==◌, if◌then◌else◌, List, [], ◌∷◌, ◌++◌, length}
 use Rattle.std.specs.List.{flat_map}
 use Rattle.std.specs.Int.{w16, w64, to_be_bytes, cast_unsigned}
-use Rattle.pq_base.specs.declared.value.ColType.{ColType}
 use Rattle.pq_base.specs.declared.value.Value.{Value}
 use Rattle.pq_base.specs.declared.value.Value.TheVariants as values
-use Rattle.pq_base.specs.Values.{AllFit}
 use Rattle.pq_key_code.specs.KeyCode.{truth_byte}
 
 -- eight bytes in two's complement, one byte, or two bytes of length and the bytes; a NULL has none
@@ -39,14 +37,6 @@ row_front columns marks = if marks == 0 then columns ∷ [] else (columns + 64) 
 
 abbrev pub row_code : List Value → List ℕ
 row_code xs = row_front (length xs) (null_marks xs) ++ fields xs
-
--- the code of a row of a table whose columns have these types; no type changes it today
-abbrev pub code_as : List ColType → List Value → List ℕ
-code_as types row = row_code row
-
--- no row that fits the types has this code
-abbrev pub IsNoRowCode : List ColType → List ℕ → Type 0
-IsNoRowCode types code = (row : List Value) → AllFit types row → code_as types row ≢ code
 
 -- a text has at most 1,000 bytes
 abbrev pub IsShort : Value → Type 0

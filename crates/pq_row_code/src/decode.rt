@@ -236,7 +236,7 @@ fn plain_row(alloc: Global, bytes: &[u8], types: &[ColType]) -> Result<Option<Ro
 }
 
 #[inline(always)]
-fn row_read(alloc: Global, bytes: &[u8], types: &[ColType]) -> Result<Option<Row>, NoMem>
+pub(crate) fn row_read(alloc: Global, bytes: &[u8], types: &[ColType]) -> Result<Option<Row>, NoMem>
     ensures { IfOk result (λ row. row ≡ row_decoded types.now bytes.now) }
 {
     if is_plain(bytes, types) {

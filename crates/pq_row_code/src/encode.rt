@@ -88,15 +88,40 @@ fn put_front(alloc: Global, out: &mut Bytes, columns: u8, marks: u32) -> Result<
     out.extend(alloc, &marks.to_be_bytes())
 }
 
-/// The number of bytes of the row's code.
+/// The number of bytes of the code of these values.
 #[tactic(auto, using(crate::proofs::Fronts::code_len))]
+pub(crate) fn code_len(values: &[Value]) -> u32
+    requires columns { length values.now ≤ 32 }
+    requires texts { All IsShort values.now }
+    ensures { result ≡ length (row_code values.now) }
+{
+    let (front, fields) = lens(values);
+    front + fields
+}
+
+/// The code of these values.
+pub(crate) fn code_of(alloc: Global, values: &[Value]) -> Result<Bytes, NoMem>
+    requires columns { length values.now ≤ 32 }
+    requires texts { All IsShort values.now }
+    ensures { IfOk result (λ code. code ≡ row_code values.now) }
+{
+    let (front, fields) = lens(values);
+    let mut code = Bytes::with_room(alloc, (front + fields) as usize)?;
+    let marks = marks_of(values, front);
+    put_front(alloc, &mut code, values.len() as u8, marks)?;
+    for value in values {
+        put_field(alloc, &mut code, value)?;
+    }
+    Ok(code)
+}
+
+/// The number of bytes of the row's code.
 pub fn row_code_len(row: &Row) -> u32
     requires columns { length row.now ≤ 32 }
     requires texts { All IsShort row.now }
     ensures { result ≡ length (row_code row.now) }
 {
-    let (front, fields) = lens(row.items());
-    front + fields
+    code_len(row.items())
 }
 
 /// The row code: the number of columns in one byte, and then each column. A number has eight bytes
@@ -108,12 +133,5 @@ pub fn encode_row(alloc: Global, row: &Row) -> Result<Bytes, NoMem>
     requires texts { All IsShort row.now }
     ensures { IfOk result (λ code. code ≡ row_code row.now) }
 {
-    let (front, fields) = lens(row.items());
-    let mut code = Bytes::with_room(alloc, (front + fields) as usize)?;
-    let marks = marks_of(row.items(), front);
-    put_front(alloc, &mut code, row.items().len() as u8, marks)?;
-    for value in row.items() {
-        put_field(alloc, &mut code, value)?;
-    }
-    Ok(code)
+    code_of(alloc, row.items())
 }

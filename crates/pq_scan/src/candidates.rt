@@ -1,14 +1,13 @@
 //! What a scan found, with the codes of positions.
-ghost use Rattle.std.specs.Prelude.{◌≡◌, ◌++◌, map, unwrap_or, option_copied, IfOk, OnOk};
-ghost use Rattle.pq_schema.specs.Rows.{value_of, cells};
+ghost use Rattle.std.specs.Prelude.{◌≡◌, ◌++◌, map, IfOk, OnOk};
+ghost use Rattle.pq_schema.specs.Rows.{cells};
 ghost use Rattle.pq_schema.specs.Sequences.{columns_of};
 ghost use Rattle.pq_scan.specs.Candidates.{place_code, candidate_at};
 
 use crate::keys::place_of;
 use crate::merge::Placed;
-use crate::places::copied;
 use crate::prepared::Scan;
-use pq_base::{Bytes, List, NoMem, Row, Value};
+use pq_base::{Bytes, List, NoMem, Row, Value, value_of};
 use pq_schema::Access;
 use std::alloc::Global;
 
@@ -24,20 +23,13 @@ pub(crate) struct Found {
 /// What a scan found, with the code of its position.
 pub(crate) type Candidate = Placed<Found>;
 
-/// The value of a row at a column, or the value of a column that isn't there.
-fn value_of(alloc: Global, row: &Row, col: u8) -> Result<Value, NoMem>
-    ensures { IfOk result (λ value. value ≡ value_of row.now col) }
-{
-    copied(alloc, row.items().get(col as usize))
-}
-
 /// The values of a row at the columns of the sequence.
 fn cells_of(alloc: Global, scan: &Scan<'_>, row: &Row) -> Result<Row, NoMem>
     ensures { IfOk result (λ made. made ≡ cells (columns_of scan.now.sequence) row.now) }
 {
     let mut made = Row::new(alloc);
     for part in scan.sequence.items() {
-        made.push(alloc, value_of(alloc, row, part.col)?)?;
+        made.push(alloc, value_of(alloc, row.items(), part.col)?)?;
     }
     Ok(made)
 }

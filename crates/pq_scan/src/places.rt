@@ -1,27 +1,16 @@
 //! The positions of an input's rows: constants, and the values behind the tied ones between them.
-ghost use Rattle.std.specs.Prelude.{◌≡◌, [], ◌<◌, ◌++◌, map, drop, unwrap_or, option_copied, slice_index_or, IfOk};
-ghost use Rattle.pq_schema.specs.Rows.{no_value};
+ghost use Rattle.std.specs.Prelude.{◌≡◌, [], ◌<◌, ◌++◌, map, drop, IfOk};
 ghost use Rattle.pq_plan.specs.Answer.{cell};
 ghost use Rattle.pq_serving.specs.Starts.{filled_values};
 ghost use Rattle.pq_serving.specs.Scanning.{constant_value, constant};
 ghost use Rattle.pq_scan.specs.Prepared.{asked_over, IsPrepared};
 
 use crate::prepared::Scan;
-use pq_base::{List, NoMem, Row, Value};
+use pq_base::{List, NoMem, Row, Value, copied_value};
 use pq_operands::{cell, tied_value};
 use pq_plan::Combo;
 use pq_schema::OrderItem;
 use std::alloc::Global;
-
-/// A copy of a value that is there, and else of the value of a column that isn't there.
-pub(crate) fn copied(alloc: Global, value: Option<&Value>) -> Result<Value, NoMem>
-    ensures { IfOk result (λ copy. copy ≡ unwrap_or (option_copied value.entry) no_value) }
-{
-    match value {
-        Some(value) => value.copy(alloc),
-        None => Ok(Value::Bool(false)),
-    }
-}
 
 /// The value of a position column that is the same for each row of an input that passes.
 fn constant_value(
@@ -33,12 +22,12 @@ fn constant_value(
     ensures { IfOk result (λ value. value ≡ constant_value (asked_over scan.now []) scan.now.rel combo.now item.now) }
 {
     if item.col.rel == scan.rel {
-        copied(
+        copied_value(
             alloc,
             tied_value(scan.query, scan.params, scan.rel, combo, item.col.col),
         )
     } else {
-        copied(alloc, cell(combo, item.col))
+        copied_value(alloc, cell(combo, item.col))
     }
 }
 

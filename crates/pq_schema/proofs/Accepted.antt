@@ -15,6 +15,7 @@ use Rattle.pq_base.specs.declared.refusal.Refusal.{Refusal}
 use Rattle.pq_base.specs.declared.refusal.Refusal.TheVariants as refusal
 use Rattle.pq_base.specs.declared.value.ColType.{ColType}
 use Rattle.pq_base.specs.declared.value.ColType.TheVariants as type
+use Rattle.pq_base.specs.declared.value.Value.{Value}
 use Rattle.pq_schema.specs.declared.definition.ColumnDef.{ColumnDef}
 use Rattle.pq_schema.specs.declared.definition.LimitDef.{LimitDef}
 use Rattle.pq_schema.specs.declared.definition.ForeignDef.{ForeignDef}
@@ -25,14 +26,20 @@ use Rattle.pq_schema.specs.declared.table.Foreign.{Foreign}
 use Rattle.pq_schema.specs.declared.table.Index.{Index}
 use Rattle.pq_schema.specs.declared.table.Table.{Table}
 use Rattle.pq_schema.specs.ColumnNames.{names_of, is_unknown, place_of, places_of, no_column, repeated_name, first_repeated, unknown_refusal, repeated_refusal, names_refusal}
-use Rattle.pq_schema.specs.Definitions.{text_size, cardinality, with_null, plain_column_type, is_nullable_name, nullable_key, nullable_refusal, has_type, column_of, refused_if, is_outside, definition_refusal, name_refusal, counts_refusal, columns_refusal, key_refusal, limit_refusal, limits_refusal, has_shape, reference_refusal, foreign_refusal, foreigns_refusal, groups_refusal, table_refusal, limit_of_def, foreign_of_def, bare_table, table_of_def, or_ok, new_table}
+use Rattle.pq_schema.specs.Definitions.{text_size, cardinality, with_null, plain_column_type, is_nullable_name, nullable_key, nullable_refusal, has_type, column_of, refused_if, is_outside, definition_refusal, name_refusal, counts_refusal, columns_refusal, key_refusal, limit_refusal, limits_refusal, has_shape, reference_refusal, foreign_refusal, foreigns_refusal, groups_refusal, table_refusal, no_fillers, limit_of_def, foreign_of_def, bare_table, table_of_def, or_ok, new_table}
 use Rattle.pq_schema.specs.Schema.{Schema, find_table, is_table, is_taken, number_of}
 use Rattle.pq_schema.specs.Sequences.{groups, group_access, with_group}
-use Rattle.pq_schema.specs.Sound.{IsTable, IsBare, AreColumns, IsSized, AreKeyColumns, IsMadeLimit, IsMadeForeign, IsMade}
+use Rattle.pq_schema.specs.Sound.{IsTable, IsBare, AreColumns, IsSized, AreKeyColumns, IsMadeLimit, IsMadeForeign, AreDefaults, IsMade}
 use Rattle.pq_base.specs.Values.{is_nullable}
 use Rattle.pq_schema.specs.Tables.{table_at, type_at}
 use Rattle.pq_schema.proofs.Counts.{AreKnown, places_within, different_places}
 use Rattle.pq_schema.proofs.Groups.{IsDifferent, IsAsBefore, AreInside, groups_have, groups_as_before, groups_inside, sound_groups}
+
+-- ---- no column was added
+
+none_added : (columns : List Column) → AreDefaults columns (no_fillers columns)
+none_added [] = tt
+none_added (column ∷ columns) = (tt, none_added columns)
 
 -- ---- no refusal
 
@@ -400,6 +407,7 @@ module _ (schema : Schema) (def : TableDef) (none : table_refusal schema def ≡
     some_columns = let some = few_columns.0 in let long = columns_same in omega (arith, some, long);
     few_columns = made_sound.few_columns;
     sized = subst (λ (cs : List Column). All (λ (column : Column). IsSized column.ty) cs) (sym same.columns) (sized_columns def.columns types);
+    fillers = subst (λ (fs : List (Option Value)). AreDefaults (table_of_def schema def).columns fs) (sym same.fillers) (subst (λ (cs : List Column). AreDefaults cs (no_fillers (map column_of def.columns))) (sym same.columns) (none_added (map column_of def.columns)));
     key = subst (AreKeyColumns (length (table_of_def schema def).columns)) (sym same.key) (subst (λ n. AreKeyColumns n (bare_table schema def).key) (sym columns_same) bare_key);
     plain = subst (λ (ks : List ℕ). All (λ col. is_nullable (type_at (table_of_def schema def).columns col) ≡ false) ks) (sym same.key) (subst (λ (cs : List Column). All (λ col. is_nullable (type_at cs col) ≡ false) (bare_table schema def).key) (sym same.columns) (key_plain (map column_of def.columns) def.key groups_parts.0));
     few_limits = made_sound.few;

@@ -133,15 +133,16 @@ groups_have (g ∷ gs) table different =
 pub record IsAsBefore (before now : Table) : Type 0 where
   pub name : now.name ≡ before.name
   pub columns : now.columns ≡ before.columns
+  pub fillers : now.fillers ≡ before.fillers
   pub key : now.key ≡ before.key
   pub limits : now.limits ≡ before.limits
   pub foreign : now.foreign ≡ before.foreign
 
 itself : (table : Table) → IsAsBefore table table
-itself table = record { name = refl; columns = refl; key = refl; limits = refl; foreign = refl }
+itself table = record { name = refl; columns = refl; fillers = refl; key = refl; limits = refl; foreign = refl }
 
 pub index_as_before : (table : Table) (index : Index) → IsAsBefore table (with_new_index table index)
-index_as_before table index = record { name = refl; columns = refl; key = refl; limits = refl; foreign = refl }
+index_as_before table index = record { name = refl; columns = refl; fillers = refl; key = refl; limits = refl; foreign = refl }
 
 group_as_before : (table : Table) (cols : List ℕ) → IsAsBefore table (with_group table cols)
 group_as_before table cols = group_cases (IsAsBefore table) table cols (λ _. itself table) (index_as_before table (group_index cols))
@@ -150,6 +151,7 @@ after_both : (a b c : Table) → IsAsBefore a b → IsAsBefore b c → IsAsBefor
 after_both a b c h k = record {
   name = k.name ∙ h.name;
   columns = k.columns ∙ h.columns;
+  fillers = k.fillers ∙ h.fillers;
   key = k.key ∙ h.key;
   limits = k.limits ∙ h.limits;
   foreign = k.foreign ∙ h.foreign;

@@ -5,6 +5,7 @@ use Rattle.pq_base.specs.declared.value.Value.TheVariants as value
 use Rattle.pq_base.specs.declared.value.ColType.TheVariants as ty
 use Rattle.pq_base.specs.declared.value.Dir.TheVariants.{Asc, Desc}
 use Rattle.pq_base.specs.declared.number.Choice.TheVariants.{Whole, Stop}
+use Rattle.pq_schema.specs.Definitions.{no_fillers}
 use Rattle.pq_schema.specs.declared.table.Column.{Column}
 use Rattle.pq_schema.specs.declared.table.Limit.{Limit}
 use Rattle.pq_schema.specs.declared.table.Foreign.{Foreign}
@@ -34,7 +35,7 @@ any_column = record { name = []; ty = ty.Int }
 -- a table as CREATE TABLE makes it
 abbrev pub made : List Column → List ℕ → List Limit → List Foreign → Table
 made columns key limits foreign =
-    with_groups (record { name = []; columns = columns; key = key; limits = limits; foreign = foreign; indexes = [] })
+    with_groups (record { name = []; columns = columns; fillers = no_fillers columns; key = key; limits = limits; foreign = foreign; indexes = [] })
 
 abbrev pub limit : ℕ → List ℕ → Limit
 limit n cols = record { n = n; cols = cols }

@@ -9,6 +9,7 @@ use Rattle.pq_base.specs.declared.refusal.Refusal.TheVariants as refusal
 use Rattle.pq_base.specs.Values.{is_nullable}
 use Rattle.pq_base.specs.declared.value.ColType.{ColType}
 use Rattle.pq_base.specs.declared.value.ColType.TheVariants as type
+use Rattle.pq_base.specs.declared.value.Value.{Value}
 use Rattle.pq_schema.specs.declared.definition.ColumnDef.{ColumnDef}
 use Rattle.pq_schema.specs.declared.definition.LimitDef.{LimitDef}
 use Rattle.pq_schema.specs.declared.definition.ForeignDef.{ForeignDef}
@@ -165,11 +166,16 @@ abbrev pub foreign_of_def : Schema → List Column → ForeignDef → Foreign
 foreign_of_def schema columns foreign =
     record { cols = places_of columns foreign.cols; table = unwrap_or (find_table schema foreign.table) 0 }
 
+-- no column was added
+abbrev pub no_fillers : List Column → List (Option Value)
+no_fillers columns = map (λ column. None) columns
+
 -- the table of these columns without its indexes
 abbrev pub table_with : Schema → List Column → TableDef → Table
 table_with schema columns def = record {
   name = def.name;
   columns = columns;
+  fillers = no_fillers columns;
   key = places_of columns def.key;
   limits = map (limit_of_def columns) def.limits;
   foreign = map (foreign_of_def schema columns) def.foreign;

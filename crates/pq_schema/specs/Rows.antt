@@ -1,13 +1,14 @@
 -- Rows of tables: their values at columns, how they are found, and when they keep their definitions.
-use Rattle.std.specs.Prelude.{◌≡◌, ℕ, ◌≤◌, Bool, false, ◌==◌, ◌&&◌, if◌then◌else◌, List, [], ◌∷◌, map, filter, length, slice_index_or, Option, IsSome}
+use Rattle.std.specs.Prelude.{◌≡◌, ℕ, ◌≤◌, Bool, false, ◌==◌, ◌&&◌, if◌then◌else◌, List, [], ◌∷◌, map, filter, length, Option, IsSome}
 use Rattle.std.specs.List.{AllByRecursion}
 use Rattle.std.specs.List as lists
 use Rattle.std.specs.Ordering.{is_eq}
 use Rattle.std.specs.Cmp.Lexicographic.{pointwise}
 use Rattle.pq_base.specs.declared.value.Value.{Value}
-use Rattle.pq_base.specs.declared.value.Value.TheVariants as value
 use Rattle.pq_base.specs.declared.value.ColType.{ColType}
+pub use Rattle.pq_base.specs.Cells.{no_value, value_of}
 use Rattle.pq_base.specs.Order.{value_cmp}
+use Rattle.pq_base.specs.Shapes.{RowShape, row_shape}
 use Rattle.pq_base.specs.Values.{AllFit, has_null}
 use Rattle.pq_schema.specs.declared.table.Foreign.{Foreign}
 use Rattle.pq_schema.specs.declared.table.Limit.{Limit}
@@ -23,20 +24,15 @@ abbrev pub rows_of : ℕ → Rows → List (List Value)
 rows_of t [] = []
 rows_of t (e ∷ es) = if e.0 == t then e.1 ∷ rows_of t es else rows_of t es
 
--- what stands at a column that isn't there
-abbrev pub no_value : Value
-no_value = value.Bool false
-
--- the value at a column
-abbrev pub value_of : List Value → ℕ → Value
-value_of row col = slice_index_or row col no_value
-
 -- the values of a row at some columns
 abbrev pub cells : List ℕ → List Value → List Value
 cells cols row = map (value_of row) cols
 
 abbrev pub types_of : Table → List ColType
 types_of table = map (λ column. column.ty) table.columns
+
+abbrev pub shape_of : Table → RowShape
+shape_of table = row_shape (types_of table) table.fillers
 
 abbrev pub key_of : Table → List Value → List Value
 key_of table row = cells table.key row

@@ -1,7 +1,8 @@
 -- What every table and query has.
-use Rattle.std.specs.Prelude.{◌≡◌, ℕ, ◌<◌, ◌≤◌, All, IsSome, IfSome, count_ones, length, List, [], true, false}
+use Rattle.std.specs.Prelude.{◌≡◌, ℕ, ◌<◌, ◌≤◌, All, IsSome, IfSome, count_ones, length, List, [], ◌∷◌, Option, true, false}
 use Rattle.pq_base.specs.declared.value.ColType.{ColType}
 use Rattle.pq_base.specs.declared.value.ColType.TheVariants as type
+use Rattle.pq_base.specs.declared.value.Value.{Value}
 use Rattle.pq_schema.specs.declared.table.Column.{Column}
 use Rattle.pq_schema.specs.declared.table.Foreign.{Foreign}
 use Rattle.pq_schema.specs.declared.query.ColRef.{ColRef}
@@ -10,7 +11,7 @@ use Rattle.pq_schema.specs.declared.query.Operand.TheVariants as operand
 use Rattle.pq_schema.specs.declared.query.Pred.{Pred}
 use Rattle.pq_base.specs.Columns.{set_of}
 use Rattle.pq_schema.specs.Sequences.{group_access}
-use Rattle.pq_base.specs.Values.{is_nullable}
+use Rattle.pq_base.specs.Values.{FitsType, is_nullable}
 use Rattle.pq_schema.specs.Tables.{table_at, type_at, types_at, same_kinds}
 use Rattle.pq_schema.specs.Candidates.{stop_size}
 use Rattle.pq_schema.specs.declared.table.Limit.{Limit}
@@ -92,11 +93,18 @@ pub record IsMadeForeign (tables : List Table) (number : ℕ) (columns : List Co
   pub shape : same_kinds (types_at columns foreign.cols)
       (types_at (table_at tables foreign.table).columns (table_at tables foreign.table).key) ≡ true
 
+-- each default fits its column
+abbrev pub AreDefaults : List Column → List (Option Value) → Type 0
+AreDefaults [] [] = Unit {0}
+AreDefaults (column ∷ columns) (filler ∷ fillers) = IfSome filler (FitsType column.ty) × AreDefaults columns fillers
+AreDefaults _ _ = ⊥
+
 -- the table of this number of a schema
 pub record IsMade (tables : List Table) (number : ℕ) (table : Table) : Type 0 where
   pub some_columns : 1 ≤ length table.columns
   pub few_columns : length table.columns ≤ 32
   pub sized : All (λ column. IsSized column.ty) table.columns
+  pub fillers : AreDefaults table.columns table.fillers
   pub key : AreKeyColumns (length table.columns) table.key
   pub plain : All (λ col. is_nullable (type_at table.columns col) ≡ false) table.key
   pub few_limits : length table.limits ≤ 4

@@ -15,7 +15,7 @@ use Rattle.pq_schema.specs.Sequences.{primary_sequence, begins_with}
 
 -- what stands at a number that no table has
 abbrev pub no_table : Table
-no_table = record { name = []; columns = []; key = []; limits = []; foreign = []; indexes = [] }
+no_table = record { name = []; columns = []; fillers = []; key = []; limits = []; foreign = []; indexes = [] }
 
 -- the table of this number, from 1
 abbrev pub table_at : List Table → ℕ → Table

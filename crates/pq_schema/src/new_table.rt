@@ -1,7 +1,7 @@
 //! What a CREATE TABLE defines, or why it is refused.
 ghost use Rattle.std.specs.Prelude.{◌≡◌, ◌≤◌, length, map, IfOk, IfErr, OnErr};
 ghost use Rattle.pq_base.specs.Answers.{Answers, Refuses};
-ghost use Rattle.pq_schema.specs.Definitions.{limit_of_def, foreign_of_def, table_with, new_table, AddsTable, new_query, AddsQuery};
+ghost use Rattle.pq_schema.specs.Definitions.{no_fillers, limit_of_def, foreign_of_def, table_with, new_table, AddsTable, new_query, AddsQuery};
 ghost use Rattle.pq_schema.specs.Names.{IsName, IsTableDef};
 ghost use Rattle.pq_schema.specs.Resolved.{IsResolved};
 ghost use Rattle.pq_schema.specs.Sequences.{ascending_part, groups, with_group, with_groups};
@@ -15,8 +15,19 @@ use crate::query::Query;
 use crate::sequences::group_access;
 use crate::table::{Column, Foreign, Index, KeyPart, Limit, NewIndex, Table};
 use crate::table_checks::cardinality;
-use pq_base::{ColSet, Dir, List, NoMem, Stopped};
+use pq_base::{ColSet, Dir, List, NoMem, Stopped, Value};
 use std::alloc::Global;
+
+/// No column was added.
+fn no_fillers(alloc: Global, columns: &[Column]) -> Result<List<Option<Value>>, NoMem>
+    ensures { IfOk result (λ fillers. fillers ≡ no_fillers columns.now) }
+{
+    let mut fillers = List::with_room(alloc, columns.len())?;
+    for _ in columns {
+        fillers.push(alloc, None)?;
+    }
+    Ok(fillers)
+}
 
 fn limits_of(alloc: Global, columns: &[Column], defs: &[LimitDef]) -> Result<List<Limit>, NoMem>
     requires { length columns.now ≤ 32 }
@@ -63,9 +74,11 @@ impl Catalog {
         let key = places_of(alloc, columns.items(), def.key.items())?;
         let limits = limits_of(alloc, columns.items(), def.limits.items())?;
         let foreign = self.foreign_of(alloc, columns.items(), def.foreign.items())?;
+        let fillers = no_fillers(alloc, columns.items())?;
         Ok(Table {
             name: def.name.copy(alloc)?,
             columns,
+            fillers,
             key,
             limits,
             foreign,

@@ -5,7 +5,7 @@ ghost use Rattle.pq_schema.specs.Schema.{find_column};
 ghost use Rattle.pq_base.specs.Values.{same_kind};
 ghost use Rattle.pq_schema.specs.Tables.{type_at};
 
-use pq_base::{ColType, Dir, List, PText};
+use pq_base::{ColType, Dir, List, PText, Value};
 use smallvec::SmallVec;
 
 /// A column of a table.
@@ -54,11 +54,13 @@ pub struct Index {
     pub cols: List<KeyPart>,
 }
 
-/// A table, with the indexes that it has by now.
+/// A table, with the indexes that it has by now. `fillers` has a place for each column: the default of an
+/// added one, and None at the columns of the definition.
 #[derive(Debug, Drop)]
 pub struct Table {
     pub name: PText,
     pub columns: List<Column>,
+    pub fillers: List<Option<Value>>,
     pub key: List<u8>,
     pub limits: List<Limit>,
     pub foreign: List<Foreign>,

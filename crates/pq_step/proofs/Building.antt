@@ -113,6 +113,7 @@ module _ (m : Model) (query : Query) (new : NewIndex) (valid : IsValid m.schema)
         number = there m.schema query new valid defined;
         next = omega (arith, number);
         types = refl;
+        fillers = refl;
         parts = refl;
         sound = types_at m.schema new.table valid (there m.schema query new valid defined);
       }

@@ -12,7 +12,7 @@ use Rattle.pq_base.specs.declared.value.Value.{Value}
 use Rattle.pq_base.proofs.Members.{in_filter, in_from_contains}
 use Rattle.pq_key_code.specs.KeyCode.{IsBytes, catalog_key, code_of, row_key}
 use Rattle.pq_key_code.proofs.CodeBytes.{code_bytes}
-use Rattle.pq_schema.specs.Rows.{IsTableNumber, types_of}
+use Rattle.pq_schema.specs.Rows.{IsTableNumber, shape_of}
 use Rattle.pq_schema.specs.Schema.{Schema}
 use Rattle.pq_schema.specs.Tables.{table_at}
 use Rattle.pq_schema.specs.Valid.{IsValid}
@@ -82,7 +82,7 @@ module _ (content : Content) (t : ℕ) (pair : Pair) (here : In pair (row_pairs_
       }
 
 -- a value that is the code of no row shows damage, whether its key is the code of values or of none
-pair_shows : (tables : List Table) (t : ℕ) → IsTableNumber tables t → t < 256 → (content : Content) (pair : Pair) (damage : Damage) → In pair (row_pairs_in t content) → IsNoRowPair (types_of (table_at tables t)) pair damage → ShowsRead tables content damage
+pair_shows : (tables : List Table) (t : ℕ) → IsTableNumber tables t → t < 256 → (content : Content) (pair : Pair) (damage : Damage) → In pair (row_pairs_in t content) → IsNoRowPair (shape_of (table_at tables t)) pair damage → ShowsRead tables content damage
 pair_shows tables t number low content pair damage here shown =
     let there = pair_there content t pair here in
     let begins = pair_begins content t pair here in

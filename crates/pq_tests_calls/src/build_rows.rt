@@ -16,12 +16,18 @@ const TEXT: &[u8] = b"PREPARE q AS SELECT x.a FROM t x ORDER BY x.b DESC LIMIT 5
 // The number of the definition.
 const NUMBER: u16 = 2;
 
-// The index by its second column, falling, and then by its key.
-fn target_of(alloc: Global) -> Result<Target, NoMem> {
-    let mut types = List::new(alloc);
-    types.push(alloc, ColType::Int)?;
-    types.push(alloc, ColType::Int)?;
-    let (falling, key) = (
+/// The types and the defaults of a table's columns, and the sequence of its index.
+pub(crate) type Indexed = (
+    &'static [ColType],
+    &'static [Option<i64>],
+    &'static [KeyPart],
+);
+
+/// Two numbers, with the index by the second one, falling, and then by the key.
+pub(crate) const PLAIN: Indexed = (
+    &[ColType::Int; 2],
+    &[None; 2],
+    &[
         KeyPart {
             col: 1,
             dir: Dir::Desc,
@@ -30,15 +36,35 @@ fn target_of(alloc: Global) -> Result<Target, NoMem> {
             col: 0,
             dir: Dir::Asc,
         },
-    );
-    let mut parts = List::new(alloc);
-    parts.push(alloc, falling)?;
-    parts.push(alloc, key)?;
+    ],
+);
+
+/// The defaults of columns.
+pub(crate) fn fillers_of(
+    alloc: Global,
+    defaults: &[Option<i64>],
+) -> Result<List<Option<Value>>, NoMem> {
+    let mut fillers = List::new(alloc);
+    for default in defaults {
+        let filler = match default {
+            Some(number) => Some(Value::Int(*number)),
+            None => None,
+        };
+        fillers.push(alloc, filler)?;
+    }
+    Ok(fillers)
+}
+
+fn target_of(alloc: Global, indexed: &Indexed) -> Result<Target, NoMem> {
+    let types = Vec::from_slice(alloc, indexed.0)?;
+    let fillers = fillers_of(alloc, indexed.1)?;
+    let parts = Vec::from_slice(alloc, indexed.2)?;
     Ok(Target {
         table: 1,
         index: 1,
-        types,
-        parts,
+        types: List::from_vec(types),
+        fillers,
+        parts: List::from_vec(parts),
     })
 }
 
@@ -56,10 +82,11 @@ fn query_of(alloc: Global) -> Result<NewQuery, NoMem>
 /// Builds the index.
 pub(crate) fn build<S: Store<L>, L: Ledger>(
     alloc: Global,
+    indexed: &Indexed,
     store: &mut S,
     meter: &mut Meter<L>,
 ) -> Result<Built, Broke> {
-    let target = target_of(alloc)?;
+    let target = target_of(alloc, indexed)?;
     let query = query_of(alloc)?;
     build_index(alloc, &target, &query, store, meter)
 }
@@ -70,7 +97,7 @@ pub(crate) fn complete<S: Store<L>, L: Ledger>(
     store: &mut S,
     meter: &mut Meter<L>,
 ) -> Result<u32, Broke> {
-    let target = target_of(alloc)?;
+    let target = target_of(alloc, &PLAIN)?;
     let query = query_of(alloc)?;
     complete_index(alloc, &target, &query, store, meter)
 }

@@ -2,7 +2,7 @@
 ghost use Rattle.std.specs.Prelude.{◌≡◌};
 
 use crate::build_rows::{
-    build, built_store, complete, damaged_store, marked_store, plain_store, same,
+    PLAIN, build, built_store, complete, damaged_store, marked_store, plain_store, same,
 };
 use crate::calls::failing;
 use pq_base::{List, NoMem};
@@ -36,7 +36,7 @@ fn is_whole<L: Ledger>(
 ) -> Result<bool, Broke> {
     let plain = plain_store(alloc, rows)?;
     let mut store = failing(alloc, plain, calls.saturating_add(1), false)?;
-    let built = build(alloc, &mut store, meter)?;
+    let built = build(alloc, &PLAIN, &mut store, meter)?;
     Ok(built == Built::Rows(rows) && same(alloc, &store.into_inner(), want)?)
 }
 
@@ -64,7 +64,7 @@ fn stopped<L: Ledger>(
 ) -> Result<Option<MemStore>, NoMem> {
     let plain = plain_store(alloc, rows)?;
     let mut store = failing(alloc, plain, call, done)?;
-    match build(alloc, &mut store, meter) {
+    match build(alloc, &PLAIN, &mut store, meter) {
         Ok(_) => Ok(None),
         Err(_) => Ok(Some(store.into_inner())),
     }
@@ -79,7 +79,7 @@ fn make_whole<L: Ledger>(
 ) -> Result<(), Broke> {
     let plain = plain_store(alloc, rows)?;
     if same(alloc, store, &plain)? {
-        build(alloc, store, meter)?;
+        build(alloc, &PLAIN, store, meter)?;
     } else {
         complete(alloc, store, meter)?;
     }
@@ -159,7 +159,7 @@ fn names_last(damage: &Damage, pairs: &List<Pair>) -> bool {
 fn is_damaged<L: Ledger>(alloc: Global, rows: u32, meter: &mut Meter<L>) -> Result<bool, Broke> {
     let mut store = damaged_store(alloc, rows)?;
     let pairs = store.pairs(alloc)?;
-    match build(alloc, &mut store, meter) {
+    match build(alloc, &PLAIN, &mut store, meter) {
         Err(Broke::Damaged(damage)) => Ok(names_last(&damage, &pairs)),
         _ => Ok(false),
     }

@@ -29,4 +29,6 @@ mod rows;
 #[cfg(test)]
 mod sorted;
 #[cfg(test)]
+mod stored;
+#[cfg(test)]
 mod stores;

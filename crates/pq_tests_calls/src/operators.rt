@@ -112,7 +112,8 @@ fn way_of(node: &Physical) -> &'static str {
     }
 }
 
-fn cells_of(row: &Row) -> Option<Cells> {
+/// The three numbers of a row.
+pub(crate) fn cells_of(row: &Row) -> Option<Cells> {
     match row.items() {
         [Value::Int(g), Value::Int(v), Value::Int(id)] => Some((*g, *v, *id)),
         _ => None,

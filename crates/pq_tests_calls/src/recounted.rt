@@ -1,7 +1,7 @@
 //! Builds over a store that counts other rows than it has: over too many, and over a wrong number.
 ghost use Rattle.std.specs.Prelude.{◌≡◌};
 
-use crate::build_rows::{build, complete, marked_store, plain_store, same};
+use crate::build_rows::{PLAIN, build, complete, marked_store, plain_store, same};
 use pq_base::NoMem;
 use pq_builds::Built;
 use pq_store::{Broke, Damage, Meter, Opening};
@@ -31,7 +31,7 @@ fn is_built_told<L: Ledger>(
 ) -> Result<bool, NoMem> {
     let inner = plain_store(alloc, rows)?;
     let mut store = MiscountStore::new(inner, counted);
-    match build(alloc, &mut store, meter) {
+    match build(alloc, &PLAIN, &mut store, meter) {
         Err(Broke::Damaged(damage)) => Ok(names_definition(&damage)),
         _ => Ok(false),
     }
@@ -60,7 +60,7 @@ fn is_too_large<L: Ledger>(
 ) -> Result<bool, Broke> {
     let inner = plain_store(alloc, 3)?;
     let mut store = MiscountStore::new(inner, counted);
-    let built = build(alloc, &mut store, meter)?;
+    let built = build(alloc, &PLAIN, &mut store, meter)?;
     let plain = plain_store(alloc, 3)?;
     Ok(built == Built::TooMany && same(alloc, store.inner(), &plain)?)
 }

@@ -4,7 +4,7 @@ use Rattle.std.proofs.lemmas.Result.{err_from_is_err_and}
 use Rattle.pq_store.specs.Content.{entry}
 use Rattle.pq_store.specs.declared.store.Pair.{Pair as Stored}
 use Rattle.pq_intent.proofs.Steps.{on_err_holds}
-use Rattle.pq_builds.specs.Filling.{past_key, IsPast}
+use Rattle.pq_builds.specs.Filling.{target_shape, past_key, IsPast}
 use Rattle.pq_builds.proofs.Following.{answer_at, part_at, follows_from, stops_from, no_row_from, next_space}
 use Rattle.pq_builds.proofs.Reading.{range_told, some_same}
 use Rattle.pq_builds.proofs.fill.fill_next.Goals as goal
@@ -20,7 +20,7 @@ returns-in_err-write_entries-clause-damage g c =
     let p = err_from_is_err_and c.from_residual-in_err-write_entries.result c.from_residual-in_err-write_entries.ensures.1 in
     let high = past_key c.args.target.now.table in
     let answer = answer_at (g.S.Store.content c.args.store.now) (map entry c.in-Ok.found) (map entry c.items-5.result.now) c.items.result.now c.items-2.result.now c.args.low high c.items.ensures (c.items-2.ensures ∙ c.in_ok-high.ensures) (ap (map entry) c.items-5.ensures) c.in-Ok.ensures.answer in
-    rw (p.1, p.2) (no_row_from c.args.target.now.types c.args.number c.args.target.now.table c.args.low (g.S.Store.content c.args.store.now) (map entry c.items-5.result.now) _ answer c.in_err-write_entries.ensures.damage)
+    rw (p.1, p.2) (no_row_from (target_shape c.args.target.now) c.args.number c.args.target.now.table c.args.low (g.S.Store.content c.args.store.now) (map entry c.items-5.result.now) _ answer c.in_err-write_entries.ensures.damage)
 
 pub returns-clause-follows : goal.returns-clause-follows
 returns-clause-follows g c =

@@ -6,7 +6,7 @@ use Rattle.pq_schema.specs.declared.table.Access.TheVariants.{Secondary}
 use Rattle.pq_schema.specs.declared.table.Table.{Table}
 use Rattle.pq_base.specs.Values.{IsType}
 use Rattle.pq_key_code.specs.KeyCode.{row_key}
-use Rattle.pq_schema.specs.Rows.{types_of}
+use Rattle.pq_schema.specs.Rows.{types_of, shape_of}
 use Rattle.pq_schema.specs.Tables.{table_at}
 use Rattle.pq_store.specs.Content.{Content}
 use Rattle.pq_calls.specs.Calls.{seen_world}
@@ -30,7 +30,7 @@ returns-in-Some-clause-answer g c =
     (subst (λ (own : Table). All IsType (types_of own)) table c.table_of-table.ensures.types)
     (c.in_ok-key.ensures ∙ ap (λ (own : Table). named_key own (Secondary c.args.index) c.args.values.now) table)
     (g.S.Store.content c.args.calls.now.store.now)
-    (subst (λ (own : Table). IfSome (g.S.Store.content c.args.calls.now.store.now) (λ (content : Content). IsRead (types_of own) (get content (row_key c.args.number c.in_ok-key.key)) (Some c.in-Some.stored.row))) table
+    (subst (λ (own : Table). IfSome (g.S.Store.content c.args.calls.now.store.now) (λ (content : Content). IsRead (shape_of own) (get content (row_key c.args.number c.in_ok-key.key)) (Some c.in-Some.stored.row))) table
     (rw c.in-Some.is at c.in_ok-stored.ensures.read))
 
 pub returns-clause-cause : goal.returns-clause-cause
@@ -41,7 +41,7 @@ returns-clause-cause g c =
     (c.in_ok-key.ensures ∙ ap (λ (own : Table). named_key own (Secondary c.args.index) c.args.values.now) table)
     c.in_ok-row_key-in-None.ensures
     (g.S.Store.content c.args.calls.now.store.now) c.requires.there
-    (subst (λ (own : Table). IfSome (g.S.Store.content c.args.calls.now.store.now) (λ (content : Content). IsRead (types_of own) (get content (row_key c.args.number c.in_ok-key.key)) None)) table
+    (subst (λ (own : Table). IfSome (g.S.Store.content c.args.calls.now.store.now) (λ (content : Content). IsRead (shape_of own) (get content (row_key c.args.number c.in_ok-key.key)) None)) table
     (rw c.in-None.is at c.in_ok-stored.ensures.read))
 
 pub returns-in-Some-clause-code : goal.returns-in-Some-clause-code
@@ -50,5 +50,5 @@ returns-in-Some-clause-code g c =
     named c.args.number c.args.index (table_at c.args.catalog.now.tables c.args.number) c.args.values.now c.in_ok-key.key c.in-Some.stored.row
     (c.in_ok-key.ensures ∙ ap (λ (own : Table). named_key own (Secondary c.args.index) c.args.values.now) table)
     (g.S.Store.content c.args.calls.now.store.now)
-    (subst (λ (own : Table). IfSome (g.S.Store.content c.args.calls.now.store.now) (λ (content : Content). IsRead (types_of own) (get content (row_key c.args.number c.in_ok-key.key)) (Some c.in-Some.stored.row))) table
+    (subst (λ (own : Table). IfSome (g.S.Store.content c.args.calls.now.store.now) (λ (content : Content). IsRead (shape_of own) (get content (row_key c.args.number c.in_ok-key.key)) (Some c.in-Some.stored.row))) table
     (rw c.in-Some.is at c.in_ok-stored.ensures.read))

@@ -1,8 +1,10 @@
 use Rattle.std.proofs.Common.{subst, sym, ap, ◌∙◌, refl}
-use Rattle.std.specs.Prelude.{All}
+use Rattle.std.specs.Prelude.{List, All}
+use Rattle.pq_base.specs.declared.value.ColType.{ColType}
+use Rattle.pq_base.specs.Shapes.{row_shape}
 use Rattle.pq_base.specs.Values.{IsType}
-use Rattle.pq_row_code.specs.RowCode.{code_as}
-use Rattle.pq_schema.specs.Rows.{types_of}
+use Rattle.pq_row_code.specs.StoredRow.{code_as}
+use Rattle.pq_schema.specs.Rows.{types_of, shape_of}
 use Rattle.pq_store.specs.declared.store.Pair.{Pair}
 use Rattle.pq_calls.specs.Calls.{seen_world}
 use Rattle.pq_entries.proofs.Told.{rows_explained, rows_coded, rows_answered, few_read, fit_as}
@@ -10,24 +12,24 @@ use Rattle.pq_entries.proofs.ranges.range_rows.Goals as goal
 
 pub returns-clause-cause : goal.returns-clause-cause
 returns-clause-cause g c =
-    let types = c.items.ensures ∙ c.in_ok-types.ensures ∙ ap types_of c.table_of-table.ensures.table in
+    let shape = ap (λ (ts : List ColType). row_shape ts c.table_of-table.result.now.fillers) (c.items.ensures ∙ c.in_ok-types.ensures) ∙ ap shape_of c.table_of-table.ensures.table in
     rows_explained c.args.catalog.now.tables c.args.number c.requires.sequence.number c.args.low.now c.args.high.now c.args.limit c.items-2.result.now
     (rw c.items-2.ensures c.in_ok-pairs.ensures.part) (g.S.Store.content c.args.calls.now.store.now) (rw c.items-2.ensures c.in_ok-pairs.ensures.answer)
-    c.items.result.now types c.requires.ends (seen_world g.S.Store.content g.S.Store.faults c.args.calls.now) (seen_world g.S.Store.content g.S.Store.faults c.range.new.self) refl c.decoded_rows.result c.decoded_rows.ensures.cause
+    _ shape c.requires.ends (seen_world g.S.Store.content g.S.Store.faults c.args.calls.now) (seen_world g.S.Store.content g.S.Store.faults c.range.new.self) refl c.decoded_rows.result c.decoded_rows.ensures.cause
 
 pub returns-clause-answer : goal.returns-clause-answer
 returns-clause-answer g c =
-    let types = c.items.ensures ∙ c.in_ok-types.ensures ∙ ap types_of c.table_of-table.ensures.table in
+    let shape = ap (λ (ts : List ColType). row_shape ts c.table_of-table.result.now.fillers) (c.items.ensures ∙ c.in_ok-types.ensures) ∙ ap shape_of c.table_of-table.ensures.table in
     rows_answered c.args.catalog.now.tables c.args.number c.requires.sequence.number c.args.low.now c.args.high.now c.args.limit c.items-2.result.now
     (rw c.items-2.ensures c.in_ok-pairs.ensures.part) (g.S.Store.content c.args.calls.now.store.now) (rw c.items-2.ensures c.in_ok-pairs.ensures.answer)
-    c.items.result.now types (subst (All IsType) (sym (c.items.ensures ∙ c.in_ok-types.ensures)) c.table_of-table.ensures.types)
+    _ shape (subst (All IsType) (sym (c.items.ensures ∙ c.in_ok-types.ensures)) c.table_of-table.ensures.types)
     c.decoded_rows.result c.decoded_rows.ensures.codes c.decoded_rows.ensures.fit
 
 pub returns-clause-few : goal.returns-clause-few
 returns-clause-few g c =
     few_read c.args.catalog.now.tables c.args.number c.requires.sequence.number c.args.low.now c.args.high.now c.args.limit c.items-2.result.now
     (rw c.items-2.ensures c.in_ok-pairs.ensures.part) (g.S.Store.content c.args.calls.now.store.now) (rw c.items-2.ensures c.in_ok-pairs.ensures.answer)
-    (code_as c.items.result.now) (λ (pair : Pair). pair.value) c.decoded_rows.result c.decoded_rows.ensures.codes
+    (code_as (row_shape c.items.result.now c.table_of-table.result.now.fillers)) (λ (pair : Pair). pair.value) c.decoded_rows.result c.decoded_rows.ensures.codes
 
 pub returns-clause-fit : goal.returns-clause-fit
 returns-clause-fit g c =
@@ -36,7 +38,7 @@ returns-clause-fit g c =
 
 pub returns-clause-codes : goal.returns-clause-codes
 returns-clause-codes g c =
-    let types = c.items.ensures ∙ c.in_ok-types.ensures ∙ ap types_of c.table_of-table.ensures.table in
+    let shape = ap (λ (ts : List ColType). row_shape ts c.table_of-table.result.now.fillers) (c.items.ensures ∙ c.in_ok-types.ensures) ∙ ap shape_of c.table_of-table.ensures.table in
     rows_coded c.args.catalog.now.tables c.args.number c.requires.sequence.number c.args.low.now c.args.high.now c.args.limit c.items-2.result.now
     (rw c.items-2.ensures c.in_ok-pairs.ensures.part) (g.S.Store.content c.args.calls.now.store.now) (rw c.items-2.ensures c.in_ok-pairs.ensures.answer)
-    c.items.result.now types c.decoded_rows.result c.decoded_rows.ensures.codes
+    _ shape c.decoded_rows.result c.decoded_rows.ensures.codes

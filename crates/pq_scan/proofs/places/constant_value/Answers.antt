@@ -14,7 +14,7 @@ returns-else-item-scan c =
     let col = c.args.item.now.col in
     let row = row_of col.rel c.args.combo.now in
     let q = asked_over c.args.scan.now [] in
-    subst (λ (v : Value). IfOk c.copied-else-item-scan.result (λ value. value ≡ v))
+    subst (λ (v : Value). IfOk c.copied_value-else-item-scan.result (λ value. value ≡ v))
     (ap (λ o. unwrap_or o no_value) c.cell.ensures ∙ unwrap_or-slice_get row col.col no_value
     ∙ sym (ap (λ b. cond b (unwrap_or (tied_value q c.args.scan.now.rel c.args.combo.now col.col) no_value) (slice_index_or row col.col no_value)) (ne_eqb col.rel c.args.scan.now.rel c.if-item-scan.false)))
-    c.copied-else-item-scan.ensures
+    c.copied_value-else-item-scan.ensures

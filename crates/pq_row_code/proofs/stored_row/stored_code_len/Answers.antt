@@ -1,0 +1,12 @@
+use Rattle.std.proofs.Common.{◌≤◌, List, length, sym, subst}
+use Rattle.std.specs.Prelude.{All}
+use Rattle.pq_base.specs.declared.value.Value.{Value}
+use Rattle.pq_row_code.specs.RowCode.{IsShort}
+use Rattle.pq_row_code.proofs.Stored.{stored_few, stored_short}
+use Rattle.pq_row_code.proofs.stored_row.stored_code_len.Goals as goal
+
+pub code_len-requires-clause-columns : goal.code_len-requires-clause-columns
+code_len-requires-clause-columns c = subst (λ (xs : List Value). length xs ≤ 32) (sym c.stored_values.ensures) (stored_few c.args.fillers.now c.args.row.now c.requires.columns)
+
+pub code_len-requires-clause-texts : goal.code_len-requires-clause-texts
+code_len-requires-clause-texts c = subst (λ (xs : List Value). All IsShort xs) (sym c.stored_values.ensures) (stored_short c.args.fillers.now c.args.row.now c.requires.texts)
