@@ -12,18 +12,21 @@ use Rattle.std.proofs.lemmas.Option.{none-some, same_Some}
 use Rattle.pq_base.specs.Columns.{set_of}
 use Rattle.pq_base.specs.declared.value.Dir.{Dir}
 use Rattle.pq_base.specs.declared.value.Dir.TheVariants.{Asc, Desc}
+use Rattle.pq_base.specs.declared.value.Value.{Value}
 use Rattle.pq_schema.specs.declared.query.Pred.{Pred}
 use Rattle.pq_schema.specs.declared.query.Query.{Query}
 use Rattle.pq_schema.specs.declared.table.Access.{Access}
 use Rattle.pq_schema.specs.declared.table.Access.TheVariants.{Primary, Secondary}
+use Rattle.pq_schema.specs.declared.table.Column.{Column}
 use Rattle.pq_schema.specs.declared.table.Index.{Index}
 use Rattle.pq_schema.specs.declared.table.KeyPart.{KeyPart}
 use Rattle.pq_schema.specs.declared.table.Table.{Table}
 use Rattle.pq_schema.specs.Relations.{table_of, is_equality, is_before, ties, tied_set, order_rest}
 use Rattle.pq_schema.specs.Resolved.{IsPredicate, IsResolved}
+use Rattle.pq_schema.specs.Schema.{with_new_index}
 use Rattle.pq_schema.specs.Sequences.{ascending_part, columns_of, without, then_key, primary_sequence, index_sequence, no_index, sequence_of, IsAccess, begins_with, same_dir, same_parts, serves_with, serves, secondary, serving_access, new_index, group_access}
 use Rattle.pq_schema.proofs.Counts.{position_is}
-use Rattle.pq_runnable.specs.Grown.{with_indexes}
+use Rattle.pq_runnable.specs.Grown.{with_more}
 use Rattle.pq_runnable.proofs.Bits.{each_of_set, set_of-append, chosen_columns, columns_make, columns_counted}
 
 -- ---- the first of some that passes
@@ -85,9 +88,9 @@ module _ (table : Table) (test : List KeyPart → Bool) where
       by_primary true passes e = subst Passes (same_Some Primary access e) (tt, passes)
       by_primary false passes e = by_place (position tested table.indexes) refl e
 
--- with more indexes the same one is found
-pub access_stays : (table : Table) (more : List Index) (test : List KeyPart → Bool) (access : Access) → first_access table test ≡ Some access → first_access (with_indexes table more) test ≡ Some access
-access_stays table more test access is = by_primary (test (primary_sequence table)) is
+-- where the table has more the same one is found
+pub access_stays : (table : Table) (columns : List Column) (fillers : List (Option Value)) (more : List Index) (test : List KeyPart → Bool) (access : Access) → first_access table test ≡ Some access → first_access (with_more table columns fillers more) test ≡ Some access
+access_stays table columns fillers more test access is = by_primary (test (primary_sequence table)) is
   where
     by_place : (o : Option ℕ) → position (tested table test) table.indexes ≡ o → option_map secondary o ≡ Some access → option_map secondary (position (tested table test) (table.indexes ++ more)) ≡ Some access
     by_place None at e = absurd (none-some access e)
@@ -98,7 +101,7 @@ access_stays table more test access is = by_primary (test (primary_sequence tabl
     by_primary false e = by_place (position (tested table test) table.indexes) refl e
 
 -- an index that passes is found, if no other
-pub access_of_last : (table : Table) (index : Index) (test : List KeyPart → Bool) → test (index_sequence table index) ≡ true → is_some (first_access (with_indexes table (index ∷ [])) test) ≡ true
+pub access_of_last : (table : Table) (index : Index) (test : List KeyPart → Bool) → test (index_sequence table index) ≡ true → is_some (first_access (with_new_index table index) test) ≡ true
 access_of_last table index test passes =
     let old = list_any (tested table test) table.indexes in
     let any : list_any (tested table test) (table.indexes ++ index ∷ []) ≡ true =
@@ -178,8 +181,8 @@ group_found table set access is = access_found table (λ sequence. begins_with s
 pub serving_found : (table : Table) (set : ℕ) (order : List KeyPart) (access : Access) → serving_access table set order ≡ Some access → IsAccess table access × (serves table set order (sequence_of table access) ≡ true)
 serving_found table set order access is = access_found table (serves table set order) access is
 
-pub serving_stays : (table : Table) (more : List Index) (set : ℕ) (order : List KeyPart) (access : Access) → serving_access table set order ≡ Some access → serving_access (with_indexes table more) set order ≡ Some access
-serving_stays table more set order access is = access_stays table more (serves table set order) access is
+pub serving_stays : (table : Table) (columns : List Column) (fillers : List (Option Value)) (more : List Index) (set : ℕ) (order : List KeyPart) (access : Access) → serving_access table set order ≡ Some access → serving_access (with_more table columns fillers more) set order ≡ Some access
+serving_stays table columns fillers more set order access is = access_stays table columns fillers more (serves table set order) access is
 
-pub served_by_last : (table : Table) (index : Index) (set : ℕ) (order : List KeyPart) → serves table set order (index_sequence table index) ≡ true → is_some (serving_access (with_indexes table (index ∷ [])) set order) ≡ true
+pub served_by_last : (table : Table) (index : Index) (set : ℕ) (order : List KeyPart) → serves table set order (index_sequence table index) ≡ true → is_some (serving_access (with_new_index table index) set order) ≡ true
 served_by_last table index set order passes = access_of_last table index (serves table set order) passes

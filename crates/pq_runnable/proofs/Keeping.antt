@@ -8,9 +8,11 @@ use Rattle.pq_base.specs.declared.number.Bound.{Bound}
 use Rattle.pq_base.specs.declared.number.Choice.{Choice}
 use Rattle.pq_base.specs.declared.number.Choice.TheVariants.{Whole, Stop}
 use Rattle.pq_base.proofs.Members.{each_weaker, each_both}
+use Rattle.pq_base.specs.declared.value.Value.{Value}
 use Rattle.pq_schema.specs.declared.query.Query.{Query}
 use Rattle.pq_schema.specs.declared.table.Access.{Access}
 use Rattle.pq_schema.specs.declared.table.Access.TheVariants.{Primary, Secondary}
+use Rattle.pq_schema.specs.declared.table.Column.{Column}
 use Rattle.pq_schema.specs.declared.table.Index.{Index}
 use Rattle.pq_schema.specs.declared.table.KeyPart.{KeyPart}
 use Rattle.pq_schema.specs.declared.table.Table.{Table}
@@ -20,12 +22,13 @@ use Rattle.pq_schema.specs.Relations.{table_of, tied_set, order_rest}
 use Rattle.pq_schema.specs.Resolved.{IsResolved}
 use Rattle.pq_schema.specs.Schema.{Schema, with_wanted, with_query}
 use Rattle.pq_schema.specs.Sequences.{IsAccess, begins_with, serving_access, group_access}
-use Rattle.pq_schema.specs.Sound.{IsQuery}
+use Rattle.pq_schema.specs.Sound.{IsQuery, AreMade}
 use Rattle.pq_schema.specs.Tables.{is_lookup, data_bound, limit_place, limit_of}
 use Rattle.pq_schema.specs.Valid.{IsValid, IsDefined}
 use Rattle.pq_schema.specs.Valid.IsValid.{then_query}
 use Rattle.pq_schema.specs.Wanted.{index_of, IsWanted}
 use Rattle.pq_schema.proofs.Soundness.{valid_query}
+use Rattle.pq_schema.proofs.Valid.{valid_made}
 use Rattle.pq_plan.specs.Cost.{cost}
 use Rattle.pq_plan.specs.declared.physical.Physical.{Physical}
 use Rattle.pq_plan.specs.Nodes.{Node, lookup, limit_range, stop_scan, keep, sort, cut, project, nodes, read_nodes, range_nodes, stop_access, choice_nodes, plan_nodes}
@@ -40,7 +43,7 @@ use Rattle.pq_nodes.specs.Paid.{IsAtMost}
 use Rattle.pq_nodes.proofs.InOrder.{plan_runs}
 use Rattle.pq_nodes.proofs.Inverse.{plan_is}
 use Rattle.pq_nodes.proofs.Paying.{at_most_itself}
-use Rattle.pq_runnable.specs.Grown.{with_indexes, HasGrown, HaveGrown}
+use Rattle.pq_runnable.specs.Grown.{with_more, HasGrown, HaveGrown}
 use Rattle.pq_runnable.specs.Runnable.{AreWhole, IsRunnablePlan}
 use Rattle.pq_runnable.proofs.Again.{range_over, read_over, plan_stays}
 use Rattle.pq_runnable.proofs.Compiled.{served_choice, compiled_small, few_bits}
@@ -75,9 +78,9 @@ stop_found table set order is = by_found (serving_access table set order) is
     by_found None is = let high = is.1 in absurd (omega (arith, high))
     by_found (Some access) is = refl
 
--- the sequence of a limit is found where the table has more indexes
-group_stays : (table : Table) (more : List Index) (set : ℕ) (access : Access) → group_access table set ≡ Some access → group_access (with_indexes table more) set ≡ Some access
-group_stays table more set access is = access_stays table more (λ sequence. begins_with sequence set) access is
+-- the sequence of a limit is found where the table has more
+group_stays : (table : Table) (columns : List Column) (fillers : List (Option Value)) (more : List Index) (set : ℕ) (access : Access) → group_access table set ≡ Some access → group_access (with_more table columns fillers more) set ≡ Some access
+group_stays table columns fillers more set access is = access_stays table columns fillers more (λ sequence. begins_with sequence set) access is
 
 -- ---- over tables that have grown
 
@@ -94,28 +97,28 @@ module _ (before now : List Table) (query : Query) (grown : HaveGrown before now
 
   -- ---- the nodes of a plan
 
-  by_place : (rel : ℕ) (more : List Index) (o : Option ℕ) → AllByRecursion (IsRun before query) (option_map_or (range_over rel (old rel)) o []) → option_map_or (range_over rel (with_indexes (old rel) more)) o [] ≡ option_map_or (range_over rel (old rel)) o []
-  by_place rel more None all = refl
-  by_place rel more (Some place) all =
+  by_place : (rel : ℕ) (columns : List Column) (fillers : List (Option Value)) (more : List Index) (o : Option ℕ) → AllByRecursion (IsRun before query) (option_map_or (range_over rel (old rel)) o []) → option_map_or (range_over rel (with_more (old rel) columns fillers more)) o [] ≡ option_map_or (range_over rel (old rel)) o []
+  by_place rel columns fillers more None all = refl
+  by_place rel columns fillers more (Some place) all =
       let table = old rel in
       let limit = get_or table.limits place no_limit in
       let access = unwrap_or (group_access table (set_of limit.cols)) Primary in
       let at : place + 1 - 1 ≡ place = omega arith in
       let found : group_access table (set_of limit.cols) ≡ Some access =
       subst (λ n. group_access table (set_of (get_or table.limits n no_limit).cols) ≡ Some access) at all.0.0.group in
-      ap (λ (o : Option Access). limit_range rel (place + 1) limit.n (unwrap_or o Primary) ∷ keep rel ∷ []) (group_stays table more (set_of limit.cols) access found ∙ sym found)
+      ap (λ (o : Option Access). limit_range rel (place + 1) limit.n (unwrap_or o Primary) ∷ keep rel ∷ []) (group_stays table columns fillers more (set_of limit.cols) access found ∙ sym found)
 
-  read_more : (rel : ℕ) (more : List Index) → AllByRecursion (IsRun before query) (read_over query rel (old rel)) → read_over query rel (with_indexes (old rel) more) ≡ read_over query rel (old rel)
-  read_more rel more all =
+  read_more : (rel : ℕ) (columns : List Column) (fillers : List (Option Value)) (more : List Index) → AllByRecursion (IsRun before query) (read_over query rel (old rel)) → read_over query rel (with_more (old rel) columns fillers more) ≡ read_over query rel (old rel)
+  read_more rel columns fillers more all =
       let table = old rel in
       let set = tied_set query rel in
-      elim (is_lookup table set) as (λ b. AllByRecursion (IsRun before query) (cond b (lookup rel ∷ keep rel ∷ []) (option_map_or (range_over rel table) (limit_place table set) [])) → cond b (lookup rel ∷ keep rel ∷ []) (option_map_or (range_over rel (with_indexes table more)) (limit_place table set) []) ≡ cond b (lookup rel ∷ keep rel ∷ []) (option_map_or (range_over rel table) (limit_place table set) [])) [
+      elim (is_lookup table set) as (λ b. AllByRecursion (IsRun before query) (cond b (lookup rel ∷ keep rel ∷ []) (option_map_or (range_over rel table) (limit_place table set) [])) → cond b (lookup rel ∷ keep rel ∷ []) (option_map_or (range_over rel (with_more table columns fillers more)) (limit_place table set) []) ≡ cond b (lookup rel ∷ keep rel ∷ []) (option_map_or (range_over rel table) (limit_place table set) [])) [
         | true ↦ λ _. refl
-        | false ↦ λ all. by_place rel more (limit_place table set) all
+        | false ↦ λ all. by_place rel columns fillers more (limit_place table set) all
       ] all
 
   read_stays : (rel : ℕ) → AllByRecursion (IsRun before query) (read_nodes before query rel) → read_nodes now query rel ≡ read_nodes before query rel
-  read_stays rel all = ap (read_over query rel) (grows rel).is ∙ read_more rel (grows rel).more all
+  read_stays rel all = ap (read_over query rel) (grows rel).is ∙ read_more rel (grows rel).columns (grows rel).fillers (grows rel).indexes all
 
   range_stays : (from count : ℕ) → AllByRecursion (IsRun before query) (range_nodes before query from count) → range_nodes now query from count ≡ range_nodes before query from count
   range_stays from count all = flat_map_alike (IsRun before query) (read_nodes before query) (read_nodes now query) read_stays (range_with_len from count) all
@@ -123,7 +126,7 @@ module _ (before now : List Table) (query : Query) (grown : HaveGrown before now
   still_serves : (p : ℕ) → IsAccess (old p) (stop_access before query p) → serving_access (table_of now query p) (tied_set query p) (order_rest query p) ≡ Some (stop_access before query p)
   still_serves p is =
       ap (λ (t : Table). serving_access t (tied_set query p) (order_rest query p)) (grows p).is
-      ∙ serving_stays (old p) (grows p).more (tied_set query p) (order_rest query p) (stop_access before query p) (stop_found (old p) (tied_set query p) (order_rest query p) is)
+      ∙ serving_stays (old p) (grows p).columns (grows p).fillers (grows p).indexes (tied_set query p) (order_rest query p) (stop_access before query p) (stop_found (old p) (tied_set query p) (order_rest query p) is)
 
   stop_stays : (p : ℕ) → IsAccess (old p) (stop_access before query p) → stop_access now query p ≡ stop_access before query p
   stop_stays p is = ap (λ (o : Option Access). unwrap_or o (Secondary (length (table_of now query p).indexes + 1))) (still_serves p is)
@@ -153,7 +156,7 @@ module _ (before now : List Table) (query : Query) (grown : HaveGrown before now
   still_found : (rel limit : ℕ) (access : Access) → group_access (old rel) (set_of (node_limit_at (old rel) limit).cols) ≡ Some access → group_access (table_of now query rel) (set_of (node_limit_at (table_of now query rel) limit).cols) ≡ Some access
   still_found rel limit access is =
       ap (λ (t : Table). group_access t (set_of (node_limit_at t limit).cols)) (grows rel).is
-      ∙ group_stays (old rel) (grows rel).more (set_of (node_limit_at (old rel) limit).cols) access is
+      ∙ group_stays (old rel) (grows rel).columns (grows rel).fillers (grows rel).indexes (set_of (node_limit_at (old rel) limit).cols) access is
 
   limited_stays : (rel limit n : ℕ) (access : Access) → IsLimited before query rel limit n access → IsLimited now query rel limit n access
   limited_stays rel limit n access is =
@@ -231,20 +234,21 @@ plan_defined s query made valid defined is =
     let now = with_wanted s.tables made.wanted in
     let there : IsWanted s.tables query made.wanted = record { best = is.best; chosen = is.least } in
     let resolved = defined.resolved in
-    let stands = tables_themselves now in
+    let made_before : AreMade s.tables = valid_made valid in
+    let stands = tables_themselves now (valid_made (then_query s query made.wanted valid defined)) in
     let parts = chosen_parts s.tables query is.best made.wanted is.least in
     let sound : IsQuery now query =
-    valid_query (with_query s query made.wanted) query (then_query s query made.wanted valid defined) (resolved_with s.tables query made.wanted resolved there now stands) in
+    valid_query (with_query s query made.wanted) query (then_query s query made.wanted valid defined) (resolved_with s.tables query made.wanted made_before resolved there now stands) in
     let candidate : HasChoice now query made.choice =
     subst (λ (list : List Candidate). Contains (map (λ (c : Candidate). c.choice) list) made.choice)
-    (sym (same_candidates s.tables now query (with_it s.tables query made.wanted resolved there now stands) resolved)) is.plan.candidate in
+    (sym (same_candidates s.tables now query (with_it s.tables query made.wanted made_before resolved there now stands) resolved)) is.plan.candidate in
     let same : plan_nodes now query is.best.choice ≡ plan_nodes s.tables query is.best.choice =
-    plan_stays s.tables query made.wanted resolved there now stands (valid_query s query valid resolved) in
+    plan_stays s.tables query made.wanted made_before resolved there now stands (valid_query s query valid resolved) in
     let built : nodes made.plan ≡ plan_nodes now query made.choice =
     is.plan.built ∙ subst (λ (c : Choice). plan_nodes s.tables query c ≡ plan_nodes now query c) (sym is.choice) (sym same) in
     let has : Has now query made.choice = choice_has now query made.choice candidate in
     let index : index_of now query made.choice ≡ Ok None =
-    ap (index_of now query) is.choice ∙ index_stays s.tables query made.wanted resolved there now stands is.best.choice parts.index in
+    ap (index_of now query) is.choice ∙ index_stays s.tables query made.wanted made_before resolved there now stands is.best.choice parts.index in
     let small = compiled_small s.tables query made is in
     record {
       plan = (made.choice, record { candidate = candidate; built = built });

@@ -16,14 +16,14 @@ use Rattle.pq_schema.specs.Relations.{relation_at, table_of, tied_set, order_res
 use Rattle.pq_schema.specs.Resolved.{IsResolved}
 use Rattle.pq_schema.specs.Schema.{Schema, with_wanted, with_new_index, made_of, definition_at, query_at, query_of, no_definition, IsQueryDefinition}
 use Rattle.pq_schema.specs.Sequences.{serves, serving_access, index_sequence, new_index}
-use Rattle.pq_schema.specs.Sound.{IsQuery}
+use Rattle.pq_schema.specs.Sound.{IsQuery, AreMade}
 use Rattle.pq_schema.specs.Tables.{no_table, table_at}
 use Rattle.pq_schema.specs.Valid.{IsValid}
 use Rattle.pq_schema.specs.Valid.IsValid.{empty, then_table, then_query}
 use Rattle.pq_schema.specs.Wanted.{is_large, index_at, index_of, too_many_indexes, ChosenCandidate, with_index, chosen_of, chosen_candidate, no_bound, IsWanted}
 use Rattle.pq_schema.proofs.Soundness.{valid_query}
-use Rattle.pq_schema.proofs.Valid.{wanted_there}
-use Rattle.pq_runnable.specs.Grown.{with_indexes, HasGrown, HaveGrown, WasDefined, IsStillChosen}
+use Rattle.pq_schema.proofs.Valid.{valid_made, wanted_there}
+use Rattle.pq_runnable.specs.Grown.{HasGrown, HaveGrown, WasDefined, IsStillChosen}
 use Rattle.pq_runnable.proofs.Growing.{grown_table, grown_wanted, tables_themselves, tables_then, relation_grown, resolved_stays}
 use Rattle.pq_runnable.proofs.Indexes.{new_serves, serving_stays, served_by_last}
 use Rattle.pq_runnable.proofs.Same.{same_candidates}
@@ -113,13 +113,13 @@ served_stays : (query : Query) (p : ℕ) (before now : Table) → HasGrown befor
 served_stays query p before now grown served =
     let found = some_is (serving_access before (tied_set query p) (order_rest query p)) served in
     ap (λ (t : Table). is_some (serving_access t (tied_set query p) (order_rest query p))) grown.is
-    ∙ ap is_some (serving_stays before grown.more (tied_set query p) (order_rest query p) found.0 found.1)
+    ∙ ap is_some (serving_stays before grown.columns grown.fillers grown.indexes (tied_set query p) (order_rest query p) found.0 found.1)
 
 -- ---- the same choice, over tables that have grown from those with the wanted index
 
-module _ (before : List Table) (query : Query) (wanted : Option NewIndex) (resolved : IsResolved before query) (there : IsWanted before query wanted) (now : List Table) (grown : HaveGrown (with_wanted before wanted) now) where
+module _ (before : List Table) (query : Query) (wanted : Option NewIndex) (made : AreMade before) (resolved : IsResolved before query) (there : IsWanted before query wanted) (now : List Table) (grown : HaveGrown (with_wanted before wanted) now) where
   pub with_it : HaveGrown before (with_wanted before wanted)
-  with_it = grown_wanted before wanted (wanted_there before query wanted resolved there)
+  with_it = grown_wanted before wanted made (wanted_there before query wanted resolved there)
 
   pub grown_from : HaveGrown before now
   grown_from = tables_then before (with_wanted before wanted) now with_it grown
@@ -135,7 +135,7 @@ module _ (before : List Table) (query : Query) (wanted : Option NewIndex) (resol
   served_before p served = served_now p (served_stays query p (table_of before query p) (table_of (with_wanted before wanted) query p) (relation_grown before (with_wanted before wanted) query with_it resolved p) served)
 
   -- the table of the wanted index has it behind its others
-  pub table_with : (p : ℕ) (new : NewIndex) → wanted ≡ Some new → new.table ≡ (relation_at query p).table → table_of (with_wanted before wanted) query p ≡ with_indexes (table_of before query p) (new.index ∷ [])
+  pub table_with : (p : ℕ) (new : NewIndex) → wanted ≡ Some new → new.table ≡ (relation_at query p).table → table_of (with_wanted before wanted) query p ≡ with_new_index (table_of before query p) new.index
   table_with p new is own =
       let fits = wanted_there before query (Some new) resolved (subst (IsWanted before query) is there) in
       let low = fits.0 in
@@ -144,7 +144,7 @@ module _ (before : List Table) (query : Query) (wanted : Option NewIndex) (resol
       ap (λ (w : Option NewIndex). table_at (with_wanted before w) (relation_at query p).table) is
       ∙ ap (table_at (with_wanted before (Some new))) (sym own)
       ∙ get_or-set_same before (new.table - 1) changed no_table (omega arith)
-      ∙ ap (λ n. with_indexes (table_at before n) (new.index ∷ [])) own
+      ∙ ap (λ n. with_new_index (table_at before n) new.index) own
 
   -- and a relation whose index was wanted is served by it
   served_by_index : (p : ℕ) (new : NewIndex) → wanted ≡ Some new → new.table ≡ (relation_at query p).table → new.index ≡ new_index (table_of before query p) (tied_set query p) (order_rest query p) → served_table query p (table_of (with_wanted before wanted) query p) ≡ true
@@ -212,12 +212,12 @@ one_more tables more definitions last grown old new place is = elim (cases_lt pl
 
 valid_was : {s : Schema} → IsValid s → (place : ℕ) → IsQueryDefinition (get_or s.definitions place no_definition) → Was s.tables (get_or s.definitions place no_definition)
 valid_was empty place is = absurd is
-valid_was (then_table b def table v d made) place is = one_more b.tables (b.tables ++ table ∷ []) b.definitions (OfTable (length b.tables + 1) (length table.columns) (length table.indexes)) (grown_table b.tables table) (valid_was v) (λ h. absurd h) place is
+valid_was (then_table b def table v d made) place is = one_more b.tables (b.tables ++ table ∷ []) b.definitions (OfTable (length b.tables + 1) (length table.columns) (length table.indexes)) (grown_table b.tables table (valid_made v)) (valid_was v) (λ h. absurd h) place is
 valid_was (then_query b query wanted v d) place is =
     one_more b.tables (with_wanted b.tables wanted) b.definitions (OfQuery query (option_map made_of wanted))
-    (grown_wanted b.tables wanted (wanted_there b.tables query wanted d.resolved d.chosen))
+    (grown_wanted b.tables wanted (valid_made v) (wanted_there b.tables query wanted d.resolved d.chosen))
     (valid_was v)
-    (λ _. record { before = b; wanted = wanted; valid = v; defined = d; grown = tables_themselves (with_wanted b.tables wanted) })
+    (λ _. record { before = b; wanted = wanted; valid = v; defined = d; grown = tables_themselves (with_wanted b.tables wanted) (valid_made (then_query b query wanted v d)) })
     place is
 
 -- the query of each definition was defined over a catalog before
@@ -228,7 +228,7 @@ pub query_resolved : (s : Schema) (n : ℕ) → IsValid s → IsQueryDefinition 
 query_resolved s n v is =
     let was = was_defined s n v is in
     resolved_stays was.before.tables s.tables (query_at s n)
-    (grown_from was.before.tables (query_at s n) was.wanted was.defined.resolved was.defined.chosen s.tables was.grown) was.defined.resolved
+    (grown_from was.before.tables (query_at s n) was.wanted (valid_made was.valid) was.defined.resolved was.defined.chosen s.tables was.grown) was.defined.resolved
 
 pub query_planned : (s : Schema) (n : ℕ) → IsValid s → IsQueryDefinition (definition_at s n) → IsQuery s.tables (query_at s n)
 query_planned s n v is = valid_query s (query_at s n) v (query_resolved s n v is)
@@ -236,4 +236,4 @@ query_planned s n v is = valid_query s (query_at s n) v (query_resolved s n v is
 pub query_chosen : (s : Schema) (n : ℕ) → IsValid s → IsQueryDefinition (definition_at s n) → IsStillChosen s (query_at s n)
 query_chosen s n v is =
     let was = was_defined s n v is in
-    record { was = was; chosen = still_chosen was.before.tables (query_at s n) was.wanted was.defined.resolved was.defined.chosen s.tables was.grown }
+    record { was = was; chosen = still_chosen was.before.tables (query_at s n) was.wanted (valid_made was.valid) was.defined.resolved was.defined.chosen s.tables was.grown }

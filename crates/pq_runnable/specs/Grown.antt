@@ -1,6 +1,8 @@
 -- Catalogs that later definitions made grow, and what stays of a query that was defined.
-use Rattle.std.specs.Prelude.{◌≡◌, ℕ, ◌≤◌, List, ◌++◌, length, Option, None, Ok}
+use Rattle.std.specs.Prelude.{◌≡◌, ℕ, ◌<◌, ◌≤◌, All, List, ◌++◌, length, Option, None, Ok}
+use Rattle.pq_base.specs.declared.value.Value.{Value}
 use Rattle.pq_schema.specs.declared.query.Query.{Query}
+use Rattle.pq_schema.specs.declared.table.Column.{Column}
 use Rattle.pq_schema.specs.declared.table.Index.{Index}
 use Rattle.pq_schema.specs.declared.table.NewIndex.{NewIndex}
 use Rattle.pq_schema.specs.declared.table.Table.{Table}
@@ -9,13 +11,25 @@ use Rattle.pq_schema.specs.Tables.{table_at}
 use Rattle.pq_schema.specs.Valid.{IsValid, IsDefined}
 use Rattle.pq_schema.specs.Wanted.{chosen_candidate}
 
-abbrev pub with_indexes : Table → List Index → Table
-with_indexes table more = record table { indexes = table.indexes ++ more }
+-- the table with these behind what it has
+abbrev pub with_more : Table → List Column → List (Option Value) → List Index → Table
+with_more table columns fillers indexes = record table {
+  columns = table.columns ++ columns;
+  fillers = table.fillers ++ fillers;
+  indexes = table.indexes ++ indexes;
+}
 
--- more indexes stand behind those that it had
+-- its foreign keys are of columns that it has
+abbrev pub AreOwnForeign : Table → Type 0
+AreOwnForeign table = All (λ foreign. All (λ col. col < length table.columns) foreign.cols) table.foreign
+
+-- more columns, each with its default, and more indexes stand behind those that it had
 pub record HasGrown (before now : Table) : Type 0 where
-  pub more : List Index
-  pub is : now ≡ with_indexes before more
+  pub columns : List Column
+  pub fillers : List (Option Value)
+  pub indexes : List Index
+  pub is : now ≡ with_more before columns fillers indexes
+  pub own : AreOwnForeign before
 
 -- each table stands where it stood
 pub record HaveGrown (before now : List Table) : Type 0 where

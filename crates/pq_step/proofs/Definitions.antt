@@ -47,7 +47,7 @@ table_pairs schema table valid made =
     let definitions = schema.definitions in
     let definition : Definition = OfTable (length tables + 1) (length table.columns) (length table.indexes) in
     let last : Pair = (catalog_key (length definitions + 1), value_at (with_table schema table) (length definitions + 1)) in
-    ending_pairs more definitions definition ∙ ap (λ (front : List Pair). front ++ last ∷ []) (pairs_stay tables more 1 definitions (grown_table tables table) made (definitions_of schema valid))
+    ending_pairs more definitions definition ∙ ap (λ (front : List Pair). front ++ last ∷ []) (pairs_stay tables more 1 definitions (grown_table tables table made) made (definitions_of schema valid))
 
 -- and with one more query
 pub query_pairs : (schema : Schema) (query : Query) (wanted : Option NewIndex) → IsValid schema → IsDefined schema query wanted
@@ -58,7 +58,7 @@ query_pairs schema query wanted valid defined =
     let definitions = schema.definitions in
     let last : Pair = (catalog_key (length definitions + 1), value_at (with_query schema query wanted) (length definitions + 1)) in
     ending_pairs more definitions (OfQuery query (option_map made_of wanted))
-    ∙ ap (λ (front : List Pair). front ++ last ∷ []) (pairs_stay tables more 1 definitions (grown_defined schema query wanted defined) (valid_made valid) (definitions_of schema valid))
+    ∙ ap (λ (front : List Pair). front ++ last ∷ []) (pairs_stay tables more 1 definitions (grown_defined schema query wanted valid defined) (valid_made valid) (definitions_of schema valid))
 
 pub put_table : (m : Model) (table : Table) → IsValid m.schema → AreMade m.schema.tables → Keeps m.schema.tables m.rows → length m.schema.definitions < 65535
     → insert (content_of m) (catalog_key (length m.schema.definitions + 1)) (value_at (with_table m.schema table) (length m.schema.definitions + 1)) ≡ content_of (record m { schema = with_table m.schema table })

@@ -10,6 +10,7 @@ use Rattle.pq_schema.specs.Costs.{bound}
 use Rattle.pq_schema.specs.Resolved.{IsResolved}
 use Rattle.pq_schema.specs.Schema.{Schema, IsQueryDefinition, definition_at, empty_schema, made_of, no_definition, query_at, query_of, with_query, with_table, with_wanted}
 use Rattle.pq_schema.specs.Valid.{IsValid, IsDefined}
+use Rattle.pq_schema.proofs.Valid.{valid_made}
 use Rattle.pq_schema.specs.declared.made.Definition.{Definition}
 use Rattle.pq_schema.specs.declared.made.Definition.TheVariants.{OfTable, OfQuery}
 use Rattle.pq_schema.specs.declared.query.Query.{Query}
@@ -56,7 +57,7 @@ kept_grown before now query plan grown resolved is = record {
 kept_defined : (s : Schema) (query : Query) (made : Compiled) → IsValid s → IsDefined s query made.wanted → IsCompiled s.tables query made → IsKeptPlan (with_wanted s.tables made.wanted) query made.plan
 kept_defined s query made valid defined is = record {
   runnable = plan_defined s query made valid defined is;
-  bound = compiled_bound s.tables query made is ∙ bound_stays s.tables (with_wanted s.tables made.wanted) query (grown_defined s query made.wanted defined) defined.resolved;
+  bound = compiled_bound s.tables query made is ∙ bound_stays s.tables (with_wanted s.tables made.wanted) query (grown_defined s query made.wanted valid defined) defined.resolved;
 }
 
 -- the plan of a query that is defined, over the tables with the index that it wants
@@ -116,12 +117,12 @@ module _ (s : Schema) (plans : List (Option Physical)) (valid : IsValid s) (kept
 
 pub table_kept : (s : Schema) (plans : List (Option Physical)) (table : Table) → IsValid s → ArePlans s plans → ArePlans (with_table s table) (plans ++ None ∷ [])
 table_kept s plans table valid kept =
-    one_more s plans valid kept (s.tables ++ table ∷ []) (grown_table s.tables table)
+    one_more s plans valid kept (s.tables ++ table ∷ []) (grown_table s.tables table (valid_made valid))
     (OfTable (length s.tables + 1) (length table.columns) (length table.indexes)) None (λ no. no)
 
 pub query_kept : (s : Schema) (plans : List (Option Physical)) (query : Query) (plan : Physical) (wanted : Option NewIndex) → IsValid s → ArePlans s plans → IsDefined s query wanted → IsPlanWanting s.tables query plan wanted → ArePlans (with_query s query wanted) (plans ++ Some plan ∷ [])
 query_kept s plans query plan wanted valid kept defined is =
-    one_more s plans valid kept (with_wanted s.tables wanted) (grown_defined s query wanted defined)
+    one_more s plans valid kept (with_wanted s.tables wanted) (grown_defined s query wanted valid defined)
     (OfQuery query (option_map made_of wanted)) (Some plan) (λ _. kept_wanting s query plan wanted valid defined is)
 
 -- ---- a query with its plan

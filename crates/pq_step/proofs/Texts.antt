@@ -1,17 +1,19 @@
 -- The canonical texts of definitions stay the same while tables grow.
-use Rattle.std.proofs.Common.{◌≡◌, ℕ, ◌-◌, List, [], ◌∷◌, ◌++◌, codes, Option, refl, sym, ap, ◌∙◌, arith}
+use Rattle.std.proofs.Common.{◌≡◌, ℕ, ◌-◌, ◌≤◌, length, List, [], ◌∷◌, ◌++◌, codes, Option, refl, sym, ap, ◌∙◌, arith}
 use Rattle.std.specs.List.{AllByRecursion}
 use Rattle.std.specs.Option.{option_map_or}
+use Rattle.std.proofs.lemmas.List.{get_or_append_left, take-append-le}
 use Rattle.std.proofs.lemmas.Option.{slice_get-get_or}
 use Rattle.pq_schema.specs.declared.made.Definition.{Definition}
 use Rattle.pq_schema.specs.declared.made.Definition.TheVariants.{OfTable, OfQuery}
+use Rattle.pq_schema.specs.declared.table.Column.{Column}
 use Rattle.pq_schema.specs.declared.table.Foreign.{Foreign}
 use Rattle.pq_schema.specs.declared.table.Table.{Table}
 use Rattle.pq_schema.specs.Sound.{IsMade, IsMadeForeign, AreMade}
 use Rattle.pq_schema.specs.Tables.{table_at, no_table}
 use Rattle.pq_content.specs.Tables.{IsTableNumber}
 use Rattle.pq_print.specs.Lists.{each_after, separate_texts}
-use Rattle.pq_print.specs.Canonical.{column_name, column_text, columns_text, limit_text, foreign_text, items_text, table_text, with_first_columns, numbered_text, text_of}
+use Rattle.pq_print.specs.Canonical.{absent_column, column_name, column_text, columns_text, limit_text, foreign_text, items_text, table_text, with_first_columns, numbered_text, text_of}
 use Rattle.pq_reread.specs.ReadBack.{KeepNames}
 use Rattle.pq_reread.proofs.LaterTables.{query_same}
 use Rattle.pq_runnable.specs.Grown.{HasGrown, HaveGrown}
@@ -39,10 +41,12 @@ module _ (tables later : List Table) (table : Table) where
   unfolding table_text
   same_table_text same = ap (λ (items : List ℕ). codes "CREATE TABLE " ++ table.name ++ codes " (" ++ items ++ codes ");") (same_items same)
 
--- it names no index
-indexed_text : (tables : List Table) (before now : Table) (columns : ℕ) → HasGrown before now → table_text tables (with_first_columns columns now) ≡ table_text tables (with_first_columns columns before)
+-- the text of its first columns names nothing that was added
+grown_text : (tables : List Table) (before now : Table) (columns : ℕ) → HasGrown before now → columns ≤ length before.columns → table_text tables (with_first_columns columns now) ≡ table_text tables (with_first_columns columns before)
 unfolding table_text items_text
-indexed_text tables before now columns grown = ap (λ (table : Table). table_text tables (with_first_columns columns table)) grown.is
+grown_text tables before now columns grown few =
+    ap (λ (table : Table). table_text tables (with_first_columns columns table)) grown.is
+    ∙ ap (λ (list : List Column). table_text tables (record before { columns = list })) (take-append-le columns before.columns grown.columns few)
 
 numbered_is : (tables : List Table) (t columns : ℕ) → IsTableNumber tables t → numbered_text tables t columns ≡ table_text tables (with_first_columns columns (table_at tables t))
 numbered_is tables t columns is = ap (λ (o : Option Table). option_map_or (λ table. table_text tables (with_first_columns columns table)) o []) (slice_get-get_or tables (t - 1) no_table (let low = is.0 in let high = is.1 in omega arith))
@@ -50,22 +54,25 @@ numbered_is tables t columns is = ap (λ (o : Option Table). option_map_or (λ t
 -- ---- tables that have grown
 
 module _ (tables later : List Table) (grown : HaveGrown tables later) where
-  numbered_stays : (t columns : ℕ) → AreMade tables → IsTableNumber tables t → numbered_text later t columns ≡ numbered_text tables t columns
-  numbered_stays t columns made is =
+  numbered_stays : (t columns : ℕ) → AreMade tables → IsTableNumber tables t → columns ≤ length (table_at tables t).columns → numbered_text later t columns ≡ numbered_text tables t columns
+  numbered_stays t columns made is few =
       let own : IsMade tables t (table_at tables t) = made t is.0 is.1 in
       let named : (foreign : Foreign) → IsMadeForeign tables t (table_at tables t).columns foreign → (table_at later foreign.table).name ≡ (table_at tables foreign.table).name =
       λ foreign f. ap (λ (x : Table). x.name) (grown.each foreign.table f.from_one (let below = f.earlier in let high = is.1 in omega arith)).is in
       numbered_is later t columns (number_stays tables later grown t is)
-      ∙ indexed_text later (table_at tables t) (table_at later t) columns (grown.each t is.0 is.1)
+      ∙ grown_text later (table_at tables t) (table_at later t) columns (grown.each t is.0 is.1) few
       ∙ same_table_text tables later (with_first_columns columns (table_at tables t)) (each_weaker (IsMadeForeign tables t (table_at tables t).columns) _ named (table_at tables t).foreign (each_by (IsMadeForeign tables t (table_at tables t).columns) (table_at tables t).foreign own.foreign))
       ∙ sym (numbered_is tables t columns is)
 
   keep_names : KeepNames tables later
   keep_names = record {
     table = λ number low high. ap (λ (x : Table). x.name) (grown.each number low high).is;
-    column = λ number col low high lt. ap (λ (x : Table). column_name x.columns col) (grown.each number low high).is;
+    column = λ number col low high lt.
+        let more = grown.each number low high in
+        ap (λ (x : Table). column_name x.columns col) more.is
+        ∙ ap (λ (c : Column). c.name) (get_or_append_left (table_at tables number).columns more.columns absent_column col lt);
   }
 
   pub text_stays : (definition : Definition) → AreMade tables → IsKnownDefinition tables definition → text_of later definition ≡ text_of tables definition
-  text_stays (OfTable t columns made) are is = numbered_stays t columns are is
+  text_stays (OfTable t columns made) are is = numbered_stays t columns are is.0 is.1
   text_stays (OfQuery query made) are is = query_same tables later query is keep_names
