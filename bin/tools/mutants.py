@@ -1,7 +1,6 @@
 """Tries the wrong bodies of crates in a copy of the checkout."""
 
 import datetime
-import os
 import pathlib
 import re
 import shutil
@@ -28,75 +27,47 @@ def copy_sources(top: pathlib.Path, room: pathlib.Path) -> None:
             shutil.copy2(top / name, room / name, follow_symlinks=False)
 
 
-def link(source: str, target: str) -> None:
-    """Links a file that is never written again, or copies it where that can't be."""
-    try:
-        os.link(source, target)
-    except OSError:
-        shutil.copy2(source, target)
-
-
-def take_over(kept: pathlib.Path, out: pathlib.Path) -> None:
-    """Gives a crate of the copy its library, which is only ever replaced whole, or else what the last check kept."""
-    if (kept / "rlib" / "stamp").exists():
-        shutil.copytree(kept / "rlib", out / "rlib", copy_function=link)
-    elif (kept / "incremental").exists():
-        shutil.copytree(kept / "incremental", out / "incremental")
-
-
 def gather(copy: Repository, crate: str, only: list[str]) -> int:
-    """Puts the edits of a crate, all or those of these names, where the toolchain looks for them, and counts them."""
-    folder = copy.folder(crate) / "must-fail"
-    folder.mkdir(exist_ok=True)
+    """Puts edits of a crate, all or those of these names, where the toolchain looks for them, and counts them."""
     edits = copy.edits(crate)
     if len({path.name for path in edits}) < len(edits):
         raise SystemExit(f"mutants: two edits of {crate} have one name")
-    wanted = [path for path in edits if not only or path.stem in only]
-    for path in edits:
-        if path not in wanted:
-            path.unlink()
-        elif path.parent != folder:
-            shutil.copy2(path, folder)
+    wanted = {path.name: path.read_text() for path in edits if not only or path.stem in only}
+    for name in copy.uses:
+        shutil.rmtree(copy.folder(name) / "must-fail", ignore_errors=True)
+    folder = copy.folder(crate) / "must-fail"
+    folder.mkdir()
+    for name, text in wanted.items():
+        (folder / name).write_text(text)
     return len(wanted)
 
 
-def is_proved(crate: str, room: pathlib.Path) -> bool:
-    """Whether a crate is proved as it stands: over one that isn't, no refusal shows anything."""
-    folder = room / "crates" / crate
-    words = ["rt", "check" if (folder / "src" / "main.rt").exists() else "lib", "--jobs", "1"]
-    how = {"stdout": subprocess.PIPE, "stderr": subprocess.STDOUT, "text": True, "errors": "replace"}
-    run = subprocess.run(words, cwd=folder, stdin=subprocess.DEVNULL, **how)
-    if run.returncode:
-        print(f"{crate}: not proved as it stands, so no edit was tried:", *run.stdout.split("\n")[-12:], sep="\n  ")
-    return run.returncode == 0
-
-
 def refused_of(crate: str, room: pathlib.Path) -> int:
-    """Tries the edits of a crate, tells what was found of each, and returns how many were refused."""
-    words = ["rt", "must-fail", crate]
+    """Proves a crate and tries its edits, tells what was found of each, and returns how many were refused."""
+    words = ["rt", "ci", crate]
     how = {"stdout": subprocess.PIPE, "stderr": subprocess.STDOUT, "text": True, "errors": "replace"}
-    refused, lines = 0, []
-    with subprocess.Popen(words, cwd=room, **how) as run:
+    tried, refused, lines = 0, 0, []
+    with subprocess.Popen(words, cwd=room, stdin=subprocess.DEVNULL, **how) as run:
         for line in run.stdout or ():
             lines.append(line)
-            if found := OF_EDIT.match(line):
+            if (found := OF_EDIT.match(line)) and found[1] == crate:
                 print(f"{found[1]}/{found[2]}: {found[3]}", flush=True)
+                tried += 1
                 refused += found[3].startswith(REFUSED)
-    if not any(OF_EDIT.match(line) for line in lines):
+    if not tried:
+        # Over a crate that isn't proved as it stands no refusal would show anything.
         print(f"{crate}: no edit was tried; the toolchain said:", *lines[-12:], sep="\n  ")
     return refused
 
 
 def try_crate(crate: str, toolchain: str, only: list[str]) -> results.Result:
-    """Tries edits of a crate in a copy of the checkout, which takes over what is kept of it and of those below."""
+    """Tries edits of a crate in a copy of the checkout."""
     with tempfile.TemporaryDirectory(prefix="mutants-") as name:
         room = pathlib.Path(name)
         copy_sources(TOP, room)
         copy = Repository(room)
-        for low in {crate, *copy.below(crate)}:
-            take_over(TOP / "crates" / low / "out", room / "crates" / low / "out")
         sources, tried = copy.source_sum(crate), gather(copy, crate, only)
-        refused = refused_of(crate, room) if is_proved(crate, room) else 0
+        refused = refused_of(crate, room)
     when = datetime.datetime.now(datetime.UTC).strftime("%Y-%m-%dT%H:%MZ")
     return results.Result(crate, refused, tried, sources, when, toolchain)
 

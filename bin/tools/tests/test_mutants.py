@@ -16,7 +16,9 @@ from tools.repository import Repository
 # It says what the toolchain says of each edit: by its text, that it is refused, not refused, or can't be applied.
 TOOL = """#!/bin/sh
 [ "$1" = version ] && echo kit-1 && exit
-[ "$1" = lib ] && { [ ! -e src/flaw ]; exit; }
+[ "$1" = ci ] || exit 9
+[ -e "crates/$2/src/flaw" ] && echo "rt: $2 NOT PROVED" && exit 1
+echo "rt: must-fail another/one.edit: refused, as it must be: another crate"
 status=0
 for edit in crates/"$2"/must-fail/*.edit; do
     read -r word < "$edit"
@@ -97,7 +99,7 @@ class MutantsTest(unittest.TestCase):
         self.edit("low", "one", "good")
         self.write(self.top / "crates/low/src/flaw", "")
         status, said = self.run_main("low")
-        self.assertEqual((status, "not proved as it stands" in said), (1, True))
+        self.assertEqual((status, "no edit was tried" in said, "low NOT PROVED" in said), (1, True, True))
         self.assertEqual(results.read(self.path)["low"].refused, 0)
 
     def test_a_crate_without_edits_is_named(self) -> None:
