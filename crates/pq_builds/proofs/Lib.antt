@@ -1,3 +1,4 @@
+pub mod Answered
 pub mod Entering
 pub mod Filled
 pub mod Finals

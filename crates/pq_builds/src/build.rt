@@ -1,7 +1,7 @@
 //! Builds: from no definition to a ready one, and of one that was left.
 ghost use Rattle.std.specs.Prelude.{◌≡◌, ◌≤◌, ◌+◌, ◌*◌, ◌⊎◌, false, Some, length, IfOk, IfErr, IfSome, OnOk, OnErr};
 ghost use Rattle.pq_content.specs.Pairs.{is_of_rows};
-ghost use Rattle.pq_store.specs.Breaks.{IfDamaged, IsPresent, IsUndamaged};
+ghost use Rattle.pq_store.specs.Breaks.{IfDamaged, IsPresent, IsUndamaged, IsAnsweredBut};
 ghost use Rattle.pq_store.specs.Content.{HasBrokeCause};
 ghost use Rattle.pq_intent.specs.Spending.{TakesAtMost};
 ghost use Rattle.pq_intent.specs.Changing.{StaysUntold};
@@ -49,6 +49,7 @@ fn mark<S: Store<L>, L: Ledger>(
     ensures shown { IfErr result (λ broke. IfSome (S.content store.old) (λ c.
         IfDamaged (IsPresent query.now.key c) broke)) }
     ensures names { IfErr result (NamesKey query.now.key) }
+    ensures answered { IfErr result (IsAnsweredBut S.answers query.now.key) }
     ensures takes { OnOk result (Takes 1 0 meter.old meter.new) }
     ensures few { meter.new.ops ≤ meter.old.ops + 1 }
     ensures entries { meter.new.entries ≡ meter.old.entries }
@@ -88,6 +89,7 @@ fn finish<S: Store<L>, L: Ledger>(
         length (row_pairs_in target.now.table c) ≡ count
         → IfDamaged (IsNoRowAmong (target_shape target.now) (row_pairs_in target.now.table c)) broke)) }
     ensures names { IfErr result (NamesKey query.now.key) }
+    ensures answered { IfErr result (IsAnsweredBut S.answers query.now.key) }
     ensures takes { OnOk result (Takes (fill_ops count + 1) count meter.old meter.new) }
     ensures few_ops { meter.new.ops ≤ meter.old.ops + (fill_ops count + 1) }
     ensures few_entries { meter.new.entries ≤ meter.old.entries + (count + 256) }
@@ -120,6 +122,7 @@ fn build_rows<S: Store<L>, L: Ledger>(
     ensures shown { IfErr result (λ broke. IfSome (S.content store.old) (λ c.
         length (row_pairs_in target.now.table c) ≡ count → ShowsBuild target.now query.now c broke)) }
     ensures names { IfErr result (NamesKey query.now.key) }
+    ensures answered { IfErr result (IsAnsweredBut S.answers query.now.key) }
     ensures takes { OnOk result (Takes (fill_ops count + 2) count meter.old meter.new) }
     ensures few_ops { meter.new.ops ≤ meter.old.ops + (fill_ops count + 2) }
     ensures few_entries { meter.new.entries ≤ meter.old.entries + (count + 256) }
@@ -148,6 +151,7 @@ fn run_build<S: Store<L>, L: Ledger>(
     ensures shown { IfErr result (λ broke. IfSome (S.content store.old) (λ c.
         ShowsBuild target.now query.now c broke)) }
     ensures names { IfErr result (NamesKey query.now.key) }
+    ensures answered { IfErr result (IsAnsweredBut S.answers query.now.key) }
     ensures unchanged { IfOk result (λ built. built ≡ Built.TooMany → S.content store.new ≡ S.content store.old) }
     ensures few { IfOk result IsFew }
     ensures takes { IfOk result (λ built. TakesBuild built meter.old meter.new) }
@@ -182,6 +186,7 @@ fn run_completion<S: Store<L>, L: Ledger>(
     ensures shown { IfErr result (λ broke. IfSome (S.content store.old) (λ c.
         ShowsLeft target.now query.now c broke)) }
     ensures names { IfErr result (NamesKey query.now.key) }
+    ensures answered { IfErr result (IsAnsweredBut S.answers query.now.key) }
     ensures takes { IfOk result (λ count. Takes (left_ops count) (2 * count) meter.old meter.new) }
     ensures within { OnErr result (IsWithinBuild left_ops meter.old meter.new) }
     ensures within_own { OnErr result (IfSome (S.content store.old) (λ c.
@@ -230,6 +235,7 @@ pub fn build_index<S: Store<L>, L: Ledger>(
     // Over every store, told or not. Damage that has no value names the definition's key: it was there,
     // or the ranges gave another number of rows than the count.
     ensures names { IfErr result (NamesKey query.now.key) }
+    ensures answered { IfErr result (IsAnsweredBut S.answers query.now.key) }
     ensures unchanged { IfOk result (λ built. built ≡ Built.TooMany → S.content store.new ≡ S.content store.old) }
     ensures few { IfOk result IsFew }
     ensures takes { IfOk result (λ built. TakesBuild built meter.old meter.new) }
@@ -271,6 +277,7 @@ pub fn complete_index<S: Store<L>, L: Ledger>(
     // Over every store, told or not. A store may give other rows than it counts, and with them one range more.
     ensures few { IfOk result (λ count. count ≤ 1000000) }
     ensures names { IfErr result (NamesKey query.now.key) }
+    ensures answered { IfErr result (IsAnsweredBut S.answers query.now.key) }
     ensures takes { IfOk result (λ count. Takes (left_ops count) (2 * count) meter.old meter.new) }
     ensures within { OnErr result (IsWithinBuild left_ops meter.old meter.new) }
     ensures cause { HasBrokeCause (S.faults store.old) (S.faults store.new) result }

@@ -1,7 +1,7 @@
 //! The entries of all rows of a table, read by ranges.
 ghost use Rattle.std.specs.Prelude.{◌≡◌, ◌≤◌, ◌+◌, ◌/◌, true, None, length, map, IfOk, IfErr, IfSome, OnOk, OnErr};
 ghost use Rattle.pq_content.specs.Pairs.{is_in_space};
-ghost use Rattle.pq_store.specs.Breaks.{IfDamaged};
+ghost use Rattle.pq_store.specs.Breaks.{IfDamaged, IsAnsweredBut};
 ghost use Rattle.pq_store.specs.Content.{pairs_within, HasBrokeCause, entry};
 ghost use Rattle.pq_intent.specs.Changing.{StaysUntold};
 ghost use Rattle.pq_builds.specs.Filling.{first_key, past_key, row_pairs_in, IsPast, Enters, EntersSome, Follows, target_shape, ShowsRange, IsNoRowAmong, NamesKey, fill_ops};
@@ -74,6 +74,7 @@ fn fill_next<S: Store<L>, L: Ledger>(
     ensures damage { IfErr result (λ broke. IfSome (S.content store.old) (λ c.
         ShowsRange (target_shape target.now) number (pairs_within c low (past_key target.now.table)) broke)) }
     ensures names { IfErr result (NamesKey key.now) }
+    ensures answered { IfErr result (IsAnsweredBut S.answers key.now) }
     ensures each { OnOk result (meter.new.ops ≡ meter.old.ops + (number + 1)) }
     ensures each_entry { OnOk result (meter.new.entries ≡ meter.old.entries + number) }
     ensures few { meter.new.ops ≤ meter.old.ops + (number + 1) }
@@ -117,6 +118,7 @@ pub(crate) fn fill_rows<S: Store<L>, L: Ledger>(
         → IfDamaged (IsNoRowAmong (target_shape target.now) (row_pairs_in target.now.table c)) broke)) }
     // Over every store, told or not.
     ensures names { IfErr result (NamesKey key.now) }
+    ensures answered { IfErr result (IsAnsweredBut S.answers key.now) }
     ensures each { OnOk result (meter.new.ops ≡ meter.old.ops + fill_ops count) }
     ensures each_entry { OnOk result (meter.new.entries ≡ meter.old.entries + count) }
     ensures few { meter.new.ops ≤ meter.old.ops + fill_ops count }

@@ -1,6 +1,8 @@
 //! Single calls on a store, each paid from an allowance.
-ghost use Rattle.std.specs.Prelude.{◌≡◌, ◌≤◌, length, map, take, min, is_some, IfOk, IfErr, IfSome};
+ghost use Rattle.std.specs.Prelude.{◌≡◌, ◌≤◌, length, map, take, min, is_some, Some, IfOk, IfErr, IfSome};
+ghost use Rattle.std.specs.List.{AllByRecursion};
 ghost use Rattle.std.specs.FinMap.{get as value_at};
+ghost use Rattle.pq_store.specs.Breaks.{IsAnswered};
 ghost use Rattle.pq_store.specs.Content.{entry, pairs_within, IsPartOf};
 ghost use Rattle.pq_calls.specs.Calls.{Uses, Fails};
 ghost use Rattle.pq_calls.specs.World.{Affords, no_damage};
@@ -24,8 +26,10 @@ impl<'a, S: Store<L>, L: Ledger> Calls<'a, S, L> {
         requires share { Affords self.old.allowance.now 1 1 }
         ensures uses { Uses S.content S.faults self.old self.new 1 1 }
         ensures cause { IfErr result (Fails no_damage S.content S.faults self.old self.new) }
+        ensures answered { IfErr result (IsAnswered S.answers) }
         ensures answer { IfOk result (λ found. IfSome (S.content self.old.store.now)
             (λ c. found ≡ value_at c key.now)) }
+        ensures answers { IfOk result (λ found. S.answers key.now found) }
     {
         let answer = self.store.get(alloc, key, self.meter);
         match &answer {
@@ -48,9 +52,12 @@ impl<'a, S: Store<L>, L: Ledger> Calls<'a, S, L> {
         requires share { Affords self.old.allowance.now 1 limit }
         ensures uses { Uses S.content S.faults self.old self.new 1 limit }
         ensures cause { IfErr result (Fails no_damage S.content S.faults self.old self.new) }
+        ensures answered { IfErr result (IsAnswered S.answers) }
         ensures answer { IfOk result (λ found. IfSome (S.content self.old.store.now) (λ c.
             map entry found ≡ take limit (pairs_within c low.now high.now))) }
         ensures part { IfOk result (λ found. IsPartOf low.now high.now limit (map entry found)) }
+        ensures answers { IfOk result (λ found. AllByRecursion
+            (λ pair. S.answers pair.0 (Some pair.1)) (map entry found)) }
     {
         let answer = self.store.range(alloc, low, high, limit, self.meter);
         match &answer {
@@ -66,6 +73,7 @@ impl<'a, S: Store<L>, L: Ledger> Calls<'a, S, L> {
         requires share { Affords self.old.allowance.now 1 cap }
         ensures uses { Uses S.content S.faults self.old self.new 1 cap }
         ensures cause { IfErr result (Fails no_damage S.content S.faults self.old self.new) }
+        ensures answered { IfErr result (IsAnswered S.answers) }
         ensures answer { IfOk result (λ n. IfSome (S.content self.old.store.now) (λ c.
             n ≡ min cap (length (pairs_within c low.now high.now)))) }
         ensures few { IfOk result (λ n. n ≤ cap) }
@@ -83,6 +91,7 @@ impl<'a, S: Store<L>, L: Ledger> Calls<'a, S, L> {
         requires share { Affords self.old.allowance.now 1 1 }
         ensures uses { Uses S.content S.faults self.old self.new 1 1 }
         ensures cause { IfErr result (Fails no_damage S.content S.faults self.old self.new) }
+        ensures answered { IfErr result (IsAnswered S.answers) }
         ensures answer { IfOk result (λ there. IfSome (S.content self.old.store.now) (λ c.
             there ≡ is_some (value_at c at.now))) }
     {

@@ -1,10 +1,11 @@
 //! Rows by their keys.
-ghost use Rattle.std.specs.Prelude.{◌≡◌, option_map, IfOk, IfErr, IfSome};
+ghost use Rattle.std.specs.Prelude.{◌≡◌, option_map, None, IfOk, IfErr, IfSome, IfNone};
 ghost use Rattle.std.specs.FinMap.{get as value_at};
 ghost use Rattle.pq_base.specs.Shapes.{row_shape};
 ghost use Rattle.pq_base.specs.Values.{AllFit};
 ghost use Rattle.pq_key_code.specs.KeyCode.{row_key};
 ghost use Rattle.pq_schema.specs.Rows.{types_of, shape_of};
+ghost use Rattle.pq_store.specs.Breaks.{IsAnswered};
 ghost use Rattle.pq_calls.specs.Calls.{Uses, Fails};
 ghost use Rattle.pq_calls.specs.Evidence.{IsRead, IsNoRowAt};
 ghost use Rattle.pq_calls.specs.World.{Affords};
@@ -51,6 +52,8 @@ impl<'a, S: Store<L>, L: Ledger> Calls<'a, S, L> {
             self.old self.new) }
         ensures read { IfOk result (λ found. IfSome (S.content self.old.store.now) (λ c.
             IsRead (row_shape types.now fillers.now) (value_at c at) (option_map (λ stored. stored.row) found))) }
+        ensures answered { IfErr result (IsAnswered S.answers) }
+        ensures none { IfOk result (λ found. IfNone found (S.answers at None)) }
         ensures at { IfOk result (λ found. IfSome found (λ stored. stored.at ≡ at)) }
         ensures fits { IfOk result (λ found. IfSome found (λ stored. AllFit types.now stored.row)) }
     {
@@ -82,6 +85,8 @@ impl<'a, S: Store<L>, L: Ledger> Calls<'a, S, L> {
         ensures read { IfOk result (λ found. IfSome (S.content self.old.store.now) (λ c.
             IsRead (shape_of table.now) (value_at c (row_key number key.now)) (option_map
             (λ stored. stored.row) found))) }
+        ensures answered { IfErr result (IsAnswered S.answers) }
+        ensures none { IfOk result (λ found. IfNone found (S.answers (row_key number key.now) None)) }
         ensures at { IfOk result (λ found. IfSome found (λ stored. stored.at ≡ row_key number key.now)) }
         ensures fits { IfOk result (λ found. IfSome found (λ stored. AllFit (types_of table.now) stored.row)) }
     {

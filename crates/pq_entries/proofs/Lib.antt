@@ -1,3 +1,4 @@
+pub mod Answered
 pub mod Decoded
 pub mod Fetched
 pub mod Naming

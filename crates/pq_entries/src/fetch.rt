@@ -6,6 +6,7 @@ ghost use Rattle.pq_base.specs.declared.value.Value.{Value};
 ghost use Rattle.pq_schema.specs.Rows.{types_of};
 ghost use Rattle.pq_schema.specs.Sequences.{index_sequence, index_numbered};
 ghost use Rattle.pq_schema.specs.Tables.{table_at};
+ghost use Rattle.pq_store.specs.Breaks.{IsAnswered};
 ghost use Rattle.pq_calls.specs.Calls.{Uses, Fails};
 ghost use Rattle.pq_calls.specs.Keys.{sequence_types};
 ghost use Rattle.pq_calls.specs.World.{Affords, where_told};
@@ -42,6 +43,7 @@ pub fn named_row<S: Store<L>, L: Ledger>(
     ensures uses { Uses S.content S.faults calls.old calls.new 1 1 }
     ensures cause { IfErr result (Fails (where_told (ShowsRead catalog.now.tables)) S.content S.faults calls.old
         calls.new) }
+    ensures answered { IfErr result (IsAnswered S.answers) }
     ensures fits { IfOk result (AllFit (types_of (table_at catalog.now.tables number))) }
     // Over any content that is told, the row that stands at the key that the entry names.
     ensures code { IfOk result (λ found. IfSome (S.content calls.old.store.now)

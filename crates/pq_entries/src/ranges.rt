@@ -7,6 +7,7 @@ ghost use Rattle.pq_schema.specs.Keys.{dirs_of};
 ghost use Rattle.pq_schema.specs.Sequences.{IsAccess, sequence_of};
 ghost use Rattle.pq_schema.specs.Sound.{IsTable};
 ghost use Rattle.pq_schema.specs.Tables.{table_at};
+ghost use Rattle.pq_store.specs.Breaks.{IsAnswered};
 ghost use Rattle.pq_calls.specs.Calls.{Uses, Fails};
 ghost use Rattle.pq_calls.specs.Keys.{sequence_types};
 ghost use Rattle.pq_calls.specs.World.{Affords, where_told};
@@ -53,6 +54,7 @@ pub fn range_rows<S: Store<L>, L: Ledger>(
     ensures uses { Uses S.content S.faults calls.old calls.new 1 limit }
     ensures cause { IfErr result (Fails (where_told (ShowsRead catalog.now.tables)) S.content S.faults calls.old
         calls.new) }
+    ensures answered { IfErr result (IsAnswered S.answers) }
     ensures few { IfOk result (λ rows. length rows ≤ limit) }
     ensures fit { IfOk result (AllByRecursion (AllFit (types_of (table_at catalog.now.tables number)))) }
     // Over any content that is told, no pair is passed over.
@@ -117,6 +119,7 @@ pub fn range_values<S: Store<L>, L: Ledger>(
     ensures uses { Uses S.content S.faults calls.old calls.new 1 limit }
     ensures cause { IfErr result (Fails (where_told (ShowsRead catalog.now.tables)) S.content S.faults calls.old
         calls.new) }
+    ensures answered { IfErr result (IsAnswered S.answers) }
     ensures few { IfOk result (λ found. length found ≤ limit) }
     ensures fit { IfOk result (AllByRecursion (AllFit (sequence_types (table_at catalog.now.tables number) access))) }
     ensures there { IfOk result (AllByRecursion

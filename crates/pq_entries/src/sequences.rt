@@ -9,6 +9,7 @@ ghost use Rattle.pq_schema.specs.Rows.{types_of};
 ghost use Rattle.pq_schema.specs.Sequences.{index_sequence, index_numbered};
 ghost use Rattle.pq_schema.specs.Tables.{table_at};
 ghost use Rattle.pq_store.specs.Content.{pairs_within};
+ghost use Rattle.pq_store.specs.Breaks.{IsAnswered};
 ghost use Rattle.pq_calls.specs.Calls.{Uses, Fails};
 ghost use Rattle.pq_calls.specs.Keys.{sequence_types};
 ghost use Rattle.pq_calls.specs.World.{Affords, where_told};
@@ -45,6 +46,7 @@ fn named_rows<S: Store<L>, L: Ledger>(
     ensures uses { Uses S.content S.faults calls.old calls.new (length found.now) (length found.now) }
     ensures cause { IfErr result (Fails (where_told (ShowsRead catalog.now.tables)) S.content S.faults calls.old
         calls.new) }
+    ensures answered { IfErr result (IsAnswered S.answers) }
     ensures long { IfOk result (λ rows. length rows ≡ length found.now) }
     ensures fit { IfOk result (AllByRecursion (AllFit (types_of (table_at catalog.now.tables number)))) }
     ensures codes { IfOk result (λ named. IfSome (S.content calls.old.store.now)
@@ -84,6 +86,7 @@ pub fn sequence_rows<S: Store<L>, L: Ledger>(
         (limit_cost (is_primary_access access) limit).entries }
     ensures cause { IfErr result (Fails (where_told (ShowsRead catalog.now.tables)) S.content S.faults calls.old
         calls.new) }
+    ensures answered { IfErr result (IsAnswered S.answers) }
     ensures few { IfOk result (λ found. length found ≤ limit) }
     ensures fit { IfOk result (AllByRecursion (AllFit (types_of (table_at catalog.now.tables number)))) }
     // Over any content that is told, no pair is passed over.

@@ -3,7 +3,7 @@ ghost use Rattle.std.specs.Prelude.{◌≡◌, length, option_copied, IfOk, IfEr
 ghost use Rattle.std.specs.List.{AllByRecursion};
 ghost use Rattle.pq_base.specs.Values.{AllFit};
 ghost use Rattle.pq_schema.specs.Resolved.{IsResolved};
-ghost use Rattle.pq_store.specs.Breaks.{IfDamaged};
+ghost use Rattle.pq_store.specs.Breaks.{IfDamaged, IsAnswered};
 ghost use Rattle.pq_store.specs.Content.{HasBrokeCause};
 ghost use Rattle.pq_calls.specs.World.{where_told};
 ghost use Rattle.pq_plan.specs.Cost.{cost};
@@ -78,6 +78,7 @@ pub fn execute<S: Store<L>, L: Ledger>(
     ensures bound { RisesWithin (cost plan.now) meter.old meter.new }
     ensures used { IfOk result (λ answer. RisesByUsed answer.used meter.old meter.new) }
     ensures cause { HasBrokeCause (S.faults store.old) (S.faults store.new) result }
+    ensures answered { IfErr result (IsAnswered S.answers) }
     ensures damage { IfErr result (IfDamaged (where_told (ShowsRead catalog.now.tables) (S.content store.old))) }
     ensures undamaged { IfErr result (IsSoundOverRows (S.content store.old) catalog.now.tables) }
 {

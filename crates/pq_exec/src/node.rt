@@ -1,6 +1,7 @@
 //! One node of a plan, run over its inputs.
 ghost use Rattle.std.specs.Prelude.{◌≡◌, ◌-◌, [], ◌∷◌, length, option_copied, IfOk, IfErr};
 ghost use Rattle.std.specs.List.{AllByRecursion};
+ghost use Rattle.pq_store.specs.Breaks.{IsAnswered};
 ghost use Rattle.pq_calls.specs.World.{world};
 ghost use Rattle.pq_plan.specs.Nodes.{stop_scan};
 ghost use Rattle.pq_nodes.specs.Combos.{FitsTables};
@@ -91,6 +92,7 @@ fn read_stop<S: Store<L>, L: Ledger>(
     ensures cause { IfErr result (StopsReading request.now.catalog.now.tables
         (world (S.content store.old) (S.faults store.old) allowance.old meter.old)
         (world (S.content store.new) (S.faults store.new) allowance.new meter.new)) }
+    ensures answered { IfErr result (IsAnswered S.answers) }
     ensures undamaged { IfErr result (IsSoundOverRows (S.content store.old) request.now.catalog.now.tables) }
 {
     let Request {
@@ -137,6 +139,7 @@ pub(crate) fn run_node<S: Store<L>, L: Ledger>(
     ensures cause { IfErr result (StopsReading request.now.catalog.now.tables
         (world (S.content store.old) (S.faults store.old) allowance.old meter.old)
         (world (S.content store.new) (S.faults store.new) allowance.new meter.new)) }
+    ensures answered { IfErr result (IsAnswered S.answers) }
     ensures undamaged { IfErr result (IsSoundOverRows (S.content store.old) request.now.catalog.now.tables) }
 {
     let Request {

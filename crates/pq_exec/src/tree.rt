@@ -1,5 +1,6 @@
 //! The tree of a plan, run from its innermost node on.
 ghost use Rattle.std.specs.Prelude.{◌≡◌, [], ◌∷◌, option_copied, IfOk, IfErr};
+ghost use Rattle.pq_store.specs.Breaks.{IsAnswered};
 ghost use Rattle.pq_calls.specs.World.{world, Affords, Reads};
 ghost use Rattle.pq_plan.specs.Cost.{cost};
 ghost use Rattle.pq_plan.specs.Nodes.{nodes};
@@ -63,6 +64,7 @@ pub(crate) fn run<S: Store<L>, L: Ledger>(
     ensures cause { IfErr result (StopsReading request.now.catalog.now.tables
         (world (S.content store.old) (S.faults store.old) allowance.old meter.old)
         (world (S.content store.new) (S.faults store.new) allowance.new meter.new)) }
+    ensures answered { IfErr result (IsAnswered S.answers) }
     ensures undamaged { IfErr result (IsSoundOverRows (S.content store.old) request.now.catalog.now.tables) }
 {
     match input_of(tree) {

@@ -4,6 +4,7 @@ ghost use Rattle.std.specs.List.{AllByRecursion};
 ghost use Rattle.pq_base.specs.Values.{AllFit};
 ghost use Rattle.pq_schema.specs.Relations.{table_of};
 ghost use Rattle.pq_schema.specs.Rows.{types_of};
+ghost use Rattle.pq_store.specs.Breaks.{IsAnswered};
 ghost use Rattle.pq_calls.specs.Calls.{Uses, Fails};
 ghost use Rattle.pq_calls.specs.World.{Affords, where_told, world};
 ghost use Rattle.pq_plan.specs.Nodes.{lookup};
@@ -39,6 +40,7 @@ fn partner<S: Store<L>, L: Ledger>(
     ensures uses { Uses S.content S.faults calls.old calls.new 1 1 }
     ensures cause { IfErr result (Fails (where_told (ShowsRead catalog.now.tables))
         S.content S.faults calls.old calls.new) }
+    ensures answered { IfErr result (IsAnswered S.answers) }
     ensures fits { IfOk result (λ found. IfSome found (AllFit (types_of (table_of catalog.now.tables query.now rel)))) }
     ensures code { IfOk result (IsTiedRow (S.content calls.old.store.now)
         catalog.now.tables query.now params.now rel input.now) }
@@ -75,6 +77,7 @@ fn join_one<S: Store<L>, L: Ledger>(
     ensures uses { Uses S.content S.faults calls.old calls.new 1 1 }
     ensures cause { IfErr result (Fails (where_told (ShowsRead catalog.now.tables))
         S.content S.faults calls.old calls.new) }
+    ensures answered { IfErr result (IsAnswered S.answers) }
     ensures few { OnOk result (length found.new ≤ length found.old + 1) }
     ensures fit { OnOk result (AllByRecursion (FitsTables catalog.now.tables query.now rel) found.old
         → AllByRecursion (FitsTables catalog.now.tables query.now rel) found.new) }
@@ -109,6 +112,7 @@ fn join_each<S: Store<L>, L: Ledger>(
     ensures uses { Uses S.content S.faults calls.old calls.new (length inputs) (length inputs) }
     ensures cause { IfErr result (Fails (where_told (ShowsRead catalog.now.tables))
         S.content S.faults calls.old calls.new) }
+    ensures answered { IfErr result (IsAnswered S.answers) }
     ensures found { IfOk result (AreFound catalog.now.tables query.now rel (length inputs) (lookup rel)) }
     ensures codes { IfOk result (AddsJoined (S.content calls.old.store.now)
         catalog.now.tables query.now params.now rel inputs []) }
@@ -150,6 +154,7 @@ pub fn fk_join<S: Store<L>, L: Ledger>(
     ensures cause { IfErr result (StopsReading catalog.now.tables
         (world (S.content store.old) (S.faults store.old) allowance.old meter.old)
         (world (S.content store.new) (S.faults store.new) allowance.new meter.new)) }
+    ensures answered { IfErr result (IsAnswered S.answers) }
     ensures undamaged { IfErr result (IsSoundOverRows (S.content store.old) catalog.now.tables) }
 {
     let mut calls = Calls {

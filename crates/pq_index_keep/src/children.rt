@@ -10,6 +10,7 @@ ghost use Rattle.pq_content.specs.Pairs.{Pair};
 ghost use Rattle.pq_content.specs.Tables.{Rows};
 ghost use Rattle.pq_index_keep.specs.Bounds.{one_if};
 ghost use Rattle.pq_index_keep.specs.Effects.{names_key};
+ghost use Rattle.pq_store.specs.Breaks.{IsAnswered};
 ghost use Rattle.pq_calls.specs.Calls.{Uses, Fails};
 ghost use Rattle.pq_calls.specs.World.{Affords, no_damage};
 ghost use Rattle.pq_index_keep.specs.Promises.{HoldsRows};
@@ -41,6 +42,7 @@ fn names_key<S: Store<L>, L: Ledger>(
     ensures uses { Uses S.content S.faults calls.old calls.new (one_if (foreign.now.table == number))
         (one_if (foreign.now.table == number)) }
     ensures cause { IfErr result (Fails no_damage S.content S.faults calls.old calls.new) }
+    ensures answered { IfErr result (IsAnswered S.answers) }
     ensures answer { IfOk result (λ named. (tables : List Definition) (rows : Rows) (others : List Pair)
         → HoldsRows (S.content calls.old.store.now) tables rows others → table.now ≡ table_at tables child →
         MayName table.now number key.now foreign.now → named ≡ names_key rows number key.now child foreign.now) }
@@ -78,6 +80,7 @@ pub(crate) fn first_naming<S: Store<L>, L: Ledger>(
     ensures uses { Uses S.content S.faults calls.old calls.new (count_by
         (λ f. f.table == number) foreign.now) (count_by (λ f. f.table == number) foreign.now) }
     ensures cause { IfErr result (Fails no_damage S.content S.faults calls.old calls.new) }
+    ensures answered { IfErr result (IsAnswered S.answers) }
     ensures answer { IfOk result (λ at. (tables : List Definition) (rows : Rows) (others : List Pair)
         → HoldsRows (S.content calls.old.store.now) tables rows others → table.now ≡ table_at tables child →
         All (MayName table.now number key.now) foreign.now

@@ -6,6 +6,7 @@ ghost use Rattle.pq_key_code.specs.KeyCode.{past_code};
 ghost use Rattle.pq_store.specs.Content.{pairs_within};
 ghost use Rattle.pq_schema.specs.Sequences.{index_numbered, group_access};
 ghost use Rattle.pq_schema.specs.Sound.{IsTable, AreColumns, AreParts};
+ghost use Rattle.pq_store.specs.Breaks.{IsAnswered};
 ghost use Rattle.pq_calls.specs.Keys.{sequence_key};
 ghost use Rattle.pq_index_keep.specs.Groups.{first_values, group_key};
 ghost use Rattle.pq_calls.specs.Calls.{Uses, Fails};
@@ -127,6 +128,7 @@ pub(crate) fn count_group<S: Store<L>, L: Ledger>(
     requires share { Affords calls.old.allowance.now 1 cap }
     ensures uses { Uses S.content S.faults calls.old calls.new 1 cap }
     ensures cause { IfErr result (Fails no_damage S.content S.faults calls.old calls.new) }
+    ensures answered { IfErr result (IsAnswered S.answers) }
     ensures answer { IfOk result (λ n. IfSome (S.content calls.old.store.now)
         (λ c. n ≡ min cap (length (pairs_within c (group_key number table.now cols.now values.now)
         (past_code (group_key number table.now cols.now values.now)))))) }

@@ -11,6 +11,7 @@ ghost use Rattle.pq_content.specs.Pairs.{Pair};
 ghost use Rattle.pq_content.specs.Tables.{Rows, types_of};
 ghost use Rattle.pq_index_keep.specs.Bounds.{one_if, tested_limits, tested_n};
 ghost use Rattle.pq_index_keep.specs.Effects.{stays, is_full, lacks_room};
+ghost use Rattle.pq_store.specs.Breaks.{IsAnswered};
 ghost use Rattle.pq_calls.specs.Calls.{Uses, Fails};
 ghost use Rattle.pq_calls.specs.World.{Affords, no_damage};
 ghost use Rattle.pq_index_keep.specs.Promises.{HoldsRows};
@@ -51,6 +52,7 @@ fn is_full<S: Store<L>, L: Ledger>(
     requires share { Affords calls.old.allowance.now 1 limit.now.n }
     ensures uses { Uses S.content S.faults calls.old calls.new 1 limit.now.n }
     ensures cause { IfErr result (Fails no_damage S.content S.faults calls.old calls.new) }
+    ensures answered { IfErr result (IsAnswered S.answers) }
     ensures answer { IfOk result (λ full. (tables : List Definition) (rows : Rows) (others : List Pair)
         → HoldsRows (S.content calls.old.store.now) tables rows others → table.now ≡ table_at tables number →
         AllFit (types_of table.now) row.now → full ≡ is_full rows number row.now limit.now) }
@@ -88,6 +90,7 @@ fn lacks_room<S: Store<L>, L: Ledger>(
     ensures uses { Uses S.content S.faults calls.old calls.new (one_if (touches scope.now limit.now.cols))
         (tested_n scope.now limit.now) }
     ensures cause { IfErr result (Fails no_damage S.content S.faults calls.old calls.new) }
+    ensures answered { IfErr result (IsAnswered S.answers) }
     ensures answer { IfOk result (λ lacks. (tables : List Definition) (rows : Rows) (others : List Pair)
         → HoldsRows (S.content calls.old.store.now) tables rows others → table.now ≡ table_at tables number →
         AllFit (types_of table.now) row.now → lacks ≡ lacks_room rows scope.now old.now number row.now limit.now) }
@@ -124,6 +127,7 @@ pub(crate) fn first_full<S: Store<L>, L: Ledger>(
     ensures uses { Uses S.content S.faults calls.old calls.new (tested_limits scope.now limits.now)
         (sum_by (tested_n scope.now) limits.now) }
     ensures cause { IfErr result (Fails no_damage S.content S.faults calls.old calls.new) }
+    ensures answered { IfErr result (IsAnswered S.answers) }
     ensures answer { IfOk result (λ at. (tables : List Definition) (rows : Rows) (others : List Pair)
         → HoldsRows (S.content calls.old.store.now) tables rows others → table.now ≡ table_at tables number →
         AllFit (types_of table.now) row.now → at

@@ -7,6 +7,7 @@ ghost use Rattle.pq_content.specs.Pairs.{Pair};
 ghost use Rattle.pq_content.specs.Tables.{Rows, AllOfKinds, key_types, cells};
 ghost use Rattle.pq_index_keep.specs.Bounds.{one_if, tested_foreign};
 ghost use Rattle.pq_index_keep.specs.Effects.{is_missing, lacks_parent};
+ghost use Rattle.pq_store.specs.Breaks.{IsAnswered};
 ghost use Rattle.pq_calls.specs.Calls.{Uses, Fails};
 ghost use Rattle.pq_calls.specs.World.{Affords, no_damage};
 ghost use Rattle.pq_index_keep.specs.Promises.{HoldsRows};
@@ -33,6 +34,7 @@ fn is_missing<S: Store<L>, L: Ledger>(
     requires share { Affords calls.old.allowance.now 1 1 }
     ensures uses { Uses S.content S.faults calls.old calls.new 1 1 }
     ensures cause { IfErr result (Fails no_damage S.content S.faults calls.old calls.new) }
+    ensures answered { IfErr result (IsAnswered S.answers) }
     ensures answer { IfOk result (λ missing. (tables : List Definition) (rows : Rows) (others : List Pair)
         → HoldsRows (S.content calls.old.store.now) tables rows others →
         AllOfKinds (key_types (table_at tables foreign.now.table)) (cells foreign.now.cols row.now)
@@ -57,6 +59,7 @@ fn lacks_parent<S: Store<L>, L: Ledger>(
     ensures uses { Uses S.content S.faults calls.old calls.new (one_if (touches scope.now foreign.now.cols))
         (one_if (touches scope.now foreign.now.cols)) }
     ensures cause { IfErr result (Fails no_damage S.content S.faults calls.old calls.new) }
+    ensures answered { IfErr result (IsAnswered S.answers) }
     ensures answer { IfOk result (λ lacks. (tables : List Definition) (rows : Rows) (others : List Pair)
         → HoldsRows (S.content calls.old.store.now) tables rows others →
         AllOfKinds (key_types (table_at tables foreign.now.table)) (cells foreign.now.cols row.now)
@@ -85,6 +88,7 @@ pub(crate) fn first_lacking<S: Store<L>, L: Ledger>(
     ensures uses { Uses S.content S.faults calls.old calls.new (tested_foreign scope.now foreign.now)
         (tested_foreign scope.now foreign.now) }
     ensures cause { IfErr result (Fails no_damage S.content S.faults calls.old calls.new) }
+    ensures answered { IfErr result (IsAnswered S.answers) }
     ensures answer { IfOk result (λ at. (tables : List Definition) (rows : Rows) (others : List Pair)
         → HoldsRows (S.content calls.old.store.now) tables rows others →
         All (λ f. AllOfKinds (key_types (table_at tables f.table)) (cells f.cols row.now)) foreign.now

@@ -9,6 +9,7 @@ ghost use Rattle.pq_schema.specs.Tables.{table_at};
 ghost use Rattle.pq_content.specs.Pairs.{Pair};
 ghost use Rattle.pq_content.specs.Tables.{Rows, AllOfKinds, IsTableNumber, key_types, types_of, key_of, row_at};
 ghost use Rattle.pq_index_keep.specs.Bounds.{referring_count, tests};
+ghost use Rattle.pq_store.specs.Breaks.{IsAnswered};
 ghost use Rattle.pq_calls.specs.Calls.{Uses, Fails};
 ghost use Rattle.pq_calls.specs.Evidence.{IsNoRow};
 ghost use Rattle.pq_calls.specs.World.{Affords, no_damage, where_told};
@@ -82,6 +83,7 @@ pub(crate) fn plan_insert<S: Store<L>, L: Ledger>(
         (tests Scope.All (table_at catalog.now.tables number)).ops
         (tests Scope.All (table_at catalog.now.tables number)).entries }
     ensures cause { IfErr result (Fails no_damage S.content S.faults calls.old calls.new) }
+    ensures answered { IfErr result (IsAnswered S.answers) }
     ensures plan { IfOk result (IsPlannedWithin (1 + length (table_at catalog.now.tables number).indexes)) }
     ensures own { IfOk result (ChangesOwn catalog.now.tables (Write.Insert number row.now)) }
     ensures can { IfOk result (RefusesAs catalog.now.tables (Write.Insert number row.now)) }
@@ -116,6 +118,7 @@ pub(crate) fn find_row<S: Store<L>, L: Ledger>(
     ensures uses { Uses S.content S.faults calls.old calls.new 1 1 }
     ensures cause { IfErr result (Fails (where_told (IsNoRow catalog.now.tables)) S.content S.faults calls.old
         calls.new) }
+    ensures answered { IfErr result (IsAnswered S.answers) }
     ensures answer { IfOk result (λ found. (rows : Rows) (others : List Pair)
         → HoldsRows (S.content calls.old.store.now) catalog.now.tables rows others
         → option_map (λ stored. stored.row) found ≡ row_at catalog.now.tables rows number key.now) }
@@ -147,6 +150,7 @@ fn plan_removal<S: Store<L>, L: Ledger>(
     ensures uses { Uses S.content S.faults calls.old calls.new (referring_count catalog.now.tables number)
         (referring_count catalog.now.tables number) }
     ensures cause { IfErr result (Fails no_damage S.content S.faults calls.old calls.new) }
+    ensures answered { IfErr result (IsAnswered S.answers) }
     ensures plan { IfOk result (IsPlannedWithin (1 + length (table_at catalog.now.tables number).indexes)) }
     ensures own { IfOk result (ChangesOwn catalog.now.tables (Write.Delete number key.now)) }
     ensures can { IfOk result (RefusesAs catalog.now.tables (Write.Delete number key.now)) }
@@ -182,6 +186,7 @@ pub(crate) fn plan_delete<S: Store<L>, L: Ledger>(
         (1 + referring_count catalog.now.tables number) }
     ensures cause { IfErr result (Fails (where_told (IsNoRow catalog.now.tables)) S.content S.faults calls.old
         calls.new) }
+    ensures answered { IfErr result (IsAnswered S.answers) }
     ensures plan { IfOk result (IsPlannedWithin (1 + length (table_at catalog.now.tables number).indexes)) }
     ensures own { IfOk result (ChangesOwn catalog.now.tables (Write.Delete number key.now)) }
     ensures can { IfOk result (RefusesAs catalog.now.tables (Write.Delete number key.now)) }

@@ -4,6 +4,7 @@ ghost use Rattle.pq_content.specs.Pairs.{Pair};
 ghost use Rattle.pq_content.specs.Tables.{Rows};
 ghost use Rattle.pq_index_keep.specs.Bounds.{referring_count};
 ghost use Rattle.pq_index_keep.specs.Effects.{referenced_refusal, child_refusal};
+ghost use Rattle.pq_store.specs.Breaks.{IsAnswered};
 ghost use Rattle.pq_calls.specs.Calls.{Uses, Fails};
 ghost use Rattle.pq_calls.specs.World.{Affords, no_damage};
 ghost use Rattle.pq_index_keep.specs.Promises.{HoldsRows};
@@ -45,6 +46,7 @@ pub(crate) fn child_refusal<S: Store<L>, L: Ledger>(
     ensures uses { Uses S.content S.faults calls.old calls.new (referring_count tables.now number)
         (referring_count tables.now number) }
     ensures cause { IfErr result (Fails no_damage S.content S.faults calls.old calls.new) }
+    ensures answered { IfErr result (IsAnswered S.answers) }
     ensures can { IfOk result (λ refusal. IfSome refusal (IsDeleteRefusal tables.now)) }
     ensures answer { IfOk result (λ refusal. (rows : Rows) (others : List Pair)
         → HoldsRows (S.content calls.old.store.now) tables.now rows others

@@ -13,6 +13,7 @@ ghost use Rattle.pq_content.specs.Tables.{Rows, AllOfKinds, key_types, cells, ty
 ghost use Rattle.pq_base.specs.Values.{AllFit};
 ghost use Rattle.pq_index_keep.specs.Bounds.{tested_foreign, tested_limits, tested_n, tests};
 ghost use Rattle.pq_index_keep.specs.Effects.{no_parent, no_room, parent_refusal, room_refusal, insert_refusal};
+ghost use Rattle.pq_store.specs.Breaks.{IsAnswered};
 ghost use Rattle.pq_calls.specs.Calls.{Uses, Fails};
 ghost use Rattle.pq_calls.specs.World.{Affords, no_damage};
 ghost use Rattle.pq_index_keep.specs.Promises.{HoldsRows, IsTested};
@@ -67,6 +68,7 @@ fn parent_refusal<S: Store<L>, L: Ledger>(
     ensures uses { Uses S.content S.faults calls.old calls.new (tested_foreign scope.now table.now.foreign)
         (tested_foreign scope.now table.now.foreign) }
     ensures cause { IfErr result (Fails no_damage S.content S.faults calls.old calls.new) }
+    ensures answered { IfErr result (IsAnswered S.answers) }
     ensures can { IfOk result (λ refusal. IfSome refusal (IsTestRefusal table.now)) }
     ensures answer { IfOk result (λ refusal. (tables : List Definition) (rows : Rows) (others : List Pair)
         → HoldsRows (S.content calls.old.store.now) tables rows others →
@@ -97,6 +99,7 @@ fn room_refusal<S: Store<L>, L: Ledger>(
     ensures uses { Uses S.content S.faults calls.old calls.new (tested_limits scope.now table.now.limits)
         (sum_by (tested_n scope.now) table.now.limits) }
     ensures cause { IfErr result (Fails no_damage S.content S.faults calls.old calls.new) }
+    ensures answered { IfErr result (IsAnswered S.answers) }
     ensures can { IfOk result (λ refusal. IfSome refusal (IsTestRefusal table.now)) }
     ensures answer { IfOk result (λ refusal. (tables : List Definition) (rows : Rows) (others : List Pair)
         → HoldsRows (S.content calls.old.store.now) tables rows others → table.now ≡ table_at tables number →
@@ -130,6 +133,7 @@ pub(crate) fn tested_refusal<S: Store<L>, L: Ledger>(
         (tested_foreign scope.now table.now.foreign + tested_limits scope.now table.now.limits)
         (tested_foreign scope.now table.now.foreign + sum_by (tested_n scope.now) table.now.limits) }
     ensures cause { IfErr result (Fails no_damage S.content S.faults calls.old calls.new) }
+    ensures answered { IfErr result (IsAnswered S.answers) }
     ensures can { IfOk result (λ refusal. IfSome refusal (IsTestRefusal table.now)) }
     ensures answer { IfOk result (λ refusal. (tables : List Definition) (rows : Rows) (others : List Pair)
         → HoldsRows (S.content calls.old.store.now) tables rows others → table.now ≡ table_at tables number →
@@ -162,6 +166,7 @@ pub(crate) fn insert_refusal<S: Store<L>, L: Ledger>(
     ensures uses { Uses S.content S.faults calls.old calls.new (tests Scope.All table.now).ops
         (tests Scope.All table.now).entries }
     ensures cause { IfErr result (Fails no_damage S.content S.faults calls.old calls.new) }
+    ensures answered { IfErr result (IsAnswered S.answers) }
     ensures can { IfOk result (λ refusal. IfSome refusal (IsInsertRefusal table.now)) }
     ensures answer { IfOk result (λ refusal. (tables : List Definition) (rows : Rows) (others : List Pair)
         → HoldsRows (S.content calls.old.store.now) tables rows others → table.now ≡ table_at tables number →

@@ -15,6 +15,7 @@ ghost use Rattle.pq_content.specs.Pairs.{Pair};
 ghost use Rattle.pq_content.specs.Tables.{Rows, types_of, row_at, stored_code};
 ghost use Rattle.pq_index_keep.specs.Bounds.{tested_foreign, tested_limits, tested_n, tests};
 ghost use Rattle.pq_index_keep.specs.Effects.{parent_refusal, room_refusal};
+ghost use Rattle.pq_store.specs.Breaks.{IsAnswered};
 ghost use Rattle.pq_calls.specs.Calls.{Uses, Fails};
 ghost use Rattle.pq_calls.specs.Evidence.{IsNoRow};
 ghost use Rattle.pq_calls.specs.World.{Affords, no_damage, where_told};
@@ -110,6 +111,7 @@ fn update_refusal<S: Store<L>, L: Ledger>(
         (tested_foreign scope.now table.now.foreign + tested_limits scope.now table.now.limits)
         (tested_foreign scope.now table.now.foreign + sum_by (tested_n scope.now) table.now.limits) }
     ensures cause { IfErr result (Fails no_damage S.content S.faults calls.old calls.new) }
+    ensures answered { IfErr result (IsAnswered S.answers) }
     ensures can { IfOk result (λ refusal. IfSome refusal (IsUpdateRefusal table.now)) }
     ensures answer { IfOk result (λ refusal. (tables : List Definition) (rows : Rows) (others : List Pair)
         → HoldsRows (S.content calls.old.store.now) tables rows others → table.now ≡ table_at tables number →
@@ -152,6 +154,7 @@ fn plan_change<S: Store<L>, L: Ledger>(
         (tested_foreign (scope_of sets.now) (table_at catalog.now.tables number).foreign
         + sum_by (tested_n (scope_of sets.now)) (table_at catalog.now.tables number).limits) }
     ensures cause { IfErr result (Fails no_damage S.content S.faults calls.old calls.new) }
+    ensures answered { IfErr result (IsAnswered S.answers) }
     ensures plan { IfOk result (IsPlannedWithin
         (1 + 2 * count_by (touches_index (scope_of sets.now) (table_at catalog.now.tables number))
         (table_at catalog.now.tables number).indexes)) }
@@ -196,6 +199,7 @@ pub(crate) fn plan_update<S: Store<L>, L: Ledger>(
         (tests (scope_of sets.now) (table_at catalog.now.tables number)).entries }
     ensures cause { IfErr result (Fails (where_told (IsNoRow catalog.now.tables)) S.content S.faults calls.old
         calls.new) }
+    ensures answered { IfErr result (IsAnswered S.answers) }
     ensures plan { IfOk result (IsPlannedWithin
         (1 + 2 * count_by (touches_index (scope_of sets.now) (table_at catalog.now.tables number))
         (table_at catalog.now.tables number).indexes)) }

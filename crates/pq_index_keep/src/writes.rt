@@ -4,7 +4,7 @@ ghost use Rattle.pq_content.specs.Pairs.{Pair};
 ghost use Rattle.pq_content.specs.Standing.{write_ops};
 ghost use Rattle.pq_content.specs.Tables.{Rows};
 ghost use Rattle.pq_index_keep.specs.Bounds.{most_changes, write_tests, write_bound};
-ghost use Rattle.pq_store.specs.Breaks.{IsUndamaged};
+ghost use Rattle.pq_store.specs.Breaks.{IsUndamaged, IsAnswered};
 ghost use Rattle.pq_calls.specs.Calls.{Uses, Fails};
 ghost use Rattle.pq_calls.specs.Evidence.{IsNoRow};
 ghost use Rattle.pq_calls.specs.World.{world, Affords, Reads, Explains, where_told};
@@ -36,6 +36,7 @@ fn plan_by<S: Store<L>, L: Ledger>(
         (write_tests catalog.now.tables write.now).ops (write_tests catalog.now.tables write.now).entries }
     ensures cause { IfErr result (Fails (where_told (IsNoRow catalog.now.tables)) S.content S.faults calls.old
         calls.new) }
+    ensures answered { IfErr result (IsAnswered S.answers) }
     ensures plan { IfOk result (IsPlannedWithin (most_changes catalog.now.tables write.now)) }
     ensures own { IfOk result (ChangesOwn catalog.now.tables write.now) }
     ensures can { IfOk result (RefusesAs catalog.now.tables write.now) }
@@ -85,6 +86,7 @@ pub fn plan_write<S: Store<L>, L: Ledger>(
     ensures cause { IfErr result (Explains (where_told (IsNoRow catalog.now.tables))
         (world (S.content store.old) (S.faults store.old) allowance.old meter.old)
         (world (S.content store.new) (S.faults store.new) allowance.new meter.new)) }
+    ensures answered { IfErr result (IsAnswered S.answers) }
     ensures undamaged { IfErr result (λ error. (rows : Rows) (others : List Pair)
         → HoldsRows (S.content store.old) catalog.now.tables rows others → IsUndamaged error) }
     ensures plan { IfOk result (IsPlannedWithin (most_changes catalog.now.tables write.now)) }

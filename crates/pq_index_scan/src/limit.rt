@@ -7,6 +7,7 @@ ghost use Rattle.pq_schema.specs.Relations.{table_of};
 ghost use Rattle.pq_schema.specs.Resolved.{IsResolved};
 ghost use Rattle.pq_schema.specs.Rows.{types_of};
 ghost use Rattle.pq_schema.specs.Sound.{AreColumns};
+ghost use Rattle.pq_store.specs.Breaks.{IsAnswered};
 ghost use Rattle.pq_calls.specs.Calls.{Uses, Fails};
 ghost use Rattle.pq_calls.specs.World.{Affords, where_told, world};
 ghost use Rattle.pq_content.specs.Tables.{first_columns};
@@ -128,6 +129,7 @@ fn matching_rows<S: Store<L>, L: Ledger>(
         (limit_cost (is_primary_access range.now.access) range.now.n).entries }
     ensures cause { IfErr result (Fails (where_told (ShowsRead catalog.now.tables)) S.content S.faults calls.old
         calls.new) }
+    ensures answered { IfErr result (IsAnswered S.answers) }
     ensures few { IfOk result (λ rows. length rows ≤ range.now.n) }
     ensures fit { IfOk result (AllByRecursion
         (AllFit (types_of (table_of catalog.now.tables query.now range.now.rel)))) }
@@ -198,6 +200,7 @@ fn range_one<S: Store<L>, L: Ledger>(
         (limit_cost (is_primary_access range.now.access) range.now.n).entries }
     ensures cause { IfErr result (Fails (where_told (ShowsRead catalog.now.tables)) S.content S.faults calls.old
         calls.new) }
+    ensures answered { IfErr result (IsAnswered S.answers) }
     ensures few { OnOk result (length found.new ≤ length found.old + range.now.n) }
     ensures fit { OnOk result (AllByRecursion (FitsTables catalog.now.tables query.now range.now.rel) found.old
         → AllByRecursion (FitsTables catalog.now.tables query.now range.now.rel) found.new) }
@@ -229,6 +232,7 @@ fn range_each<S: Store<L>, L: Ledger>(
         (length inputs.now * (limit_cost (is_primary_access range.now.access) range.now.n).entries) }
     ensures cause { IfErr result (Fails (where_told (ShowsRead catalog.now.tables)) S.content S.faults calls.old
         calls.new) }
+    ensures answered { IfErr result (IsAnswered S.answers) }
     ensures few { IfOk result (λ found. length found ≤ length inputs.now * range.now.n) }
     ensures fit { IfOk result (AllByRecursion (FitsTables catalog.now.tables query.now range.now.rel)) }
     ensures answer { IfOk result (AddsRanged (S.content calls.old.store.now) catalog.now.tables query.now
@@ -266,6 +270,7 @@ fn run_range<S: Store<L>, L: Ledger>(
         (node_cost (length inputs.now) (limit_node catalog.now.tables query.now rel limit access)).entries }
     ensures cause { IfErr result (Fails (where_told (ShowsRead catalog.now.tables)) S.content S.faults calls.old
         calls.new) }
+    ensures answered { IfErr result (IsAnswered S.answers) }
     ensures found { IfOk result (AreFound catalog.now.tables query.now rel (length inputs.now)
         (limit_node catalog.now.tables query.now rel limit access)) }
     ensures answer { IfOk result (AnswersNode (S.content calls.old.store.now) catalog.now.tables query.now
@@ -308,6 +313,7 @@ pub fn limit_range<S: Store<L>, L: Ledger>(
     ensures cause { IfErr result (StopsReading catalog.now.tables
         (world (S.content store.old) (S.faults store.old) allowance.old meter.old)
         (world (S.content store.new) (S.faults store.new) allowance.new meter.new)) }
+    ensures answered { IfErr result (IsAnswered S.answers) }
     ensures undamaged { IfErr result (IsSoundOverRows (S.content store.old) catalog.now.tables) }
 {
     let mut calls = Calls {

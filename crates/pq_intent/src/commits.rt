@@ -6,7 +6,7 @@ ghost use Rattle.pq_content.specs.Pairs.{changed_content};
 ghost use Rattle.pq_content.specs.Standing.{change_of, AreIntended};
 ghost use Rattle.pq_key_code.specs.KeyCode.{intent_key};
 ghost use Rattle.pq_store.specs.Content.{HasBrokeCause, Content};
-ghost use Rattle.pq_store.specs.Breaks.{IfDamaged, IsPresent, IsUndamaged};
+ghost use Rattle.pq_store.specs.Breaks.{IfDamaged, IsPresent, IsUndamaged, IsAnswered};
 ghost use Rattle.pq_intent.specs.Changing.{IfDamagedSame, WantsMemory, intent_writes};
 ghost use Rattle.pq_intent.specs.Settling.{IsSettled, Settles, HasIntent};
 ghost use Rattle.pq_intent.specs.Spending.{Spends, write_ops};
@@ -43,6 +43,7 @@ fn put_intent<S: Store<L>, L: Ledger>(
     ensures one { meter.new.ops ≡ meter.old.ops + 1 }
     ensures spends { Spends 1 allowance.old allowance.new meter.old meter.new }
     ensures cause { HasBrokeCause (S.faults store.old) (S.faults store.new) result }
+    ensures answered { IfErr result (IsAnswered S.answers) }
 {
     allowance.spend(0);
     match store.write(alloc, key.items(), Guard::Absent, Some(code), meter) {
@@ -76,6 +77,7 @@ fn commit_by_intent<S: Store<L>, L: Ledger>(
         → WantsMemory (intent_writes changes.now) meter.old meter.new (S.content store.old) (S.content store.new) }
     ensures spends { Spends (length changes.now + 2) allowance.old allowance.new meter.old meter.new }
     ensures cause { HasBrokeCause (S.faults store.old) (S.faults store.new) result }
+    ensures answered { IfErr result (IsAnswered S.answers) }
 {
     let key = intent_key(alloc)?;
     let code = encode_changes(alloc, changes)?;
@@ -117,6 +119,7 @@ pub fn commit<S: Store<L>, L: Ledger>(
     // Over every store, told or not, and also on an error.
     ensures spends { Spends (write_ops (length changes)) allowance.old allowance.new meter.old meter.new }
     ensures cause { HasBrokeCause (S.faults store.old) (S.faults store.new) result }
+    ensures answered { IfErr result (IsAnswered S.answers) }
 {
     match changes.items() {
         [change] => write_change(alloc, change, store, allowance, meter),

@@ -6,7 +6,7 @@ ghost use Rattle.pq_key_code.specs.KeyCode.{intent_key};
 ghost use Rattle.pq_store.specs.Content.{HasBrokeCause, Content};
 ghost use Rattle.pq_intent.specs.Changing.{content_after, IsPartway};
 ghost use Rattle.pq_intent.specs.Counting.{nothing_settled, settled_changes, CountsChanges, HasNumbers};
-ghost use Rattle.pq_store.specs.Breaks.{IsUndamaged};
+ghost use Rattle.pq_store.specs.Breaks.{IsUndamaged, IsAnswered};
 ghost use Rattle.pq_intent.specs.Errors.{ShowsNoIntent};
 ghost use Rattle.pq_intent.specs.Settling.{IsSettled, Settles, LeavesSettled};
 ghost use Rattle.pq_intent.specs.Spending.{IsWithinSettling, IsWithinSettlingOf};
@@ -55,6 +55,7 @@ fn settle_changes<S: Store<L>, L: Ledger>(
     ensures few { meter.new.ops ≤ meter.old.ops + (length changes.now + 1) }
     ensures entries { meter.new.entries ≡ meter.old.entries }
     ensures cause { HasBrokeCause (S.faults store.old) (S.faults store.new) result }
+    ensures answered { IfErr result (IsAnswered S.answers) }
 {
     let number = changes.items().len() as u32;
     let ops = number as u128 + 1;
@@ -101,6 +102,7 @@ pub fn settle<S: Store<L>, L: Ledger>(
     ensures within { OnErr result (IsWithinSettling meter.old meter.new) }
     ensures within_own { OnErr result (IfSome (S.content store.old) (IsWithinSettlingOf meter.old meter.new)) }
     ensures cause { HasBrokeCause (S.faults store.old) (S.faults store.new) result }
+    ensures answered { IfErr result (IsAnswered S.answers) }
 {
     let key = intent_key(alloc)?;
     let value = match store.get(alloc, key.items(), meter) {

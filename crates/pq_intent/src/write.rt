@@ -4,7 +4,7 @@ ghost use Rattle.std.specs.Option.{option_map, option_copied};
 ghost use Rattle.pq_content.specs.Standing.{change_of};
 ghost use Rattle.pq_store.specs.Content.{HasBrokeCause, written_content};
 ghost use Rattle.pq_intent.specs.Changing.{content_after, IsPartway, MayChange, StopsBefore};
-ghost use Rattle.pq_store.specs.Breaks.{IsUndamaged};
+ghost use Rattle.pq_store.specs.Breaks.{IsUndamaged, IsAnswered};
 ghost use Rattle.pq_intent.specs.Spending.{Spends};
 
 use pq_row_code::Change;
@@ -31,6 +31,7 @@ pub fn put<S: Store<L>, L: Ledger>(
     ensures spends { Spends 1 allowance.old allowance.new meter.old meter.new }
     ensures one { meter.new.ops ≡ meter.old.ops + 1 }
     ensures cause { HasBrokeCause (S.faults store.old) (S.faults store.new) result }
+    ensures answered { IfErr result (IsAnswered S.answers) }
 {
     allowance.spend(0);
     match store.write(alloc, key, Guard::Any, new, meter) {
@@ -56,6 +57,7 @@ pub fn write_change<S: Store<L>, L: Ledger>(
     ensures spends { Spends 1 allowance.old allowance.new meter.old meter.new }
     ensures one { meter.new.ops ≡ meter.old.ops + 1 }
     ensures cause { HasBrokeCause (S.faults store.old) (S.faults store.new) result }
+    ensures answered { IfErr result (IsAnswered S.answers) }
 {
     let key = change.key.items();
     match &change.new {
@@ -81,6 +83,7 @@ pub fn write_changes<S: Store<L>, L: Ledger>(
     ensures spends { Spends (length changes.now) allowance.old allowance.new meter.old meter.new }
     ensures each { OnOk result (meter.new.ops ≡ meter.old.ops + length changes.now) }
     ensures cause { HasBrokeCause (S.faults store.old) (S.faults store.new) result }
+    ensures answered { IfErr result (IsAnswered S.answers) }
 {
     for change in changes {
         write_change(alloc, change, store, allowance, meter)?;
@@ -108,6 +111,7 @@ pub fn finish<S: Store<L>, L: Ledger>(
     ensures spends { Spends (length changes.now + 1) allowance.old allowance.new meter.old meter.new }
     ensures each { OnOk result (meter.new.ops ≡ meter.old.ops + (length changes.now + 1)) }
     ensures cause { HasBrokeCause (S.faults store.old) (S.faults store.new) result }
+    ensures answered { IfErr result (IsAnswered S.answers) }
 {
     write_changes(alloc, changes, store, allowance, meter)?;
     put(alloc, key, None, store, allowance, meter)

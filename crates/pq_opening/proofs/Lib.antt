@@ -1,3 +1,4 @@
+pub mod Answered
 pub mod Leaving
 pub mod Lefts
 pub mod Openings

@@ -102,7 +102,7 @@ value_one schema added value text mark (Some made) is adds = subst (IsOneMore sc
     by_format true e = ap (λ (x : SchemaAndMark). x.0) (same_Some (made, mark) added e)
     by_format false e = absurd (none-some _ e)
 
-adds_one : (schema : Schema) (added : SchemaAndMark) (pair : Pair) → pair_adds schema pair ≡ Some added → IsOneMore schema added.0
+pub adds_one : (schema : Schema) (added : SchemaAndMark) (pair : Pair) → pair_adds schema pair ≡ Some added → IsOneMore schema added.0
 unfolding pair_adds
 adds_one schema added pair adds = by_parts (bytes_eq pair.0 (catalog_key (length schema.definitions + 1))) (marked_text pair.1) adds
   where
@@ -153,7 +153,7 @@ marked_step p ps b (Some n) more rest e =
       | false ↦ λ _ e. absurd (cc)
     ] refl e
 
-abbrev added_in : Result SchemaAndMark Pair → SchemaAndMark
+abbrev pub added_in : Result SchemaAndMark Pair → SchemaAndMark
 added_in (Ok added) = added
 added_in (Err pair) = none_added
 

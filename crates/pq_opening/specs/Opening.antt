@@ -18,6 +18,7 @@ use Rattle.pq_schema.specs.declared.made.Made.{Made}
 use Rattle.pq_schema.specs.Sequences.{index_numbered}
 use Rattle.pq_schema.specs.Tables.{table_at}
 use Rattle.pq_schema.specs.Valid.{IsValid}
+use Rattle.pq_store.specs.Breaks.{IfDamaged}
 use Rattle.pq_store.specs.Content.{Content, pairs_within}
 use Rattle.pq_store.specs.Counts.{Counts}
 use Rattle.pq_store.specs.declared.damage.Broke.{Broke}
@@ -267,6 +268,16 @@ abbrev pub NamesFlaw : Content → Broke → Type 0
 NamesFlaw content Failed = Unit {0}
 NamesFlaw content NoMem = Unit {0}
 NamesFlaw content (Damaged damage) = ShowsFlaw content damage ⊎ ShowsBuildLeft content damage
+
+-- a call may answer a value for this key
+abbrev pub HasAnswer : (List ℕ → Option (List ℕ) → Type 0) → List ℕ → Type 0
+HasAnswer answers key = (value : List ℕ) × answers key (Some value)
+
+-- damage is told with a key and the value that a call may answer for it; or without it, with a key for which a call
+-- may answer one
+abbrev pub IsAnsweredFlaw : (List ℕ → Option (List ℕ) → Type 0) → Broke → Type 0
+IsAnsweredFlaw answers = IfDamaged (λ damage. answers damage.key damage.value
+    ⊎ ((damage.value ≡ None) × HasAnswer answers damage.key))
 
 -- ---- what an opening leaves
 

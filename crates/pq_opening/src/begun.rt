@@ -4,11 +4,11 @@ ghost use Rattle.pq_builds.specs.Stages.{Takes, IsWithinBuild as BuildsWithin, l
 ghost use Rattle.pq_intent.specs.Spending.{TakesAtMost};
 ghost use Rattle.pq_store.specs.Content.{HasBrokeCause};
 ghost use Rattle.pq_step.specs.Model.{Model as Tables};
-ghost use Rattle.pq_opening.specs.Opening.{opening_of, started_of, none_added, added_from, catalog_in, completion_bound, AreFewRows, HasFewLeft, IsOpening, IsQuiet, IsStarted, IsAsMarked, LeavesFlawed, LeavesMarked, LeavesRead, rows_of_mark, TellsSchema, NamesPair, NamesFlaw, ShowsMarked};
+ghost use Rattle.pq_opening.specs.Opening.{HasAnswer, IsAnsweredFlaw, opening_of, started_of, none_added, added_from, catalog_in, completion_bound, AreFewRows, HasFewLeft, IsOpening, IsQuiet, IsStarted, IsAsMarked, LeavesFlawed, LeavesMarked, LeavesRead, rows_of_mark, TellsSchema, NamesPair, NamesFlaw, ShowsMarked};
 ghost use Rattle.pq_schema.specs.Valid.{IsValid};
 ghost use Rattle.pq_opening.specs.Within.{IsBounded, StopsWithin, IsWithinOpening};
-ghost use Rattle.pq_store.specs.Breaks.{IfDamaged, IsUndamaged};
-ghost use Rattle.pq_step.specs.Stands.{HoldsModel, Stands, Opens, last_made};
+ghost use Rattle.pq_store.specs.Breaks.{IfDamaged, IsUndamaged, IsAnswered};
+ghost use Rattle.pq_step.specs.Stands.{HoldsModel, Stands, Opens, last_key, last_made};
 ghost use Rattle.pq_builds.specs.Bounds.{bound};
 
 use crate::last::complete;
@@ -104,6 +104,9 @@ pub fn start<S: Store<L>, L: Ledger>(
         (λ c. IfDamaged (λ damage. LeavesFlawed c (S.content store.new)) broke)) }
     ensures rests { IfSome (S.content store.old) (λ c. IsQuiet c → S.content store.new ≡ Some c) }
     ensures cause { HasBrokeCause (S.faults store.old) (S.faults store.new) result }
+    // Damage is told of what a call answered; or, where a build that was left is completed, of the key of an
+    // answered pair alone.
+    ensures answered { IfErr result (IsAnsweredFlaw S.answers) }
 {
     let settled = settle(alloc, store, meter)?;
     let found = read_catalog(alloc, store, meter)?;
@@ -127,6 +130,8 @@ fn read_catalog<S: Store<L>, L: Ledger>(
     ensures flaw { IfErr result (λ broke. IfSome (S.content store.old) (λ pairs. NamesPair pairs broke)) }
     ensures same { S.content store.new ≡ S.content store.old }
     ensures cause { HasBrokeCause (S.faults store.old) (S.faults store.new) result }
+    ensures answered { IfErr result (IsAnswered S.answers) }
+    ensures last { IfOk result (λ f. f.mark ≡ Mark.Building → HasAnswer S.answers (last_key f.planned)) }
 {
     let found = match store.range(alloc, &[1], &[2], 257, meter) {
         Err(error) => return Err(Broke::from(error)),
@@ -153,6 +158,7 @@ fn finish_opening<S: Store<L>, L: Ledger>(
     requires ops { settled.now.used.ops < 2 ^ 40 }
     requires entries { settled.now.used.entries ≤ 1 }
     requires marked { found.mark ≡ Mark.Building → IsSome (last_made found.planned) }
+    requires last { found.mark ≡ Mark.Building → HasAnswer S.answers (last_key found.planned) }
     ensures stands { IfOk result (λ s. (m : Tables) → m.schema ≡ found.planned
         → IsAsMarked found.mark (S.content store.old) m → HoldsModel (S.content store.new) m) }
     ensures started { IfOk result (λ s. IsStarted found.planned s settled.now meter.old meter.new) }
@@ -174,6 +180,7 @@ fn finish_opening<S: Store<L>, L: Ledger>(
         → IsAsMarked found.mark (S.content store.old) m
         → TakesAtMost (completion_bound (rows_of_mark found.mark m)) meter.old meter.new) }
     ensures cause { HasBrokeCause (S.faults store.old) (S.faults store.new) result }
+    ensures answered { IfErr result (IsAnsweredFlaw S.answers) }
 {
     let Found { planned, mark } = found;
     match mark {

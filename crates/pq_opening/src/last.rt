@@ -6,8 +6,8 @@ ghost use Rattle.pq_builds.specs.Stages.{ShowsLeft, StopsFilling, Takes, IsWithi
 ghost use Rattle.pq_intent.specs.Spending.{TakesAtMost};
 ghost use Rattle.pq_step.specs.Model.{Model};
 ghost use Rattle.pq_opening.specs.Opening.{IsLeft, IsFillingIn, GoesOnLeft, rows_left, HasFewRows, ShowsMarked};
-ghost use Rattle.pq_step.specs.Stands.{HoldsModel, Opens, last_made, last_query};
-ghost use Rattle.pq_store.specs.Breaks.{IsUndamaged};
+ghost use Rattle.pq_step.specs.Stands.{HoldsModel, Opens, last_key, last_made, last_query};
+ghost use Rattle.pq_store.specs.Breaks.{IsUndamaged, IsAnsweredBut};
 ghost use Rattle.pq_store.specs.Content.{HasBrokeCause};
 
 use pq_base::{Bytes, NoMem};
@@ -88,6 +88,7 @@ fn complete_left<S: Store<L>, L: Ledger>(
         → IsFillingIn (S.content store.old) m → TakesAtMost (left_bound (rows_left m)) meter.old meter.new) }
     ensures takes { IfOk result (λ rows. Takes (left_ops rows) (2 * rows) meter.old meter.new) }
     ensures cause { HasBrokeCause (S.faults store.old) (S.faults store.new) result }
+    ensures answered { IfErr result (IsAnsweredBut S.answers query.now.key) }
 {
     complete_index(alloc, target, query, store, meter)
 }
@@ -116,6 +117,7 @@ pub(crate) fn complete<S: Store<L>, L: Ledger>(
         → TakesAtMost (left_bound (rows_left m)) meter.old meter.new) }
     ensures takes { IfOk result (λ rows. Takes (left_ops rows) (2 * rows) meter.old meter.new) }
     ensures cause { HasBrokeCause (S.faults store.old) (S.faults store.new) result }
+    ensures answered { IfErr result (IsAnsweredBut S.answers (last_key catalog.now)) }
 {
     let (target, query) = left(alloc, catalog)?;
     complete_left(alloc, &target, &query, store, meter)

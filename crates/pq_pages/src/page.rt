@@ -2,7 +2,7 @@
 ghost use Rattle.std.specs.Prelude.{◌≡◌, ◌<◌, length, option_copied, IfOk, IfErr, IfSome};
 ghost use Rattle.pq_base.specs.Values.{AllFit};
 ghost use Rattle.pq_schema.specs.Schema.{query_at};
-ghost use Rattle.pq_store.specs.Breaks.{IfDamaged};
+ghost use Rattle.pq_store.specs.Breaks.{IfDamaged, IsAnswered};
 ghost use Rattle.pq_store.specs.Content.{HasBrokeCause};
 ghost use Rattle.pq_calls.specs.World.{where_told};
 ghost use Rattle.pq_nodes.specs.Operators.{IsCursor, ShowsRead, IsSoundOverRows};
@@ -104,6 +104,7 @@ pub fn run_page<S: Store<L>, L: Ledger>(
     ensures content { S.content store.new ≡ S.content store.old }
     ensures damage { IfErr result (IfDamaged (where_told (ShowsRead catalog.now.tables) (S.content store.old))) }
     ensures cause { HasBrokeCause (S.faults store.old) (S.faults store.new) result }
+    ensures answered { IfErr result (IsAnswered S.answers) }
 {
     catalog.known();
     let query = catalog.query(number);

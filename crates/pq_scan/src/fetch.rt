@@ -3,6 +3,7 @@ ghost use Rattle.std.specs.Prelude.{◌≡◌, ◌≤◌, ◌<◌, ◌-◌, ◌+
 ghost use Rattle.std.specs.List.{AllByRecursion};
 ghost use Rattle.pq_base.specs.Values.{AllFit};
 ghost use Rattle.pq_schema.specs.Rows.{types_of};
+ghost use Rattle.pq_store.specs.Breaks.{IsAnswered};
 ghost use Rattle.pq_calls.specs.Calls.{Uses, Fails};
 ghost use Rattle.pq_calls.specs.World.{Affords, where_told};
 ghost use Rattle.pq_nodes.specs.Combos.{FitsTables};
@@ -35,6 +36,7 @@ fn row_of<S: Store<L>, L: Ledger>(
         (fetches scan.now.access 1) }
     ensures cause { IfErr result (Fails (where_told
         (ShowsRead scan.now.catalog.now.tables)) S.content S.faults calls.old calls.new) }
+    ensures answered { IfErr result (IsAnswered S.answers) }
     ensures fits { IfOk result (AllFit (types_of (scanned_table scan.now))) }
     ensures answer { IfOk result (IsRowOf scan.now (S.content calls.old.store.now) held.now) }
 {
@@ -67,6 +69,7 @@ fn combo_of<S: Store<L>, L: Ledger>(
         (fetches scan.now.access 1) }
     ensures cause { IfErr result (Fails (where_told
         (ShowsRead scan.now.catalog.now.tables)) S.content S.faults calls.old calls.new) }
+    ensures answered { IfErr result (IsAnswered S.answers) }
     ensures fits { IfOk result (FitsTables scan.now.catalog.now.tables scan.now.query.now scan.now.rel) }
     ensures answer { IfOk result (IsComboOf scan.now (S.content calls.old.store.now) inputs.now candidate.now) }
 {
@@ -94,6 +97,7 @@ pub(crate) fn combos_of<S: Store<L>, L: Ledger>(
         (length candidates.now)) (fetches scan.now.access (length candidates.now)) }
     ensures cause { IfErr result (Fails (where_told
         (ShowsRead scan.now.catalog.now.tables)) S.content S.faults calls.old calls.new) }
+    ensures answered { IfErr result (IsAnswered S.answers) }
     ensures size { IfOk result (λ found. length found ≡ length candidates.now) }
     ensures fit { IfOk result (AllByRecursion
         (FitsTables scan.now.catalog.now.tables scan.now.query.now scan.now.rel)) }

@@ -3,6 +3,7 @@ ghost use Rattle.std.specs.Prelude.{◌≡◌, ◌≤◌, ◌*◌, ◌-◌, leng
 ghost use Rattle.std.specs.List.{AllByRecursion};
 ghost use Rattle.pq_base.specs.Sorting.{sort_by};
 ghost use Rattle.pq_store.specs.Content.{key_cmp};
+ghost use Rattle.pq_store.specs.Breaks.{IsAnswered};
 ghost use Rattle.pq_calls.specs.Calls.{Uses, Fails};
 ghost use Rattle.pq_calls.specs.World.{Affords, where_told};
 ghost use Rattle.pq_nodes.specs.Combos.{FitsTables};
@@ -40,6 +41,7 @@ pub(crate) fn gather<S: Store<L>, L: Ledger>(
     ensures uses { Uses S.content S.faults calls.old calls.new (length inputs.now) (length inputs.now * limit) }
     ensures cause { IfErr result (Fails (where_told
         (ShowsRead scan.now.catalog.now.tables)) S.content S.faults calls.old calls.new) }
+    ensures answered { IfErr result (IsAnswered S.answers) }
     ensures kept { IfOk result (AllByRecursion (IsCandidate scan.now (S.content calls.old.store.now)
         (length inputs.now))) }
     ensures answer { IfOk result (AreCandidates scan.now (S.content calls.old.store.now) limit

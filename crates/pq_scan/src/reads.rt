@@ -1,6 +1,7 @@
 //! The range of one input, read by a paid call.
 ghost use Rattle.std.specs.Prelude.{◌≡◌, ◌≤◌, ◌<◌, ◌+◌, ◌-◌, ℕ, [], length, option_copied, IfOk, IfErr, IfSome, OnOk};
 ghost use Rattle.std.specs.List.{AllByRecursion};
+ghost use Rattle.pq_store.specs.Breaks.{IsAnswered};
 ghost use Rattle.pq_calls.specs.Calls.{Uses, Fails};
 ghost use Rattle.pq_calls.specs.World.{Affords, where_told};
 ghost use Rattle.pq_entries.specs.Entries.{IsSequence, AreEnds};
@@ -37,6 +38,7 @@ fn range_held<S: Store<L>, L: Ledger>(
     ensures uses { Uses S.content S.faults calls.old calls.new 1 limit }
     ensures cause { IfErr result (Fails (where_told
         (ShowsRead scan.now.catalog.now.tables)) S.content S.faults calls.old calls.new) }
+    ensures answered { IfErr result (IsAnswered S.answers) }
     ensures few { IfOk result (λ held. length held ≤ limit) }
     ensures fit { IfOk result (AllByRecursion (IsHeld scan.now (S.content calls.old.store.now))) }
     ensures answer { IfOk result (λ held. IfSome (S.content calls.old.store.now)
@@ -87,6 +89,7 @@ pub(crate) fn scan_input<S: Store<L>, L: Ledger>(
     ensures uses { Uses S.content S.faults calls.old calls.new 1 limit }
     ensures cause { IfErr result (Fails (where_told
         (ShowsRead scan.now.catalog.now.tables)) S.content S.faults calls.old calls.new) }
+    ensures answered { IfErr result (IsAnswered S.answers) }
     ensures kept { OnOk result ((count : ℕ) → place < count → AllByRecursion (IsCandidate scan.now
         (S.content calls.old.store.now) count) found.old
         → AllByRecursion (IsCandidate scan.now (S.content calls.old.store.now) count) found.new) }

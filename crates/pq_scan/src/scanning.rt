@@ -1,5 +1,6 @@
 //! A stop scan over its inputs.
 ghost use Rattle.std.specs.Prelude.{◌≤◌, option_copied, length, IfOk, IfErr};
+ghost use Rattle.pq_store.specs.Breaks.{IsAnswered};
 ghost use Rattle.pq_calls.specs.Calls.{Uses, Fails};
 ghost use Rattle.pq_calls.specs.World.{where_told};
 ghost use Rattle.pq_nodes.specs.Operators.{AffordsNode, AreFound, AreInputs, AnswersNode, IsAsked, IsCursor, IsReadyNode, ShowsRead};
@@ -38,6 +39,7 @@ fn run<S: Store<L>, L: Ledger>(
         (stop_scan scan.now.rel k scan.now.access)).entries }
     ensures cause { IfErr result (Fails (where_told
         (ShowsRead scan.now.catalog.now.tables)) S.content S.faults calls.old calls.new) }
+    ensures answered { IfErr result (IsAnswered S.answers) }
     ensures found { IfOk result (AreFound scan.now.catalog.now.tables scan.now.query.now scan.now.rel
         (length inputs.now) (stop_scan scan.now.rel k scan.now.access)) }
     ensures answer { IfOk result (AnswersNode
@@ -73,6 +75,7 @@ pub fn scan_inputs<S: Store<L>, L: Ledger>(
         (stop_scan rel k access)).ops (node_cost (length inputs.now) (stop_scan rel k access)).entries }
     ensures cause { IfErr result (Fails (where_told
         (ShowsRead catalog.now.tables)) S.content S.faults calls.old calls.new) }
+    ensures answered { IfErr result (IsAnswered S.answers) }
     ensures found { IfOk result (AreFound catalog.now.tables query.now rel (length inputs.now)
         (stop_scan rel k access)) }
     ensures answer { IfOk result (AnswersNode (S.content calls.old.store.now) catalog.now.tables query.now params.now

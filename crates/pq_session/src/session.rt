@@ -4,16 +4,16 @@ ghost use Rattle.pq_intent.specs.Spending.{TakesAtMost};
 ghost use Rattle.pq_store.specs.Content.{HasBrokeCause};
 ghost use Rattle.pq_schema.specs.Schema.{empty_schema};
 ghost use Rattle.pq_step.specs.Model.{Model as Tables};
-ghost use Rattle.pq_opening.specs.Opening.{IsQuiet, LeavesFlawed, LeavesRead, TellsSchema, NamesFlaw, IsOpening};
+ghost use Rattle.pq_opening.specs.Opening.{IsAnsweredFlaw, IsQuiet, LeavesFlawed, LeavesRead, TellsSchema, NamesFlaw, IsOpening};
 ghost use Rattle.pq_schema.specs.Valid.{IsValid};
 ghost use Rattle.pq_opening.specs.Within.{IsBounded, StopsWithin, IsWithinOpening};
-ghost use Rattle.pq_store.specs.Breaks.{IfDamaged, IsUndamaged};
+ghost use Rattle.pq_store.specs.Breaks.{IfDamaged, IsUndamaged, IsAnsweredBut};
 ghost use Rattle.pq_step.specs.Matches.{Matches};
 ghost use Rattle.pq_step.specs.Evidence.{TellsEvidence};
 ghost use Rattle.pq_statement.specs.Actions.{action_of, schema_after, statement_bound};
 ghost use Rattle.pq_step.specs.Promise.{IsBound, IsRefusal, IsWithinFixed, KeepsDamaged, OnlyReads};
 ghost use Rattle.pq_step.specs.Refusing.{CanEnd};
-ghost use Rattle.pq_step.specs.Stands.{Stands, Opens};
+ghost use Rattle.pq_step.specs.Stands.{Stands, Opens, next_key};
 ghost use Rattle.pq_step.specs.Step.{step, unread_report};
 ghost use Rattle.pq_step.specs.Written.{IsPrepareOf, IsDefinedAs};
 ghost use Rattle.pq_print.specs.Report.{is_refusal};
@@ -109,6 +109,9 @@ impl Session {
             (λ c. IfDamaged (λ damage. LeavesFlawed c (S.content store.new)) broke)) }
         ensures rests { IfSome (S.content store.old) (λ c. IsQuiet c → S.content store.new ≡ Some c) }
         ensures cause { HasBrokeCause (S.faults store.old) (S.faults store.new) result }
+        // Damage is told of what a call answered; or, where a build that was left is completed, of the key of an
+        // answered pair alone.
+        ensures answered { IfErr result (IsAnsweredFlaw S.answers) }
     {
         match start(alloc, store, meter) {
             Err(broke) => Err(broke),
@@ -184,6 +187,8 @@ impl Session {
         ensures lasting { IfErr result (λ broke. IfSome (S.content store.new)
             (λ content. TellsEvidence self content broke)) }
         ensures cause { HasBrokeCause (S.faults store.old) (S.faults store.new) result }
+        // Damage is told of what a call answered; or, where an index is made, of its definition's key alone.
+        ensures answered { IfErr result (IsAnsweredBut S.answers (next_key self)) }
     {
         match self.planned.statement(alloc, number, piece, store, meter) {
             Err(broke) => Err(broke),

@@ -7,7 +7,7 @@ ghost use Rattle.pq_shell.specs.Filling.{Fills};
 ghost use Rattle.pq_shell.specs.Fold.{StoppedItem};
 ghost use Rattle.pq_shell.specs.Forms.{fill_items};
 ghost use Rattle.pq_shell.specs.Making.{moment};
-ghost use Rattle.pq_shell.specs.Stops.{Causes};
+ghost use Rattle.pq_shell.specs.Stops.{Causes, IsAnsweredStop};
 
 use crate::serving::make;
 use crate::stop::Stop;
@@ -56,6 +56,7 @@ pub fn fill_store<S: Store<L>, L: Ledger>(
         → StoppedItem (Form.Fill n) stop session (moment (S.content store.old) held meter.old)
         (moment (S.content store.new) held meter.new) 1 (fill_items n)) }
     ensures causes { Causes (S.faults store.old) (S.faults store.new) 0 0 result }
+    ensures answered { IfErr result (IsAnsweredStop S.answers) }
 {
     let count = fill_count(n);
     let mut session = session;

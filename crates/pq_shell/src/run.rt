@@ -13,7 +13,7 @@ ghost use Rattle.pq_shell.specs.Openings.{OpensWith, StoppedOpening};
 ghost use Rattle.pq_shell.specs.Reading.{CountsBytes, script_limit};
 ghost use Rattle.pq_shell.specs.Run.{BrokenRun, Closes, Ends, EndsDamaged, FinishedRun, IsMeant, IsPlain, Suffices, status_of, run_world};
 ghost use Rattle.pq_shell.specs.Serving.{ConsumedSource, StoppedAmong};
-ghost use Rattle.pq_shell.specs.Stops.{Causes};
+ghost use Rattle.pq_shell.specs.Stops.{Causes, IsAnsweredStop, EndsAnswered};
 
 use crate::filling::fill_store;
 use crate::outside::{Failed, Sink, Source};
@@ -57,6 +57,7 @@ fn open<S: Store<L>, O: Sink, L: Ledger>(
         (λ pairs. (key : List ℕ) → IsFlaw pairs key
         → StopsAtFlaw key result (O.held sink.old) (O.held sink.new)) }
     ensures causes { Causes (S.faults store.old) (S.faults store.new) (O.faults sink.old) (O.faults sink.new) result }
+    ensures answered { IfErr result (IsAnsweredStop S.answers) }
 {
     let started = match Session::start(alloc, store, meter) {
         Ok(started) => started,
@@ -93,6 +94,7 @@ fn begin<S: Store<L>, O: Sink, L: Ledger>(
         (λ pairs. (key : List ℕ) → IsFlaw pairs key
         → StopsAtFlaw key result (O.held sink.old) (O.held sink.new)) }
     ensures causes { Causes (S.faults store.old) (S.faults store.new) (O.faults sink.old) (O.faults sink.new) result }
+    ensures answered { IfErr result (IsAnsweredStop S.answers) }
 {
     match form {
         Form::Run | Form::Fill(_) => open(alloc, store, meter, sink),
@@ -125,6 +127,7 @@ fn run_source<S: Store<L>, I: Source, O: Sink, L: Ledger>(
         (moment (S.content store.new) (O.held sink.new) meter.new) progress.old) }
     ensures unmoved { form ≡ Form.Check → (store.new ≡ store.old) × (meter.new ≡ meter.old) }
     ensures causes { Causes (S.faults store.old) (S.faults store.new) (O.faults sink.old) (O.faults sink.new) result }
+    ensures answered { IfErr result (IsAnsweredStop S.answers) }
     ensures taken { (taken : List ℕ) × (I.left source.old ≡ prepend_known taken (I.left source.new))
         × (length taken ≤ script_limit + 1) }
     ensures counted { IfOk result (λ ending. CountsBytes ending (I.count source.old) (I.count source.new)) }
@@ -181,6 +184,7 @@ fn run_script<S: Store<L>, I: Source, O: Sink, L: Ledger>(
         → StopsAtFlaw key result (O.held sink.old) (O.held sink.new)) }
     ensures unmoved { form ≡ Form.Check → (store.new ≡ store.old) × (meter.new ≡ meter.old) }
     ensures causes { Causes (S.faults store.old) (S.faults store.new) (O.faults sink.old) (O.faults sink.new) result }
+    ensures answered { IfErr result (IsAnsweredStop S.answers) }
     ensures taken { (taken : List ℕ) × (I.left source.old ≡ prepend_known taken (I.left source.new))
         × (length taken ≤ script_limit + 1) }
     ensures counted { IfOk result (λ ended. CountsBytes ended.ending (I.count source.old) (I.count source.new)) }
@@ -224,6 +228,7 @@ fn run_fill<S: Store<L>, O: Sink, L: Ledger>(
         (λ pairs. (key : List ℕ) → IsFlaw pairs key
         → StopsAtFlaw key result (O.held sink.old) (O.held sink.new)) }
     ensures causes { Causes (S.faults store.old) (S.faults store.new) (O.faults sink.old) (O.faults sink.new) result }
+    ensures answered { IfErr result (IsAnsweredStop S.answers) }
 {
     let begun = begin(alloc, Form::Fill(n), store, meter, sink)?;
     let filled = fill_store(alloc, n, begun.session, begun.used, store, meter)?;
@@ -256,6 +261,7 @@ fn run_form<S: Store<L>, I: Source, O: Sink, L: Ledger>(
     ensures unmoved { form ≡ Form.Check → (store.new ≡ store.old) × (meter.new ≡ meter.old) }
     ensures unread { (n : ℕ) → form ≡ Form.Fill n → source.new ≡ source.old }
     ensures causes { Causes (S.faults store.old) (S.faults store.new) (O.faults sink.old) (O.faults sink.new) result }
+    ensures answered { IfErr result (IsAnsweredStop S.answers) }
     ensures taken { (taken : List ℕ) × (I.left source.old ≡ prepend_known taken (I.left source.new))
         × (length taken ≤ script_limit + 1) }
     ensures counted { IfOk result (λ ended. CountsBytes ended.ending (I.count source.old) (I.count source.new)) }
@@ -335,6 +341,7 @@ fn run<S: Store<L>, I: Source, O: Sink, L: Ledger>(
     ensures read_fault { result ≡ Status.ReadFault → HasRisen (I.faults source.old) (I.faults source.new) }
     ensures write_fault { result ≡ Status.WriteFault → HasRisen (O.faults sink.old) (O.faults sink.new) }
     ensures store_fault { result ≡ Status.StoreFault → HasRisen (S.faults store.old) (S.faults store.new) }
+    ensures answered { result ≡ Status.Damaged → IfSome (O.held sink.new) (EndsAnswered S.answers) }
     ensures taken { (taken : List ℕ) × (I.left source.old ≡ prepend_known taken (I.left source.new))
         × (length taken ≤ script_limit + 1) }
     ensures reads { I.count source.new ≤ I.count source.old + (script_limit + 1) }
@@ -377,6 +384,8 @@ pub fn run_piql<S: Store<L>, I: Source, O: Sink, L: Ledger>(
     ensures read_fault { result ≡ Status.ReadFault → HasRisen (I.faults source.old) (I.faults source.new) }
     ensures write_fault { result ≡ Status.WriteFault → HasRisen (O.faults sink.old) (O.faults sink.new) }
     ensures store_fault { result ≡ Status.StoreFault → HasRisen (S.faults store.old) (S.faults store.new) }
+    // Whether the store tells or not, the line of a damage names what a call of the store may have answered.
+    ensures answered { result ≡ Status.Damaged → IfSome (O.held sink.new) (EndsAnswered S.answers) }
     ensures taken { (taken : List ℕ) × (I.left source.old ≡ prepend_known taken (I.left source.new))
         × (length taken ≤ script_limit + 1) }
     // Whether the source tells or not, at most as many bytes are taken as a script may have, and one; and so many

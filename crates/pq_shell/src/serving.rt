@@ -6,7 +6,7 @@ ghost use Rattle.pq_shell.specs.Fold.{ServedItems, StoppedItem};
 ghost use Rattle.pq_shell.specs.Items.{Cut, cut_items};
 ghost use Rattle.pq_shell.specs.Making.{BreaksAt, ReadsSource, MakesItem, moment};
 ghost use Rattle.pq_shell.specs.Serving.{ProgressedRun, ReportsRest, StoppedAtRest, has_rest, rest_report};
-ghost use Rattle.pq_shell.specs.Stops.{Causes};
+ghost use Rattle.pq_shell.specs.Stops.{Causes, IsAnsweredStop};
 
 use crate::outside::Sink;
 use crate::reading::Ending;
@@ -89,6 +89,7 @@ pub fn make<S: Store<L>, L: Ledger>(
         (S.content store.new) meter.old meter.new) }
     ensures unmoved { form ≡ Form.Check → (store.new ≡ store.old) × (meter.new ≡ meter.old) }
     ensures causes { Causes (S.faults store.old) (S.faults store.new) 0 0 result }
+    ensures answered { IfErr result (IsAnsweredStop S.answers) }
 {
     match form {
         Form::Check => match session.check(alloc, number, piece) {
@@ -126,6 +127,7 @@ pub fn serve<S: Store<L>, O: Sink, L: Ledger>(
         (tally.old.count + 1) (Cut piece.now ∷ [])) }
     ensures unmoved { form ≡ Form.Check → (store.new ≡ store.old) × (meter.new ≡ meter.old) }
     ensures causes { Causes (S.faults store.old) (S.faults store.new) (O.faults sink.old) (O.faults sink.new) result }
+    ensures answered { IfErr result (IsAnsweredStop S.answers) }
 {
     let number = tally.count + 1;
     let (next, report) = make(alloc, form, session, number, piece, store, meter)?;
@@ -157,6 +159,7 @@ pub fn run_part<S: Store<L>, O: Sink, L: Ledger>(
         (progress.old.tally.count + 1) (cut_items (pieces_from progress.old.splitter bytes.now))) }
     ensures unmoved { form ≡ Form.Check → (store.new ≡ store.old) × (meter.new ≡ meter.old) }
     ensures causes { Causes (S.faults store.old) (S.faults store.new) (O.faults sink.old) (O.faults sink.new) result }
+    ensures answered { IfErr result (IsAnsweredStop S.answers) }
 {
     let mut session = session;
     let mut at = 0;

@@ -47,6 +47,10 @@ last_key schema = catalog_key (length schema.definitions)
 abbrev pub last_value : Schema → List ℕ
 last_value schema = value_at schema (length schema.definitions)
 
+-- the key of the definition that is made next
+abbrev pub next_key : Schema → List ℕ
+next_key schema = catalog_key (length schema.definitions + 1)
+
 -- just the pairs of the rows, of their entries and of the definitions
 unfoldable pub content_of : Model → Content
 content_of m = content_pairs m.schema.tables m.rows (catalog_pairs m.schema)

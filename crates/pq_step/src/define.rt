@@ -8,7 +8,7 @@ ghost use Rattle.pq_step.specs.Calls.{PutsNew, MayPut};
 ghost use Rattle.pq_schema.specs.Resolved.{IsResolved};
 ghost use Rattle.pq_schema.specs.Wanted.{IsWanted};
 ghost use Rattle.pq_step.specs.Extends.{Extends, ExtendsBy};
-ghost use Rattle.pq_store.specs.Breaks.{IfDamaged, IsPresent, IsUndamaged};
+ghost use Rattle.pq_store.specs.Breaks.{IfDamaged, IsPresent, IsUndamaged, IsAnswered, IsAnsweredBut};
 ghost use Rattle.pq_intent.specs.Changing.{IfDamagedSame};
 ghost use Rattle.pq_intent.specs.Spending.{TakesAtMost};
 ghost use Rattle.pq_step.specs.Promise.{Promises};
@@ -30,7 +30,7 @@ ghost use Rattle.pq_step.specs.Step.{report_of};
 ghost use Rattle.pq_plan.specs.Cost.{cost};
 ghost use Rattle.pq_print.specs.declared.report.End.TheVariants as End;
 ghost use Rattle.pq_statement.specs.Lines.{planned_lines, query_lines, table_lines};
-ghost use Rattle.pq_step.specs.Stands.{last_key, last_value};
+ghost use Rattle.pq_step.specs.Stands.{last_key, last_value, next_key};
 ghost use Rattle.pq_schema.specs.Names.{IsName, IsTableDef};
 ghost use Rattle.pq_schema.specs.Tables.{table_at};
 ghost use Rattle.pq_content.specs.Tables.{IsTableNumber};
@@ -93,6 +93,7 @@ fn put_absent<S: Store<L>, L: Ledger>(
         (λ pairs. IfDamaged (IsPresent pair.key pairs) broke)) }
     ensures kept { IfErr result (IfDamagedSame (S.content store.old) (S.content store.new)) }
     ensures cause { HasBrokeCause (S.faults store.old) (S.faults store.new) result }
+    ensures answered { IfErr result (IsAnswered S.answers) }
 {
     let Pair { key, value } = pair;
     match store.write(
@@ -197,6 +198,7 @@ impl PlannedCatalog {
             (λ pairs. IfDamaged (IsPresent (last_key self) pairs) broke)) }
         ensures kept { IfErr result (IfDamagedSame (S.content store.old) (S.content store.new)) }
         ensures cause { HasBrokeCause (S.faults store.old) (S.faults store.new) result }
+        ensures answered { IfErr result (IsAnswered S.answers) }
     {
         let pair = last_pair(alloc, &self.catalog)?;
         put_absent(alloc, pair, store, meter)?;
@@ -216,6 +218,7 @@ impl PlannedCatalog {
         ensures step { Promises number (action_from Creates (new_table self def)) (S.content store.old)
             (S.content store.new) self meter.old meter.new result }
         ensures cause { HasBrokeCause (S.faults store.old) (S.faults store.new) result }
+        ensures answered { IfErr result (IsAnswered S.answers) }
     {
         let (planned, made) = self.with_table_of(alloc, def)?;
         match made {
@@ -262,6 +265,7 @@ impl PlannedCatalog {
             → Promises number (Ok (Prepares (planned_definition query best None))) (S.content store.old)
             (S.content store.new) self meter.old meter.new result }
         ensures cause { HasBrokeCause (S.faults store.old) (S.faults store.new) result }
+        ensures answered { IfErr result (IsAnswered S.answers) }
     {
         let planned = self.with_defined(alloc, query, plan, None)?;
         planned.write_last(alloc, number, lines, store, meter)
@@ -315,6 +319,7 @@ impl PlannedCatalog {
             → Promises number (Ok (Prepares (planned_definition query best (Some new)))) (S.content store.old)
             (S.content store.new) self meter.old meter.new result }
         ensures cause { HasBrokeCause (S.faults store.old) (S.faults store.new) result }
+        ensures answered { IfErr result (IsAnsweredBut S.answers (next_key self)) }
     {
         let target = self.target(alloc, &new)?;
         let defined = self.new_query(alloc, &query)?;
@@ -343,6 +348,7 @@ impl PlannedCatalog {
         ensures step { (asked : Result Action Refusal) → IsPlannedAs Prepares asked plan
             → Promises number asked (S.content store.old) (S.content store.new) self meter.old meter.new result }
         ensures cause { HasBrokeCause (S.faults store.old) (S.faults store.new) result }
+        ensures answered { IfErr result (IsAnsweredBut S.answers (next_key self)) }
     {
         let lines = planned_lines(alloc, &self.catalog, &plan)?;
         let PlannedQuery { query, compiled } = plan;

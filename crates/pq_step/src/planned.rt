@@ -8,14 +8,14 @@ ghost use Rattle.pq_base.specs.Answers.{Refuses};
 ghost use Rattle.pq_base.specs.declared.refusal.Refusal.{Refusal};
 ghost use Rattle.pq_step.specs.Model.{Model as Tables};
 ghost use Rattle.pq_schema.specs.Valid.{IsValid};
-ghost use Rattle.pq_store.specs.Breaks.{IsUndamaged};
+ghost use Rattle.pq_store.specs.Breaks.{IsUndamaged, IsAnsweredBut};
 ghost use Rattle.pq_step.specs.Matches.{Matches};
 ghost use Rattle.pq_step.specs.Evidence.{TellsEvidence};
 ghost use Rattle.pq_statement.specs.Actions.{Action, action_of, schema_after, statement_bound};
 ghost use Rattle.pq_step.specs.Promise.{Promises, IsBound, IsRefusal, IsWithinFixed, KeepsDamaged, OnlyReads};
 ghost use Rattle.pq_step.specs.Refusing.{CanEnd};
 ghost use Rattle.pq_statement.specs.Requests.{Asks, IsRequest};
-ghost use Rattle.pq_step.specs.Stands.{Stands, Opens};
+ghost use Rattle.pq_step.specs.Stands.{Stands, Opens, next_key};
 ghost use Rattle.pq_builds.specs.Bounds.{bound};
 ghost use Rattle.pq_step.specs.Step.{report_of, step, unread_report};
 ghost use Rattle.pq_statement.specs.Lines.{show_lines};
@@ -145,6 +145,8 @@ impl PlannedCatalog {
         ensures lasting { IfErr result (λ broke. IfSome (S.content store.new)
             (λ content. TellsEvidence self content broke)) }
         ensures cause { HasBrokeCause (S.faults store.old) (S.faults store.new) result }
+        // Damage is told of what a call answered; or, where an index is made, of its definition's key alone.
+        ensures answered { IfErr result (IsAnsweredBut S.answers (next_key self)) }
     {
         self.known();
         self.piece(alloc, number, piece, store, meter)
@@ -170,6 +172,7 @@ impl PlannedCatalog {
         ensures step { Promises number (action_of self piece.now) (S.content store.old) (S.content store.new) self
             meter.old meter.new result }
         ensures cause { HasBrokeCause (S.faults store.old) (S.faults store.new) result }
+        ensures answered { IfErr result (IsAnsweredBut S.answers (next_key self)) }
     {
         match self.asked(alloc, piece) {
             Err(Stopped::NoMem) => Err(Broke::NoMem),
@@ -191,6 +194,7 @@ impl PlannedCatalog {
         ensures step { (asked : Result Action Refusal) → Asks self request asked
             → Promises number asked (S.content store.old) (S.content store.new) self meter.old meter.new result }
         ensures cause { HasBrokeCause (S.faults store.old) (S.faults store.new) result }
+        ensures answered { IfErr result (IsAnsweredBut S.answers (next_key self)) }
     {
         match request {
             Request::Create(def) => self.create(alloc, number, def, store, meter),

@@ -1,7 +1,8 @@
 //! RUN: a page of a query that was defined.
-ghost use Rattle.std.specs.Prelude.{◌≡◌, ◌<◌, length, map, option_copied, IfOk, Ok};
+ghost use Rattle.std.specs.Prelude.{◌≡◌, ◌<◌, length, map, option_copied, IfOk, IfErr, Ok};
 ghost use Rattle.pq_base.specs.Values.{AllFit};
 ghost use Rattle.pq_schema.specs.Schema.{query_at};
+ghost use Rattle.pq_store.specs.Breaks.{IsAnswered};
 ghost use Rattle.pq_store.specs.Content.{HasBrokeCause};
 ghost use Rattle.pq_nodes.specs.Operators.{IsCursor};
 ghost use Rattle.pq_pages.specs.Running.{IsQueryNumber, running_with};
@@ -81,6 +82,7 @@ impl PlannedCatalog {
             (Ok (Runs (running_with query (query_at self query) params.now (option_copied after.entry))))
             (S.content store.old) (S.content store.new) self meter.old meter.new result }
         ensures cause { HasBrokeCause (S.faults store.old) (S.faults store.new) result }
+        ensures answered { IfErr result (IsAnswered S.answers) }
     {
         let plan = self.kept_plan(query);
         let page = run_page(

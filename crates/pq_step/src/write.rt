@@ -1,5 +1,6 @@
 //! INSERT, UPDATE and DELETE.
-ghost use Rattle.std.specs.Prelude.{Ok};
+ghost use Rattle.std.specs.Prelude.{IfErr, Ok};
+ghost use Rattle.pq_store.specs.Breaks.{IsAnswered};
 ghost use Rattle.pq_store.specs.Content.{HasBrokeCause};
 ghost use Rattle.pq_index_keep.specs.Sound.{IsWrite};
 ghost use Rattle.pq_statement.specs.Actions.{Writes};
@@ -28,6 +29,7 @@ impl PlannedCatalog {
         ensures step { Promises number (Ok (Writes write.now)) (S.content store.old) (S.content store.new) self
             meter.old meter.new result }
         ensures cause { HasBrokeCause (S.faults store.old) (S.faults store.new) result }
+        ensures answered { IfErr result (IsAnswered S.answers) }
     {
         let bound = write_bound(&self.catalog, write);
         let mut allowance = Allowance::grant(bound);

@@ -1,5 +1,5 @@
 -- The errors of calls over a store, and what damage of a content they tell.
-use Rattle.std.specs.Prelude.{◌≡◌, ℕ, List, Some, None}
+use Rattle.std.specs.Prelude.{◌≡◌, ◌⊎◌, ℕ, List, Option, Some, None}
 use Rattle.std.specs.FinMap.{get}
 use Rattle.pq_store.specs.Content.{Content}
 use Rattle.pq_store.specs.declared.store.StoreErr.{StoreErr}
@@ -22,6 +22,15 @@ IfDamaged shows (broke.Damaged damage) = shows damage
 -- no damage is told
 abbrev pub IsUndamaged : Broke → Type 0
 IsUndamaged = IfDamaged (λ damage. ⊥)
+
+-- damage is told with a key and the value that a call may answer for it
+abbrev pub IsAnswered : (List ℕ → Option (List ℕ) → Type 0) → Broke → Type 0
+IsAnswered answers = IfDamaged (λ damage. answers damage.key damage.value)
+
+-- or of this key, without a value
+abbrev pub IsAnsweredBut : (List ℕ → Option (List ℕ) → Type 0) → List ℕ → Broke → Type 0
+IsAnsweredBut answers key = IfDamaged (λ damage. answers damage.key damage.value
+    ⊎ ((damage.key ≡ key) × (damage.value ≡ None)))
 
 -- the key, which had to be absent, has a value
 pub record IsPresent (key : List ℕ) (content : Content) (damage : Damage) : Type 0 where

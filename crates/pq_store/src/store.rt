@@ -41,7 +41,8 @@ pub enum StoreErr {
 /// answers, and its entries by those that it answers. A store tells its content or doesn't, and no
 /// call changes that. Its count of faults never falls.
 pub trait Store<L: Ledger> {
-    ghost use Rattle.std.specs.Prelude.{◌≡◌, ◌≤◌, ◌⊎◌, ℕ, Option, IfSome, IfOk, OnOk, IsErrOf, map, take, length, min};
+    ghost use Rattle.std.specs.Prelude.{◌≡◌, ◌≤◌, ◌⊎◌, ℕ, List, Option, Some, None, false, IfSome, IfOk, OnOk, IsErrOf, map, take, length, min, ⊤};
+    ghost use Rattle.std.specs.List.{AllByRecursion};
     ghost use Rattle.std.specs.Option.{option_map, option_copied};
     ghost use Rattle.std.specs.FinMap.{get as value_at};
     ghost use Rattle.pq_store.specs.Counts.{charged_counts};
@@ -53,6 +54,10 @@ pub trait Store<L: Ledger> {
     // How often it has failed, up to the last number of 64 bits.
     ghost faults: { Self → ℕ };
 
+    // What its calls may answer for a key: its value, or None where it has none and where a guarded write of it
+    // isn't made. Whoever works over any store has of it only what its calls answered.
+    ghost answers: { List ℕ → Option (List ℕ) → Type 0 } = { λ _ _. ⊤ };
+
     /// The value of the key: one entry where there is one, else none.
     fn get(
         &mut self,
@@ -61,6 +66,7 @@ pub trait Store<L: Ledger> {
         meter: &mut Meter<L>,
     ) -> Result<Option<Bytes>, StoreErr>
         ensures answer { IfOk result (λ found. IfSome (content self.old) (λ pairs. found ≡ value_at pairs key.now)) }
+        ensures answered { IfOk result (λ found. answers key.now found) }
         ensures same { content self.new ≡ content self.old }
         ensures cause { HasCause (faults self.old) (faults self.new) result }
         ensures meter { meter.new ≡ charged_counts meter.old (got_entries result) };
@@ -79,6 +85,7 @@ pub trait Store<L: Ledger> {
         ensures answer { IfOk result (λ found. IfSome (content self.old) (λ pairs.
             map entry found ≡ take limit (pairs_within pairs low.now high.now))) }
         ensures part { IfOk result (λ found. IsPartOf low.now high.now limit (map entry found)) }
+        ensures answered { IfOk result (λ found. AllByRecursion (λ pair. answers pair.0 (Some pair.1)) (map entry found)) }
         ensures same { content self.new ≡ content self.old }
         ensures cause { HasCause (faults self.old) (faults self.new) result }
         ensures meter { meter.new ≡ charged_counts meter.old (ranged_entries result) };
@@ -111,6 +118,7 @@ pub trait Store<L: Ledger> {
     ) -> Result<bool, StoreErr>
         ensures answer { IfOk result (λ done. IfSome (content self.old) (λ pairs.
             done ≡ admits guard.entry (value_at pairs key.now))) }
+        ensures answered { IfOk result (λ done. done ≡ false → answers key.now None) }
         ensures content { OnOk result (content self.new
             ≡ option_map (after_write guard.entry key.now (option_copied new.entry)) (content self.old)) }
         ensures no_memory { IsErrOf result StoreErr.NoMem → content self.new ≡ content self.old }

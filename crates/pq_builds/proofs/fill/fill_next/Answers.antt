@@ -5,6 +5,7 @@ use Rattle.pq_store.specs.Content.{entry}
 use Rattle.pq_store.specs.declared.store.Pair.{Pair as Stored}
 use Rattle.pq_intent.proofs.Steps.{on_err_holds}
 use Rattle.pq_builds.specs.Filling.{target_shape, past_key, IsPast}
+use Rattle.pq_builds.proofs.Answered.{among_answered}
 use Rattle.pq_builds.proofs.Following.{answer_at, part_at, follows_from, stops_from, no_row_from, next_space}
 use Rattle.pq_builds.proofs.Reading.{range_told, some_same}
 use Rattle.pq_builds.proofs.fill.fill_next.Goals as goal
@@ -53,3 +54,8 @@ returns-clause-told g c = range_told c.args.target.now.table c.args.low c.items.
 
 pub returns-then-items-number-clause-stopped : goal.returns-then-items-number-clause-stopped
 returns-then-items-number-clause-stopped g c = some_same c.args.target.now c.args.target.now.table c.args.low (g.S.Store.content c.args.store.now) _ c.range.ensures.same
+
+pub returns-in_err-write_entries-clause-answered : goal.returns-in_err-write_entries-clause-answered
+returns-in_err-write_entries-clause-answered g c =
+    let p = err_from_is_err_and c.from_residual-in_err-write_entries.result c.from_residual-in_err-write_entries.ensures.1 in
+    rw (p.1, p.2) (among_answered g.S.Store.answers c.args.key.now (target_shape c.args.target.now) (map entry c.items-5.result.now) (rw c.items-5.ensures c.in-Ok.ensures.answered) _ c.in_err-write_entries.ensures.damage)

@@ -1,4 +1,4 @@
-use Rattle.std.proofs.Common.{ap, ◌∙◌, subst, Some, None}
+use Rattle.std.proofs.Common.{ap, ◌∙◌, subst, sym, ℕ, List, Some, None}
 use Rattle.std.specs.Prelude.{All, IfSome}
 use Rattle.std.specs.FinMap.{get}
 use Rattle.std.proofs.lemmas.Result.{err_from_is_err_and}
@@ -52,3 +52,7 @@ returns-in-Some-clause-code g c =
     (g.S.Store.content c.args.calls.now.store.now)
     (subst (λ (own : Table). IfSome (g.S.Store.content c.args.calls.now.store.now) (λ (content : Content). IsRead (shape_of own) (get content (row_key c.args.number c.in_ok-key.key)) (Some c.in-Some.stored.row))) table
     (rw c.in-Some.is at c.in_ok-stored.ensures.read))
+
+pub returns-clause-answered : goal.returns-clause-answered
+returns-clause-answered g c =
+    subst (λ (key : List ℕ). g.S.Store.answers key None) (sym c.in_ok-row_key-in-None.ensures) (rw c.in-None.is at c.in_ok-stored.ensures.none)

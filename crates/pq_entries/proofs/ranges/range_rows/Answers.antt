@@ -1,4 +1,4 @@
-use Rattle.std.proofs.Common.{subst, sym, ap, ◌∙◌, refl}
+use Rattle.std.proofs.Common.{map, subst, sym, ap, ◌∙◌, refl}
 use Rattle.std.specs.Prelude.{List, All}
 use Rattle.pq_base.specs.declared.value.ColType.{ColType}
 use Rattle.pq_base.specs.Shapes.{row_shape}
@@ -6,7 +6,10 @@ use Rattle.pq_base.specs.Values.{IsType}
 use Rattle.pq_row_code.specs.StoredRow.{code_as}
 use Rattle.pq_schema.specs.Rows.{types_of, shape_of}
 use Rattle.pq_store.specs.declared.store.Pair.{Pair}
+use Rattle.pq_store.specs.Content.{entry}
 use Rattle.pq_calls.specs.Calls.{seen_world}
+use Rattle.pq_entries.specs.Entries.{IsNoRowPair}
+use Rattle.pq_entries.proofs.Answered.{read_answered}
 use Rattle.pq_entries.proofs.Told.{rows_explained, rows_coded, rows_answered, few_read, fit_as}
 use Rattle.pq_entries.proofs.ranges.range_rows.Goals as goal
 
@@ -42,3 +45,8 @@ returns-clause-codes g c =
     rows_coded c.args.catalog.now.tables c.args.number c.requires.sequence.number c.args.low.now c.args.high.now c.args.limit c.items-2.result.now
     (rw c.items-2.ensures c.in_ok-pairs.ensures.part) (g.S.Store.content c.args.calls.now.store.now) (rw c.items-2.ensures c.in_ok-pairs.ensures.answer)
     _ shape c.decoded_rows.result c.decoded_rows.ensures.codes
+
+pub returns-clause-answered : goal.returns-clause-answered
+returns-clause-answered g c =
+    read_answered g.S.Store.answers (map entry c.items-2.result.now) (rw c.items-2.ensures c.in_ok-pairs.ensures.answers)
+    (IsNoRowPair (row_shape c.items.result.now c.table_of-table.result.now.fillers)) (λ pair damage shown. shown.tells) c.decoded_rows.result c.decoded_rows.ensures.cause

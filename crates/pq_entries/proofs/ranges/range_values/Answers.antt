@@ -1,4 +1,4 @@
-use Rattle.std.proofs.Common.{ap, ◌∙◌, refl, drop, ℕ, ◌≤◌, length, subst, sym}
+use Rattle.std.proofs.Common.{ap, ◌∙◌, refl, drop, map, ℕ, ◌≤◌, length, subst, sym}
 use Rattle.std.specs.Prelude.{All}
 use Rattle.pq_key_code.specs.KeyCode.{code_of}
 use Rattle.pq_schema.specs.Keys.{dirs_of}
@@ -6,7 +6,10 @@ use Rattle.pq_schema.specs.Sequences.{sequence_of}
 use Rattle.pq_schema.specs.declared.table.Table.{Table}
 use Rattle.pq_calls.specs.Calls.{seen_world}
 use Rattle.pq_calls.specs.Keys.{sequence_types}
+use Rattle.pq_store.specs.Content.{entry}
 use Rattle.pq_store.specs.declared.store.Pair.{Pair}
+use Rattle.pq_entries.specs.Entries.{IsNoKeyPair}
+use Rattle.pq_entries.proofs.Answered.{read_answered}
 use Rattle.pq_entries.proofs.Told.{keys_explained, keys_keyed, keys_answered, keys_are_there, few_read, fit_as, part_long}
 use Rattle.pq_entries.proofs.ranges.range_values.Goals as goal
 
@@ -58,3 +61,8 @@ returns-clause-keys g c =
     keys_keyed c.args.catalog.now.tables c.args.number c.requires.sequence.number c.args.low.now c.args.high.now c.args.limit c.items-3.result.now
     (rw c.items-3.ensures c.in_ok-pairs.ensures.part) (g.S.Store.content c.args.calls.now.store.now) (rw c.items-3.ensures c.in_ok-pairs.ensures.answer)
     c.args.access c.requires.ends c.items.result.now c.items-2.result.now c.front_len-skipped.result types dirs c.front_len-skipped.ensures c.decoded_keys.result c.decoded_keys.ensures.codes c.decoded_keys.ensures.fit
+
+pub returns-clause-answered : goal.returns-clause-answered
+returns-clause-answered g c =
+    read_answered g.S.Store.answers (map entry c.items-3.result.now) (rw c.items-3.ensures c.in_ok-pairs.ensures.answers)
+    (IsNoKeyPair c.items.result.now c.items-2.result.now c.front_len-skipped.result) (λ pair damage shown. shown.tells) c.decoded_keys.result c.decoded_keys.ensures.cause

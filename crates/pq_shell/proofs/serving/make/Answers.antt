@@ -1,5 +1,6 @@
 use Rattle.std.proofs.Common.{◌≡◌, rules, sym, subst, inl, inr}
 use Rattle.pq_shell.specs.Forms.{HasOpening}
+use Rattle.pq_shell.proofs.Answering.{step_answered}
 use Rattle.pq_shell.proofs.Making.{made_over, broke_over, made_checked, lost_checked}
 use Rattle.pq_shell.proofs.serving.make.Goals as goal
 
@@ -23,6 +24,7 @@ returns-in-Ok-statement g c =
       err = tt;
       unmoved = λ check. absurd (subst HasOpening check some);
       causes = search rules;
+      answered = tt;
     }
 
 pub returns-in-Err-statement : goal.returns-in-Err-statement
@@ -37,4 +39,5 @@ returns-in-Err-statement g c =
       err = broke_over c.args.number c.args.piece.now c.args.session _ _ _ _ c.args.form c.in-Err-statement.broke some e.stopped e.damage e.building e.lasting e.within_own e.kept;
       unmoved = λ check. absurd (subst HasOpening check some);
       causes = search rules;
+      answered = step_answered g.S.Store.answers c.args.session c.in-Err-statement.broke e.answered;
     })
