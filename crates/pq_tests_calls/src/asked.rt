@@ -1,5 +1,5 @@
 //! Queries over the tables of the tests, and the nodes of their plans.
-ghost use Rattle.std.specs.Prelude.{◌≡◌, option_copied, IsTrue, IfOk, IfSome};
+ghost use Rattle.std.specs.Prelude.{◌≡◌, ◌≤◌, length, option_copied, IsTrue, IfOk, IfSome};
 ghost use Rattle.std.specs.List.{AllByRecursion};
 ghost use Rattle.pq_schema.specs.Resolved.{IsResolved};
 ghost use Rattle.pq_compile.specs.Chosen.{IsCompiled};
@@ -8,18 +8,33 @@ ghost use Rattle.pq_plan.specs.Nodes.{nodes};
 ghost use Rattle.pq_tests_calls.specs.Reads.{input_of, IsReadyAt};
 
 use crate::rows::{FALLING, TABLES};
-use pq_base::PText;
+use pq_base::{NoMem, PText, Refusal, Stopped};
 use pq_compile::{Compiled, compile};
 use pq_def_read::{Statement, read_statement};
 use pq_plan::Physical;
 use pq_query_read::read_query;
-use pq_schema::{Catalog, Query, is_name};
+use pq_schema::{Catalog, Query, TableDef, is_name};
 use pq_text::tokens;
 use std::alloc::Global;
-use std::test::Fail;
 
-fn text_of(alloc: Global, text: &str) -> Result<PText, Fail> {
-    Ok(PText::from_bytes(alloc, text.as_bytes())?.ok_or("not UTF-8")?)
+/// The text, which isn't too long to be read.
+fn text_of(alloc: Global, text: &str) -> Result<PText, NoMem>
+    ensures { IfOk result (λ made. length made ≤ 1048576) }
+{
+    if text.len() > 1_048_576 {
+        return Err(NoMem);
+    }
+    Ok(PText::from_string(String::from_str(alloc, text)?))
+}
+
+/// The query that the text spells.
+fn query_of(alloc: Global, catalog: &Catalog, text: &str) -> Result<Query, Stopped>
+    ensures { IfOk result (IsResolved catalog.now.tables) }
+{
+    let name = text_of(alloc, "q")?;
+    let text = text_of(alloc, text)?;
+    let seen = tokens(alloc, &text)?;
+    read_query(alloc, catalog, name, &text, &seen, 0)
 }
 
 /// A query, and what it is compiled to.
@@ -29,51 +44,48 @@ pub(crate) struct Planned {
     pub made: Compiled,
 }
 
-/// The query that the text spells.
-pub(crate) fn plan_of(alloc: Global, catalog: &Catalog, text: &str) -> Result<Planned, Fail>
+/// The query that the text spells, with its plan.
+pub(crate) fn plan_of(alloc: Global, catalog: &Catalog, text: &str) -> Result<Planned, Stopped>
     ensures resolved { IfOk result (λ p. IsResolved catalog.now.tables p.query) }
     ensures compiled { IfOk result (λ p. IsCompiled catalog.now.tables p.query p.made) }
 {
     catalog.known();
-    let text = text_of(alloc, text)?;
-    if text.bytes().len() > 1_048_576 {
-        return Err(Fail::from("too long"));
-    }
-    let name = text_of(alloc, "q")?;
-    let seen = tokens(alloc, &text)?;
-    let query = read_query(alloc, catalog, name, &text, &seen, 0)?;
+    let query = query_of(alloc, catalog, text)?;
     let made = compile(alloc, catalog, &query)?;
     Ok(Planned { query, made })
 }
 
-fn define_table(alloc: Global, catalog: &mut Catalog, text: &str) -> Result<(), Fail> {
+/// The definition that the text spells.
+fn table_of(alloc: Global, text: &str) -> Result<TableDef, Stopped> {
     let text = text_of(alloc, text)?;
-    if text.bytes().len() > 1_048_576 {
-        return Err(Fail::from("too long"));
-    }
     let seen = tokens(alloc, &text)?;
-    let Ok(Statement::Create(def)) = read_statement(alloc, &text, &seen) else {
-        return Err(Fail::from("not the definition of a table"));
-    };
+    match read_statement(alloc, &text, &seen)? {
+        Statement::Create(def) => Ok(def),
+        _ => Err(Stopped::Refused(Refusal::Syntax { at: 0 })),
+    }
+}
+
+fn define_table(alloc: Global, catalog: &mut Catalog, text: &str) -> Result<(), Stopped> {
+    let def = table_of(alloc, text)?;
     if !def.is_spelt() {
-        return Err(Fail::from("not as statements spell it"));
+        return Err(Stopped::Refused(Refusal::Syntax { at: 0 }));
     }
     let _number = catalog.add_table(alloc, def)?;
     Ok(())
 }
 
 /// Defines a query with the index that it wants.
-fn define_query(alloc: Global, catalog: &mut Catalog, text: &str) -> Result<(), Fail> {
+fn define_query(alloc: Global, catalog: &mut Catalog, text: &str) -> Result<(), Stopped> {
     let Planned { query, made } = plan_of(alloc, catalog, text)?;
     if !is_name(&query.name) {
-        return Err(Fail::from("not a name"));
+        return Err(Stopped::Refused(Refusal::Syntax { at: 0 }));
     }
     let _number = catalog.add_query(alloc, query, made.wanted)?;
     Ok(())
 }
 
 /// The tables with their indexes.
-pub(crate) fn catalog_of(alloc: Global) -> Result<Catalog, Fail> {
+pub(crate) fn catalog_of(alloc: Global) -> Result<Catalog, Stopped> {
     let mut catalog = Catalog::new(alloc);
     for text in &TABLES {
         define_table(alloc, &mut catalog, text)?;

@@ -3,13 +3,14 @@ ghost use Rattle.std.specs.Prelude.{◌≡◌, ◌≤◌, length};
 ghost use Rattle.pq_calls.specs.World.{Affords};
 ghost use Rattle.pq_compile.specs.Chosen.{IsCompiled};
 ghost use Rattle.pq_nodes.specs.Operators.{IsAsked, AreInputs};
+ghost use Rattle.pq_schema.specs.Resolved.{IsResolved};
 
 use crate::asked::{Planned, catalog_of, plan_of};
 use crate::calls::failing;
 use crate::operators::{are_rows, is_asked, page_of};
 use crate::pages::{AMPLE, read_first, read_matching};
 use crate::plain::{Case, groups_of, plain};
-use crate::rows::{Cells, T, store_of};
+use crate::rows::{Cells, T, rows_in, store_of};
 use pq_base::{Dir, List, NoMem, Row, Used};
 use pq_local_ops::project;
 use pq_plan::Combo;
@@ -40,12 +41,13 @@ struct Want {
 /// A range for each group, of at most a page, and a get for each row of the page.
 fn want_of(alloc: Global) -> Result<Want, NoMem> {
     let groups = groups_of(alloc, true)?;
+    let read = rows_in(alloc, T)?;
     let mut entries = Vec::new(alloc);
     for group in &groups {
-        let found = plain(alloc, &T, &[*group], &CASE)?;
+        let found = plain(alloc, &read, &[*group], &CASE)?;
         entries.push(page_of(&found, 0).len() as u64)?;
     }
-    let rows = plain(alloc, &T, &groups, &CASE)?;
+    let rows = plain(alloc, &read, &groups, &CASE)?;
     for _ in page_of(&rows, 0) {
         entries.push(1)?;
     }
@@ -156,21 +158,26 @@ fn ends_both<L: Ledger>(
 
 /// The first call at which the join ends otherwise, and behind its calls where it fails though none does; 0 where
 /// it isn't asked.
-fn first_unlike<L: Ledger>(alloc: Global, blank: Blank) -> Result<Option<usize>, test::Fail>
+fn first_unlike<L: Ledger>(
+    alloc: Global,
+    blank: Blank,
+    catalog: &Catalog,
+    planned: &Planned,
+) -> Result<Option<usize>, Broke>
     requires name { blank.name ≡ L.name }
     requires parts { blank.parts ≡ L.parts }
     requires two { blank.parts ≡ 2 }
+    requires resolved { IsResolved catalog.now.tables planned.now.query }
+    requires compiled { IsCompiled catalog.now.tables planned.now.query planned.now.made }
 {
     let mut meter = Meter::<L>::start(Opening::of(blank));
-    let catalog = catalog_of(alloc)?;
-    let planned = plan_of(alloc, &catalog, TEXT)?;
     let params = Row::new(alloc);
-    if !is_asked(&catalog, &planned, &params) {
+    if !is_asked(catalog, planned, &params) {
         return Ok(Some(0));
     }
     let want = want_of(alloc)?;
     for call in 1..want.entries.len().saturating_add(2) {
-        if !ends_both(alloc, &catalog, &planned, &params, &want, call, &mut meter)? {
+        if !ends_both(alloc, catalog, planned, &params, &want, call, &mut meter)? {
             return Ok(Some(call));
         }
     }
@@ -179,7 +186,9 @@ fn first_unlike<L: Ledger>(alloc: Global, blank: Blank) -> Result<Option<usize>,
 
 #[test]
 fn a_join_stops_at_the_call_that_fails(rt: HostRuntime) -> Result<(), test::Fail> {
-    let unlike = first_unlike::<Brand>(rt.alloc(), Blank::new(2))?;
+    let catalog = catalog_of(rt.alloc())?;
+    let planned = plan_of(rt.alloc(), &catalog, TEXT)?;
+    let unlike = first_unlike::<Brand>(rt.alloc(), Blank::new(2), &catalog, &planned)?;
     assert_eq!(rt; unlike, None);
     Ok(())
 }

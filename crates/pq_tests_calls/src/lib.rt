@@ -15,6 +15,8 @@ mod changes;
 #[cfg(test)]
 mod failing_join;
 #[cfg(test)]
+mod lines;
+#[cfg(test)]
 mod operators;
 #[cfg(test)]
 mod pages;

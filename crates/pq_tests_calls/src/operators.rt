@@ -7,7 +7,7 @@ ghost use Rattle.pq_schema.specs.Resolved.{IsResolved};
 use crate::asked::{Planned, catalog_of, plan_of, read_of};
 use crate::pages::{PAGE, page};
 use crate::plain::{Case, groups_of, plain};
-use crate::rows::{Cells, S, T, U, W, store_of};
+use crate::rows::{Cells, S, T, U, W, rows_in, store_of};
 use pq_base::{Dir, List, NoMem, Row, Value, all_fit};
 use pq_local_ops::{position_of, project};
 use pq_plan::{Combo, Physical};
@@ -27,7 +27,7 @@ struct Form {
     given: &'static str,
     is_joined: bool,
     limit: &'static str,
-    rows: &'static [Cells],
+    rows: &'static str,
     /// Where values rise, and where they fall.
     ways: [&'static str; 2],
 }
@@ -39,7 +39,7 @@ const FORMS: [Form; 5] = [
         given: "s.g = 1",
         is_joined: false,
         limit: "",
-        rows: &S,
+        rows: S,
         ways: ["range", "range"],
     },
     Form {
@@ -48,7 +48,7 @@ const FORMS: [Form; 5] = [
         given: "w.g = 1",
         is_joined: false,
         limit: "",
-        rows: &W,
+        rows: W,
         ways: ["index range", "index range"],
     },
     Form {
@@ -57,7 +57,7 @@ const FORMS: [Form; 5] = [
         given: "s.g = 1 AND u.g = s.v",
         is_joined: true,
         limit: "",
-        rows: &U,
+        rows: U,
         ways: ["get", "get"],
     },
     Form {
@@ -66,7 +66,7 @@ const FORMS: [Form; 5] = [
         given: "t.g = 1",
         is_joined: false,
         limit: " LIMIT 3",
-        rows: &T,
+        rows: T,
         ways: ["stop", "index stop"],
     },
     Form {
@@ -75,7 +75,7 @@ const FORMS: [Form; 5] = [
         given: "s.g = 1 AND t.g = s.v",
         is_joined: true,
         limit: " LIMIT 3",
-        rows: &T,
+        rows: T,
         ways: ["stop", "index stop"],
     },
 ];
@@ -191,29 +191,47 @@ fn way_by(form: &Form, case: &Case) -> &'static str {
     }
 }
 
-/// Whether the query of a text is read in the right way, and has the pages of the plain definition.
+/// Whether the last relation is read in the right way.
+fn is_read_so(catalog: &Catalog, form: &Form, case: &Case, planned: &Planned) -> bool
+    requires resolved { IsResolved catalog.now.tables planned.now.query }
+    requires compiled { IsCompiled catalog.now.tables planned.now.query planned.now.made }
+{
+    let rel = if form.is_joined { 2 } else { 1 };
+    match read_of(catalog, planned, rel) {
+        Some(node) => way_of(node) == way_by(form, case),
+        None => false,
+    }
+}
+
+/// The rows of the plain definition.
+fn want_of(alloc: Global, form: &Form, case: &Case) -> Result<Vec<Cells>, NoMem> {
+    let rows = rows_in(alloc, form.rows)?;
+    let groups = groups_of(alloc, form.is_joined)?;
+    plain(alloc, &rows, &groups, case)
+}
+
+/// Whether the query is read in the right way, and has the pages of the plain definition.
 fn is_answered<L: Ledger>(
     alloc: Global,
     catalog: &Catalog,
     form: &Form,
     case: &Case,
-    text: &str,
+    planned: &Planned,
     meter: &mut Meter<L>,
-) -> Result<bool, Fail> {
-    let planned = plan_of(alloc, catalog, text)?;
+) -> Result<bool, Broke>
+    requires resolved { IsResolved catalog.now.tables planned.now.query }
+    requires compiled { IsCompiled catalog.now.tables planned.now.query planned.now.made }
+{
     let params = Row::new(alloc);
-    let rel = if form.is_joined { 2 } else { 1 };
-    let read = read_of(catalog, &planned, rel).map_or("none", way_of);
-    if !is_asked(catalog, &planned, &params) || read != way_by(form, case) {
+    if !is_asked(catalog, planned, &params) || !is_read_so(catalog, form, case, planned) {
         return Ok(false);
     }
-    let groups = groups_of(alloc, form.is_joined)?;
-    let want = plain(alloc, form.rows, &groups, case)?;
+    let want = want_of(alloc, form, case)?;
     let mut store = store_of(alloc, meter)?;
-    Ok(has_pages(alloc, catalog, &planned, &params, &want, &mut store, meter)?)
+    has_pages(alloc, catalog, planned, &params, &want, &mut store, meter)
 }
 
-/// The first query of a form that is answered otherwise.
+/// The first query of a form that is answered otherwise, or has no plan.
 fn first_of<L: Ledger>(
     alloc: Global,
     catalog: &Catalog,
@@ -221,7 +239,7 @@ fn first_of<L: Ledger>(
     op: (Op, &'static str),
     dir: (Dir, &'static str),
     meter: &mut Meter<L>,
-) -> Result<Option<String>, Fail> {
+) -> Result<Option<String>, Broke> {
     for constant in &CONSTANTS {
         let case = Case {
             op: op.0,
@@ -230,7 +248,10 @@ fn first_of<L: Ledger>(
             dir: dir.0,
         };
         let text = text_of(alloc, form, &case, (op.1, dir.1))?;
-        if !is_answered(alloc, catalog, form, &case, text.as_str(), meter)? {
+        let Ok(planned) = plan_of(alloc, catalog, text.as_str()) else {
+            return Ok(Some(text));
+        };
+        if !is_answered(alloc, catalog, form, &case, &planned, meter)? {
             return Ok(Some(text));
         }
     }
@@ -238,17 +259,20 @@ fn first_of<L: Ledger>(
 }
 
 /// The first query that is answered otherwise.
-fn first_unlike<L: Ledger>(alloc: Global, blank: Blank) -> Result<Option<String>, Fail>
+fn first_unlike<L: Ledger>(
+    alloc: Global,
+    blank: Blank,
+    catalog: &Catalog,
+) -> Result<Option<String>, Broke>
     requires name { blank.name ≡ L.name }
     requires parts { blank.parts ≡ L.parts }
     requires two { blank.parts ≡ 2 }
 {
     let mut meter = Meter::<L>::start(Opening::of(blank));
-    let catalog = catalog_of(alloc)?;
     for form in &FORMS {
         for op in &OPS {
             for dir in &DIRS {
-                if let Some(text) = first_of(alloc, &catalog, form, *op, *dir, &mut meter)? {
+                if let Some(text) = first_of(alloc, catalog, form, *op, *dir, &mut meter)? {
                     return Ok(Some(text));
                 }
             }
@@ -259,7 +283,8 @@ fn first_unlike<L: Ledger>(alloc: Global, blank: Blank) -> Result<Option<String>
 
 #[test]
 fn operators_give_the_plain_rows(rt: HostRuntime) -> Result<(), Fail> {
-    let unlike = first_unlike::<Brand>(rt.alloc(), Blank::new(2))?;
+    let catalog = catalog_of(rt.alloc())?;
+    let unlike = first_unlike::<Brand>(rt.alloc(), Blank::new(2), &catalog)?;
     assert!(rt; unlike.is_none(), "{unlike:?}");
     Ok(())
 }

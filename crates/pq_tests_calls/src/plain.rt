@@ -1,5 +1,5 @@
 //! What a query answers by its definition: the rows of some groups that pass a comparison, in order.
-use crate::rows::{Cells, S};
+use crate::rows::{Cells, S, rows_in};
 use pq_base::{Dir, NoMem};
 use pq_schema::Op;
 use std::alloc::Global;
@@ -41,7 +41,8 @@ pub(crate) fn groups_of(alloc: Global, is_joined: bool) -> Result<Vec<i64>, NoMe
         groups.push(1)?;
         return Ok(groups);
     }
-    for row in &S {
+    let rows = rows_in(alloc, S)?;
+    for row in &rows {
         if row.0 == 1 {
             groups.push(row.1)?;
         }

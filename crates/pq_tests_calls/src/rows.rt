@@ -22,50 +22,42 @@ pub(crate) const TABLES: [&'static str; 4] = [
 pub(crate) const FALLING: &'static str =
     "SELECT t.v FROM t WHERE t.g = 1 ORDER BY t.v DESC LIMIT 3;";
 
-/// The values of the first group are groups of t and u. Two of them are no group of u, and one no group of t.
-pub(crate) const S: [Cells; 6] = [
-    (1, -1, 1),
-    (1, 0, 2),
-    (1, 2, 3),
-    (1, 3, 4),
-    (2, 0, 5),
-    (2, 1, 6),
-];
+/// Rows, each as three numbers. The values of the first group of s are groups of t and u. Two of them are no group of u,
+/// and one no group of t.
+pub(crate) const S: &'static str = "1 -1 1, 1 0 2, 1 2 3, 1 3 4, 2 0 5, 2 1 6";
 
 /// Of each value there are several rows.
-pub(crate) const T: [Cells; 17] = [
-    (0, -1, 4),
-    (0, 0, 3),
-    (0, 2, 1),
-    (0, 2, 2),
-    (1, -1, 1),
-    (1, -1, 2),
-    (1, 0, 1),
-    (1, 0, 2),
-    (1, 0, 3),
-    (1, 2, 1),
-    (1, 2, 2),
-    (2, -1, 1),
-    (2, -1, 2),
-    (2, 0, 1),
-    (2, 2, 2),
-    (3, 0, 3),
-    (3, 2, 1),
-];
+pub(crate) const T: &'static str =
+    "0 -1 4, 0 0 3, 0 2 1, 0 2 2, 1 -1 1, 1 -1 2, 1 0 1, 1 0 2, 1 0 3, 1 2 1, 1 2 2, 2 -1 1, 2 -1 2, 2 0 1, 2 2 2, 3 0 3, 3 2 1";
 
-pub(crate) const U: [Cells; 4] = [(0, 2, 1), (1, 0, 2), (2, -1, 3), (4, 0, 4)];
+pub(crate) const U: &'static str = "0 2 1, 1 0 2, 2 -1 3, 4 0 4";
 
-pub(crate) const W: [Cells; 9] = [
-    (1, 0, 1),
-    (0, 0, 2),
-    (1, 2, 3),
-    (1, -1, 4),
-    (2, 2, 5),
-    (1, 0, 6),
-    (1, 2, 7),
-    (2, -1, 8),
-    (1, -1, 9),
-];
+pub(crate) const W: &'static str =
+    "1 0 1, 0 0 2, 1 2 3, 1 -1 4, 2 2 5, 1 0 6, 1 2 7, 2 -1 8, 1 -1 9";
+
+fn number_of(word: Option<&str>) -> i64 {
+    match word {
+        Some(word) => word.parse::<i64>().unwrap_or(0),
+        None => 0,
+    }
+}
+
+/// The three numbers of a text.
+pub(crate) fn cells_in(text: &str) -> Cells {
+    let mut words = text.split(" ");
+    let g = number_of(words.next());
+    let v = number_of(words.next());
+    (g, v, number_of(words.next()))
+}
+
+/// The rows that a text says.
+pub(crate) fn rows_in(alloc: Global, text: &str) -> Result<Vec<Cells>, NoMem> {
+    let mut rows = Vec::new(alloc);
+    for row in text.split(", ") {
+        rows.push(cells_in(row))?;
+    }
+    Ok(rows)
+}
 
 /// Three values.
 fn three(alloc: Global, values: Cells) -> Result<Row, NoMem>
@@ -144,11 +136,12 @@ fn put_row<L: Ledger>(
 fn put_rows<L: Ledger>(
     alloc: Global,
     table: u8,
-    rows: &[Cells],
+    text: &str,
     store: &mut MemStore,
     meter: &mut Meter<L>,
 ) -> Result<(), Broke> {
-    for row in rows {
+    let rows = rows_in(alloc, text)?;
+    for row in &rows {
         put_row(alloc, table, *row, store, meter)?;
     }
     Ok(())
@@ -157,9 +150,9 @@ fn put_rows<L: Ledger>(
 /// A store of the rows and their entries.
 pub(crate) fn store_of<L: Ledger>(alloc: Global, meter: &mut Meter<L>) -> Result<MemStore, Broke> {
     let mut store = MemStore::new(alloc);
-    put_rows(alloc, 1, &S, &mut store, meter)?;
-    put_rows(alloc, 2, &T, &mut store, meter)?;
-    put_rows(alloc, 3, &U, &mut store, meter)?;
-    put_rows(alloc, 4, &W, &mut store, meter)?;
+    put_rows(alloc, 1, S, &mut store, meter)?;
+    put_rows(alloc, 2, T, &mut store, meter)?;
+    put_rows(alloc, 3, U, &mut store, meter)?;
+    put_rows(alloc, 4, W, &mut store, meter)?;
     Ok(store)
 }

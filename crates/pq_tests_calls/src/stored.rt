@@ -2,16 +2,17 @@
 //! left out of what is stored.
 ghost use Rattle.std.specs.Prelude.{◌≡◌};
 
-use crate::build_rows::{Indexed, build, fillers_of};
-use crate::calls::{Texts, are_pairs, pairs_of, store_of};
+use crate::build_rows::{Indexed, build, fillers_of, same};
+use crate::calls::store_of;
+use crate::lines::{cut_at, pair_in, pairs_in};
 use crate::operators::cells_of;
 use crate::pages::AMPLE;
-use crate::rows::Cells;
+use crate::rows::cells_in;
 use pq_base::{ColType, Dir, List, NoMem, PText, Row, Value};
 use pq_builds::Built;
 use pq_calls::{Calls, StoredRow};
 use pq_schema::{Column, KeyPart, Table};
-use pq_store::{Allowance, Broke, Damage, MemStore, Meter, Opening};
+use pq_store::{Allowance, Broke, Damage, MemStore, Meter, Opening, Pair};
 use std::alloc::Global;
 use std::marker::Brand;
 use std::sync::ledger::{Blank, Ledger};
@@ -33,26 +34,13 @@ const GROWN: Indexed = (
     ],
 );
 
-// The key of the row with the id 1.
-const KEY: &[u8] = b"\x02\x01\x10\x80\0\0\0\0\0\0\x01";
-
-// Its code of two columns.
-const SHORT: &[u8] = b"\x02\0\0\0\0\0\0\0\x01\0\0\0\0\0\0\0\x07";
-
-// What is stored at the key, and the row that it is; None where it is damage. A default that is spelt out at the end is
-// damage, and so is a code without a column of the definition.
-const STORED: [(&[u8], Option<Cells>); 4] = [
-    (SHORT, Some((1, 7, 5))),
-    (
-        b"\x03\0\0\0\0\0\0\0\x01\0\0\0\0\0\0\0\x07\0\0\0\0\0\0\0\x06",
-        Some((1, 7, 6)),
-    ),
-    (
-        b"\x03\0\0\0\0\0\0\0\x01\0\0\0\0\0\0\0\x07\0\0\0\0\0\0\0\x05",
-        None,
-    ),
-    (b"\x01\0\0\0\0\0\0\0\x01", None),
-];
+// What is stored at the key of the row with the id 1, and the row that it is: codes of two, three, three and one column.
+// A default that is spelt out at the end is damage, and so is a code without a column of the definition.
+const STORED: &'static str =
+    "%02%01%10%80%00%00%00%00%00%00%01=%02%00%00%00%00%00%00%00%01%00%00%00%00%00%00%00%07 | 1 7 5
+%02%01%10%80%00%00%00%00%00%00%01=%03%00%00%00%00%00%00%00%01%00%00%00%00%00%00%00%07%00%00%00%00%00%00%00%06 | 1 7 6
+%02%01%10%80%00%00%00%00%00%00%01=%03%00%00%00%00%00%00%00%01%00%00%00%00%00%00%00%07%00%00%00%00%00%00%00%05 | damage
+%02%01%10%80%00%00%00%00%00%00%01=%01%00%00%00%00%00%00%00%01 | damage";
 
 fn columns_of(alloc: Global) -> Result<List<Column>, NoMem> {
     let mut columns = List::new(alloc);
@@ -98,87 +86,78 @@ fn row_of<L: Ledger>(
     calls.row(alloc, 1, table, &key)
 }
 
-// Whether damage is just the pair with this value.
-fn names_pair(damage: &Damage, value: &[u8]) -> bool {
+// Whether damage is just the pair.
+fn names_pair(damage: &Damage, pair: &Pair) -> bool {
     match &damage.value {
-        Some(found) => damage.key.items() == KEY && found.items() == value,
+        Some(found) => {
+            damage.key.items() == pair.key.items() && found.items() == pair.value.items()
+        }
         None => false,
     }
 }
 
-// Whether the row at the key is read as it is to be.
-fn is_outcome(stored: &(&[u8], Option<Cells>), found: &Result<Option<StoredRow>, Broke>) -> bool {
-    match (found, stored.1) {
-        (Ok(Some(found)), Some(cells)) => {
-            found.at.items() == KEY && cells_of(&found.row) == Some(cells)
+// Whether the pair is read as these words say.
+fn is_outcome(pair: &Pair, words: &str, found: &Result<Option<StoredRow>, Broke>) -> bool {
+    match found {
+        Ok(Some(found)) => {
+            words != "damage"
+                && found.at.items() == pair.key.items()
+                && cells_of(&found.row) == Some(cells_in(words))
         }
-        (Err(Broke::Damaged(damage)), None) => names_pair(damage, stored.0),
+        Err(Broke::Damaged(damage)) => words == "damage" && names_pair(damage, pair),
         _ => false,
     }
 }
 
-fn is_read<L: Ledger>(
-    alloc: Global,
-    stored: &(&[u8], Option<Cells>),
-    meter: &mut Meter<L>,
-) -> Result<bool, NoMem> {
+// The store that has the pairs of a text.
+fn store_in(alloc: Global, text: &str) -> Result<MemStore, NoMem> {
+    store_of(alloc, pairs_in(alloc, text)?)
+}
+
+fn is_read<L: Ledger>(alloc: Global, line: &str, meter: &mut Meter<L>) -> Result<bool, NoMem> {
+    let (text, words) = cut_at(line, " | ");
     let table = table_of(alloc)?;
-    let mut store = store_of(alloc, pairs_of(alloc, &[(KEY, stored.0)])?)?;
+    let pair = pair_in(alloc, text)?;
+    let mut store = store_in(alloc, text)?;
     let found = row_of(alloc, &table, &mut store, meter);
-    Ok(is_outcome(stored, &found))
+    Ok(is_outcome(&pair, words, &found))
 }
 
 // A row with the default and one with another value.
-const BEFORE: Texts = &[
-    (KEY, SHORT),
-    (
-        b"\x02\x01\x10\x80\0\0\0\0\0\0\x02",
-        b"\x03\0\0\0\0\0\0\0\x02\0\0\0\0\0\0\0\x07\0\0\0\0\0\0\0\x04",
-    ),
-];
+const BEFORE: &'static str =
+    "%02%01%10%80%00%00%00%00%00%00%01=%02%00%00%00%00%00%00%00%01%00%00%00%00%00%00%00%07
+%02%01%10%80%00%00%00%00%00%00%02=%03%00%00%00%00%00%00%00%02%00%00%00%00%00%00%00%07%00%00%00%00%00%00%00%04";
 
 // The same between the ready definition and the entries: w and id of the second row, and those of the first.
-const AFTER: Texts = &[
-    (
-        b"\x01\0\x02",
-        b"\x01\0PREPARE q AS SELECT x.a FROM t x ORDER BY x.b DESC LIMIT 5;",
-    ),
-    (KEY, SHORT),
-    (
-        b"\x02\x01\x10\x80\0\0\0\0\0\0\x02",
-        b"\x03\0\0\0\0\0\0\0\x02\0\0\0\0\0\0\0\x07\0\0\0\0\0\0\0\x04",
-    ),
-    (
-        b"\x03\x01\x01\x10\x80\0\0\0\0\0\0\x04\x10\x80\0\0\0\0\0\0\x02",
-        b"",
-    ),
-    (
-        b"\x03\x01\x01\x10\x80\0\0\0\0\0\0\x05\x10\x80\0\0\0\0\0\0\x01",
-        b"",
-    ),
-];
+const AFTER: &'static str =
+    "%01%00%02=%01%00PREPARE%20q%20AS%20SELECT%20x.a%20FROM%20t%20x%20ORDER%20BY%20x.b%20DESC%20LIMIT%205;
+%02%01%10%80%00%00%00%00%00%00%01=%02%00%00%00%00%00%00%00%01%00%00%00%00%00%00%00%07
+%02%01%10%80%00%00%00%00%00%00%02=%03%00%00%00%00%00%00%00%02%00%00%00%00%00%00%00%07%00%00%00%00%00%00%00%04
+%03%01%01%10%80%00%00%00%00%00%00%04%10%80%00%00%00%00%00%00%02=
+%03%01%01%10%80%00%00%00%00%00%00%05%10%80%00%00%00%00%00%00%01=";
 
 // Whether a build gives each row its entry.
 fn is_built<L: Ledger>(alloc: Global, meter: &mut Meter<L>) -> Result<bool, Broke> {
-    let mut store = store_of(alloc, pairs_of(alloc, BEFORE)?)?;
+    let mut store = store_in(alloc, BEFORE)?;
     let built = build(alloc, &GROWN, &mut store, meter)?;
-    Ok(built == Built::Rows(2) && are_pairs(&store.pairs(alloc)?, AFTER))
+    let want = store_in(alloc, AFTER)?;
+    Ok(built == Built::Rows(2) && same(alloc, &store, &want)?)
 }
 
 // The first of the pairs that is read otherwise, and behind them the build.
-fn first_unlike<L: Ledger>(alloc: Global, blank: Blank) -> Result<Option<usize>, Broke>
+fn first_unlike<L: Ledger>(alloc: Global, blank: Blank) -> Result<Option<&'static str>, Broke>
     requires name { blank.name ≡ L.name }
     requires parts { blank.parts ≡ L.parts }
     requires two { blank.parts ≡ 2 }
 {
     let mut meter = Meter::<L>::start(Opening::of(blank));
-    for (i, stored) in STORED.iter().enumerate() {
-        if !is_read(alloc, stored, &mut meter)? {
-            return Ok(Some(i));
+    for line in STORED.split("\n") {
+        if !is_read(alloc, line, &mut meter)? {
+            return Ok(Some(line));
         }
     }
     let built = is_built(alloc, &mut meter)?;
-    Ok((!built).then_some(STORED.len()))
+    Ok((!built).then_some("build"))
 }
 
 #[test]
