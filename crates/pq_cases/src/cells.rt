@@ -5,7 +5,7 @@
 //! `x0aff` bytes. A text begins with `"` behind a space and ends before the
 //! next such, or with the line. In values and texts `%0a` is the byte of these two digits; in texts `{9 ab}` is `ab` nine
 //! times.
-ghost use Rattle.std.specs.Prelude.{IfOk, IfSome, All};
+ghost use Rattle.std.specs.Prelude.{IfOk, IfSome, OnOk, All};
 ghost use Rattle.pq_row_code.specs.RowCode.{IsShort};
 
 use pq_base::{Bytes, ColType, Dir, List, NoMem, PText, Row, Value};
@@ -114,19 +114,18 @@ fn texts_of(alloc: Global, line: &str) -> Result<List<Bytes>, NoMem> {
 }
 
 // The bytes of two digits each.
-fn code_bytes(alloc: Global, text: &str) -> Result<Bytes, NoMem> {
-    let mut bytes = Bytes::new(alloc);
+fn push_code(alloc: Global, text: &str, code: &mut Bytes) -> Result<(), NoMem> {
     let mut high = None;
     for byte in text.as_bytes() {
         match high {
             None => high = Some(*byte),
             Some(first) => {
-                bytes.push(alloc, byte_of(first, *byte))?;
+                code.push(alloc, byte_of(first, *byte))?;
                 high = None;
             }
         }
     }
-    Ok(bytes)
+    Ok(())
 }
 
 fn text_type(word: &str) -> Option<ColType> {
@@ -147,14 +146,11 @@ fn type_of(word: &str) -> Option<ColType> {
     }
 }
 
-fn types_of(alloc: Global, words: &[&str]) -> Result<Vec<ColType>, NoMem> {
-    let mut types = Vec::new(alloc);
-    for word in words {
-        if let Some(ty) = type_of(word) {
-            types.push(ty)?;
-        }
+fn push_type(word: &str, types: &mut Vec<ColType>) -> Result<(), NoMem> {
+    if let Some(ty) = type_of(word) {
+        types.push(ty)?;
     }
-    Ok(types)
+    Ok(())
 }
 
 fn dir_of(word: &str) -> Option<Dir> {
@@ -165,40 +161,22 @@ fn dir_of(word: &str) -> Option<Dir> {
     }
 }
 
-fn dirs_of(alloc: Global, words: &[&str]) -> Result<Vec<Dir>, NoMem> {
-    let mut dirs = Vec::new(alloc);
-    for word in words {
-        if let Some(dir) = dir_of(word) {
-            dirs.push(dir)?;
-        }
+fn push_dir(word: &str, dirs: &mut Vec<Dir>) -> Result<(), NoMem> {
+    if let Some(dir) = dir_of(word) {
+        dirs.push(dir)?;
     }
-    Ok(dirs)
+    Ok(())
 }
 
 fn number_of(word: &str) -> Option<u32> {
     word.strip_prefix("#")?.parse::<u32>().ok()
 }
 
-fn numbers_of(alloc: Global, words: &[&str]) -> Result<Vec<u32>, NoMem> {
-    let mut numbers = Vec::new(alloc);
-    for word in words {
-        if let Some(number) = number_of(word) {
-            numbers.push(number)?;
-        }
+fn push_number(word: &str, numbers: &mut Vec<u32>) -> Result<(), NoMem> {
+    if let Some(number) = number_of(word) {
+        numbers.push(number)?;
     }
-    Ok(numbers)
-}
-
-// The bytes of all words of bytes.
-fn code_of(alloc: Global, words: &[&str]) -> Result<Bytes, NoMem> {
-    let mut code = Bytes::new(alloc);
-    for word in words {
-        if let Some(digits) = word.strip_prefix("x") {
-            let bytes = code_bytes(alloc, digits)?;
-            code.extend(alloc, bytes.items())?;
-        }
-    }
-    Ok(code)
+    Ok(())
 }
 
 fn int_value(word: &str) -> Option<Value>
@@ -237,26 +215,54 @@ fn value_of(alloc: Global, word: &str) -> Result<Option<Value>, NoMem>
     }
 }
 
-fn row_of(alloc: Global, words: &[&str]) -> Result<Row, NoMem>
-    ensures { IfOk result (All IsShort) }
+fn push_value(alloc: Global, word: &str, row: &mut Row) -> Result<(), NoMem>
+    requires { All IsShort row.old }
+    ensures { OnOk result (All IsShort row.new) }
 {
-    let mut row = Row::new(alloc);
-    for word in words {
-        if let Some(value) = value_of(alloc, word)? {
-            row.push(alloc, value)?;
-        }
+    match value_of(alloc, word)? {
+        Some(value) => row.push(alloc, value),
+        None => Ok(()),
     }
-    Ok(row)
 }
 
-fn fillers_of(alloc: Global, words: &[&str]) -> Result<List<Option<Value>>, NoMem> {
-    let mut fillers = List::new(alloc);
-    for word in words {
-        if let Some(word) = word.strip_prefix("=") {
-            fillers.push(alloc, value_of(alloc, word)?)?;
-        }
+fn push_filler(alloc: Global, word: &str, fillers: &mut List<Option<Value>>) -> Result<(), NoMem> {
+    let filler = value_of(alloc, word)?;
+    fillers.push(alloc, filler)
+}
+
+// Puts a word that is a default, bytes or a value, by how it begins, with those of its kind.
+fn push_marked(alloc: Global, word: &str, cells: &mut Cells) -> Result<(), NoMem>
+    requires { All IsShort cells.old.row }
+    ensures { OnOk result (All IsShort cells.new.row) }
+{
+    if let Some(word) = word.strip_prefix("=") {
+        return push_filler(alloc, word, &mut cells.fillers);
     }
-    Ok(fillers)
+    match word.strip_prefix("x") {
+        Some(digits) => push_code(alloc, digits, &mut cells.code),
+        None => push_value(alloc, word, &mut cells.row),
+    }
+}
+
+// Puts a word with those of its kind.
+fn push_word(alloc: Global, word: &str, cells: &mut Cells) -> Result<(), NoMem>
+    requires { All IsShort cells.old.row }
+    ensures { OnOk result (All IsShort cells.new.row) }
+{
+    push_type(word, &mut cells.types)?;
+    push_dir(word, &mut cells.dirs)?;
+    push_number(word, &mut cells.numbers)?;
+    push_marked(alloc, word, cells)
+}
+
+fn push_words(alloc: Global, words: &[&str], cells: &mut Cells) -> Result<(), NoMem>
+    requires { All IsShort cells.old.row }
+    ensures { OnOk result (All IsShort cells.new.row) }
+{
+    for word in words {
+        push_word(alloc, word, cells)?;
+    }
+    Ok(())
 }
 
 fn word_at<'a>(words: &[&'a str], place: usize) -> &'a str {
@@ -266,21 +272,30 @@ fn word_at<'a>(words: &[&'a str], place: usize) -> &'a str {
     }
 }
 
+// Cells of a line with this command and this second word, before its words are put.
+fn new_cells<'a>(alloc: Global, command: &'a str, what: &'a str, texts: List<Bytes>) -> Cells<'a>
+    ensures { All IsShort result.row }
+{
+    Cells {
+        command,
+        what,
+        types: Vec::new(alloc),
+        dirs: Vec::new(alloc),
+        row: Row::new(alloc),
+        fillers: List::new(alloc),
+        numbers: Vec::new(alloc),
+        code: Bytes::new(alloc),
+        texts,
+    }
+}
+
 // The cells that the words say, with these texts.
 fn cells_with<'a>(alloc: Global, words: &[&'a str], texts: List<Bytes>) -> Result<Cells<'a>, NoMem>
     ensures { IfOk result (λ cells. All IsShort cells.row) }
 {
-    Ok(Cells {
-        command: word_at(words, 0),
-        what: word_at(words, 1),
-        row: row_of(alloc, words)?,
-        fillers: fillers_of(alloc, words)?,
-        types: types_of(alloc, words)?,
-        dirs: dirs_of(alloc, words)?,
-        numbers: numbers_of(alloc, words)?,
-        code: code_of(alloc, words)?,
-        texts,
-    })
+    let mut cells = new_cells(alloc, word_at(words, 0), word_at(words, 1), texts);
+    push_words(alloc, words, &mut cells)?;
+    Ok(cells)
 }
 
 /// The number that the word of this place is.

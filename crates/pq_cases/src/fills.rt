@@ -85,25 +85,33 @@ fn kind_of(word: &str) -> Kind {
     }
 }
 
+fn push_user(alloc: Global, number: i64, row: &mut Row) -> Result<(), NoMem> {
+    row.push(alloc, Value::Text(named(alloc, b"ann")?))?;
+    row.push(alloc, Value::Int(number))?;
+    row.push(alloc, Value::Int(1000))
+}
+
 // A row whose second value is this number, or one of one value where the word is none.
 fn row_of(alloc: Global, word: &str) -> Result<Row, NoMem> {
     let mut row = Row::new(alloc);
     match word.parse::<i64>() {
-        Ok(number) => {
-            row.push(alloc, Value::Text(named(alloc, b"ann")?))?;
-            row.push(alloc, Value::Int(number))?;
-            row.push(alloc, Value::Int(1000))?;
-        }
+        Ok(number) => push_user(alloc, number, &mut row)?,
         Err(_) => row.push(alloc, Value::Int(100))?,
     }
     Ok(row)
 }
 
+fn push_rows(alloc: Global, words: &[&str], lines: &mut List<Line>) -> Result<(), NoMem> {
+    for word in words {
+        let row = row_of(alloc, word)?;
+        lines.push(alloc, Line::Row(row))?;
+    }
+    Ok(())
+}
+
 fn rows_of(alloc: Global, words: &[&str]) -> Result<List<Line>, NoMem> {
     let mut lines = List::new(alloc);
-    for word in words {
-        lines.push(alloc, Line::Row(row_of(alloc, word)?))?;
-    }
+    push_rows(alloc, words, &mut lines)?;
     Ok(lines)
 }
 
@@ -138,15 +146,23 @@ fn report_of(alloc: Global, words: &[&str]) -> Result<Report, NoMem> {
     })
 }
 
+fn note_words(alloc: Global, words: &[&str], summary: &mut Summary) -> Result<(), NoMem>
+    requires { summary.old.reports + 1 < 2 ^ 32 }
+    ensures { OnOk result (summary.new.reports ≡ summary.old.reports + 1) }
+{
+    let kind = kind_of(words.first().copied().unwrap_or(""));
+    let report = report_of(alloc, words)?;
+    summary.note(kind, &report);
+    Ok(())
+}
+
 fn note(alloc: Global, text: &[u8], summary: &mut Summary) -> Result<(), NoMem>
     requires { summary.old.reports + 1 < 2 ^ 32 }
     ensures { OnOk result (summary.new.reports ≡ summary.old.reports + 1) }
 {
     let text = named(alloc, text)?;
     let words = words_of(alloc, text.as_str())?;
-    let kind = kind_of(words.first().copied().unwrap_or(""));
-    summary.note(kind, &report_of(alloc, &words)?);
-    Ok(())
+    note_words(alloc, &words, summary)
 }
 
 // The summary of the reports that the texts describe.
@@ -160,6 +176,12 @@ fn summary_of(alloc: Global, opening: Used, texts: &[Bytes]) -> Result<Summary, 
     Ok(summary)
 }
 
+fn put_summary(alloc: Global, users: u32, summary: &Summary, out: &mut Bytes) -> Result<(), NoMem> {
+    let mut printed = Bytes::new(alloc);
+    print_summary(alloc, users, summary, &mut printed)?;
+    put_printed(alloc, printed.items(), out)
+}
+
 /// The summary of the reports that the texts describe, of so many users and an opening that used so much.
 pub fn summary(alloc: Global, cells: &Cells, out: &mut Bytes) -> Result<(), NoMem> {
     let texts = cells.texts.items();
@@ -171,7 +193,5 @@ pub fn summary(alloc: Global, cells: &Cells, out: &mut Bytes) -> Result<(), NoMe
         entries: cells.number(2) as u64,
     };
     let summary = summary_of(alloc, opening, texts)?;
-    let mut printed = Bytes::new(alloc);
-    print_summary(alloc, cells.number(0), &summary, &mut printed)?;
-    put_printed(alloc, printed.items(), out)
+    put_summary(alloc, cells.number(0), &summary, out)
 }

@@ -110,26 +110,55 @@ fn put_case(
     }
 }
 
-// The line, and what it comes to.
-fn answer(alloc: Global, catalog: &mut Catalog, line: &str) -> Result<Bytes, NoMem> {
-    let mut out = Bytes::of_bytes(alloc, line.as_bytes())?;
-    if !line.starts_with("#") && !line.is_empty() {
-        out.extend(alloc, b"\n=")?;
-        let cells = cells_of(alloc, line)?;
-        put_case(alloc, catalog, &cells, &mut out)?;
+// What the case that is a line comes to, if it is one.
+fn put_below(
+    alloc: Global,
+    catalog: &mut Catalog,
+    line: &str,
+    out: &mut Bytes,
+) -> Result<(), NoMem> {
+    if line.starts_with("#") || line.is_empty() {
+        return Ok(());
     }
-    out.push(alloc, b'\n')?;
-    Ok(out)
+    out.extend(alloc, b"\n=")?;
+    let cells = cells_of(alloc, line)?;
+    put_case(alloc, catalog, &cells, out)
+}
+
+// The line, and what it comes to.
+fn put_answer(
+    alloc: Global,
+    catalog: &mut Catalog,
+    line: &str,
+    out: &mut Bytes,
+) -> Result<(), NoMem> {
+    out.extend(alloc, line.as_bytes())?;
+    put_below(alloc, catalog, line, out)?;
+    out.push(alloc, b'\n')
+}
+
+fn answer(alloc: Global, catalog: &mut Catalog, line: &str) -> io::Result<Bytes> {
+    let mut out = Bytes::new(alloc);
+    match put_answer(alloc, catalog, line, &mut out) {
+        Ok(()) => Ok(out),
+        Err(NoMem) => Err(io::Error::from(io::ErrorKind::OutOfMemory)),
+    }
+}
+
+fn write_answer(rt: &HostRuntime, catalog: &mut Catalog, line: &str) -> io::Result<()> {
+    let text = answer(rt.alloc(), catalog, line)?;
+    io::writer(rt).write_all(text.items())
+}
+
+fn write_answers(rt: &HostRuntime, catalog: &mut Catalog) -> io::Result<()> {
+    for line in rt.lines(rt.alloc()) {
+        let line = line?;
+        write_answer(rt, catalog, line.as_str())?;
+    }
+    Ok(())
 }
 
 fn main(rt: HostRuntime) -> io::Result<()> {
     let mut catalog = Catalog::new(rt.alloc());
-    let mut writer = io::writer(&rt);
-    for line in rt.lines(rt.alloc()) {
-        match answer(rt.alloc(), &mut catalog, line?.as_str()) {
-            Ok(text) => writer.write_all(text.items())?,
-            Err(NoMem) => return Err(io::Error::from(io::ErrorKind::OutOfMemory)),
-        }
-    }
-    Ok(())
+    write_answers(&rt, &mut catalog)
 }

@@ -108,17 +108,39 @@ pub fn put_printed(alloc: Global, printed: &[u8], out: &mut Bytes) -> Result<(),
     }
 }
 
-fn put_refusal(alloc: Global, refusal: Refusal, out: &mut Bytes) -> Result<(), NoMem> {
-    let report = Report {
+/// The report as it is printed.
+pub fn put_report(alloc: Global, report: &Report, out: &mut Bytes) -> Result<(), NoMem> {
+    let mut printed = Bytes::new(alloc);
+    print_report(alloc, report, &mut printed)?;
+    put_printed(alloc, printed.items(), out)
+}
+
+fn refused(alloc: Global, refusal: Refusal) -> Report {
+    Report {
         number: 1,
         lines: List::new(alloc),
         end: End::Refused(refusal),
         bound: Bound { ops: 0, entries: 0 },
         used: Used { ops: 0, entries: 0 },
-    };
-    let mut printed = Bytes::new(alloc);
-    print_report(alloc, &report, &mut printed)?;
-    put_printed(alloc, printed.items(), out)
+    }
+}
+
+fn put_refusal(alloc: Global, refusal: Refusal, out: &mut Bytes) -> Result<(), NoMem> {
+    let report = refused(alloc, refusal);
+    put_report(alloc, &report, out)
+}
+
+/// A word for any refusal, or that there is no memory.
+pub fn put_refused(
+    alloc: Global,
+    stopped: Stopped,
+    word: &str,
+    out: &mut Bytes,
+) -> Result<(), NoMem> {
+    match &stopped {
+        Stopped::Refused(_) => put_word(alloc, word, out),
+        Stopped::NoMem => Err(NoMem),
+    }
 }
 
 /// The report of a refusal of statement 1, or that there is no memory.

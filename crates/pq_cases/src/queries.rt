@@ -5,14 +5,14 @@ ghost use Rattle.pq_schema.specs.Sound.{IsQuery};
 
 use crate::cells::Cells;
 use crate::put::{named, put_bound, put_dir, put_number, put_plain, put_stopped, put_word};
-use pq_arrange::rearrange;
+use pq_arrange::{Rearranged, rearrange};
 use pq_base::{Bytes, Choice, NoMem, Refusal, Stopped};
 use pq_compile::{Compiled, compile};
 use pq_predicates::{fixed, limit_of, table_of};
 use pq_print::print_query;
 use pq_query_read::{SelectDef, read_query, read_select};
 use pq_schema::{Catalog, KeyPart, NewIndex, Query, Table};
-use pq_stop_push::candidates;
+use pq_stop_push::{Candidate, candidates};
 use pq_text::tokens;
 use std::alloc::Global;
 
@@ -62,6 +62,23 @@ fn put_query(
     put_plain(alloc, text.items(), out)
 }
 
+fn put_places(alloc: Global, places: &[u8], out: &mut Bytes) -> Result<(), NoMem> {
+    for place in places {
+        put_number(alloc, *place as i64, out)?;
+    }
+    Ok(())
+}
+
+fn put_found(
+    alloc: Global,
+    catalog: &Catalog,
+    found: &Rearranged,
+    out: &mut Bytes,
+) -> Result<(), NoMem> {
+    put_places(alloc, found.places.items(), out)?;
+    put_query(alloc, catalog, &found.query, out)
+}
+
 // The new numbers of the query's relations, rearranged, and its text; with its equalities closed or as they are.
 fn put_rearranged(
     alloc: Global,
@@ -73,10 +90,7 @@ fn put_rearranged(
     requires { IsResolved catalog.now.tables query.now }
 {
     let found = rearrange(alloc, catalog, query, close)?;
-    for place in found.places.items() {
-        put_number(alloc, *place as i64, out)?;
-    }
-    put_query(alloc, catalog, &found.query, out)
+    put_found(alloc, catalog, &found, out)
 }
 
 fn put_arranged(
@@ -121,6 +135,18 @@ fn put_part(alloc: Global, table: &Table, part: &KeyPart, out: &mut Bytes) -> Re
     put_dir(alloc, part.dir, out)
 }
 
+fn put_parts(
+    alloc: Global,
+    table: &Table,
+    parts: &[KeyPart],
+    out: &mut Bytes,
+) -> Result<(), NoMem> {
+    for part in parts {
+        put_part(alloc, table, part, out)?;
+    }
+    Ok(())
+}
+
 // An index: its table, its number, and its columns with their directions.
 fn put_index(
     alloc: Global,
@@ -134,10 +160,7 @@ fn put_index(
     put_word(alloc, "index", out)?;
     put_plain(alloc, table.name.bytes(), out)?;
     put_number(alloc, new.number as i64, out)?;
-    for part in new.index.cols.items() {
-        put_part(alloc, table, part, out)?;
-    }
-    Ok(())
+    put_parts(alloc, table, new.index.cols.items(), out)
 }
 
 fn put_compiled(
@@ -169,6 +192,14 @@ fn put_outcome(
     }
 }
 
+fn put_each(alloc: Global, candidates: &[Candidate], out: &mut Bytes) -> Result<(), NoMem> {
+    for one in candidates {
+        put_choice(alloc, one.choice, out)?;
+        put_bound(alloc, one.bound, out)?;
+    }
+    Ok(())
+}
+
 // The candidates of the query, each with its bound.
 fn put_candidates(
     alloc: Global,
@@ -179,11 +210,7 @@ fn put_candidates(
     requires { IsQuery catalog.now.tables query.now }
 {
     let list = candidates(alloc, catalog, query)?;
-    for one in list.items() {
-        put_choice(alloc, one.choice, out)?;
-        put_bound(alloc, one.bound, out)?;
-    }
-    Ok(())
+    put_each(alloc, list.items(), out)
 }
 
 // The limit that bounds the query's first relation, by its number.

@@ -1,10 +1,8 @@
 //! Reports line by line, and refusals one by one.
 use crate::cells::{Cells, number_at, words_of};
-use crate::put::{named, put_printed, put_word};
+use crate::put::{named, put_printed, put_report, put_word};
 use pq_base::{Bound, Bytes, Choice, Dir, List, NoMem, PText, Refusal, Row, Used};
-use pq_print::{
-    End, IndexCol, Line, Opened, Report, print_damage, print_opening, print_report, print_row,
-};
+use pq_print::{End, IndexCol, Line, Opened, Report, print_damage, print_opening, print_row};
 use std::alloc::Global;
 
 /// The row as it is printed.
@@ -88,32 +86,37 @@ fn report_of(lines: List<Line>, end: End) -> Report {
 }
 
 // The report, and whether it tells a refusal.
-fn put_report(alloc: Global, report: &Report, out: &mut Bytes) -> Result<(), NoMem> {
+fn put_told(alloc: Global, report: &Report, out: &mut Bytes) -> Result<(), NoMem> {
     let word = if report.is_refusal() {
         "refusal:"
     } else {
         "answer:"
     };
     put_word(alloc, word, out)?;
-    let mut printed = Bytes::new(alloc);
-    print_report(alloc, report, &mut printed)?;
-    put_printed(alloc, printed.items(), out)
+    put_report(alloc, report, out)
+}
+
+// The report with these lines and this end.
+fn put_made(alloc: Global, lines: List<Line>, end: End, out: &mut Bytes) -> Result<(), NoMem> {
+    let report = report_of(lines, end);
+    put_told(alloc, &report, out)
 }
 
 fn put_refusal(alloc: Global, refusal: Refusal, out: &mut Bytes) -> Result<(), NoMem> {
-    let report = report_of(List::new(alloc), End::Refused(refusal));
-    put_report(alloc, &report, out)
+    put_made(alloc, List::new(alloc), End::Refused(refusal), out)
+}
+
+fn refusal_of(alloc: Global, what: &str, name: &[u8]) -> Result<Refusal, NoMem> {
+    match plain_refusal(what) {
+        Some(refusal) => Ok(refusal),
+        None => Ok(naming_refusal(what, named(alloc, name)?)),
+    }
 }
 
 /// The report of a refusal, which names the first text.
 pub fn refusal(alloc: Global, cells: &Cells, out: &mut Bytes) -> Result<(), NoMem> {
-    match plain_refusal(cells.what) {
-        Some(refusal) => put_refusal(alloc, refusal, out),
-        None => {
-            let name = named(alloc, cells.text(0))?;
-            put_refusal(alloc, naming_refusal(cells.what, name), out)
-        }
-    }
+    let refusal = refusal_of(alloc, cells.what, cells.text(0))?;
+    put_refusal(alloc, refusal, out)
 }
 
 /// The report of the refusal that names a table and a column.
@@ -138,13 +141,14 @@ fn choice_of(stop: Option<u32>) -> Choice {
 }
 
 // `home 111 1110 2`: a query with its bound, and the relation of its stop where it has one.
-fn query_line(alloc: Global, words: &[&str]) -> Result<Line, NoMem> {
+fn query_line(alloc: Global, text: &str) -> Result<Line, NoMem> {
+    let words = words_of(alloc, text)?;
     Ok(Line::Query {
-        name: name_at(alloc, words, 0)?,
-        choice: choice_of(number_at(words, 3)),
+        name: name_at(alloc, &words, 0)?,
+        choice: choice_of(number_at(&words, 3)),
         bound: Bound {
-            ops: number_at(words, 1).unwrap_or(0) as u128,
-            entries: number_at(words, 2).unwrap_or(0) as u128,
+            ops: number_at(&words, 1).unwrap_or(0) as u128,
+            entries: number_at(&words, 2).unwrap_or(0) as u128,
         },
     })
 }
@@ -168,12 +172,13 @@ fn cols_of(alloc: Global, words: &[&str]) -> Result<List<IndexCol>, NoMem> {
 }
 
 // `thoughts 16 owner ts-`: an index by its table, its number and its columns.
-fn index_line(alloc: Global, words: &[&str]) -> Result<Line, NoMem> {
-    let cols = words.get(2..).unwrap_or(&[]);
+fn index_line(alloc: Global, text: &str) -> Result<Line, NoMem> {
+    let words = words_of(alloc, text)?;
+    let cols = cols_of(alloc, words.get(2..).unwrap_or(&[]))?;
     Ok(Line::Index {
-        table: name_at(alloc, words, 0)?,
-        number: (number_at(words, 1).unwrap_or(0) % 256) as u8,
-        cols: cols_of(alloc, cols)?,
+        table: name_at(alloc, &words, 0)?,
+        number: (number_at(&words, 1).unwrap_or(0) % 256) as u8,
+        cols,
     })
 }
 
@@ -187,29 +192,47 @@ fn row_line(alloc: Global, row: &Row) -> Result<Line, NoMem> {
     Ok(Line::Row(row.copy(alloc)?))
 }
 
-// The line that a text describes: one of a query, an index or a definition, or else that of the row.
-fn line_of(alloc: Global, row: &Row, text: &str) -> Result<Line, NoMem> {
-    match text.split_once(" ") {
-        Some(("query", words)) => query_line(alloc, &words_of(alloc, words)?),
-        Some(("index", words)) => index_line(alloc, &words_of(alloc, words)?),
-        Some(("def", text)) => def_line(alloc, text),
+// The line of this kind, one of a query, an index or a definition, or else that of the row.
+fn line_of_kind(alloc: Global, row: &Row, kind: &str, text: &str) -> Result<Line, NoMem> {
+    match kind {
+        "query" => query_line(alloc, text),
+        "index" => index_line(alloc, text),
+        "def" => def_line(alloc, text),
         _ => row_line(alloc, row),
     }
 }
 
-fn push_line(alloc: Global, row: &Row, text: &[u8], lines: &mut List<Line>) -> Result<(), NoMem> {
+// The line that a text describes.
+fn line_of(alloc: Global, row: &Row, text: &str) -> Result<Line, NoMem> {
+    match text.split_once(" ") {
+        Some((kind, text)) => line_of_kind(alloc, row, kind, text),
+        None => row_line(alloc, row),
+    }
+}
+
+fn line_in(alloc: Global, row: &Row, text: &[u8]) -> Result<Line, NoMem> {
     let text = named(alloc, text)?;
-    lines.push(alloc, line_of(alloc, row, text.as_str())?)
+    line_of(alloc, row, text.as_str())
+}
+
+fn push_lines(
+    alloc: Global,
+    row: &Row,
+    texts: &[Bytes],
+    lines: &mut List<Line>,
+) -> Result<(), NoMem> {
+    for text in texts {
+        let line = line_in(alloc, row, text.items())?;
+        lines.push(alloc, line)?;
+    }
+    Ok(())
 }
 
 /// The report with the lines that the texts describe.
 pub fn lines(alloc: Global, cells: &Cells, out: &mut Bytes) -> Result<(), NoMem> {
     let mut lines = List::new(alloc);
-    for text in cells.texts.items() {
-        push_line(alloc, &cells.row, text.items(), &mut lines)?;
-    }
-    let report = report_of(lines, End::Done);
-    put_report(alloc, &report, out)
+    push_lines(alloc, &cells.row, cells.texts.items(), &mut lines)?;
+    put_made(alloc, lines, End::Done, out)
 }
 
 fn next_of(alloc: Global, cells: &Cells) -> Result<Option<PText>, NoMem> {
@@ -222,8 +245,7 @@ fn next_of(alloc: Global, cells: &Cells) -> Result<Option<PText>, NoMem> {
 /// The report of a page, with its cursor where it is full.
 pub fn page(alloc: Global, cells: &Cells, out: &mut Bytes) -> Result<(), NoMem> {
     let next = next_of(alloc, cells)?;
-    let report = report_of(List::new(alloc), End::Rows { count: 2, next });
-    put_report(alloc, &report, out)
+    put_made(alloc, List::new(alloc), End::Rows { count: 2, next }, out)
 }
 
 /// The opening of an empty store.

@@ -1,6 +1,6 @@
 //! Statements as they are read, and definitions of tables with their texts.
 use crate::cells::Cells;
-use crate::put::{named, put_number, put_plain, put_stopped, put_word};
+use crate::put::{named, put_number, put_plain, put_refused, put_stopped, put_word};
 use pq_base::{Bytes, List, NoMem, Refusal, Stopped};
 use pq_def_read::{Statement, read_statement};
 use pq_print::{print_definition, print_table};
@@ -17,9 +17,17 @@ fn read(alloc: Global, text: &[u8]) -> Result<Statement, Stopped> {
     read_statement(alloc, &text, &seen)
 }
 
+// The table that the text defines, or none where it is read as another statement.
+fn created(alloc: Global, text: &[u8]) -> Result<Option<TableDef>, Stopped> {
+    match read(alloc, text)? {
+        Statement::Create(def) => Ok(Some(def)),
+        _ => Ok(None),
+    }
+}
+
 /// Whether the text is read as a statement.
 pub fn statement(alloc: Global, cells: &Cells, out: &mut Bytes) -> Result<(), NoMem> {
-    match read(alloc, cells.text(0)) {
+    match created(alloc, cells.text(0)) {
         Ok(_) => put_word(alloc, "read", out),
         Err(stopped) => put_stopped(alloc, stopped, out),
     }
@@ -31,16 +39,21 @@ fn put_column(alloc: Global, column: &ColumnDef, out: &mut Bytes) -> Result<(), 
     put_number(alloc, column.size as i64, out)
 }
 
-/// The name of the table that the text defines, and its columns with their kinds and sizes.
-pub fn columns(alloc: Global, cells: &Cells, out: &mut Bytes) -> Result<(), NoMem> {
-    let Ok(Statement::Create(def)) = read(alloc, cells.text(0)) else {
-        return put_word(alloc, "no_table", out);
-    };
+fn put_columns(alloc: Global, def: &TableDef, out: &mut Bytes) -> Result<(), NoMem> {
     put_plain(alloc, def.name.bytes(), out)?;
     for column in def.columns.items() {
         put_column(alloc, column, out)?;
     }
     Ok(())
+}
+
+/// The name of the table that the text defines, and its columns with their kinds and sizes.
+pub fn columns(alloc: Global, cells: &Cells, out: &mut Bytes) -> Result<(), NoMem> {
+    match created(alloc, cells.text(0)) {
+        Ok(Some(def)) => put_columns(alloc, &def, out),
+        Ok(None) => put_word(alloc, "no_table", out),
+        Err(stopped) => put_refused(alloc, stopped, "no_table", out),
+    }
 }
 
 fn add(alloc: Global, catalog: &mut Catalog, def: TableDef, out: &mut Bytes) -> Result<(), NoMem> {
@@ -63,9 +76,9 @@ pub fn table(
     cells: &Cells,
     out: &mut Bytes,
 ) -> Result<(), NoMem> {
-    match read(alloc, cells.text(0)) {
-        Ok(Statement::Create(def)) => add(alloc, catalog, def, out),
-        Ok(_) => put_word(alloc, "no_table", out),
+    match created(alloc, cells.text(0)) {
+        Ok(Some(def)) => add(alloc, catalog, def, out),
+        Ok(None) => put_word(alloc, "no_table", out),
         Err(stopped) => put_stopped(alloc, stopped, out),
     }
 }

@@ -21,15 +21,19 @@ fn put_token(alloc: Global, token: &Token, out: &mut Bytes) -> Result<(), NoMem>
     put_number(alloc, token.to as i64, out)
 }
 
+fn put_each(alloc: Global, tokens: &[Token], out: &mut Bytes) -> Result<(), NoMem> {
+    for token in tokens {
+        put_token(alloc, token, out)?;
+    }
+    Ok(())
+}
+
 fn put_tokens_of(alloc: Global, text: &PText, out: &mut Bytes) -> Result<(), NoMem> {
     if text.bytes().len() > 1_048_576 {
         return Ok(());
     }
     let found = tokens(alloc, text)?;
-    for token in found.items() {
-        put_token(alloc, token, out)?;
-    }
-    Ok(())
+    put_each(alloc, found.items(), out)
 }
 
 /// The kind, the beginning and the end of each token of the text.
@@ -55,13 +59,17 @@ fn put_end(alloc: Global, unfinished: bool, out: &mut Bytes) -> Result<(), NoMem
     put_word(alloc, if unfinished { "unfinished" } else { "end" }, out)
 }
 
-/// The pieces of the text.
-pub fn put_pieces(alloc: Global, cells: &Cells, out: &mut Bytes) -> Result<(), NoMem> {
-    let cut = cut_script(alloc, &[cells.text(0)])?;
+fn put_pieces_of(alloc: Global, cut: &CutScript, out: &mut Bytes) -> Result<(), NoMem> {
     for piece in cut.pieces.items() {
         put_piece(alloc, piece, out)?;
     }
     put_end(alloc, cut.unfinished, out)
+}
+
+/// The pieces of the text.
+pub fn put_pieces(alloc: Global, cells: &Cells, out: &mut Bytes) -> Result<(), NoMem> {
+    let cut = cut_script(alloc, &[cells.text(0)])?;
+    put_pieces_of(alloc, &cut, out)
 }
 
 fn put_kind(alloc: Global, piece: &Piece, out: &mut Bytes) -> Result<(), NoMem> {
@@ -85,6 +93,19 @@ pub fn put_kinds(alloc: Global, cells: &Cells, out: &mut Bytes) -> Result<(), No
     put_kinds_of(alloc, &cut, out)
 }
 
+fn put_taken(
+    alloc: Global,
+    taken: i64,
+    piece: &Option<Piece>,
+    out: &mut Bytes,
+) -> Result<(), NoMem> {
+    put_number(alloc, taken, out)?;
+    match piece {
+        Some(piece) => put_piece(alloc, piece, out),
+        None => put_word(alloc, "none", out),
+    }
+}
+
 fn put_fed(
     alloc: Global,
     splitter: &mut Splitter,
@@ -95,19 +116,25 @@ fn put_fed(
         return Ok(());
     }
     let (taken, piece) = splitter.feed(alloc, bytes)?;
-    put_number(alloc, taken as i64, out)?;
-    match &piece {
-        Some(piece) => put_piece(alloc, piece, out)?,
-        None => put_word(alloc, "none", out)?,
-    }
+    put_taken(alloc, taken as i64, &piece, out)?;
     put_number(alloc, splitter.held() as i64, out)
+}
+
+fn put_each_fed(
+    alloc: Global,
+    splitter: &mut Splitter,
+    texts: &[Bytes],
+    out: &mut Bytes,
+) -> Result<(), NoMem> {
+    for text in texts {
+        put_fed(alloc, splitter, text.items(), out)?;
+    }
+    Ok(())
 }
 
 /// What each text gives in turn, fed to one splitter: the bytes that are taken, the piece, and how many bytes are held.
 pub fn put_feed(alloc: Global, cells: &Cells, out: &mut Bytes) -> Result<(), NoMem> {
     let mut splitter = Splitter::new(alloc);
-    for text in cells.texts.items() {
-        put_fed(alloc, &mut splitter, text.items(), out)?;
-    }
+    put_each_fed(alloc, &mut splitter, cells.texts.items(), out)?;
     put_end(alloc, splitter.end(), out)
 }
