@@ -110,4 +110,10 @@ counts =
 
 -- the words that are known in their places alone
 abbrev pub softs : List (List ℕ)
-softs = codes "IS" ∷ codes "NULL" ∷ []
+softs =
+    codes "ADD"
+    ∷ codes "ALTER"
+    ∷ codes "COLUMN"
+    ∷ codes "DEFAULT"
+    ∷ codes "IS"
+    ∷ codes "NULL" ∷ []

@@ -214,10 +214,10 @@ pub fn count_words() -> WordTable<15>
     WordTable { words: &COUNTS }
 }
 
-const SOFT: [&'static str; 2] = ["IS", "NULL"];
+const SOFT: [&'static str; 6] = ["ADD", "ALTER", "COLUMN", "DEFAULT", "IS", "NULL"];
 
 /// The table of the words that are known where the grammar has them, and are names elsewhere.
-pub fn soft_words() -> WordTable<2>
+pub fn soft_words() -> WordTable<6>
     ensures { result ≡ softs }
 {
     WordTable { words: &SOFT }

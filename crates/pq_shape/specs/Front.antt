@@ -14,6 +14,10 @@ use Rattle.pq_shape.specs.declared.shape.Shape.TheVariants as shape
 
 -- the name that has the word's letters
 abbrev pub soft_name : Soft → List ℕ
+soft_name soft_word.Add = codes "add"
+soft_name soft_word.Alter = codes "alter"
+soft_name soft_word.Column = codes "column"
+soft_name soft_word.Default = codes "default"
 soft_name soft_word.Is = codes "is"
 soft_name soft_word.Null = codes "null"
 

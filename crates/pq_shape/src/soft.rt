@@ -5,6 +5,10 @@ ghost use Rattle.pq_shape.specs.Front.{soft_name};
 /// A word of the table of soft words. It stands in the tokens as the name that has its letters.
 #[derive(Debug, Clone, Copy, PartialEq, Eq)]
 pub enum Soft {
+    Add,
+    Alter,
+    Column,
+    Default,
     Is,
     Null,
 }
@@ -15,6 +19,10 @@ impl Soft {
         ensures { result.now ≡ soft_name self }
     {
         match self {
+            Soft::Add => b"add",
+            Soft::Alter => b"alter",
+            Soft::Column => b"column",
+            Soft::Default => b"default",
             Soft::Is => b"is",
             Soft::Null => b"null",
         }

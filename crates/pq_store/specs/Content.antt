@@ -1,8 +1,9 @@
 -- What a store holds, and what its calls answer and do.
-use Rattle.std.specs.Prelude.{◌≡◌, ℕ, ◌≤◌, ◌<◌, ◌+◌, ◌^◌, Bool, true, false, ◌&&◌, ◌⊎◌, List, filter, length, Option, Some, None, is_none, if◌then◌else◌, Result, Ok, IsErrOf, All}
+use Rattle.std.specs.Prelude.{◌≡◌, ℕ, ◌≤◌, ◌<◌, ◌+◌, ◌^◌, Bool, true, false, ◌&&◌, ◌⊎◌, List, filter, length, map, Option, Some, None, is_none, if◌then◌else◌, Result, Ok, IsErrOf, All}
 use Rattle.std.specs.Ordering.{nat_cmp, is_lt, is_le, eq_by_cmp}
 use Rattle.std.specs.Cmp.Lexicographic.{slice_cmp}
 use Rattle.std.specs.Coded.{Coded, coded_list, coded_ℕ}
+use Rattle.std.specs.List.{AllByRecursion}
 use Rattle.std.specs.FinMap.{code, FinMap, entries, get, insert, remove, is_sorted}
 use Rattle.std.specs.declared.cmp.Ordering.{Ordering}
 use Rattle.pq_store.specs.declared.store.Pair.{Pair}
@@ -27,6 +28,10 @@ content_code = code (coded_list coded_ℕ) (coded_list coded_ℕ)
 -- a pair's key and value
 abbrev pub entry : Pair → List ℕ × List ℕ
 entry pair = (pair.key, pair.value)
+
+-- a call may answer each of the pairs
+abbrev pub AreAnswers : (List ℕ → Option (List ℕ) → Type 0) → List Pair → Type 0
+AreAnswers answers found = AllByRecursion (λ pair. answers pair.0 (Some pair.1)) (map entry found)
 
 -- the keys strictly rise
 abbrev pub is_rising : List (List ℕ × List ℕ) → Bool

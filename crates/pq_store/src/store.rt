@@ -42,11 +42,10 @@ pub enum StoreErr {
 /// call changes that. Its count of faults never falls.
 pub trait Store<L: Ledger> {
     ghost use Rattle.std.specs.Prelude.{◌≡◌, ◌≤◌, ◌⊎◌, ℕ, List, Option, Some, None, false, IfSome, IfOk, OnOk, IsErrOf, map, take, length, min, ⊤};
-    ghost use Rattle.std.specs.List.{AllByRecursion};
     ghost use Rattle.std.specs.Option.{option_map, option_copied};
     ghost use Rattle.std.specs.FinMap.{get as value_at};
     ghost use Rattle.pq_store.specs.Counts.{charged_counts};
-    ghost use Rattle.pq_store.specs.Content.{Content, entry, pairs_within, after_write, admits, got_entries, ranged_entries, counted_entries, IsPartOf, HasCause};
+    ghost use Rattle.pq_store.specs.Content.{Content, AreAnswers, entry, pairs_within, after_write, admits, got_entries, ranged_entries, counted_entries, IsPartOf, HasCause};
 
     // What it holds, from keys to values, where it tells.
     ghost content: { Self → Option Content };
@@ -85,7 +84,7 @@ pub trait Store<L: Ledger> {
         ensures answer { IfOk result (λ found. IfSome (content self.old) (λ pairs.
             map entry found ≡ take limit (pairs_within pairs low.now high.now))) }
         ensures part { IfOk result (λ found. IsPartOf low.now high.now limit (map entry found)) }
-        ensures answered { IfOk result (λ found. AllByRecursion (λ pair. answers pair.0 (Some pair.1)) (map entry found)) }
+        ensures answered { IfOk result (λ found. AreAnswers answers found) }
         ensures same { content self.new ≡ content self.old }
         ensures cause { HasCause (faults self.old) (faults self.new) result }
         ensures meter { meter.new ≡ charged_counts meter.old (ranged_entries result) };
