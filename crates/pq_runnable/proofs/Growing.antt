@@ -8,6 +8,8 @@ use Rattle.std.proofs.lemmas.List.Elements.{All-weaker}
 use Rattle.pq_base.specs.declared.value.ColType.{ColType}
 use Rattle.pq_base.specs.declared.value.ColType.TheVariants as type
 use Rattle.pq_base.specs.Values.{same_kind}
+use Rattle.pq_base.specs.declared.value.Value.{Value}
+use Rattle.pq_schema.specs.declared.definition.AlterDef.{AlterDef}
 use Rattle.pq_schema.specs.declared.query.ColRef.{ColRef}
 use Rattle.pq_schema.specs.declared.query.Operand.{Operand}
 use Rattle.pq_schema.specs.declared.query.Operand.TheVariants as operand
@@ -21,9 +23,12 @@ use Rattle.pq_schema.specs.declared.table.NewIndex.{NewIndex}
 use Rattle.pq_schema.specs.declared.table.Table.{Table}
 use Rattle.pq_schema.specs.Relations.{relation_at, no_relation, table_of}
 use Rattle.pq_schema.specs.Resolved.{IsConstant, IsRelation, IsColumnOf, IsParam, IsOperand, IsPredicate, IsResolved, ref_type, param_type}
-use Rattle.pq_schema.specs.Schema.{with_wanted, with_new_index}
+use Rattle.pq_schema.specs.Definitions.{column_of, column_refusal, altered_table, altered_schema}
+use Rattle.pq_schema.specs.Schema.{Schema, with_wanted, with_added, with_new_index, with_new_column}
 use Rattle.pq_schema.specs.Sound.{IsMade, IsMadeForeign, AreMade}
 use Rattle.pq_schema.specs.Tables.{no_table, table_at, type_at}
+use Rattle.pq_schema.specs.Valid.{IsValid}
+use Rattle.pq_schema.proofs.Valid.{valid_made, column_takes}
 use Rattle.pq_runnable.specs.Grown.{with_more, AreOwnForeign, HasGrown, HaveGrown}
 
 -- ---- one table
@@ -92,27 +97,53 @@ grown_table tables table made =
       each = λ number one there. as_before (table_at tables number) (table_at (tables ++ table ∷ []) number) (made_own tables made number one there) (get_or-append tables (table ∷ []) no_table (number - 1) (omega arith));
     }
 
+-- one table of them changed
+changed_at : (tables : List Table) (place : ℕ) (changed : Table) → AreMade tables → 1 ≤ place → place ≤ length tables → HasGrown (table_at tables place) changed → HaveGrown tables (set tables (place - 1) changed)
+changed_at tables place changed made from_one there grown =
+    let long = length-set tables (place - 1) changed in
+    record {
+      long = omega arith;
+      each = λ number one within. elim (cases_eq number place) [
+        | inl same ↦
+            let here : table_at (set tables (place - 1) changed) place ≡ changed = get_or-set_same tables (place - 1) changed no_table (omega arith) in
+            subst (λ n. HasGrown (table_at tables n) (table_at (set tables (place - 1) changed) n)) (sym same)
+            (subst (HasGrown (table_at tables place)) (sym here) grown)
+        | inr other ↦
+            as_before (table_at tables number) (table_at (set tables (place - 1) changed) number) (made_own tables made number one within)
+            (get_or-set_other tables (place - 1) (number - 1) changed no_table (λ e. other (omega (arith, e, one, from_one))))
+      ];
+    }
+
 -- one more index
 pub grown_index : (tables : List Table) (new : NewIndex) → AreMade tables → 1 ≤ new.table → new.table ≤ length tables → HaveGrown tables (with_wanted tables (Some new))
 grown_index tables new made from_one there =
-    let changed = with_new_index (table_at tables new.table) new.index in
-    let long = length-set tables (new.table - 1) changed in
-    record {
-      long = omega arith;
-      each = λ number one within. elim (cases_eq number new.table) [
-        | inl same ↦
-            let here : table_at (set tables (new.table - 1) changed) new.table ≡ changed = get_or-set_same tables (new.table - 1) changed no_table (omega arith) in
-            subst (λ n. HasGrown (table_at tables n) (table_at (set tables (new.table - 1) changed) n)) (sym same)
-            (subst (HasGrown (table_at tables new.table)) (sym here) (index_more (table_at tables new.table) new (made_own tables made new.table from_one there)))
-        | inr other ↦
-            as_before (table_at tables number) (table_at (set tables (new.table - 1) changed) number) (made_own tables made number one within)
-            (get_or-set_other tables (new.table - 1) (number - 1) changed no_table (λ e. other (omega (arith, e, one, from_one))))
-      ];
-    }
+    changed_at tables new.table (with_new_index (table_at tables new.table) new.index) made from_one there
+    (index_more (table_at tables new.table) new (made_own tables made new.table from_one there))
 
 pub grown_wanted : (tables : List Table) (wanted : Option NewIndex) → AreMade tables → IfSome wanted (λ new. (1 ≤ new.table) × (new.table ≤ length tables)) → HaveGrown tables (with_wanted tables wanted)
 grown_wanted tables None made there = tables_themselves tables made
 grown_wanted tables (Some new) made there = grown_index tables new made there.0 there.1
+
+-- one more column
+column_more : (table : Table) (column : Column) (filler : Value) → AreOwnForeign table → HasGrown table (with_new_column table column filler)
+column_more table column filler own = record {
+  columns = column ∷ [];
+  fillers = Some filler ∷ [];
+  indexes = [];
+  is = λ i. record table { columns = table.columns ++ column ∷ []; fillers = table.fillers ++ Some filler ∷ []; indexes = sym (append-nil table.indexes) i };
+  own = own;
+}
+
+pub grown_column : (tables : List Table) (number : ℕ) (column : Column) (filler : Value) → AreMade tables → 1 ≤ number → number ≤ length tables → HaveGrown tables (with_added tables number column filler)
+grown_column tables number column filler made from_one there =
+    changed_at tables number (with_new_column (table_at tables number) column filler) made from_one there
+    (column_more (table_at tables number) column filler (made_own tables made number from_one there))
+
+-- one that a definition adds
+pub grown_altered : (s : Schema) (def : AlterDef) → IsValid s → column_refusal s def ≡ None → HaveGrown s.tables (altered_schema s def).tables
+grown_altered s def valid none =
+    let takes = column_takes s def none in
+    grown_column s.tables (altered_table s def) (column_of def.column) def.filler (valid_made valid) takes.from_one takes.there
 
 -- ---- columns behind others
 

@@ -105,7 +105,7 @@ sized_as true bool size some = tt
 sized_as false true size some = tt
 sized_as false false size some = sized_text size some
 
-sized_column : (column : ColumnDef) → has_type column ≡ true → IsSized (column_of column).ty
+pub sized_column : (column : ColumnDef) → has_type column ≡ true → IsSized (column_of column).ty
 sized_column column some = null_sized column.nullable (plain_column_type column) (sized_as (bytes_eq column.kind (codes "INT")) (bytes_eq column.kind (codes "BOOL")) column.size) some
 
 sized_columns : (columns : List ColumnDef) → list_all has_type columns ≡ true → All (λ (column : Column). IsSized column.ty) (map column_of columns)

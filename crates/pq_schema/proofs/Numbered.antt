@@ -11,13 +11,15 @@ use Rattle.std.specs.Map.{lookup}
 use Rattle.std.specs.declared.string.String.{String}
 use Rattle.std.proofs.lemmas.Slice.Eq.{bytes_eq-Decides}
 use Rattle.pq_schema.specs.declared.made.Definition.{Definition}
-use Rattle.pq_schema.specs.declared.made.Definition.TheVariants.{OfTable, OfQuery}
+use Rattle.pq_schema.specs.declared.made.Definition.TheVariants.{OfTable, OfQuery, OfColumn}
 use Rattle.pq_schema.specs.declared.made.Made.{Made}
 use Rattle.pq_schema.specs.declared.query.Query.{Query}
+use Rattle.pq_base.specs.declared.value.Value.{Value}
+use Rattle.pq_schema.specs.declared.table.Column.{Column}
 use Rattle.pq_schema.specs.declared.table.NewIndex.{NewIndex}
 use Rattle.pq_schema.specs.declared.table.Table.{Table}
 use Rattle.pq_schema.specs.Numbered.{text_is, AreNumbered}
-use Rattle.pq_schema.specs.Schema.{Schema, empty_schema, find_table, find_query, is_table, is_query, is_taken, number_of, with_table, with_query, with_wanted, with_new_index, made_of}
+use Rattle.pq_schema.specs.Schema.{Schema, empty_schema, find_table, find_query, is_table, is_query, is_taken, number_of, with_table, with_query, with_column, with_wanted, with_added, with_new_index, with_new_column, made_of}
 use Rattle.pq_schema.specs.Tables.{no_table, table_at}
 use Rattle.pq_schema.specs.Valid.{IsSound}
 
@@ -114,6 +116,10 @@ pub wanted_places : (tables : List Table) (wanted : Option NewIndex) (name : Lis
 wanted_places tables None name = refl
 wanted_places tables (Some new) name = position_set (is_table name) tables (new.table - 1) (with_new_index (table_at tables new.table) new.index) no_table refl
 
+-- nor does a column more
+pub added_places : (tables : List Table) (number : ℕ) (column : Column) (filler : Value) (name : List ℕ) → position (is_table name) (with_added tables number column filler) ≡ position (is_table name) tables
+added_places tables number column filler name = position_set (is_table name) tables (number - 1) (with_new_column (table_at tables number) column filler) no_table refl
+
 -- the parts of a catalog are those of a sound schema, with its numbers
 pub catalog_as : {A : Type 0} (s : Schema) (tables : List Table) (definitions : List Definition) (tns tns' qns qns' : List (String A × ℕ)) → tables ≡ s.tables → definitions ≡ s.definitions → tns ≡ tns' → qns ≡ qns' → IsSound s → AreNumbered s tns' qns'
     → IsSound (record { tables = tables; definitions = definitions }) × AreNumbered (record { tables = tables; definitions = definitions }) tns qns
@@ -141,6 +147,12 @@ module _ {A : Type 0} (schema : Schema) (tables queries : List (String A × ℕ)
   query_numbered key query wanted keyed = record {
     table = λ name. ap (option_map number_of) (wanted_places schema.tables wanted name) ∙ numbered.table name;
     query = λ name. numbers_more (is_query name) (text_is name) schema.definitions (OfQuery query (option_map made_of wanted)) queries key (numbered.query name) (named_of key query.name name keyed);
+  }
+
+  pub column_numbered : (number : ℕ) (column : Column) (filler : Value) → AreNumbered (with_column schema number column filler) tables queries
+  column_numbered number column filler = record {
+    table = λ name. ap (option_map number_of) (added_places schema.tables number column filler name) ∙ numbered.table name;
+    query = λ name. numbers_same (is_query name) schema.definitions (OfColumn number (length (table_at schema.tables number).columns)) refl ∙ numbered.query name;
   }
 
   -- a name that is not taken has no number

@@ -1,21 +1,28 @@
 -- What every table of a valid schema has.
 use Rattle.std.proofs.Common.{◌≡◌, ◌==◌, not, ℕ, zero, ◌+◌, ◌-◌, ◌<◌, ◌≤◌, Bool, true, false, cond, inl, inr, List, [], ◌∷◌, ◌++◌, length, map, fold, filter, set, get_or, suc, Option, Some, None, Result, Ok, Err, refl, sym, ap, ◌∙◌, subst, arith, length-append}
-use Rattle.std.specs.Prelude.{All, IsSome, is_some, nat_le, flat_map, option_map, IfSome}
+use Rattle.std.specs.Prelude.{All, IsSome, is_some, nat_le, flat_map, option_map, unwrap_or, IfSome}
 use Rattle.std.specs.List.{AllByRecursion, range_with_len}
 use Rattle.std.specs.Option.{option_map_or}
 use Rattle.std.proofs.Math.ListN.{get_or-append}
 use Rattle.std.proofs.Math.Seq.{get_or-append_seam}
-use Rattle.std.proofs.lemmas.Bool.{leb-false, eqb-true, and_parts, cond_both, cases_eq, cases_lt}
+use Rattle.std.proofs.lemmas.Bool.{leb-false, not-false, eqb-true, and_parts, cond_both, cases_eq, cases_lt}
 use Rattle.std.proofs.lemmas.Option.{none-some}
-use Rattle.std.proofs.lemmas.List.{length-set, get_or-set_same, get_or-set_other}
-use Rattle.std.proofs.lemmas.List.Elements.{All-append, All-map, All-filter, All-get_or, All-from_get_or, All-weaker, All-from_recursion, recursion_from_All}
+use Rattle.std.proofs.lemmas.List.{length-map, length-set, get_or-set_same, get_or-set_other, map_push}
+use Rattle.std.proofs.lemmas.List.Elements.{All-append, All-push, All-map, All-filter, All-get_or, All-from_get_or, All-weaker, All-from_recursion, recursion_from_All}
+use Rattle.pq_base.specs.Answers.{or_else}
 use Rattle.pq_base.specs.Columns.{has_col, set_of}
+use Rattle.pq_base.specs.Values.{FitsType, fits_type, is_nullable}
+use Rattle.pq_base.specs.declared.count_word.TheConstants as count_word
+use Rattle.pq_base.specs.declared.value.ColType.{ColType}
+use Rattle.pq_base.specs.declared.value.ColType.TheVariants as type
+use Rattle.pq_base.specs.declared.value.Value.{Value}
 use Rattle.pq_base.specs.declared.number.Choice.{Choice}
 use Rattle.pq_base.specs.declared.number.Choice.TheVariants.{Whole, Stop}
 use Rattle.pq_base.specs.declared.refusal.Refusal.{Refusal}
 use Rattle.pq_base.specs.declared.refusal.Refusal.TheVariants as refusal
 use Rattle.pq_schema.specs.declared.made.Definition.{Definition}
-use Rattle.pq_schema.specs.declared.made.Definition.TheVariants.{OfTable, OfQuery}
+use Rattle.pq_schema.specs.declared.made.Definition.TheVariants.{OfTable, OfQuery, OfColumn}
+use Rattle.pq_schema.specs.declared.definition.AlterDef.{AlterDef}
 use Rattle.pq_schema.specs.declared.query.OrderItem.{OrderItem}
 use Rattle.pq_schema.specs.declared.query.Query.{Query}
 use Rattle.pq_schema.specs.declared.table.Column.{Column}
@@ -27,17 +34,18 @@ use Rattle.pq_schema.specs.declared.table.NewIndex.{NewIndex}
 use Rattle.pq_schema.specs.declared.table.Table.{Table}
 use Rattle.pq_schema.specs.Candidates.{Candidate, candidates, whole_candidates, stop_at, stop_size, can_stop_at, lesser, least, reached_after, are_bounded, stop_cost}
 use Rattle.pq_schema.specs.Costs.{is_less}
-use Rattle.pq_schema.specs.Definitions.{definition_refusal}
+use Rattle.pq_schema.specs.Definitions.{has_type, column_of, refused_if, room_refusal, definition_refusal, altered_refusal, column_refusal, altered_table, altered_schema, or_ok, new_column}
 use Rattle.pq_schema.specs.Relations.{relation_at, table_of, tied_set, order_rest, is_rest, part_of, no_relation}
 use Rattle.pq_schema.specs.Resolved.{IsRelation, IsColumnOf, IsResolved}
-use Rattle.pq_schema.specs.Schema.{Schema, IsSmall, empty_schema, with_query, with_wanted, with_new_index, made_of}
+use Rattle.pq_schema.specs.Schema.{Schema, IsSmall, empty_schema, find_column, find_table, with_query, with_wanted, with_new_index, with_new_column, with_added, with_column, made_of}
 use Rattle.pq_schema.specs.Sequences.{ascending_part, group_access, serving_access, new_index}
-use Rattle.pq_schema.specs.Sound.{IsMadeForeign, IsMade, AreMade}
-use Rattle.pq_schema.specs.Tables.{no_table, table_at, types_at, same_kinds}
+use Rattle.pq_schema.specs.Sound.{IsSized, AreKeyColumns, IsMadeLimit, IsMadeForeign, AreDefaults, IsMade, AreMade}
+use Rattle.pq_schema.specs.Tables.{no_table, table_at, type_at, types_at, same_kinds}
 use Rattle.pq_schema.specs.Valid.{IsValid, IsSound}
-use Rattle.pq_schema.specs.Valid.IsValid.{empty, then_table, then_query}
+use Rattle.pq_schema.specs.Valid.IsValid.{empty, then_table, then_query, then_column}
 use Rattle.pq_schema.specs.Wanted.{is_large, index_at, index_of, too_many_indexes, ChosenCandidate, with_index, chosen_of, no_bound, IsWanted}
-use Rattle.pq_schema.proofs.Accepted.{accepted, definition_room, table_room, room, made_none, made_by_def}
+use Rattle.pq_schema.proofs.Accepted.{accepted, neither, not_refused, sized_column, definition_room, table_room, room, made_none, made_by_def}
+use Rattle.pq_schema.proofs.Numbered.{table_there}
 use Rattle.pq_schema.proofs.Groups.{index_keeps, inside_more}
 
 -- ---- answers
@@ -65,10 +73,13 @@ some_same a b is = ap (some_or a) is
 
 -- ---- a table over other tables
 
--- the tables below the number have the same columns and keys
+-- the types of a table's key
+abbrev key_types : Table → List ColType
+key_types table = types_at table.columns table.key
+
+-- the keys of the tables below the number have the same types
 record HaveSameKeys (before now : List Table) (number : ℕ) : Type 0 where
-  columns : (k : ℕ) → 1 ≤ k → k < number → (table_at now k).columns ≡ (table_at before k).columns
-  key : (k : ℕ) → 1 ≤ k → k < number → (table_at now k).key ≡ (table_at before k).key
+  types : (k : ℕ) → 1 ≤ k → k < number → key_types (table_at now k) ≡ key_types (table_at before k)
 
 foreign_over : (before now : List Table) (number : ℕ) (columns : List Column) → HaveSameKeys before now number → (f : Foreign) → IsMadeForeign before number columns f → IsMadeForeign now number columns f
 foreign_over before now number columns same f made = record {
@@ -76,9 +87,7 @@ foreign_over before now number columns same f made = record {
   different = made.different;
   from_one = made.from_one;
   earlier = made.earlier;
-  shape =
-      (λ i. same_kinds (types_at columns f.cols) (types_at (same.columns f.table made.from_one made.earlier i) (same.key f.table made.from_one made.earlier i)))
-      ∙ made.shape;
+  shape = ap (same_kinds (types_at columns f.cols)) (same.types f.table made.from_one made.earlier) ∙ made.shape;
 }
 
 made_over : (before now : List Table) (number : ℕ) (table : Table) → HaveSameKeys before now number → IsMade before number table → IsMade now number table
@@ -111,8 +120,7 @@ table_last tables table number is =
 
 same_before : (tables : List Table) (table : Table) (number : ℕ) → number < length tables + 2 → HaveSameKeys tables (tables ++ table ∷ []) number
 same_before tables table number there = record {
-  columns = λ k one below. ap (λ (t : Table). t.columns) (table_before tables table k one (omega arith));
-  key = λ k one below. ap (λ (t : Table). t.key) (table_before tables table k one (omega arith));
+  types = λ k one below. ap key_types (table_before tables table k one (omega arith));
 }
 
 tables_with : (tables : List Table) (table : Table) → AreMade tables → IsMade tables (length tables + 1) table → AreMade (tables ++ table ∷ [])
@@ -155,45 +163,158 @@ pub record Fits (tables : List Table) (new : NewIndex) : Type 0 where
   pub room : length (table_at tables new.table).indexes < 16
   pub inside : All (λ part. part.col < length (table_at tables new.table).columns) new.index.cols
 
-module _ (tables : List Table) (new : NewIndex) (fits : Fits tables new) where
-  changed : Table
-  changed = with_new_index (table_at tables new.table) new.index
+-- ---- one table of them changed
 
-  at_changed : table_at (set tables (new.table - 1) changed) new.table ≡ changed
-  at_changed = let one = fits.from_one in let there = fits.there in get_or-set_same tables (new.table - 1) changed no_table (omega arith)
+module _ (tables : List Table) (place : ℕ) (changed : Table) (one_at : 1 ≤ place) (there_at : place ≤ length tables)
+    (as_before : key_types changed ≡ key_types (table_at tables place)) where
+  at_changed : table_at (set tables (place - 1) changed) place ≡ changed
+  at_changed = get_or-set_same tables (place - 1) changed no_table (omega (arith, one_at, there_at))
 
-  at_other : (k : ℕ) → 1 ≤ k → (k ≡ new.table → ⊥) → table_at (set tables (new.table - 1) changed) k ≡ table_at tables k
-  at_other k one other =
-      let from_one = fits.from_one in
-      get_or-set_other tables (new.table - 1) (k - 1) changed no_table (λ e. other (omega (arith, e, one, from_one)))
+  at_other : (k : ℕ) → 1 ≤ k → (k ≡ place → ⊥) → table_at (set tables (place - 1) changed) k ≡ table_at tables k
+  at_other k one other = get_or-set_other tables (place - 1) (k - 1) changed no_table (λ e. other (omega (arith, e, one, one_at)))
 
-  same_keys : (number : ℕ) → HaveSameKeys tables (set tables (new.table - 1) changed) number
-  unfolding changed
+  same_keys : (number : ℕ) → HaveSameKeys tables (set tables (place - 1) changed) number
   same_keys number = record {
-    columns = λ k one _. elim (cases_eq k new.table) [
-      | inl same ↦ ap (λ n. (table_at (set tables (new.table - 1) changed) n).columns) same ∙ ap (λ (t : Table). t.columns) at_changed ∙ ap (λ n. (table_at tables n).columns) (sym same)
-      | inr other ↦ ap (λ (t : Table). t.columns) (at_other k one other)
-    ];
-    key = λ k one _. elim (cases_eq k new.table) [
-      | inl same ↦ ap (λ n. (table_at (set tables (new.table - 1) changed) n).key) same ∙ ap (λ (t : Table). t.key) at_changed ∙ ap (λ n. (table_at tables n).key) (sym same)
-      | inr other ↦ ap (λ (t : Table). t.key) (at_other k one other)
+    types = λ k one _. elim (cases_eq k place) [
+      | inl same ↦ ap (λ n. key_types (table_at (set tables (place - 1) changed) n)) same ∙ ap key_types at_changed ∙ as_before ∙ ap (λ n. key_types (table_at tables n)) (sym same)
+      | inr other ↦ ap key_types (at_other k one other)
     ];
   }
 
-  tables_indexed : AreMade tables → AreMade (set tables (new.table - 1) changed)
-  unfolding changed
-  tables_indexed all number one there =
-      let long : length (set tables (new.table - 1) changed) ≡ length tables = length-set tables (new.table - 1) changed in
+  tables_changed : (IsMade tables place (table_at tables place) → IsMade tables place changed) → AreMade tables → AreMade (set tables (place - 1) changed)
+  tables_changed made all number one there =
+      let long : length (set tables (place - 1) changed) ≡ length tables = length-set tables (place - 1) changed in
       let old : IsMade tables number (table_at tables number) = all number one (omega (arith, long, there)) in
-      elim (cases_eq number new.table) [
+      elim (cases_eq number place) [
         | inl same ↦
-            subst (IsMade (set tables (new.table - 1) changed) number) (sym (ap (table_at (set tables (new.table - 1) changed)) same ∙ at_changed))
-            (made_over tables (set tables (new.table - 1) changed) number changed (same_keys number)
-            (index_made tables number (table_at tables new.table) new.index (subst (λ n. IsMade tables number (table_at tables n)) same old) fits.room fits.inside))
+            subst (λ n. IsMade (set tables (place - 1) changed) n (table_at (set tables (place - 1) changed) n)) (sym same)
+            (subst (IsMade (set tables (place - 1) changed) place) (sym at_changed)
+            (made_over tables (set tables (place - 1) changed) place changed (same_keys place)
+            (made (subst (λ n. IsMade tables n (table_at tables n)) same old))))
         | inr other ↦
-            subst (IsMade (set tables (new.table - 1) changed) number) (sym (at_other number one other))
-            (made_over tables (set tables (new.table - 1) changed) number (table_at tables number) (same_keys number) old)
+            subst (IsMade (set tables (place - 1) changed) number) (sym (at_other number one other))
+            (made_over tables (set tables (place - 1) changed) number (table_at tables number) (same_keys number) old)
       ]
+
+tables_indexed : (tables : List Table) (new : NewIndex) → Fits tables new → AreMade tables → AreMade (set tables (new.table - 1) (with_new_index (table_at tables new.table) new.index))
+tables_indexed tables new fits all =
+    tables_changed tables new.table (with_new_index (table_at tables new.table) new.index) fits.from_one fits.there refl
+    (λ made. index_made tables new.table (table_at tables new.table) new.index made fits.room fits.inside) all
+
+-- ---- one more column
+
+-- the earlier columns keep their types
+type_before : (columns : List Column) (column : Column) (col : ℕ) → col < length columns → type_at (columns ++ column ∷ []) col ≡ type_at columns col
+type_before columns column col there =
+    let types = map (λ (c : Column). c.ty) columns in
+    let long = length-map columns (λ (c : Column). c.ty) in
+    ap (λ (l : List ColType). get_or l col type.Bool) (map_push (λ (c : Column). c.ty) columns column)
+    ∙ get_or-append types (column.ty ∷ []) type.Bool col (omega (arith, long, there))
+
+types_before : (columns : List Column) (column : Column) (cols : List ℕ) → All (λ col. col < length columns) cols → types_at (columns ++ column ∷ []) cols ≡ types_at columns cols
+types_before columns column cols inside = by cols (recursion_from_All (λ col. col < length columns) cols inside)
+  where
+    by : (cols : List ℕ) → AllByRecursion (λ col. col < length columns) cols → types_at (columns ++ column ∷ []) cols ≡ types_at columns cols
+    by [] inside = refl
+    by (col ∷ cols) inside = λ i. type_before columns column col inside.0 i ∷ by cols inside.1 i
+
+plain_before : (columns : List Column) (column : Column) (cols : List ℕ) → All (λ col. col < length columns) cols → All (λ col. is_nullable (type_at columns col) ≡ false) cols
+    → All (λ col. is_nullable (type_at (columns ++ column ∷ []) col) ≡ false) cols
+plain_before columns column cols inside plain =
+    All-from_recursion (λ col. is_nullable (type_at (columns ++ column ∷ []) col) ≡ false) cols
+    (by cols (recursion_from_All (λ col. col < length columns) cols inside) (recursion_from_All (λ col. is_nullable (type_at columns col) ≡ false) cols plain))
+  where
+    by : (cols : List ℕ) → AllByRecursion (λ col. col < length columns) cols → AllByRecursion (λ col. is_nullable (type_at columns col) ≡ false) cols
+        → AllByRecursion (λ col. is_nullable (type_at (columns ++ column ∷ []) col) ≡ false) cols
+    by [] inside plain = tt
+    by (col ∷ cols) inside plain = (ap is_nullable (type_before columns column col inside.0) ∙ plain.0, by cols inside.1 plain.1)
+
+defaults_more : (columns : List Column) (fillers : List (Option Value)) (column : Column) (filler : Value) → AreDefaults columns fillers → FitsType column.ty filler → AreDefaults (columns ++ column ∷ []) (fillers ++ Some filler ∷ [])
+defaults_more [] [] column filler all fits = (fits, tt)
+defaults_more (c ∷ columns) (f ∷ fillers) column filler all fits = (all.0, defaults_more columns fillers column filler all.1 fits)
+defaults_more [] (f ∷ fillers) column filler all fits = absurd all
+defaults_more (c ∷ columns) [] column filler all fits = absurd all
+
+module _ (tables : List Table) (place : ℕ) (table : Table) (column : Column) (filler : Value) where
+  width_more : length (table.columns ++ column ∷ []) ≡ length table.columns + 1
+  width_more = length-append table.columns (column ∷ [])
+
+  wider : (cols : List ℕ) → All (λ col. col < length table.columns) cols → All (λ col. col < length (table.columns ++ column ∷ [])) cols
+  wider cols inside = All-weaker (λ col. col < length table.columns) (λ col. col < length (table.columns ++ column ∷ [])) (λ col lt. let long = width_more in omega (arith, lt, long)) cols inside
+
+  wider_key : (cols : List ℕ) → AreKeyColumns (length table.columns) cols → AreKeyColumns (length (table.columns ++ column ∷ [])) cols
+  wider_key cols is = record { some = is.some; few = is.few; inside = wider cols is.inside; different = is.different }
+
+  wider_foreign : (f : Foreign) → IsMadeForeign tables place table.columns f → IsMadeForeign tables place (table.columns ++ column ∷ []) f
+  wider_foreign f is = record {
+    inside = wider f.cols is.inside;
+    different = is.different;
+    from_one = is.from_one;
+    earlier = is.earlier;
+    shape = ap (λ (ts : List ColType). same_kinds ts (key_types (table_at tables f.table))) (types_before table.columns column f.cols is.inside) ∙ is.shape;
+  }
+
+  column_made : IsMade tables place table → length table.columns < 32 → IsSized column.ty → FitsType column.ty filler → IsMade tables place (with_new_column table column filler)
+  column_made made room sized fits = record {
+    some_columns = let long = width_more in omega (arith, long);
+    few_columns = let long = width_more in omega (arith, long, room);
+    sized = All-push (λ (c : Column). IsSized c.ty) table.columns column made.sized sized;
+    fillers = defaults_more table.columns table.fillers column filler made.fillers fits;
+    key = wider_key table.key made.key;
+    plain = plain_before table.columns column table.key made.key.inside made.plain;
+    few_limits = made.few_limits;
+    limits = All-weaker (IsMadeLimit (length table.columns)) (IsMadeLimit (length (table.columns ++ column ∷ []))) (λ l is. record { cols = wider_key l.cols is.cols; from_one = is.from_one; most = is.most }) table.limits made.limits;
+    few_foreign = made.few_foreign;
+    foreign = All-weaker (IsMadeForeign tables place table.columns) (IsMadeForeign tables place (table.columns ++ column ∷ [])) wider_foreign table.foreign made.foreign;
+    few_indexes = made.few_indexes;
+    indexes = All-weaker (λ (i : Index). All (λ part. part.col < length table.columns) i.cols) (λ (i : Index). All (λ part. part.col < length (table.columns ++ column ∷ [])) i.cols) (λ i inside. All-weaker (λ (part : KeyPart). part.col < length table.columns) (λ (part : KeyPart). part.col < length (table.columns ++ column ∷ [])) (λ part lt. let long = width_more in omega (arith, lt, long)) i.cols inside) table.indexes made.indexes;
+    limit_groups = made.limit_groups;
+    foreign_groups = made.foreign_groups;
+  }
+
+-- the table that gets a column is there, has room for it, and takes its default
+pub record TakesColumn (tables : List Table) (number : ℕ) (column : Column) : Type 0 where
+  pub from_one : 1 ≤ number
+  pub there : number ≤ length tables
+  pub room : length (table_at tables number).columns < 32
+  pub sized : IsSized column.ty
+
+tables_widened : (tables : List Table) (number : ℕ) (column : Column) (filler : Value) → TakesColumn tables number column → FitsType column.ty filler → AreMade tables → AreMade (with_added tables number column filler)
+tables_widened tables number column filler takes fits all =
+    let table = table_at tables number in
+    let made = all number takes.from_one takes.there in
+    tables_changed tables number (with_new_column table column filler) takes.from_one takes.there (types_before table.columns column table.key made.key.inside)
+    (λ made. column_made tables number table column filler made takes.room takes.sized fits) all
+
+added_takes : (s : Schema) (def : AlterDef) (found : Option ℕ) → find_table s def.table ≡ found → altered_refusal s def found ≡ None → TakesColumn s.tables (unwrap_or found 0) (column_of def.column)
+added_takes s def None at none = absurd (none-some (refusal.NoTable def.table) (sym none))
+added_takes s def (Some number) at none =
+    let table = table_at s.tables number in
+    let room = refused_if (nat_le 32 (length table.columns)) (refusal.Count count_word.COLUMNS) in
+    let text = refused_if (not (has_type def.column)) (refusal.Count count_word.TEXT) in
+    let twice = refused_if (is_some (find_column table.columns def.column.name)) (refusal.Repeated def.column.name) in
+    let kind = refused_if (not (fits_type (column_of def.column).ty def.filler)) (refusal.ValueKind def.table def.column.name) in
+    let first = neither room (or_else text (or_else twice kind)) none in
+    let second = neither text (or_else twice kind) first.1 in
+    let there = subst (λ o. IfSome o (λ number. (1 ≤ number) × (number ≤ length s.tables))) at (table_there s def.table) in
+    record {
+      from_one = there.0;
+      there = there.1;
+      room = leb-false 32 (length table.columns) (not_refused (nat_le 32 (length table.columns)) (refusal.Count count_word.COLUMNS) first.0);
+      sized = sized_column def.column (not-false (has_type def.column) (not_refused (not (has_type def.column)) (refusal.Count count_word.TEXT) second.0));
+    }
+
+-- a definition that is not refused gives the schema with its column
+pub column_accepted : (s : Schema) (def : AlterDef) → column_refusal s def ≡ None → new_column s def ≡ Ok (altered_schema s def)
+unfolding new_column
+column_accepted s def none = ap (λ o. or_ok o (altered_schema s def)) none
+
+pub column_parts : (s : Schema) (def : AlterDef) (next : Schema) → new_column s def ≡ Ok next → (column_refusal s def ≡ None) × (altered_schema s def ≡ next)
+unfolding new_column
+column_parts s def next made = accepted (column_refusal s def) (altered_schema s def) next made
+
+pub column_takes : (s : Schema) (def : AlterDef) → column_refusal s def ≡ None → TakesColumn s.tables (altered_table s def) (column_of def.column)
+column_takes s def none = added_takes s def (find_table s def.table) refl (neither (room_refusal s) (altered_refusal s def (find_table s def.table)) none).1
 
 -- ---- the wanted index of a query
 
@@ -315,7 +436,6 @@ wanted_there tables query (Some new) resolved wanted =
 -- ---- valid schemas
 
 made_with_wanted : (tables : List Table) (query : Query) (wanted : Option NewIndex) → AreMade tables → IsResolved tables query → IsWanted tables query wanted → AreMade (with_wanted tables wanted)
-unfolding changed
 made_with_wanted tables query None all resolved wanted = all
 made_with_wanted tables query (Some new) all resolved wanted = tables_indexed tables new (wanted_fits tables query new resolved wanted) all
 
@@ -328,6 +448,10 @@ valid_made empty = λ number one there. absurd (omega arith)
 valid_made (then_table s def table v d made) =
     tables_with s.tables table (valid_made v) (made_by_def s def table made)
 valid_made (then_query s query wanted v d) = made_with_wanted s.tables query wanted (valid_made v) d.resolved d.chosen
+valid_made (then_column s def next v is) =
+    let parts = column_parts s def next is.accepted in
+    subst (λ (x : Schema). AreMade x.tables) parts.1
+    (tables_widened s.tables (altered_table s def) (column_of def.column) def.filler (column_takes s def parts.0) is.fits (valid_made v))
 
 pub valid_small : {s : Schema} → IsValid s → IsSmall s
 valid_small empty = record { tables = omega arith; definitions = omega arith }
@@ -345,6 +469,17 @@ valid_small (then_query s query wanted v d) =
     let two = length-append s.definitions (OfQuery query (option_map made_of wanted) ∷ []) in
     let few = before.tables in
     record { tables = omega (arith, one, few); definitions = omega (arith, two, definitions) }
+valid_small (then_column s def next v is) =
+    let parts = column_parts s def next is.accepted in
+    let before = valid_small v in
+    let number = altered_table s def in
+    let table = table_at s.tables number in
+    let rooms = not_refused (nat_le 256 (length s.definitions)) (refusal.Count count_word.DEFINITIONS) (neither (room_refusal s) (altered_refusal s def (find_table s def.table)) parts.0).0 in
+    let room = leb-false 256 (length s.definitions) rooms in
+    let one = length-set s.tables (number - 1) (with_new_column table (column_of def.column) def.filler) in
+    let two = length-append s.definitions (OfColumn number (length table.columns) ∷ []) in
+    let few = before.tables in
+    subst IsSmall parts.1 (record { tables = omega (arith, one, few); definitions = omega (arith, two, room) })
 
 pub valid_sound : {s : Schema} → IsValid s → IsSound s
 valid_sound v = record { small = valid_small v; valid = v }

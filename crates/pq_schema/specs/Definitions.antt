@@ -1,4 +1,4 @@
--- What a CREATE TABLE defines, or the first refusal in the written order.
+-- What a CREATE TABLE and an ALTER TABLE define, or the first refusal in the written order.
 use Rattle.std.specs.Prelude.{◌≡◌, ℕ, ℤ, pos, negsuc, ◌+◌, Bool, true, false, not, ◌||◌, ◌&&◌, nat_lt, nat_le, List, [], ◌∷◌, length, map, codes, unwrap_or, is_some, find, option_map, Option, Some, None, Result, Ok, Err, if◌then◌else◌}
 use Rattle.std.specs.Str.{bytes_eq}
 use Rattle.std.specs.List.{list_all}
@@ -6,10 +6,11 @@ use Rattle.pq_base.specs.Answers.{or_else}
 use Rattle.pq_base.specs.declared.count_word.TheConstants as count_word
 use Rattle.pq_base.specs.declared.refusal.Refusal.{Refusal}
 use Rattle.pq_base.specs.declared.refusal.Refusal.TheVariants as refusal
-use Rattle.pq_base.specs.Values.{is_nullable}
+use Rattle.pq_base.specs.Values.{FitsType, fits_type, is_nullable}
 use Rattle.pq_base.specs.declared.value.ColType.{ColType}
 use Rattle.pq_base.specs.declared.value.ColType.TheVariants as type
 use Rattle.pq_base.specs.declared.value.Value.{Value}
+use Rattle.pq_schema.specs.declared.definition.AlterDef.{AlterDef}
 use Rattle.pq_schema.specs.declared.definition.ColumnDef.{ColumnDef}
 use Rattle.pq_schema.specs.declared.definition.LimitDef.{LimitDef}
 use Rattle.pq_schema.specs.declared.definition.ForeignDef.{ForeignDef}
@@ -23,7 +24,7 @@ use Rattle.pq_schema.specs.declared.table.Table.{Table}
 use Rattle.pq_schema.specs.ColumnNames.{names_of, place_of, places_of, repeated_refusal, names_refusal}
 use Rattle.pq_schema.specs.Sequences.{with_groups}
 use Rattle.pq_schema.specs.Tables.{table_at, same_kinds, type_at, types_at}
-use Rattle.pq_schema.specs.Schema.{Schema, find_table, is_taken, with_table, with_query}
+use Rattle.pq_schema.specs.Schema.{Schema, find_column, find_table, is_taken, with_table, with_query, with_column}
 
 -- n of TEXT(n), from 1 to 1,000
 abbrev pub text_size : ℤ → Option ℕ
@@ -70,10 +71,15 @@ refused_if false why = None
 abbrev pub is_outside : ℕ → ℕ → Bool
 is_outside count most = nat_lt count 1 || nat_lt most count
 
+-- a definition more than there may be
+abbrev pub room_refusal : Schema → Option Refusal
+room_refusal schema =
+    refused_if (nat_le 256 (length schema.definitions)) (refusal.Count count_word.DEFINITIONS)
+
 -- definitions, and the name
 abbrev pub definition_refusal : Schema → List ℕ → Option Refusal
 definition_refusal schema name =
-    or_else (refused_if (nat_le 256 (length schema.definitions)) (refusal.Count count_word.DEFINITIONS))
+    or_else (room_refusal schema)
     (refused_if (is_taken schema name) (refusal.NameTaken name))
 
 -- definitions, the name, tables
@@ -214,4 +220,43 @@ pub record AddsQuery (before : Schema) (query : Query) (wanted : Option NewIndex
     Type 0 where
   pub made : new_query before query wanted ≡ Ok now
   pub added : now ≡ with_query before query wanted
+  pub last : number ≡ length before.definitions + 1
+
+-- ---- an added column
+
+-- a thirty-third column, its text, its name, and a default that does not fit
+abbrev pub added_refusal : Table → AlterDef → Option Refusal
+added_refusal table def =
+    or_else (refused_if (nat_le 32 (length table.columns)) (refusal.Count count_word.COLUMNS))
+    (or_else (refused_if (not (has_type def.column)) (refusal.Count count_word.TEXT))
+    (or_else (refused_if (is_some (find_column table.columns def.column.name)) (refusal.Repeated def.column.name))
+    (refused_if (not (fits_type (column_of def.column).ty def.filler))
+    (refusal.ValueKind def.table def.column.name))))
+
+-- the table that gets the column is unknown, or refuses it
+abbrev pub altered_refusal : Schema → AlterDef → Option ℕ → Option Refusal
+altered_refusal schema def None = Some (refusal.NoTable def.table)
+altered_refusal schema def (Some table) = added_refusal (table_at schema.tables table) def
+
+-- definitions, the table, and the column
+abbrev pub column_refusal : Schema → AlterDef → Option Refusal
+column_refusal schema def = or_else (room_refusal schema) (altered_refusal schema def (find_table schema def.table))
+
+-- the number of the table that gets the column
+abbrev pub altered_table : Schema → AlterDef → ℕ
+altered_table schema def = unwrap_or (find_table schema def.table) 0
+
+-- the schema with the column that is added where nothing refuses it
+abbrev pub altered_schema : Schema → AlterDef → Schema
+altered_schema schema def = with_column schema (altered_table schema def) (column_of def.column) def.filler
+
+-- the schema with the column, or the first refusal
+unfoldable pub new_column : Schema → AlterDef → Result Schema Refusal
+new_column schema def = or_ok (column_refusal schema def) (altered_schema schema def)
+
+-- the column was added to its table, and its definition comes last
+pub record AddsColumn (before : Schema) (def : AlterDef) (now : Schema) (number : ℕ) : Type 0 where
+  pub made : new_column before def ≡ Ok now
+  pub added : now ≡ altered_schema before def
+  pub fits : FitsType (column_of def.column).ty def.filler
   pub last : number ≡ length before.definitions + 1

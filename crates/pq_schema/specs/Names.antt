@@ -4,6 +4,7 @@ use Rattle.std.specs.Char.{is_ascii_digit, is_ascii_lowercase}
 use Rattle.std.specs.Str.{bytes_eq}
 use Rattle.std.specs.List.{list_any, list_all}
 use Rattle.pq_base.specs.Words.{uppercase_byte, keywords}
+use Rattle.pq_schema.specs.declared.definition.AlterDef.{AlterDef}
 use Rattle.pq_schema.specs.declared.definition.ColumnDef.{ColumnDef}
 use Rattle.pq_schema.specs.declared.definition.LimitDef.{LimitDef}
 use Rattle.pq_schema.specs.declared.definition.ForeignDef.{ForeignDef}
@@ -55,3 +56,8 @@ pub record IsTableDef (def : TableDef) : Type 0 where
   pub key : All IsName def.key
   pub limits : All IsLimitDef def.limits
   pub foreign : All IsForeignDef def.foreign
+
+-- and one of an added column
+pub record IsAlterDef (def : AlterDef) : Type 0 where
+  pub table : IsName def.table
+  pub column : IsColumnDef def.column

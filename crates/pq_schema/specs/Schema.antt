@@ -1,6 +1,7 @@
 -- A schema: its tables, and its definitions in order.
 use Rattle.std.specs.Prelude.{◌++◌, ◌∷◌, ℕ, ◌-◌, ◌+◌, Bool, false, ◌||◌, ◌≤◌, length, List, [], slice_index_or, slice_set, position, is_some, Option, Some, None, option_map}
 use Rattle.std.specs.Str.{bytes_eq}
+use Rattle.pq_base.specs.declared.value.Value.{Value}
 use Rattle.pq_schema.specs.declared.table.Column.{Column}
 use Rattle.pq_schema.specs.declared.table.Index.{Index}
 use Rattle.pq_schema.specs.declared.table.NewIndex.{NewIndex}
@@ -8,7 +9,7 @@ use Rattle.pq_schema.specs.declared.table.Table.{Table}
 use Rattle.pq_schema.specs.declared.query.Query.{Query}
 use Rattle.pq_schema.specs.declared.query.Stop.TheVariants.{All}
 use Rattle.pq_schema.specs.declared.made.Definition.{Definition}
-use Rattle.pq_schema.specs.declared.made.Definition.TheVariants.{OfTable, OfQuery}
+use Rattle.pq_schema.specs.declared.made.Definition.TheVariants.{OfTable, OfQuery, OfColumn}
 use Rattle.pq_schema.specs.declared.made.Made.{Made}
 use Rattle.pq_schema.specs.declared.made.Def.{Def}
 use Rattle.pq_schema.specs.declared.made.Def.TheVariants as def
@@ -25,6 +26,7 @@ empty_schema = record { tables = []; definitions = [] }
 abbrev pub def_of : Definition → Def
 def_of (OfTable table columns made) = def.Table table made
 def_of (OfQuery query made) = def.Query made
+def_of (OfColumn table col) = def.Added table col
 
 -- what stands at a number that no query has
 abbrev pub no_query : Query
@@ -33,10 +35,12 @@ no_query = record { name = []; relations = []; select = []; preds = []; order = 
 abbrev pub query_of : Definition → Query
 query_of (OfTable table columns made) = no_query
 query_of (OfQuery query made) = query
+query_of (OfColumn table col) = no_query
 
 abbrev pub IsQueryDefinition : Definition → Type 0
 IsQueryDefinition (OfTable table columns made) = ⊥
 IsQueryDefinition (OfQuery query made) = Unit {0}
+IsQueryDefinition (OfColumn table col) = ⊥
 
 abbrev pub no_definition : Definition
 no_definition = OfTable 0 0 0
@@ -52,6 +56,7 @@ query_at schema number = query_of (definition_at schema number)
 abbrev pub is_query : List ℕ → Definition → Bool
 is_query name (OfTable table columns made) = false
 is_query name (OfQuery query made) = bytes_eq query.name name
+is_query name (OfColumn table col) = false
 
 abbrev pub is_table : List ℕ → Table → Bool
 is_table name table = bytes_eq table.name name
@@ -110,4 +115,21 @@ abbrev pub with_query : Schema → Query → Option NewIndex → Schema
 with_query schema query wanted = record {
   tables = with_wanted schema.tables wanted;
   definitions = schema.definitions ++ OfQuery query (option_map made_of wanted) ∷ [];
+}
+
+-- one more column behind the others, with its default
+abbrev pub with_new_column : Table → Column → Value → Table
+with_new_column table column filler =
+    record table { columns = table.columns ++ column ∷ []; fillers = table.fillers ++ Some filler ∷ [] }
+
+-- the table of this number has the column behind its others
+abbrev pub with_added : List Table → ℕ → Column → Value → List Table
+with_added tables number column filler =
+    slice_set tables (number - 1) (with_new_column (table_at tables number) column filler)
+
+-- and the column's definition comes last
+abbrev pub with_column : Schema → ℕ → Column → Value → Schema
+with_column schema number column filler = record {
+  tables = with_added schema.tables number column filler;
+  definitions = schema.definitions ++ OfColumn number (length (table_at schema.tables number).columns) ∷ [];
 }

@@ -1,19 +1,19 @@
 //! The definitions of a schema in order: tables by their numbers from 1, definitions likewise.
 ghost use Rattle.std.specs.Prelude.{◌≡◌, ◌≤◌, ◌<◌, ◌++◌, ◌∷◌, [], length, option_map, false, string_bytes, vec_capacity, Some, None, IfOk, IfSome, OnOk, OnErr};
-ghost use Rattle.pq_schema.specs.Schema.{empty_schema, definition_at, def_of, find_table, find_query, is_taken, IsQueryDefinition, query_at, query_of, with_table, with_query, with_wanted, made_of};
+ghost use Rattle.pq_schema.specs.Schema.{empty_schema, definition_at, def_of, find_table, find_query, is_taken, IsQueryDefinition, query_at, query_of, with_table, with_query, with_column, with_wanted, with_new_column, with_added, made_of};
 ghost use Rattle.indexmap.specs.IndexMap.{get_by_text, spare};
 ghost use Rattle.pq_schema.specs.Tables.{table_at, referring_limits, foreign_to};
 ghost use Rattle.pq_schema.specs.Valid.{IsValid, IsDefined};
 
 use crate::made::{Def, Definition, Made};
 use crate::query::Query;
-use crate::table::{Foreign, NewIndex, Referring, Table};
+use crate::table::{Column, Foreign, NewIndex, Referring, Table};
 use indexmap::IndexMap;
-use pq_base::{List, NoMem, PText};
+use pq_base::{List, NoMem, PText, Value};
 use std::alloc::Global;
 use std::marker::Model;
 
-/// The tables and queries that are defined: at most 64 tables and 256 definitions.
+/// The tables, queries and added columns that are defined: at most 64 tables and 256 definitions.
 #[derive(Debug, Drop)]
 pub struct Catalog {
     tables: Vec<Table>,
@@ -44,7 +44,7 @@ impl Definition {
         ensures { result.now ≡ query_of self.now }
     {
         match self {
-            Definition::OfTable { .. } => unreachable!(),
+            Definition::OfTable { .. } | Definition::OfColumn { .. } => unreachable!(),
             Definition::OfQuery { query, .. } => query,
         }
     }
@@ -59,6 +59,10 @@ impl Definition {
                 made: *made,
             },
             Definition::OfQuery { made, .. } => Def::Query { made: *made },
+            Definition::OfColumn { table, col } => Def::Added {
+                table: *table,
+                col: *col,
+            },
         }
     }
 }
@@ -119,6 +123,42 @@ fn put_wanted(alloc: Global, tables: &mut Vec<Table>, wanted: Option<NewIndex>) 
         None => Ok(()),
         Some(new) => put_index(alloc, tables, new),
     }
+}
+
+/// Puts a column with its default behind the others. After `NoMem` nothing is changed.
+fn put_last_column(
+    alloc: Global,
+    table: &mut Table,
+    column: Column,
+    filler: Value,
+) -> Result<(), NoMem>
+    ensures ok { OnOk result (table.new ≡ with_new_column table.old column filler) }
+    ensures err { OnErr result (table.new ≡ table.old) }
+{
+    let width = table.columns.items().len();
+    table.columns.push(alloc, column)?;
+    let put = table.fillers.push(alloc, Some(filler));
+    if put.is_err() {
+        table.columns.truncate(width);
+    }
+    put
+}
+
+/// Puts a column behind the others of its table. After `NoMem` nothing is changed.
+fn put_column(
+    alloc: Global,
+    tables: &mut Vec<Table>,
+    number: u8,
+    column: Column,
+    filler: Value,
+) -> Result<(), NoMem>
+    requires from_one { 1 ≤ number }
+    requires there { number ≤ length tables.old.items }
+    ensures ok { OnOk result (tables.new.items ≡ with_added tables.old.items number column filler) }
+    ensures err { OnErr result (tables.new.items ≡ tables.old.items) }
+{
+    let table = &mut tables[number as usize - 1];
+    put_last_column(alloc, table, column, filler)
 }
 
 /// Puts those of a table's foreign keys behind the others that name the parent.
@@ -278,6 +318,32 @@ impl Catalog {
         put_wanted(alloc, &mut self.tables, wanted)?;
         put_last(&mut self.definitions, Definition::OfQuery { query, made });
         put_number(&mut self.query_numbers, name, number);
+        Ok(())
+    }
+
+    /// Puts a column behind the others of its table, and its definition last. After `NoMem` nothing is
+    /// changed.
+    pub(crate) fn push_column(
+        &mut self,
+        alloc: Global,
+        number: u8,
+        column: Column,
+        filler: Value,
+    ) -> Result<(), NoMem>
+        requires next { IsValid (with_column self.old number column filler) }
+        requires from_one { 1 ≤ number }
+        requires there { number ≤ length self.old.tables }
+        requires few { length (table_at self.old.tables number).columns ≤ 31 }
+        ensures ok { OnOk result (self.new ≡ with_column self.old number column filler) }
+        ensures err { OnErr result (self.new ≡ self.old) }
+    {
+        let col = self.table(number).columns.items().len() as u8;
+        self.definitions.reserve(1)?;
+        put_column(alloc, &mut self.tables, number, column, filler)?;
+        put_last(
+            &mut self.definitions,
+            Definition::OfColumn { table: number, col },
+        );
         Ok(())
     }
 

@@ -1,6 +1,7 @@
-//! A table's definition as its text has it, with names in place of numbers.
+//! A table's definition, and that of an added column, as their texts have them, with names in place of
+//! numbers.
 
-use pq_base::{List, PText};
+use pq_base::{List, PText, Value};
 
 /// A column: its kind is INT, BOOL or TEXT, and its size is that of TEXT, else 0.
 #[derive(Debug, Drop)]
@@ -33,4 +34,12 @@ pub struct TableDef {
     pub key: List<PText>,
     pub limits: List<LimitDef>,
     pub foreign: List<ForeignDef>,
+}
+
+/// A column that comes behind those of a table, with the value that it has in the rows that are there.
+#[derive(Debug, Drop)]
+pub struct AlterDef {
+    pub table: PText,
+    pub column: ColumnDef,
+    pub filler: Value,
 }

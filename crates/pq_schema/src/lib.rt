@@ -7,6 +7,7 @@ mod definition;
 pub mod laws;
 mod made;
 mod names;
+mod new_column;
 mod new_table;
 mod query;
 mod sequences;
@@ -15,7 +16,7 @@ mod table_checks;
 
 pub use catalog::Catalog;
 pub use column_names::{check_known, check_names, check_repeated, names_of, place_of, places_of};
-pub use definition::{ColumnDef, ForeignDef, LimitDef, TableDef};
+pub use definition::{AlterDef, ColumnDef, ForeignDef, LimitDef, TableDef};
 pub use made::{Def, Definition, Made};
 pub use names::{NAME_BYTES, is_name};
 pub use query::{ColRef, Op, Operand, OrderItem, Pred, Query, Relation, Stop};

@@ -9,12 +9,13 @@ pub struct Made {
     pub index: u8,
 }
 
-/// A definition by its kind: a table's number with how many indexes its CREATE TABLE made, or the
-/// index that a query's PREPARE made.
+/// A definition by its kind: a table's number with how many indexes its CREATE TABLE made, the index
+/// that a query's PREPARE made, or the place of an added column with its table's number.
 #[derive(Clone, Copy, Debug, PartialEq, Eq)]
 pub enum Def {
     Table { table: u8, made: u8 },
     Query { made: Option<Made> },
+    Added { table: u8, col: u8 },
 }
 
 /// A definition of a schema.
@@ -25,4 +26,6 @@ pub enum Definition {
     OfTable { table: u8, columns: u8, made: u8 },
     /// A query, with the index that its PREPARE made.
     OfQuery { query: Query, made: Option<Made> },
+    /// The added column at this place of the table of this number.
+    OfColumn { table: u8, col: u8 },
 }

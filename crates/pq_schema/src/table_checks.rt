@@ -1,23 +1,27 @@
-//! What refuses a CREATE TABLE, in the written order.
-ghost use Rattle.std.specs.Prelude.{◌≡◌, ◌≤◌, ◌||◌, length, map, find, option_map, IfOk};
+//! What refuses a CREATE TABLE and an ALTER TABLE, in the written order.
+ghost use Rattle.std.specs.Prelude.{◌≡◌, ◌≤◌, ◌||◌, length, map, find, option_map, Some, IfOk};
 ghost use Rattle.std.specs.List.{list_all};
 ghost use Rattle.pq_base.specs.Answers.{Passes};
+ghost use Rattle.pq_base.specs.Values.{FitsType};
 ghost use Rattle.pq_schema.specs.ColumnNames.{place_of, places_of};
-ghost use Rattle.pq_schema.specs.Definitions.{text_size, cardinality, with_null, plain_column_type, column_type, has_type, column_of, is_outside, definition_refusal, name_refusal, counts_refusal, columns_refusal, is_nullable_name, nullable_refusal, key_refusal, limit_refusal, limits_refusal, reference_refusal, foreign_refusal, foreigns_refusal, groups_refusal, table_refusal};
+ghost use Rattle.pq_schema.specs.Definitions.{text_size, cardinality, with_null, plain_column_type, column_type, has_type, column_of, is_outside, room_refusal, definition_refusal, name_refusal, counts_refusal, columns_refusal, is_nullable_name, nullable_refusal, key_refusal, limit_refusal, limits_refusal, reference_refusal, foreign_refusal, foreigns_refusal, groups_refusal, table_refusal, added_refusal, column_refusal};
 ghost use Rattle.pq_schema.specs.Schema.{find_table};
 ghost use Rattle.pq_schema.specs.Tables.{type_at, types_at, same_kinds};
 
 use crate::catalog::Catalog;
 use crate::column_names::{check_names, check_repeated, names_of, place_of};
-use crate::definition::{ColumnDef, ForeignDef, LimitDef, TableDef};
-use crate::table::{Column, same_kind, type_at};
-use pq_base::{ColType, List, NoMem, PText, Refusal, Stopped, count_word};
+use crate::definition::{AlterDef, ColumnDef, ForeignDef, LimitDef, TableDef};
+use crate::table::{Column, Table, find_column, same_kind, type_at};
+use pq_base::{ColType, List, NoMem, PText, Refusal, Stopped, count_word, fits};
 use std::alloc::Global;
+
+/// The greatest number of a table's columns.
+const COLUMNS: usize = 32;
 
 /// The greatest number of tables.
 pub const TABLES: usize = 64;
 
-/// The greatest number of definitions, tables and queries together.
+/// The greatest number of definitions: tables, queries and added columns together.
 pub const DEFINITIONS: usize = 256;
 
 fn counted(word: u8) -> Stopped
@@ -95,15 +99,22 @@ fn have_types(columns: &[ColumnDef]) -> bool
     columns.iter().all(|column| column.ty().is_some())
 }
 
+/// The column with its type.
+pub(crate) fn column_of(alloc: Global, def: &ColumnDef) -> Result<Column, NoMem>
+    ensures { IfOk result (λ column. column ≡ column_of def.now) }
+{
+    let name = def.name.copy(alloc)?;
+    let ty = def.ty().unwrap_or(ColType::Int);
+    Ok(Column { name, ty })
+}
+
 /// The columns, with their types.
 fn columns_of(alloc: Global, defs: &[ColumnDef]) -> Result<List<Column>, NoMem>
     ensures { IfOk result (λ columns. columns ≡ map column_of defs.now) }
 {
     let mut columns = List::new(alloc);
     for def in defs {
-        let name = def.name.copy(alloc)?;
-        let ty = def.ty().unwrap_or(ColType::Int);
-        columns.push(alloc, Column { name, ty })?;
+        columns.push(alloc, column_of(alloc, def)?)?;
     }
     Ok(columns)
 }
@@ -140,13 +151,21 @@ fn has_shape(columns: &[Column], names: &[PText], parent: &[Column], key: &[u8])
 }
 
 impl Catalog {
-    /// Refuses a definition too many, and a name that is taken.
-    pub(crate) fn check_definition(&self, alloc: Global, name: &PText) -> Result<(), Stopped>
-        ensures { Passes result (definition_refusal self.now name.now) }
+    /// Refuses a definition too many.
+    fn check_room(&self) -> Result<(), Stopped>
+        ensures { Passes result (room_refusal self.now) }
     {
         if usize::from(self.defs()) >= DEFINITIONS {
             return Err(counted(count_word::DEFINITIONS));
         }
+        Ok(())
+    }
+
+    /// Refuses a definition too many, and a name that is taken.
+    pub(crate) fn check_definition(&self, alloc: Global, name: &PText) -> Result<(), Stopped>
+        ensures { Passes result (definition_refusal self.now name.now) }
+    {
+        self.check_room()?;
         if self.is_taken(name) {
             let name = name.copy(alloc)?;
             return Err(Stopped::Refused(Refusal::NameTaken { name }));
@@ -170,7 +189,7 @@ impl Catalog {
 fn check_counts(def: &TableDef) -> Result<(), Stopped>
     ensures { Passes result (counts_refusal def.now) }
 {
-    if is_outside(def.columns.items().len(), 32) {
+    if is_outside(def.columns.items().len(), COLUMNS) {
         return Err(counted(count_word::COLUMNS));
     }
     if 4 < def.limits.items().len() {
@@ -327,5 +346,47 @@ impl Catalog {
         let columns = checked_columns(alloc, def.columns.items())?;
         self.check_groups(alloc, columns.items(), def)?;
         Ok(columns)
+    }
+}
+
+/// Refuses a thirty-third column, a text's length outside its limit, a name that the table has, and a
+/// default that does not fit.
+fn check_added(alloc: Global, table: &Table, def: &AlterDef) -> Result<(), Stopped>
+    ensures passes { Passes result (added_refusal table.now def.now) }
+    ensures fits { IfOk result (λ _. FitsType (column_of def.now.column).ty def.now.filler) }
+{
+    let columns = table.columns.items();
+    if columns.len() >= COLUMNS {
+        return Err(counted(count_word::COLUMNS));
+    }
+    let Some(ty) = def.column.ty() else {
+        return Err(counted(count_word::TEXT));
+    };
+    if find_column(columns, &def.column.name).is_some() {
+        let name = def.column.name.copy(alloc)?;
+        return Err(Stopped::Refused(Refusal::Repeated { name }));
+    }
+    if !fits(&def.filler, ty) {
+        let table = def.table.copy(alloc)?;
+        let column = def.column.name.copy(alloc)?;
+        return Err(Stopped::Refused(Refusal::ValueKind { table, column }));
+    }
+    Ok(())
+}
+
+impl Catalog {
+    /// The number of the table that gets a column, where nothing refuses it.
+    pub(crate) fn check_column(&self, alloc: Global, def: &AlterDef) -> Result<u8, Stopped>
+        ensures passes { Passes result (column_refusal self.now def.now) }
+        ensures fits { IfOk result (λ _. FitsType (column_of def.now.column).ty def.now.filler) }
+        ensures table { IfOk result (λ table. find_table self.now def.now.table ≡ Some table) }
+    {
+        self.check_room()?;
+        let Some(table) = self.find_table(&def.table) else {
+            let name = def.table.copy(alloc)?;
+            return Err(Stopped::Refused(Refusal::NoTable { name }));
+        };
+        check_added(alloc, self.table(table), def)?;
+        Ok(table)
     }
 }
