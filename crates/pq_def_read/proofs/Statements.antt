@@ -8,21 +8,22 @@ use Rattle.pq_grammar.proofs.Readers.{pair_reads, close_reads, map_reads}
 use Rattle.pq_grammar.proofs.Options.{always, option_reads, rest_reads}
 use Rattle.pq_grammar.proofs.Lists.{one_opens, then_opens, one_shuts, then_shuts, pair_free, skip_free, close_free, same_set, separated_reads}
 use Rattle.pq_grammar.proofs.Choices.{made_reads, choice_reads, listed_reads, begins_with, first_of_then, any_of, not_first, not_second, one_or_other}
-use Rattle.pq_shape.specs.Front.{is_word_shape, is_mark_shape, is_constant, is_soft_shape, is_value, word_at, mark_at, name_at, text_at, value_shape_at}
+use Rattle.pq_shape.specs.Front.{is_word_shape, is_mark_shape, is_constant, is_soft_shape, soft_name, is_value, word_at, mark_at, name_at, text_at, value_shape_at}
 use Rattle.pq_shape.specs.Parts.{word, mark, comma, name, text, a_value}
-use Rattle.pq_shape.proofs.Tokens.{word_reads, mark_reads, name_reads, text_reads, value_reads, value_opens, comma_separated}
+use Rattle.pq_shape.proofs.Tokens.{word_reads, soft_passes, mark_reads, name_reads, text_reads, value_reads, value_opens, comma_separated}
+use Rattle.pq_shape.specs.declared.soft.Soft.TheVariants as soft_word
 use Rattle.pq_shape.specs.declared.shape.Shape.{Shape}
 use Rattle.pq_shape.specs.declared.shape.Shape.TheVariants as shape
 use Rattle.pq_shape.specs.declared.keyword.TheConstants.{AFTER, AND, AS, CREATE, DELETE, EXPLAIN, FROM, INSERT, INTO, PREPARE, RUN, SET, SHOW, UPDATE, VALUES, WHERE}
 use Rattle.pq_shape.specs.declared.mark.TheConstants.{CLOSE, COMMA, EQUAL, OPEN, SEMICOLON}
-use Rattle.pq_def_read.specs.Definitions.{cols_at, create_at, statement_end_at}
+use Rattle.pq_def_read.specs.Definitions.{cols_at, create_at, alter_at, statement_end_at}
 use Rattle.pq_def_read.specs.Reading.{values_clause_at, assign_at, sets_at, key_clause_at, insert_at, update_at, delete_at, prepare_at, explain_at, listed_values_at, arguments_at, after_at, run_at, show_at, statement_at}
-use Rattle.pq_def_read.specs.Grammar.{cols, create, insert, assign, key, update, delete, arguments, cursor, run, Spells}
+use Rattle.pq_def_read.specs.Grammar.{cols, create, alter, insert, assign, key, update, delete, arguments, cursor, run, Spells}
 use Rattle.pq_def_read.specs.declared.statement.Assign.{Assign}
 use Rattle.pq_def_read.specs.declared.statement.Statement.{Statement}
-use Rattle.pq_def_read.specs.declared.statement.Statement.TheVariants.{Create, Insert, Update, Delete, Prepare, Explain, Run, Show}
+use Rattle.pq_def_read.specs.declared.statement.Statement.TheVariants.{Create, Insert, Update, Delete, Prepare, Explain, Run, Alter, Show}
 use Rattle.pq_def_read.proofs.Parts.{cols_reads}
-use Rattle.pq_def_read.proofs.Tables.{stop, stop_reads, stop_shuts, create_reads}
+use Rattle.pq_def_read.proofs.Tables.{stop, stop_reads, stop_shuts, create_reads, alter_reads}
 
 values_reads : Reads (separated_by comma a_value) (is_mark_shape COMMA) values_clause_at
 unfolding values_clause_at
@@ -221,11 +222,17 @@ a_explain = made_from (λ u. Explain 1) explains
 abbrev a_run : Statement → List Shape → Type 0
 a_run = made_from (λ (x : Started). Run x.0 x.1.0 x.1.1) runs
 
+abbrev a_alter : Statement → List Shape → Type 0
+a_alter = made_from (λ d. Alter d) alter
+
 abbrev a_show : Statement → List Shape → Type 0
 a_show = made_from (λ (u : Unit {0}). Show) shows
 
+abbrev from_alter : Statement → List Shape → Type 0
+from_alter = one_or_other a_alter a_show
+
 abbrev from_run : Statement → List Shape → Type 0
-from_run = one_or_other a_run a_show
+from_run = one_or_other a_run from_alter
 
 abbrev from_explain : Statement → List Shape → Type 0
 from_explain = one_or_other a_explain from_run
@@ -268,6 +275,9 @@ first_explain s w h = first_of_then (shape.Keyword EXPLAIN) _ w h.2
 first_run : (s : Statement) (w : List Shape) → a_run s w → first_of_list w ≡ Some (shape.Keyword RUN)
 first_run s w h = first_of_then (shape.Keyword RUN) _ w h.2
 
+first_alter : (s : Statement) (w : List Shape) → a_alter s w → first_of_list w ≡ Some (shape.Name (soft_name soft_word.Alter))
+first_alter s w h = first_of_then (shape.Name (soft_name soft_word.Alter)) _ w h.2
+
 first_show : (s : Statement) (w : List Shape) → a_show s w → first_of_list w ≡ Some (shape.Keyword SHOW)
 first_show s w h = first_of_then (shape.Keyword SHOW) _ w h.2
 
@@ -279,7 +289,8 @@ no_create s w rest (inr (inr (inl h))) = begins_with (is_word_shape CREATE) (sha
 no_create s w rest (inr (inr (inr (inl h)))) = begins_with (is_word_shape CREATE) (shape.Keyword PREPARE) w rest (first_prepare s w h)
 no_create s w rest (inr (inr (inr (inr (inl h))))) = begins_with (is_word_shape CREATE) (shape.Keyword EXPLAIN) w rest (first_explain s w h)
 no_create s w rest (inr (inr (inr (inr (inr (inl h)))))) = begins_with (is_word_shape CREATE) (shape.Keyword RUN) w rest (first_run s w h)
-no_create s w rest (inr (inr (inr (inr (inr (inr (h))))))) = begins_with (is_word_shape CREATE) (shape.Keyword SHOW) w rest (first_show s w h)
+no_create s w rest (inr (inr (inr (inr (inr (inr (inl h))))))) = begins_with (is_word_shape CREATE) (shape.Name (soft_name soft_word.Alter)) w rest (first_alter s w h)
+no_create s w rest (inr (inr (inr (inr (inr (inr (inr h))))))) = begins_with (is_word_shape CREATE) (shape.Keyword SHOW) w rest (first_show s w h)
 
 no_insert : (s : Statement) (w rest : List Shape) → from_update s w → begins (is_word_shape INSERT) (w ++ rest) ≡ false
 unfolding is_word_shape
@@ -288,7 +299,8 @@ no_insert s w rest (inr (inl h)) = begins_with (is_word_shape INSERT) (shape.Key
 no_insert s w rest (inr (inr (inl h))) = begins_with (is_word_shape INSERT) (shape.Keyword PREPARE) w rest (first_prepare s w h)
 no_insert s w rest (inr (inr (inr (inl h)))) = begins_with (is_word_shape INSERT) (shape.Keyword EXPLAIN) w rest (first_explain s w h)
 no_insert s w rest (inr (inr (inr (inr (inl h))))) = begins_with (is_word_shape INSERT) (shape.Keyword RUN) w rest (first_run s w h)
-no_insert s w rest (inr (inr (inr (inr (inr (h)))))) = begins_with (is_word_shape INSERT) (shape.Keyword SHOW) w rest (first_show s w h)
+no_insert s w rest (inr (inr (inr (inr (inr (inl h)))))) = begins_with (is_word_shape INSERT) (shape.Name (soft_name soft_word.Alter)) w rest (first_alter s w h)
+no_insert s w rest (inr (inr (inr (inr (inr (inr h)))))) = begins_with (is_word_shape INSERT) (shape.Keyword SHOW) w rest (first_show s w h)
 
 no_update : (s : Statement) (w rest : List Shape) → from_delete s w → begins (is_word_shape UPDATE) (w ++ rest) ≡ false
 unfolding is_word_shape
@@ -296,29 +308,38 @@ no_update s w rest (inl h) = begins_with (is_word_shape UPDATE) (shape.Keyword D
 no_update s w rest (inr (inl h)) = begins_with (is_word_shape UPDATE) (shape.Keyword PREPARE) w rest (first_prepare s w h)
 no_update s w rest (inr (inr (inl h))) = begins_with (is_word_shape UPDATE) (shape.Keyword EXPLAIN) w rest (first_explain s w h)
 no_update s w rest (inr (inr (inr (inl h)))) = begins_with (is_word_shape UPDATE) (shape.Keyword RUN) w rest (first_run s w h)
-no_update s w rest (inr (inr (inr (inr (h))))) = begins_with (is_word_shape UPDATE) (shape.Keyword SHOW) w rest (first_show s w h)
+no_update s w rest (inr (inr (inr (inr (inl h))))) = begins_with (is_word_shape UPDATE) (shape.Name (soft_name soft_word.Alter)) w rest (first_alter s w h)
+no_update s w rest (inr (inr (inr (inr (inr h))))) = begins_with (is_word_shape UPDATE) (shape.Keyword SHOW) w rest (first_show s w h)
 
 no_delete : (s : Statement) (w rest : List Shape) → from_prepare s w → begins (is_word_shape DELETE) (w ++ rest) ≡ false
 unfolding is_word_shape
 no_delete s w rest (inl h) = begins_with (is_word_shape DELETE) (shape.Keyword PREPARE) w rest (first_prepare s w h)
 no_delete s w rest (inr (inl h)) = begins_with (is_word_shape DELETE) (shape.Keyword EXPLAIN) w rest (first_explain s w h)
 no_delete s w rest (inr (inr (inl h))) = begins_with (is_word_shape DELETE) (shape.Keyword RUN) w rest (first_run s w h)
-no_delete s w rest (inr (inr (inr (h)))) = begins_with (is_word_shape DELETE) (shape.Keyword SHOW) w rest (first_show s w h)
+no_delete s w rest (inr (inr (inr (inl h)))) = begins_with (is_word_shape DELETE) (shape.Name (soft_name soft_word.Alter)) w rest (first_alter s w h)
+no_delete s w rest (inr (inr (inr (inr h)))) = begins_with (is_word_shape DELETE) (shape.Keyword SHOW) w rest (first_show s w h)
 
 no_prepare : (s : Statement) (w rest : List Shape) → from_explain s w → begins (is_word_shape PREPARE) (w ++ rest) ≡ false
 unfolding is_word_shape
 no_prepare s w rest (inl h) = begins_with (is_word_shape PREPARE) (shape.Keyword EXPLAIN) w rest (first_explain s w h)
 no_prepare s w rest (inr (inl h)) = begins_with (is_word_shape PREPARE) (shape.Keyword RUN) w rest (first_run s w h)
-no_prepare s w rest (inr (inr (h))) = begins_with (is_word_shape PREPARE) (shape.Keyword SHOW) w rest (first_show s w h)
+no_prepare s w rest (inr (inr (inl h))) = begins_with (is_word_shape PREPARE) (shape.Name (soft_name soft_word.Alter)) w rest (first_alter s w h)
+no_prepare s w rest (inr (inr (inr h))) = begins_with (is_word_shape PREPARE) (shape.Keyword SHOW) w rest (first_show s w h)
 
 no_explain : (s : Statement) (w rest : List Shape) → from_run s w → begins (is_word_shape EXPLAIN) (w ++ rest) ≡ false
 unfolding is_word_shape
 no_explain s w rest (inl h) = begins_with (is_word_shape EXPLAIN) (shape.Keyword RUN) w rest (first_run s w h)
-no_explain s w rest (inr (h)) = begins_with (is_word_shape EXPLAIN) (shape.Keyword SHOW) w rest (first_show s w h)
+no_explain s w rest (inr (inl h)) = begins_with (is_word_shape EXPLAIN) (shape.Name (soft_name soft_word.Alter)) w rest (first_alter s w h)
+no_explain s w rest (inr (inr h)) = begins_with (is_word_shape EXPLAIN) (shape.Keyword SHOW) w rest (first_show s w h)
 
-no_run : (s : Statement) (w rest : List Shape) → a_show s w → begins (is_word_shape RUN) (w ++ rest) ≡ false
+no_run : (s : Statement) (w rest : List Shape) → from_alter s w → begins (is_word_shape RUN) (w ++ rest) ≡ false
 unfolding is_word_shape
-no_run s w rest h = begins_with (is_word_shape RUN) (shape.Keyword SHOW) w rest (first_show s w h)
+no_run s w rest (inl h) = begins_with (is_word_shape RUN) (shape.Name (soft_name soft_word.Alter)) w rest (first_alter s w h)
+no_run s w rest (inr h) = begins_with (is_word_shape RUN) (shape.Keyword SHOW) w rest (first_show s w h)
+
+no_alter : (s : Statement) (w rest : List Shape) → a_show s w → begins (is_soft_shape soft_word.Alter) (w ++ rest) ≡ false
+unfolding is_soft_shape
+no_alter s w rest h = begins_with (is_soft_shape soft_word.Alter) (shape.Keyword SHOW) w rest (first_show s w h)
 
 -- what begins with a word
 opens_by : (k : ℕ) (w : List Shape) → first_of_list w ≡ Some (shape.Keyword k) → is_word_shape k (shape.Keyword k) ≡ true → begins (is_word_shape k) w ≡ true
@@ -333,7 +354,8 @@ statement_to s w (inr (inr (inr (inl h)))) = subst (λ (v : Statement). Spells v
 statement_to s w (inr (inr (inr (inr (inl h))))) = subst (λ (v : Statement). Spells v w) h.1 (refl, h.2)
 statement_to s w (inr (inr (inr (inr (inr (inl h)))))) = subst (λ (v : Statement). Spells v w) h.1 (refl, h.2)
 statement_to s w (inr (inr (inr (inr (inr (inr (inl h))))))) = subst (λ (v : Statement). Spells v w) h.1 h.2
-statement_to s w (inr (inr (inr (inr (inr (inr (inr (h)))))))) = subst (λ (v : Statement). Spells v w) h.1 h.2
+statement_to s w (inr (inr (inr (inr (inr (inr (inr (inl h)))))))) = subst (λ (v : Statement). Spells v w) h.1 h.2
+statement_to s w (inr (inr (inr (inr (inr (inr (inr (inr h)))))))) = subst (λ (v : Statement). Spells v w) h.1 h.2
 
 statement_from : (s : Statement) (w : List Shape) → Spells s w → from_create s w
 statement_from (Create d) w h = inl (d, refl, h)
@@ -343,7 +365,8 @@ statement_from (Delete t ks) w h = inr (inr (inr (inl ((t, ks), refl, h))))
 statement_from (Prepare n from) w h = inr (inr (inr (inr (inl (n, ap (λ (i : ℕ). Prepare n i) h.0, h.1)))))
 statement_from (Explain from) w h = inr (inr (inr (inr (inr (inl (tt, ap (λ (i : ℕ). Explain i) h.0, h.1))))))
 statement_from (Run n vs t) w h = inr (inr (inr (inr (inr (inr (inl ((n, (vs, t)), refl, h)))))))
-statement_from Show w h = inr (inr (inr (inr (inr (inr (inr ((tt, refl, h))))))))
+statement_from (Alter d) w h = inr (inr (inr (inr (inr (inr (inr (inl (d, refl, h))))))))
+statement_from Show w h = inr (inr (inr (inr (inr (inr (inr (inr (tt, refl, h))))))))
 
 wide : (S : Statement → List Shape → Type 0) (r : Reader Shape Statement) → Reads S never r → Reads S always r
 wide S r h = wider_reads S never always r (λ rest e. begins-never rest) h
@@ -358,7 +381,9 @@ statement_reads =
     (choice_reads a_delete from_prepare (is_word_shape DELETE) delete_at _ always (wide a_delete delete_at delete_reads)
     (choice_reads a_prepare from_explain (is_word_shape PREPARE) prepare_at _ always prepare_reads
     (choice_reads a_explain from_run (is_word_shape EXPLAIN) explain_at _ always explain_reads
-    (choice_reads a_run a_show (is_word_shape RUN) run_at _ always (wide a_run run_at run_reads) (wide a_show show_at show_reads)
+    (choice_reads a_run from_alter (is_word_shape RUN) run_at _ always (wide a_run run_at run_reads)
+    (choice_reads a_alter a_show (is_soft_shape soft_word.Alter) (map_at (λ d. Alter d) alter_at) _ always (wide a_alter (map_at (λ d. Alter d) alter_at) (made_reads (λ d. Alter d) alter never alter_at alter_reads)) (wide a_show show_at show_reads)
+    (λ s w h. then_opens (is_soft_shape soft_word.Alter) (shape.Name (soft_name soft_word.Alter)) _ (soft_passes soft_word.Alter) w h.2) (λ s w rest h e. no_alter s w rest h))
     (λ s w h. opens_by RUN w (first_run s w h) refl) (λ s w rest h e. no_run s w rest h))
     (λ s w h. opens_by EXPLAIN w (first_explain s w h) refl) (λ s w rest h e. no_explain s w rest h))
     (λ s w h. opens_by PREPARE w (first_prepare s w h) refl) (λ s w rest h e. no_prepare s w rest h))

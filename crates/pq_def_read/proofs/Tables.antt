@@ -1,22 +1,24 @@
--- The reader of a table's definition reads what the grammar says.
+-- The readers of the definitions of tables and added columns read what the grammar says.
 use Rattle.std.proofs.Common.{◌≡◌, ℕ, false, List, ◌++◌, refl}
+use Rattle.pq_base.specs.declared.value.Value.{Value}
 use Rattle.pq_grammar.specs.Language.{◌⋅◌, separated_by}
 use Rattle.pq_grammar.specs.Reader.{begins, pair_at, skip_at, close_at}
 use Rattle.pq_grammar.proofs.Steps.{Reads, never}
 use Rattle.pq_grammar.proofs.Readers.{pair_reads, close_reads, map_reads}
-use Rattle.pq_grammar.proofs.Lists.{then_shuts, pair_free, skip_free, same_set, regroup, ungroup}
-use Rattle.pq_shape.specs.Front.{is_mark_shape, is_name_shape, word_at, mark_at, name_at}
-use Rattle.pq_shape.specs.Parts.{word, mark, comma, name}
-use Rattle.pq_shape.proofs.Tokens.{word_reads, mark_reads, name_reads}
+use Rattle.pq_grammar.proofs.Lists.{then_shuts, pair_free, skip_free, close_free, same_set, regroup, ungroup}
+use Rattle.pq_shape.specs.Front.{is_mark_shape, is_name_shape, is_soft_shape, soft_name, soft_at, word_at, mark_at, name_at, value_shape_at}
+use Rattle.pq_shape.specs.Parts.{word, soft, mark, comma, name, a_value}
+use Rattle.pq_shape.proofs.Tokens.{word_reads, soft_reads, mark_reads, name_reads, value_reads}
+use Rattle.pq_shape.specs.declared.soft.Soft.TheVariants as soft_word
 use Rattle.pq_shape.specs.declared.shape.Shape.{Shape}
 use Rattle.pq_shape.specs.declared.shape.Shape.TheVariants as shape
 use Rattle.pq_shape.specs.declared.keyword.TheConstants.{CREATE, KEY, PRIMARY, TABLE}
 use Rattle.pq_shape.specs.declared.mark.TheConstants.{CLOSE, COMMA, OPEN, SEMICOLON}
 use Rattle.pq_schema.specs.declared.definition.ColumnDef.{ColumnDef}
-use Rattle.pq_def_read.specs.Definitions.{cols_at, columns_at, constraints_at, statement_end_at, body_at, create_at}
-use Rattle.pq_def_read.specs.Grammar.{cols, column, constraints, create}
+use Rattle.pq_def_read.specs.Definitions.{cols_at, column_at, columns_at, constraints_at, statement_end_at, body_at, create_at, alter_at}
+use Rattle.pq_def_read.specs.Grammar.{cols, column, constraints, create, alter}
 use Rattle.pq_def_read.specs.declared.definition.Constraints.{Constraints}
-use Rattle.pq_def_read.proofs.Parts.{cols_reads, columns_reads, constraints_reads}
+use Rattle.pq_def_read.proofs.Parts.{cols_reads, column_reads, columns_reads, constraints_reads}
 
 abbrev pub stop : List Shape → Type 0
 stop = mark CLOSE ⋅ mark SEMICOLON
@@ -66,3 +68,32 @@ create_reads =
     (pair_free name (λ y. mark OPEN ⋅ from_columns y) never name_at (skip_at (mark_at OPEN) (pair_at columns_at body_at)) name_reads
     (skip_free (mark OPEN) from_columns never (mark_at OPEN) (pair_at columns_at body_at) (mark_reads OPEN) from_columns_reads))))
     (λ x w h. h) (λ d w h. ((d.name, (d.columns, (d.key, record { limits = d.limits; foreign = d.foreign }))), refl, h))
+
+-- ---- added columns
+
+abbrev Added : Type 0
+Added = List ℕ × (ColumnDef × Value)
+
+-- from the column on
+abbrev from_column : ColumnDef × Value → List Shape → Type 0
+from_column y = column y.0 ⋅ soft soft_word.Default ⋅ a_value y.1 ⋅ mark SEMICOLON
+
+from_column_reads : Reads from_column never (pair_at column_at (skip_at (soft_at soft_word.Default) (close_at value_shape_at (mark_at SEMICOLON))))
+unfolding is_soft_shape
+from_column_reads =
+    pair_reads column (λ v. soft soft_word.Default ⋅ a_value v ⋅ mark SEMICOLON) (is_soft_shape soft_word.Null) never column_at _ column_reads
+    (skip_free (soft soft_word.Default) (λ v. a_value v ⋅ mark SEMICOLON) never (soft_at soft_word.Default) _ (soft_reads soft_word.Default)
+    (close_free a_value (mark SEMICOLON) never value_shape_at (mark_at SEMICOLON) value_reads (mark_reads SEMICOLON)))
+    (λ y v rest h e. then_shuts (is_soft_shape soft_word.Null) (shape.Name (soft_name soft_word.Default)) (a_value y ⋅ mark SEMICOLON) refl v rest h)
+
+pub alter_reads : Reads alter never alter_at
+unfolding alter_at
+alter_reads =
+    map_reads (λ (x : Added). soft soft_word.Alter ⋅ word TABLE ⋅ name x.0 ⋅ soft soft_word.Add ⋅ soft soft_word.Column ⋅ from_column x.1) alter never
+    (λ x. record { table = x.0; column = x.1.0; filler = x.1.1 }) _
+    (skip_free (soft soft_word.Alter) (λ (x : Added). word TABLE ⋅ name x.0 ⋅ soft soft_word.Add ⋅ soft soft_word.Column ⋅ from_column x.1) never (soft_at soft_word.Alter) _ (soft_reads soft_word.Alter)
+    (skip_free (word TABLE) (λ (x : Added). name x.0 ⋅ soft soft_word.Add ⋅ soft soft_word.Column ⋅ from_column x.1) never (word_at TABLE) _ (word_reads TABLE)
+    (pair_free name (λ y. soft soft_word.Add ⋅ soft soft_word.Column ⋅ from_column y) never name_at _ name_reads
+    (skip_free (soft soft_word.Add) (λ y. soft soft_word.Column ⋅ from_column y) never (soft_at soft_word.Add) _ (soft_reads soft_word.Add)
+    (skip_free (soft soft_word.Column) from_column never (soft_at soft_word.Column) _ (soft_reads soft_word.Column) from_column_reads)))))
+    (λ x w h. h) (λ d w h. ((d.table, (d.column, d.filler)), refl, h))

@@ -1,11 +1,12 @@
--- Reading the parts of a table's definition from left to right.
+-- Reading the definition of a table, and that of an added column, from left to right.
 use Rattle.std.specs.Prelude.{ℕ, ℤ, pos, Bool, is_some, List, [], ◌∷◌, ◌++◌, codes}
 use Rattle.pq_grammar.specs.Reader.{Reader, pair_at, skip_at, close_at, map_at, choice_at, option_at, many_at, separated_at, ended_at}
+use Rattle.pq_schema.specs.declared.definition.AlterDef.{AlterDef}
 use Rattle.pq_schema.specs.declared.definition.ColumnDef.{ColumnDef}
 use Rattle.pq_schema.specs.declared.definition.LimitDef.{LimitDef}
 use Rattle.pq_schema.specs.declared.definition.ForeignDef.{ForeignDef}
 use Rattle.pq_schema.specs.declared.definition.TableDef.{TableDef}
-use Rattle.pq_shape.specs.Front.{is_word_shape, is_mark_shape, is_name_shape, is_soft_shape, soft_at, word_at, mark_at, name_at, number_at}
+use Rattle.pq_shape.specs.Front.{is_word_shape, is_mark_shape, is_name_shape, is_soft_shape, soft_at, word_at, mark_at, name_at, number_at, value_shape_at}
 use Rattle.pq_shape.specs.declared.keyword.TheConstants.{BOOL, CARDINALITY, CREATE, FOREIGN, INT, KEY, LIMIT, PRIMARY, REFERENCES, TABLE, TEXT}
 use Rattle.pq_shape.specs.declared.mark.TheConstants.{CLOSE, COMMA, OPEN, SEMICOLON}
 use Rattle.pq_shape.specs.declared.soft.Soft.TheVariants as soft_word
@@ -106,3 +107,10 @@ create_at =
     })
     (skip_at (word_at CREATE) (skip_at (word_at TABLE)
     (pair_at name_at (skip_at (mark_at OPEN) (pair_at columns_at body_at)))))
+
+unfoldable pub alter_at : Reader Shape AlterDef
+alter_at =
+    map_at (λ x. record { table = x.0; column = x.1.0; filler = x.1.1 })
+    (skip_at (soft_at soft_word.Alter) (skip_at (word_at TABLE)
+    (pair_at name_at (skip_at (soft_at soft_word.Add) (skip_at (soft_at soft_word.Column)
+    (pair_at column_at (skip_at (soft_at soft_word.Default) (close_at value_shape_at (mark_at SEMICOLON)))))))))

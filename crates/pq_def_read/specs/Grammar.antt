@@ -2,6 +2,7 @@
 use Rattle.std.specs.Prelude.{◌≡◌, ℕ, ℤ, Bool, true, false, List, [], Option, ◌⊎◌}
 use Rattle.pq_base.specs.declared.value.Value.{Value}
 use Rattle.pq_grammar.specs.Language.{◌⋅◌, nothing, anything, each, optional, separated_by, listed_by, made_from}
+use Rattle.pq_schema.specs.declared.definition.AlterDef.{AlterDef}
 use Rattle.pq_schema.specs.declared.definition.ColumnDef.{ColumnDef}
 use Rattle.pq_schema.specs.declared.definition.LimitDef.{LimitDef}
 use Rattle.pq_schema.specs.declared.definition.ForeignDef.{ForeignDef}
@@ -18,7 +19,7 @@ use Rattle.pq_def_read.specs.declared.definition.Constraints.{Constraints}
 use Rattle.pq_def_read.specs.declared.definition.Kind.{Kind}
 use Rattle.pq_def_read.specs.declared.statement.Assign.{Assign}
 use Rattle.pq_def_read.specs.declared.statement.Statement.{Statement}
-use Rattle.pq_def_read.specs.declared.statement.Statement.TheVariants.{Create, Insert, Update, Delete, Prepare, Explain, Run, Show}
+use Rattle.pq_def_read.specs.declared.statement.Statement.TheVariants.{Create, Insert, Update, Delete, Prepare, Explain, Run, Alter, Show}
 
 -- "(" name { "," name } ")"
 abbrev pub cols : List (List ℕ) → List Shape → Type 0
@@ -64,6 +65,12 @@ create d =
     ⋅ word KEY ⋅ cols d.key
     ⋅ constraints (record { limits = d.limits; foreign = d.foreign }) ⋅ mark CLOSE ⋅ mark SEMICOLON
 
+-- ALTER TABLE name ADD COLUMN column DEFAULT value
+abbrev pub alter : AlterDef → List Shape → Type 0
+alter d =
+    soft soft_word.Alter ⋅ word TABLE ⋅ name d.table ⋅ soft soft_word.Add ⋅ soft soft_word.Column ⋅ column d.column
+    ⋅ soft soft_word.Default ⋅ a_value d.filler ⋅ mark SEMICOLON
+
 -- INSERT INTO name [ cols ] VALUES "(" value { "," value } ")"
 abbrev pub insert : List ℕ → Option (List (List ℕ)) → List Value → List Shape → Type 0
 insert table columns values = word INSERT ⋅ word INTO ⋅ name table ⋅ optional cols columns ⋅ word VALUES
@@ -107,4 +114,5 @@ Spells (Delete table row) w = delete table row w
 Spells (Prepare n from) w = (3 ≡ from) × (word PREPARE ⋅ name n ⋅ word AS ⋅ anything) w
 Spells (Explain from) w = (1 ≡ from) × (word EXPLAIN ⋅ anything) w
 Spells (Run query values after) w = run query values after w
+Spells (Alter d) w = alter d w
 Spells Show w = (word SHOW ⋅ mark SEMICOLON) w

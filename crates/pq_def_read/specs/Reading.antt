@@ -3,15 +3,16 @@ use Rattle.std.specs.Prelude.{ℕ, List, Option, Result}
 use Rattle.pq_base.specs.declared.value.Value.{Value}
 use Rattle.pq_grammar.specs.Reader.{Reader, pair_at, skip_at, close_at, map_at, choice_at, option_at, rest_at, separated_at, listed_at, option_items, all_at}
 use Rattle.pq_text.specs.declared.token.Token.{Token}
-use Rattle.pq_shape.specs.Front.{is_word_shape, is_mark_shape, is_value, word_at, mark_at, name_at, text_at, value_shape_at}
+use Rattle.pq_shape.specs.Front.{is_word_shape, is_mark_shape, is_soft_shape, is_value, word_at, mark_at, name_at, text_at, value_shape_at}
 use Rattle.pq_shape.specs.Shapes.{shapes_of}
 use Rattle.pq_shape.specs.declared.keyword.TheConstants.{AFTER, AND, AS, CREATE, DELETE, EXPLAIN, FROM, INSERT, INTO, PREPARE, RUN, SET, SHOW, UPDATE, VALUES, WHERE}
 use Rattle.pq_shape.specs.declared.mark.TheConstants.{CLOSE, COMMA, EQUAL, OPEN, SEMICOLON}
+use Rattle.pq_shape.specs.declared.soft.Soft.TheVariants as soft_word
 use Rattle.pq_shape.specs.declared.shape.Shape.{Shape}
-use Rattle.pq_def_read.specs.Definitions.{cols_at, create_at, statement_end_at}
+use Rattle.pq_def_read.specs.Definitions.{cols_at, create_at, alter_at, statement_end_at}
 use Rattle.pq_def_read.specs.declared.statement.Assign.{Assign}
 use Rattle.pq_def_read.specs.declared.statement.Statement.{Statement}
-use Rattle.pq_def_read.specs.declared.statement.Statement.TheVariants.{Create, Insert, Update, Delete, Prepare, Explain, Run, Show}
+use Rattle.pq_def_read.specs.declared.statement.Statement.TheVariants.{Create, Insert, Update, Delete, Prepare, Explain, Run, Alter, Show}
 
 unfoldable pub values_clause_at : Reader Shape (List Value)
 values_clause_at = separated_at (is_mark_shape COMMA) (mark_at COMMA) value_shape_at
@@ -76,7 +77,8 @@ statement_at =
     (choice_at (is_word_shape DELETE) delete_at
     (choice_at (is_word_shape PREPARE) prepare_at
     (choice_at (is_word_shape EXPLAIN) explain_at
-    (choice_at (is_word_shape RUN) run_at show_at))))))
+    (choice_at (is_word_shape RUN) run_at
+    (choice_at (is_soft_shape soft_word.Alter) (map_at (λ d. Alter d) alter_at) show_at)))))))
 
 unfoldable pub read_at : List Shape → Result Statement ℕ
 read_at = all_at statement_at

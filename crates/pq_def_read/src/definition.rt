@@ -1,11 +1,11 @@
-//! Reading a table's definition.
+//! Reading the definition of a table, and that of an added column.
 ghost use Rattle.std.specs.Prelude.{◌≡◌, IfOk, OnOk};
 ghost use Rattle.pq_grammar.specs.Answers.{Gives};
-ghost use Rattle.pq_def_read.specs.Definitions.{names_at, cols_at, text_kind_at, kind_at, nullable_at, column_at, ended_column_at, columns_at, limit_clause_at, foreign_at, constraint_at, next_constraint_at, constraints_at, with_constraint, statement_end_at, body_at, create_at};
+ghost use Rattle.pq_def_read.specs.Definitions.{names_at, cols_at, text_kind_at, kind_at, nullable_at, column_at, ended_column_at, columns_at, limit_clause_at, foreign_at, constraint_at, next_constraint_at, constraints_at, with_constraint, statement_end_at, body_at, create_at, alter_at};
 
 use pq_base::{List, NoMem, PText};
 use pq_grammar::ReadError;
-use pq_schema::{ColumnDef, ForeignDef, LimitDef, TableDef};
+use pq_schema::{AlterDef, ColumnDef, ForeignDef, LimitDef, TableDef};
 use pq_shape::{
     BOOL, Between, CARDINALITY, CLOSE, COMMA, CREATE, Cursor, FOREIGN, INT, KEY, LIMIT, OPEN,
     PRIMARY, REFERENCES, SEMICOLON, Soft, TABLE, TEXT, separated,
@@ -254,5 +254,26 @@ pub fn create(alloc: Global, c: &mut Cursor) -> Result<TableDef, ReadError>
         key: body.key,
         limits: body.held.limits,
         foreign: body.held.foreign,
+    })
+}
+
+/// Reads ALTER TABLE.
+#[tactic(auto, unfolding(crate::specs::Definitions::alter_at))]
+pub fn alter(alloc: Global, c: &mut Cursor) -> Result<AlterDef, ReadError>
+    ensures { Gives (λ x. (x, c.new)) result (alter_at c.old) }
+{
+    c.soft(Soft::Alter)?;
+    c.word(TABLE)?;
+    let table = c.name(alloc)?;
+    c.soft(Soft::Add)?;
+    c.soft(Soft::Column)?;
+    let column = column(alloc, c)?;
+    c.soft(Soft::Default)?;
+    let filler = c.value(alloc)?;
+    c.mark(SEMICOLON)?;
+    Ok(AlterDef {
+        table,
+        column,
+        filler,
     })
 }

@@ -32,6 +32,7 @@ pub fn known_statement(statement: &Statement)
         }
         Statement::Delete { key, .. } => known_assigns(key.items()),
         Statement::Run { values, .. } => known_values(values.items()),
+        Statement::Alter(def) => known_value(&def.filler),
         Statement::Create(_)
         | Statement::Prepare { .. }
         | Statement::Explain { .. }

@@ -12,15 +12,15 @@ ghost use Rattle.pq_def_read.specs.Faults.{IsFault};
 ghost use Rattle.pq_def_read.specs.Known.{HasValues};
 ghost use Rattle.pq_def_read.specs.declared.statement.Statement as declared;
 
-use crate::definition::{cols, create, stop};
+use crate::definition::{alter, cols, create, stop};
 use crate::known::known_statement;
 use crate::statement::{Assign, Statement};
 use pq_base::{List, PText, Stopped, Value};
 use pq_grammar::ReadError;
 use pq_shape::{
     AFTER, AND, AS, Between, CLOSE, COMMA, CREATE, Cursor, DELETE, EQUAL, EXPLAIN, FROM, INSERT,
-    INTO, OPEN, PREPARE, Part, RUN, SEMICOLON, SET, SHOW, Shape, UPDATE, VALUES, WHERE, separated,
-    shapes, syntax,
+    INTO, OPEN, PREPARE, Part, RUN, SEMICOLON, SET, SHOW, Shape, Soft, UPDATE, VALUES, WHERE,
+    separated, shapes, syntax,
 };
 use pq_text::Token;
 use std::alloc::Global;
@@ -219,7 +219,11 @@ fn any_statement(alloc: Global, c: &mut Cursor) -> Result<Statement, ReadError>
         PREPARE => prepare(alloc, c),
         EXPLAIN => explain(c),
         RUN => run(alloc, c),
-        _ => show(c)
+        _ => if c.is_soft(Soft::Alter) {
+            Ok(Statement::Alter(alter(alloc, c)?))
+        } else {
+            show(c)
+        }
     )
 }
 

@@ -1,6 +1,6 @@
 //! Statements, with names in place of numbers.
 use pq_base::{List, PText, Value};
-use pq_schema::TableDef;
+use pq_schema::{AlterDef, TableDef};
 
 /// A column and the value that it is to have.
 #[derive(Debug, Drop)]
@@ -46,6 +46,8 @@ pub enum Statement {
         values: List<Value>,
         after: Option<PText>,
     },
+    /// ALTER TABLE.
+    Alter(AlterDef),
     /// SHOW.
     Show,
 }

@@ -1,9 +1,11 @@
 -- The canonical texts of definitions: keywords in capitals, one space between words, `, ` between
 -- items, no space inside parentheses, `;` at the end.
-use Rattle.std.specs.Prelude.{ℕ, ◌-◌, List, [], ◌∷◌, ◌++◌, take, codes, decimal, slice_index_or, slice_get}
+use Rattle.std.specs.Prelude.{ℕ, ◌-◌, List, [], ◌++◌, take, codes, decimal, slice_index_or, slice_get, Option, None, unwrap_or}
 use Rattle.std.specs.Option.{option_map_or}
 use Rattle.pq_base.specs.declared.value.ColType.{ColType}
 use Rattle.pq_base.specs.declared.value.ColType.TheVariants as type
+use Rattle.pq_base.specs.declared.value.Value.{Value}
+use Rattle.pq_base.specs.declared.value.Value.TheVariants as value
 use Rattle.pq_schema.specs.declared.table.Column.{Column}
 use Rattle.pq_schema.specs.declared.table.Limit.{Limit}
 use Rattle.pq_schema.specs.declared.table.Foreign.{Foreign}
@@ -20,7 +22,7 @@ use Rattle.pq_schema.specs.declared.query.Stop.TheVariants as stop
 use Rattle.pq_schema.specs.declared.query.Relation.{Relation}
 use Rattle.pq_schema.specs.declared.query.Query.{Query}
 use Rattle.pq_schema.specs.declared.made.Definition.{Definition}
-use Rattle.pq_schema.specs.declared.made.Definition.TheVariants.{OfTable, OfQuery}
+use Rattle.pq_schema.specs.declared.made.Definition.TheVariants.{OfTable, OfQuery, OfColumn}
 use Rattle.pq_schema.specs.Tables.{table_at}
 use Rattle.pq_schema.specs.Relations.{relation_at, table_of}
 use Rattle.pq_schema.specs.Schema.{Schema, definition_at}
@@ -32,9 +34,13 @@ use Rattle.pq_print.specs.Report.{dir_text}
 abbrev pub absent_column : Column
 absent_column = record { name = []; ty = type.Int }
 
--- the name of the column of this place, from 0
+-- the column of this place, from 0
+abbrev pub column_at : List Column → ℕ → Column
+column_at columns col = slice_index_or columns col absent_column
+
+-- its name
 abbrev pub column_name : List Column → ℕ → List ℕ
-column_name columns col = (slice_index_or columns col absent_column).name
+column_name columns col = (column_at columns col).name
 
 abbrev pub type_text : ColType → List ℕ
 type_text type.Int = codes "INT"
@@ -69,6 +75,17 @@ items_text tables table =
 
 unfoldable pub table_text : List Table → Table → List ℕ
 table_text tables table = codes "CREATE TABLE " ++ table.name ++ codes " (" ++ items_text tables table ++ codes ");"
+
+-- the default of the column of this place, from 0; NULL of one that was not added
+abbrev pub filler_at : List (Option Value) → ℕ → Value
+filler_at fillers col = unwrap_or (slice_index_or fillers col None) value.Null
+
+-- a column that was added to the table, by its place from 0
+unfoldable pub added_text : Table → ℕ → List ℕ
+added_text table col =
+    codes "ALTER TABLE " ++ table.name ++ codes " ADD COLUMN "
+    ++ column_text (column_at table.columns col)
+    ++ codes " DEFAULT " ++ value_text (filler_at table.fillers col) ++ codes ";"
 
 -- a column as alias.column
 unfoldable pub ref_text : List Table → Query → ColRef → List ℕ
@@ -128,6 +145,7 @@ numbered_text tables number columns =
 abbrev pub text_of : List Table → Definition → List ℕ
 text_of tables (OfTable table columns made) = numbered_text tables table columns
 text_of tables (OfQuery query made) = query_text tables query
+text_of tables (OfColumn table col) = added_text (table_at tables table) col
 
 -- the canonical text of the definition of this number, from 1
 unfoldable pub definition_text : Schema → ℕ → List ℕ

@@ -2,6 +2,7 @@
 ghost use Rattle.std.specs.Prelude.{◌≡◌, ◌≤◌, ◌++◌, length, take, OnOk, IfOk, string_bytes};
 ghost use Rattle.pq_print.specs.Canonical.{text_of, definition_text};
 
+use crate::added::put_added;
 use crate::query::put_query;
 use crate::table::put_table;
 use pq_base::{NoMem, PText};
@@ -35,6 +36,7 @@ fn put_definition(
             }
         }
         Definition::OfQuery { query, .. } => put_query(tables, query, out),
+        Definition::OfColumn { table, col } => put_added(tables, *table, *col, out),
     }
 }
 

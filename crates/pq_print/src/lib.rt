@@ -4,6 +4,7 @@
 //! what a text was to be appended to is as before.
 #![tactic(auto)]
 
+mod added;
 mod canonical;
 mod names;
 mod number;

@@ -2,8 +2,9 @@
 ghost use Rattle.std.specs.Prelude.{◌≡◌, ◌-◌};
 ghost use Rattle.pq_schema.specs.Tables.{table_at};
 ghost use Rattle.pq_schema.specs.Relations.{relation_at};
-ghost use Rattle.pq_print.specs.Canonical.{column_name};
+ghost use Rattle.pq_print.specs.Canonical.{column_at, column_name};
 
+use pq_base::{ColType, Value};
 use pq_schema::{Column, Query, Table};
 
 /// A number from 1 as a place from 0.
@@ -33,6 +34,16 @@ pub fn table_columns(tables: &[Table], number: u8) -> &[Column]
     }
 }
 
+/// The defaults of the columns of the table of this number, from 1.
+pub fn table_fillers(tables: &[Table], number: u8) -> &[Option<Value>]
+    ensures { result.now ≡ (table_at tables.now number).fillers }
+{
+    match tables.get(place(number)) {
+        Some(table) => table.fillers.items(),
+        None => &[],
+    }
+}
+
 /// The name of the column of this place, from 0.
 pub fn column_name(columns: &[Column], col: u8) -> &str
     ensures { result.now ≡ column_name columns.now col }
@@ -40,6 +51,16 @@ pub fn column_name(columns: &[Column], col: u8) -> &str
     match columns.get(col as usize) {
         Some(column) => column.name.as_str(),
         None => "",
+    }
+}
+
+/// The type of the column of this place, from 0.
+pub fn column_type(columns: &[Column], col: u8) -> ColType
+    ensures { result ≡ (column_at columns.now col).ty }
+{
+    match columns.get(col as usize) {
+        Some(column) => column.ty,
+        None => ColType::Int,
     }
 }
 

@@ -9,7 +9,8 @@ use pq_base::{Bytes, ColType, List, NoMem};
 use pq_schema::{Column, Foreign, Limit, Table};
 use std::alloc::{AllocError, Global};
 
-fn put_type(ty: ColType, out: &mut String) -> Result<(), AllocError>
+/// Puts the type's text behind what is there.
+pub fn put_type(ty: ColType, out: &mut String) -> Result<(), AllocError>
     ensures { OnOk result (string_bytes out.new ≡ string_bytes out.old ++ type_text ty) }
 {
     match ty {

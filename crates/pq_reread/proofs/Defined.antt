@@ -108,15 +108,21 @@ pub mapped_some : {A B : Type 0} (f : A → B) (o : Option A) (y : B) → option
 mapped_some f None y e = absurd cc
 mapped_some f (Some x) y e = (x, refl, cc)
 
--- the table that is found by a name, also among more tables
+-- the table that is found by a name
+pub found_name : (schema : Schema) (name : List ℕ) (t : ℕ) → find_table schema name ≡ Some t → (table_at schema.tables t).name ≡ name
+found_name schema name t e =
+    let place = mapped_some number_of (position (is_table name) schema.tables) t e in
+    let there = position-Some (is_table name) schema.tables place.0 no_table place.1 in
+    let index : t - 1 ≡ place.0 = omega (arith, place.2) in
+    ap (λ (i : ℕ). (slice_index_or schema.tables i no_table).name) index ∙ (bytes_eq-Decides (get_or schema.tables place.0 no_table).name name).0 there.1
+
+-- also among more tables
 found_named : (schema : Schema) (table : Table) (name : List ℕ) (t : ℕ) → find_table schema name ≡ Some t → (table_at (schema.tables ++ table ∷ []) t).name ≡ name
 found_named schema table name t e =
     let place = mapped_some number_of (position (is_table name) schema.tables) t e in
     let there = position-Some (is_table name) schema.tables place.0 no_table place.1 in
     let index : t - 1 ≡ place.0 = omega (arith, place.2) in
-    ap (λ (i : ℕ). (slice_index_or (schema.tables ++ table ∷ []) i no_table).name) index
-    ∙ ap (λ (x : Table). x.name) (get_or-append schema.tables (table ∷ []) no_table place.0 there.0)
-    ∙ (bytes_eq-Decides (get_or schema.tables place.0 no_table).name name).0 there.1
+    ap (λ (x : Table). x.name) (get_or-append schema.tables (table ∷ []) no_table (t - 1) (omega (arith, index, there.0))) ∙ found_name schema name t e
 
 -- what holds of each table holds of one that is found
 pub found_has : (P : Table → Type 0) (schema : Schema) (name : List ℕ) (t : ℕ) → All P schema.tables → find_table schema name ≡ Some t → P (table_at schema.tables t)

@@ -47,6 +47,34 @@ is_word : word_shape (codes "IS") ≡ shape.Name (codes "is")
 unfolding word_place
 is_word = ap named_shape (checked_name (codes "is") refl)
 
+alter_word : word_shape (codes "ALTER") ≡ shape.Name (codes "alter")
+unfolding word_place
+alter_word = ap named_shape (checked_name (codes "alter") refl)
+
+add_word : word_shape (codes "ADD") ≡ shape.Name (codes "add")
+unfolding word_place
+add_word = ap named_shape (checked_name (codes "add") refl)
+
+column_word : word_shape (codes "COLUMN") ≡ shape.Name (codes "column")
+unfolding word_place
+column_word = ap named_shape (checked_name (codes "column") refl)
+
+default_word : word_shape (codes "DEFAULT") ≡ shape.Name (codes "default")
+unfolding word_place
+default_word = ap named_shape (checked_name (codes "default") refl)
+
+pub alter_prints : Prints (soft soft_word.Alter) joins_none (codes "ALTER") is_word_byte
+alter_prints = word_prints (codes "ALTER") (shape.Name (codes "alter")) refl alter_word
+
+pub add_prints : Prints (soft soft_word.Add) joins_none (codes "ADD") is_word_byte
+add_prints = word_prints (codes "ADD") (shape.Name (codes "add")) refl add_word
+
+pub column_prints : Prints (soft soft_word.Column) joins_none (codes "COLUMN") is_word_byte
+column_prints = word_prints (codes "COLUMN") (shape.Name (codes "column")) refl column_word
+
+pub default_prints : Prints (soft soft_word.Default) joins_none (codes "DEFAULT") is_word_byte
+default_prints = word_prints (codes "DEFAULT") (shape.Name (codes "default")) refl default_word
+
 pub null_prints : Prints (soft soft_word.Null) joins_none (codes "NULL") is_word_byte
 null_prints = word_prints (codes "NULL") (shape.Name (codes "null")) refl null_word
 

@@ -83,7 +83,7 @@ kind_short kind size null (inr (inr h)) = subst (λ (k : List ℕ). KindShort k 
         let n = size_is size (some_before type.Text (with_null null) (text_size size) typed) in
         subst (λ (o : Option ℕ). length (type_text (unwrap_or (option_map (with_null null) (option_map type.Text o)) type.Int)) ≤ 31) (sym n.3) (sized_null_short null n.0 n.2)
 
-column_short : (c : ColumnDef) (printed : Column) → IsColumnDef c → SaysColumn c printed → 2 + length (column_text printed) ≤ 66
+pub column_short : (c : ColumnDef) (printed : Column) → IsColumnDef c → SaysColumn c printed → 2 + length (column_text printed) ≤ 66
 unfolding column_text
 column_short c printed is says =
     let name = name_short c.name is.name in

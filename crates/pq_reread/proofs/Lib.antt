@@ -7,6 +7,7 @@ pub mod Heads
 pub mod Named
 pub mod Tables
 pub mod Defined
+pub mod Additions
 pub mod Orders
 pub mod Parameters
 pub mod Pairs
@@ -19,4 +20,6 @@ pub mod QueryLengths
 pub mod LaterTables
 pub mod ReadBack
 pub mod TablesAgain
+pub mod Added
+pub mod AddedAgain
 pub mod WholeStatements

@@ -7,20 +7,21 @@ use Rattle.pq_text.proofs.Spans.{tokens_have_forms}
 use Rattle.pq_grammar.specs.Language.{◌⋅◌}
 use Rattle.pq_grammar.proofs.Options.{always}
 use Rattle.pq_grammar.proofs.Whole.{whole_found, whole_again}
+use Rattle.pq_schema.specs.declared.definition.AlterDef.{AlterDef}
 use Rattle.pq_schema.specs.declared.definition.TableDef.{TableDef}
-use Rattle.pq_schema.specs.Names.{IsName, IsKind, IsColumnDef, IsLimitDef, IsForeignDef, IsTableDef}
+use Rattle.pq_schema.specs.Names.{IsName, IsKind, IsColumnDef, IsLimitDef, IsForeignDef, IsTableDef, IsAlterDef}
 use Rattle.pq_shape.specs.Parts.{comma, name as a_name}
 use Rattle.pq_shape.specs.Shapes.{shapes_of}
 use Rattle.pq_shape.specs.declared.shape.Shape.{Shape}
 use Rattle.pq_def_read.specs.Definitions.{limits_of, foreign_of}
-use Rattle.pq_def_read.specs.Grammar.{cols, kind as a_kind, column, limit, foreign, a_constraint, constraints, create, Spells}
+use Rattle.pq_def_read.specs.Grammar.{cols, kind as a_kind, column, limit, foreign, a_constraint, constraints, create, alter, Spells}
 use Rattle.pq_def_read.specs.Reading.{statement_at, read_at, statement_of}
 use Rattle.pq_def_read.specs.declared.definition.Constraint.{Constraint}
 use Rattle.pq_def_read.specs.declared.definition.Constraint.TheVariants as constraint
 use Rattle.pq_def_read.specs.declared.definition.Constraints.{Constraints}
 use Rattle.pq_def_read.specs.declared.definition.Kind.{Kind as ColumnKind}
 use Rattle.pq_def_read.specs.declared.statement.Statement.{Statement}
-use Rattle.pq_def_read.specs.declared.statement.Statement.TheVariants.{Create, Prepare}
+use Rattle.pq_def_read.specs.declared.statement.Statement.TheVariants.{Create, Prepare, Alter}
 use Rattle.pq_def_read.proofs.Statements.{statement_reads}
 use Rattle.pq_reread.proofs.Alls.{each_place}
 use Rattle.pq_query_read.proofs.Named.{IsNamed, AreNamed, named_tokens, name_gives}
@@ -117,6 +118,21 @@ create_gives d w h named =
       foreign = more.1;
     }
 
+alter_gives : Gives alter IsAlterDef
+alter_gives d w h named =
+    let a = (both_named _ _ w h named).1 in
+    let b = (both_named _ _ h.back h.fits_back a).1 in
+    let table = h.fits_back.fits_back in
+    let c = both_named _ _ h.fits_back.back table b in
+    let e = (both_named _ _ table.back table.fits_back c.1).1 in
+    let f = (both_named _ _ table.fits_back.back table.fits_back.fits_back e).1 in
+    let added = table.fits_back.fits_back.fits_back in
+    let g = (both_named _ _ table.fits_back.fits_back.back added f).0 in
+    record {
+      table = name_gives d.table table.front table.fits_front c.0;
+      column = column_gives d.column added.front added.fits_front g;
+    }
+
 -- ---- statements
 
 pub spelled : (text : List ℕ) (ts : List Token) (s : Statement) → statement_of text ts ≡ Ok s → Spells s (shapes_of text ts)
@@ -129,6 +145,9 @@ statement_spelled text ts s h = whole_again Spells always statement_at statement
 
 pub created_named : (text : List ℕ) (def : TableDef) → statement_of text (tokens_of text) ≡ Ok (Create def) → IsTableDef def
 created_named text def e = create_gives def (shapes_of text (tokens_of text)) (spelled text (tokens_of text) (Create def) e) (named_tokens text (tokens_of text) (tokens_have_forms text))
+
+pub altered_named : (text : List ℕ) (def : AlterDef) → statement_of text (tokens_of text) ≡ Ok (Alter def) → IsAlterDef def
+altered_named text def e = alter_gives def (shapes_of text (tokens_of text)) (spelled text (tokens_of text) (Alter def) e) (named_tokens text (tokens_of text) (tokens_have_forms text))
 
 pub prepared_named : (text name : List ℕ) (from : ℕ) → statement_of text (tokens_of text) ≡ Ok (Prepare name from) → IsName name
 prepared_named text name from e =

@@ -14,24 +14,27 @@ use Rattle.std.proofs.lemmas.List.Folds.{position_or_len_push, position_or_len-s
 use Rattle.std.proofs.lemmas.List.Sums.{prefix_len-le-length}
 use Rattle.std.proofs.lemmas.Slice.Eq.{bytes_eq-Decides}
 use Rattle.pq_base.specs.Columns.{set_of}
+use Rattle.pq_base.specs.declared.value.Value.{Value}
+use Rattle.pq_schema.specs.declared.definition.AlterDef.{AlterDef}
 use Rattle.pq_schema.specs.declared.definition.ColumnDef.{ColumnDef}
 use Rattle.pq_schema.specs.declared.definition.TableDef.{TableDef}
 use Rattle.pq_schema.specs.declared.table.Column.{Column}
 use Rattle.pq_schema.specs.declared.table.Table.{Table}
 use Rattle.pq_schema.specs.ColumnNames.{names_of, is_unknown, place_of, places_of, no_column, repeated_name, repeated_after, unknown_refusal, repeated_refusal, names_refusal}
-use Rattle.pq_schema.specs.Definitions.{column_of, refused_if, is_outside, definition_refusal, name_refusal, counts_refusal, columns_refusal, nullable_refusal, key_refusal, groups_refusal, table_refusal, bare_table, table_of_def, new_table}
+use Rattle.pq_schema.specs.Definitions.{column_of, refused_if, is_outside, definition_refusal, name_refusal, counts_refusal, columns_refusal, nullable_refusal, key_refusal, groups_refusal, table_refusal, bare_table, table_of_def, altered_table, new_table}
 use Rattle.pq_schema.specs.Names.{IsName, IsColumnDef, IsTableDef}
 use Rattle.pq_schema.specs.declared.table.NewIndex.{NewIndex}
-use Rattle.pq_schema.specs.Schema.{Schema, is_table, is_taken, number_of, find_query, with_wanted, with_new_index}
+use Rattle.pq_schema.specs.Schema.{Schema, has_name, find_column, is_table, is_taken, number_of, find_query, with_wanted, with_new_index, with_new_column}
 use Rattle.pq_schema.specs.Tables.{no_table, table_at}
-use Rattle.pq_schema.specs.Valid.{IsValid}
-use Rattle.pq_schema.specs.Valid.IsValid.{empty, then_table, then_query}
+use Rattle.pq_schema.specs.Valid.{IsValid, IsAddition}
+use Rattle.pq_schema.specs.Valid.IsValid.{empty, then_table, then_query, then_column}
 use Rattle.pq_schema.proofs.Counts.{place_within}
-use Rattle.pq_schema.proofs.Valid.{wanted_there}
+use Rattle.pq_schema.proofs.Valid.{wanted_there, column_parts, column_takes}
 use Rattle.pq_schema.specs.Sequences.{ascending_part, group_access, with_group}
 use Rattle.pq_reread.specs.Orderly.{AreNamedApart, IsOrderly, AreOrderly}
 use Rattle.pq_reread.proofs.Alls.{one_by_one}
 use Rattle.pq_query_read.proofs.Names.{turned}
+use Rattle.pq_reread.proofs.Additions.{accepted_column}
 use Rattle.pq_reread.proofs.Defined.{ok_is, neither_refuses, not_refused, none_mapped, inside_some, none_passes}
 
 -- ---- elements with different names
@@ -187,47 +190,81 @@ table_orderly schema def table are is e =
     one_more schema.tables table are (subst IsOrderly made.1 (groups_orderly groups (bare_table schema def) (bare_orderly schema def is made.0)))
     (ap (λ (n : List ℕ). position_or_len (is_table n) schema.tables) name ∙ free_name schema def.name free)
 
--- an index more leaves the names
-module _ (tables : List Table) (new : NewIndex) (one : 1 ≤ new.table) (there : new.table ≤ length tables) (are : AreOrderly tables) where
-  indexed : Table
-  indexed = with_new_index (table_at tables new.table) new.index
-
-  indexed_orderly : IsOrderly indexed
-  unfolding indexed
-  indexed_orderly =
-      let is = are.each (new.table - 1) no_table (omega arith) in
-      record { name = is.name; columns = is.columns; apart = is.apart; some_key = is.some_key; short_key = is.short_key; key = is.key }
-
-  after : List Table
-  after = set tables (new.table - 1) indexed
+-- a table changes, but for its name
+module _ (tables : List Table) (number : ℕ) (changed : Table) (one : 1 ≤ number) (there : number ≤ length tables) (named : changed.name ≡ (table_at tables number).name) (is : IsOrderly changed) (are : AreOrderly tables) where
+  abbrev after : List Table
+  after = set tables (number - 1) changed
 
   name_kept : (k : ℕ) (d : Table) → k < length tables → (get_or after k d).name ≡ (get_or tables k d).name
-  unfolding indexed after
   name_kept k d lt =
-      elim (cases_eq k (new.table - 1)) [
+      elim (cases_eq k (number - 1)) [
         | inl same ↦
             ap (λ n. (get_or after n d).name) same
-            ∙ ap (λ (t : Table). t.name) (get_or-set_same tables (new.table - 1) indexed d (omega arith))
-            ∙ ap (λ (t : Table). t.name) (get_or_default tables (new.table - 1) no_table d (omega arith))
+            ∙ ap (λ (t : Table). t.name) (get_or-set_same tables (number - 1) changed d (omega arith))
+            ∙ named
+            ∙ ap (λ (t : Table). t.name) (get_or_default tables (number - 1) no_table d (omega arith))
             ∙ ap (λ n. (get_or tables n d).name) (sym same)
-        | inr other ↦ ap (λ (t : Table). t.name) (get_or-set_other tables (new.table - 1) k indexed d other)
+        | inr other ↦ ap (λ (t : Table). t.name) (get_or-set_other tables (number - 1) k changed d other)
       ]
 
   after_orderly : AreOrderly after
-  unfolding indexed after
   after_orderly = record {
-    each = All-set IsOrderly tables (new.table - 1) indexed indexed_orderly are.each;
+    each = All-set IsOrderly tables (number - 1) changed is are.each;
     apart = λ k d lt.
-        let within : k < length tables = omega (arith, length-set tables (new.table - 1) indexed) in
+        let within : k < length tables = omega (arith, length-set tables (number - 1) changed) in
         ap (λ n. position_or_len (λ (t : Table). bytes_eq t.name n) after) (name_kept k d within)
-        ∙ position_or_len-set (λ (t : Table). bytes_eq t.name (get_or tables k d).name) tables (new.table - 1) indexed no_table refl
+        ∙ position_or_len-set (λ (t : Table). bytes_eq t.name (get_or tables k d).name) tables (number - 1) changed no_table (ap (λ n. bytes_eq n (get_or tables k d).name) named)
         ∙ are.apart k d within;
   }
 
+table_orderly_at : (tables : List Table) (number : ℕ) → 1 ≤ number → number ≤ length tables → AreOrderly tables → IsOrderly (table_at tables number)
+table_orderly_at tables number one there are = are.each (number - 1) no_table (omega arith)
+
+-- one more index
 wanted_orderly : (tables : List Table) (wanted : Option NewIndex) → IfSome wanted (λ new. (1 ≤ new.table) × (new.table ≤ length tables)) → AreOrderly tables → AreOrderly (with_wanted tables wanted)
-unfolding indexed after
 wanted_orderly tables None there are = are
-wanted_orderly tables (Some new) there are = after_orderly tables new there.0 there.1 are
+wanted_orderly tables (Some new) there are =
+    let is = table_orderly_at tables new.table there.0 there.1 are in
+    after_orderly tables new.table (with_new_index (table_at tables new.table) new.index) there.0 there.1 refl
+    (record { name = is.name; columns = is.columns; apart = is.apart; some_key = is.some_key; short_key = is.short_key; key = is.key }) are
+
+-- one more column
+all_more : {X : Type 0} (P : X → Type 0) (xs : List X) (y : X) → AllByRecursion P xs → P y → AllByRecursion P (xs ++ y ∷ [])
+all_more P [] y all is = (is, tt)
+all_more P (x ∷ xs) y all is = (all.0, all_more P xs y all.1 is)
+
+all_below : (n m : ℕ) (cols : List ℕ) → n ≤ m → AllByRecursion (λ col. col < n) cols → AllByRecursion (λ col. col < m) cols
+all_below n m [] le all = tt
+all_below n m (col ∷ cols) le all = (omega (arith, le, all.0), all_below n m cols le all.1)
+
+-- what nothing passes has no place
+none_passes_at : {X : Type 0} (p : X → Bool) (xs : List X) → is_some (position p xs) ≡ false → position_or_len p xs ≡ length xs
+none_passes_at p xs e = by_test (nat_lt (position_or_len p xs) (length xs)) refl e
+  where
+    by_test : (b : Bool) → nat_lt (position_or_len p xs) (length xs) ≡ b → is_some (cond b (Some (position_or_len p xs)) None) ≡ false → position_or_len p xs ≡ length xs
+    by_test true is e = absurd cc
+    by_test false is e = grind (arith, nat_tests, prefix_len-le-length (λ x. not (p x)) xs)
+
+widened_orderly : (table : Table) (column : Column) (filler : Value) → IsOrderly table → IsName column.name → is_some (find_column table.columns column.name) ≡ false → IsOrderly (with_new_column table column filler)
+widened_orderly table column filler is name free = record {
+  name = is.name;
+  columns = all_more (λ (column : Column). IsName column.name) table.columns column is.columns name;
+  apart = push column_names table.columns column is.apart (none_passes_at (has_name column.name) table.columns free);
+  some_key = is.some_key;
+  short_key = is.short_key;
+  key = all_below (length table.columns) (length (table.columns ++ column ∷ [])) table.key (omega (arith, length-append table.columns (column ∷ []))) is.key;
+}
+
+added_orderly : (schema : Schema) (def : AlterDef) (next : Schema) → AreOrderly schema.tables → IsAddition schema def next → AreOrderly next.tables
+added_orderly schema def next are is =
+    let number = altered_table schema def in
+    let parts = column_parts schema def next is.accepted in
+    let takes = column_takes schema def parts.0 in
+    let widened = with_new_column (table_at schema.tables number) (column_of def.column) def.filler in
+    subst (λ (s : Schema). AreOrderly s.tables) parts.1
+    (after_orderly schema.tables number widened takes.from_one takes.there refl
+    (widened_orderly (table_at schema.tables number) (column_of def.column) def.filler (table_orderly_at schema.tables number takes.from_one takes.there are) is.names.column.name (accepted_column schema def parts.0).free)
+    are)
 
 -- the tables of a valid schema are orderly
 pub valid_orderly : {schema : Schema} → IsValid schema → AreOrderly schema.tables
@@ -235,6 +272,7 @@ valid_orderly empty = none_orderly
 valid_orderly (then_table schema def table valid is made) = table_orderly schema def table (valid_orderly valid) is made
 valid_orderly (then_query schema query wanted valid d) =
     wanted_orderly schema.tables wanted (wanted_there schema.tables query wanted d.resolved d.chosen) (valid_orderly valid)
+valid_orderly (then_column schema def next valid is) = added_orderly schema def next (valid_orderly valid) is
 
 pub keys_of : (tables : List Table) → AreOrderly tables → All (λ (table : Table). 0 < length table.key) tables
 keys_of tables are k d lt = (are.each k d lt).some_key

@@ -10,7 +10,6 @@ use Rattle.pq_base.proofs.TypeFits.{value_from_fit}
 use Rattle.pq_base.specs.declared.value.DataKind.{DataKind}
 use Rattle.pq_base.specs.declared.value.DataKind.TheVariants as kind
 use Rattle.pq_base.specs.declared.value.ColType.{ColType}
-use Rattle.pq_base.specs.declared.value.ColType.TheVariants as type
 use Rattle.pq_base.specs.declared.value.Dir.{Dir}
 use Rattle.pq_base.specs.declared.value.Dir.TheVariants as dir
 use Rattle.pq_base.specs.declared.value.Value.{Value}
@@ -68,19 +67,19 @@ param_room kind.Int = omega arith
 param_room kind.Bool = omega arith
 param_room kind.Text = omega arith
 
-value_short : (t : ColType) (v : Value) → FitsType (param_type t) v → length (value_text v) ≤ 2002
-value_short t value.Null fits = omega arith
-value_short t (value.Int z) fits = omega (arith, signed_short z (value_from_fit (param_type t) (value.Int z) fits))
-value_short t (value.Bool true) fits = omega arith
-value_short t (value.Bool false) fits = omega arith
-value_short t (value.Text s) fits = text_short s (let most = param_room (kind_of_type t) in let short = fits.1 in omega (arith, most, short))
+pub value_short : (t : ColType) (v : Value) → room_of t ≤ 1000 → FitsType t v → length (value_text v) ≤ 2002
+value_short t value.Null most fits = omega arith
+value_short t (value.Int z) most fits = omega (arith, signed_short z (value_from_fit t (value.Int z) fits))
+value_short t (value.Bool true) most fits = omega arith
+value_short t (value.Bool false) most fits = omega arith
+value_short t (value.Text s) most fits = text_short s (let short = fits.1 in omega (arith, most, short))
 
 constant_short : (o : Op) (t : ColType) (v : Value) → IsConstant o (param_type t) v → length (value_text v) ≤ 2002
 constant_short o t v is = by (is_null_test o) refl
   where
     by : (b : Bool) → is_null_test o ≡ b → length (value_text v) ≤ 2002
     by true test = subst (λ (x : Value). length (value_text x) ≤ 2002) (sym (is.1 test)) (omega arith)
-    by false test = value_short t v (is.0 test)
+    by false test = value_short (param_type t) v (param_room (kind_of_type t)) (is.0 test)
 
 -- ---- words
 

@@ -58,7 +58,7 @@ use Rattle.pq_reread.proofs.Tables.{name_prints, comma_prints}
 abbrev pub joins_value : ℕ → Bool
 joins_value b = is_word_byte b || is_quote b
 
-word_end : {S : List Shape → Type 0} {t : ℕ → Bool} {a : List ℕ} → Prints S t a is_word_byte → Prints S t a joins_value
+pub word_end : {S : List Shape → Type 0} {t : ℕ → Bool} {a : List ℕ} → Prints S t a is_word_byte → Prints S t a joins_value
 word_end p = looser joins_value (λ b e. (or_parts (is_word_byte b) (is_quote b) e).0) p
 
 number_end : {S : List Shape → Type 0} {t : ℕ → Bool} {a : List ℕ} → Prints S t a is_ascii_digit → Prints S t a joins_value
@@ -69,7 +69,7 @@ text_end p = looser joins_value (λ b e. (or_parts (is_word_byte b) (is_quote b)
 
 -- ---- values
 
-value_prints : (v : Value) → IsValue v → is_null v ≡ false → Prints (a_constant v) joins_none (value_text v) joins_value
+pub value_prints : (v : Value) → IsValue v → is_null v ≡ false → Prints (a_constant v) joins_none (value_text v) joins_value
 value_prints value.Null is plain = absurd cc
 value_prints (value.Int z) is plain = number_end (signed_prints z is)
 value_prints (value.Bool true) is plain = word_end (true_prints)

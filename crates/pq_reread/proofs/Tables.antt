@@ -117,7 +117,7 @@ kind_prints kind size null (inl h) = subst (λ (k : List ℕ). KindPrints k size
 kind_prints kind size null (inr (inl h)) = subst (λ (k : List ℕ). KindPrints k size null) (sym h.0) (subst (λ (z : ℤ). KindPrints (codes "BOOL") z null) (sym h.1) (bool_kind_prints null))
 kind_prints kind size null (inr (inr h)) = subst (λ (k : List ℕ). KindPrints k size null) (sym h) (text_kind_prints size null)
 
-column_prints : (c : ColumnDef) (printed : Column) → IsColumnDef c → SaysColumn c printed → Prints (column c) joins_none (column_text printed) is_word_byte
+pub column_prints : (c : ColumnDef) (printed : Column) → IsColumnDef c → SaysColumn c printed → Prints (column c) joins_none (column_text printed) is_word_byte
 unfolding column_text
 column_prints c printed is says =
     subst (λ (x : Column). Prints (column c) joins_none (column_text x) is_word_byte) (sym says.column)

@@ -1,4 +1,4 @@
--- The text of a query is read as the query, and that of a table as its definition.
+-- The text of a query is read as the query, and that of a table or of an added column as its definition.
 use Rattle.std.specs.Prelude.{◌≡◌, ℕ, ◌≤◌, ◌<◌, ◌+◌, true, List, length, take, Ok, Option}
 use Rattle.std.specs.Str.{is_utf8}
 use Rattle.pq_schema.specs.Names.{IsName}
@@ -6,14 +6,15 @@ use Rattle.pq_schema.specs.Resolved.{IsResolved}
 use Rattle.pq_schema.specs.Schema.{Schema, with_query}
 use Rattle.pq_schema.specs.Tables.{table_at}
 use Rattle.pq_schema.specs.Valid.{IsDefined}
+use Rattle.pq_schema.specs.declared.definition.AlterDef.{AlterDef}
 use Rattle.pq_schema.specs.declared.definition.TableDef.{TableDef}
 use Rattle.pq_schema.specs.declared.query.Query.{Query}
 use Rattle.pq_schema.specs.declared.table.NewIndex.{NewIndex}
 use Rattle.pq_schema.specs.declared.table.Table.{Table}
 use Rattle.pq_text.specs.Tokens.{text_limit, tokens_of}
 use Rattle.pq_def_read.specs.Reading.{statement_of}
-use Rattle.pq_def_read.specs.declared.statement.Statement.TheVariants.{Create, Prepare}
-use Rattle.pq_print.specs.Canonical.{column_name, query_text, table_text, with_first_columns, definition_text}
+use Rattle.pq_def_read.specs.declared.statement.Statement.TheVariants.{Create, Prepare, Alter}
+use Rattle.pq_print.specs.Canonical.{column_at, column_name, filler_at, query_text, table_text, added_text, with_first_columns, definition_text}
 use Rattle.pq_query_read.specs.Queries.{read_query_of}
 use Rattle.pq_reread.specs.Orderly.{AreOrderly}
 
@@ -69,3 +70,19 @@ pub record KeepsTable (table now : Table) : Type 0 where
 abbrev pub IsReadLater : List Table → TableDef → Table → Type 0
 IsReadLater tables def table = (later : List Table) (now : Table) → KeepNames tables later → KeepsTable table now
     → ReadsAs def (table_text later (with_first_columns (length table.columns) now))
+
+-- the text is the ALTER TABLE of this definition
+pub record IsAddedText (def : AlterDef) (text : List ℕ) : Type 0 where
+  pub utf8 : is_utf8 text ≡ true
+  pub short : length text ≤ text_limit
+  pub reads : statement_of text (tokens_of text) ≡ Ok (Alter def)
+
+-- the table has its name, and at this place its column and its default, still
+pub record KeepsAdded (table now : Table) (col : ℕ) : Type 0 where
+  pub name : now.name ≡ table.name
+  pub column : column_at now.columns col ≡ column_at table.columns col
+  pub filler : filler_at now.fillers col ≡ filler_at table.fillers col
+
+-- so is the text of the column at this place as it is printed of a later table
+abbrev pub IsAddedLater : AlterDef → Table → ℕ → Type 0
+IsAddedLater def table col = (now : Table) → KeepsAdded table now col → IsAddedText def (added_text now col)

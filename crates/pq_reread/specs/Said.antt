@@ -1,5 +1,7 @@
 -- A table says what its definition says, with places and numbers where the definition has names.
 use Rattle.std.specs.Prelude.{◌≡◌, ℕ, pos, true, ◌^◌, ◌<◌, List, [], ◌∷◌, length}
+use Rattle.pq_base.specs.Values.{FitsType}
+use Rattle.pq_schema.specs.declared.definition.AlterDef.{AlterDef}
 use Rattle.pq_schema.specs.declared.definition.ColumnDef.{ColumnDef}
 use Rattle.pq_schema.specs.declared.definition.LimitDef.{LimitDef}
 use Rattle.pq_schema.specs.declared.definition.ForeignDef.{ForeignDef}
@@ -10,7 +12,7 @@ use Rattle.pq_schema.specs.declared.table.Foreign.{Foreign}
 use Rattle.pq_schema.specs.declared.table.Table.{Table}
 use Rattle.pq_schema.specs.Definitions.{has_type, column_of}
 use Rattle.pq_schema.specs.Tables.{table_at}
-use Rattle.pq_print.specs.Canonical.{column_name}
+use Rattle.pq_print.specs.Canonical.{column_at, column_name, filler_at}
 
 -- as many of both, and each stands so to the one at its place
 abbrev pub Pairwise : {X Y : Type 0} → (X → Y → Type 0) → List X → List Y → Type 0
@@ -45,3 +47,10 @@ pub record Says (tables : List Table) (def : TableDef) (table : Table) : Type 0 
   pub key : SaysColumns table.columns def.key table.key
   pub limits : Pairwise (SaysLimit table.columns) def.limits table.limits
   pub foreign : Pairwise (SaysForeign tables table.columns) def.foreign table.foreign
+
+-- the column at this place of the table, with its default, says what the definition says
+pub record SaysAdded (def : AlterDef) (table : Table) (col : ℕ) : Type 0 where
+  pub name : table.name ≡ def.table
+  pub column : SaysColumn def.column (column_at table.columns col)
+  pub filler : filler_at table.fillers col ≡ def.filler
+  pub fits : FitsType (column_of def.column).ty def.filler

@@ -1,24 +1,26 @@
 //! What the definitions promise by themselves: each law is the contract of a call that does nothing.
-ghost use Rattle.std.specs.Prelude.{◌≡◌, ◌<◌, ◌≤◌, ◌∷◌, ◌++◌, ◌-◌, ℕ, List, [], All, Ok, Err, length, true};
+ghost use Rattle.std.specs.Prelude.{◌≡◌, ◌<◌, ◌≤◌, ◌∷◌, ◌++◌, ◌+◌, ◌-◌, ℕ, List, [], All, Ok, Err, length, true};
 ghost use Rattle.std.specs.Str.{is_utf8};
+ghost use Rattle.pq_schema.specs.declared.definition.AlterDef.{AlterDef};
 ghost use Rattle.pq_schema.specs.declared.definition.TableDef.{TableDef};
 ghost use Rattle.pq_schema.specs.declared.query.Query.{Query};
 ghost use Rattle.pq_schema.specs.declared.table.Table.{Table};
-ghost use Rattle.pq_schema.specs.Definitions.{new_table};
-ghost use Rattle.pq_schema.specs.Names.{IsName, IsTableDef};
+ghost use Rattle.pq_schema.specs.Definitions.{altered_table, new_table};
+ghost use Rattle.pq_schema.specs.Names.{IsName, IsTableDef, IsAlterDef};
 ghost use Rattle.pq_schema.specs.Schema.{Schema};
-ghost use Rattle.pq_schema.specs.Valid.{IsValid};
+ghost use Rattle.pq_schema.specs.Tables.{table_at};
+ghost use Rattle.pq_schema.specs.Valid.{IsValid, IsAddition};
 ghost use Rattle.pq_grammar.specs.Language.{IsFaultPlace};
 ghost use Rattle.pq_text.specs.Tokens.{text_limit, tokens_of};
 ghost use Rattle.pq_text.specs.declared.token.Token.{Token};
 ghost use Rattle.pq_shape.specs.Shapes.{shapes_of};
 ghost use Rattle.pq_def_read.specs.Reading.{statement_of};
-ghost use Rattle.pq_def_read.specs.declared.statement.Statement.TheVariants.{Create, Prepare};
-ghost use Rattle.pq_print.specs.Canonical.{table_text, query_text};
+ghost use Rattle.pq_def_read.specs.declared.statement.Statement.TheVariants.{Create, Prepare, Alter};
+ghost use Rattle.pq_print.specs.Canonical.{table_text, query_text, added_text, definition_text};
 ghost use Rattle.pq_reread.specs.Orderly.{AreOrderly};
 ghost use Rattle.pq_reread.specs.Printed.{Piece, ArePieces, joins_none, printed_pieces, shapes_printed};
-ghost use Rattle.pq_reread.specs.ReadBack.{IsNamedQuery, IsReadBack, IsReadBackLater, IsReadBackDefined, IsReadLater};
-ghost use Rattle.pq_reread.specs.Said.{Says};
+ghost use Rattle.pq_reread.specs.ReadBack.{IsNamedQuery, IsReadBack, IsReadBackLater, IsReadBackDefined, IsReadLater, IsAddedText, IsAddedLater};
+ghost use Rattle.pq_reread.specs.Said.{Says, SaysAdded};
 ghost use Rattle.pq_reread.specs.WholeStatements.{WholeStatement, SpellsWhole, whole_of};
 
 /// Names in a statement are words in small letters, of at most 32 bytes, and no keywords.
@@ -26,6 +28,10 @@ pub fn names_law()
     // In the definition of a table that a text spells, and its kinds are kinds.
     ensures tables { (text : List ℕ) (def : TableDef) → statement_of text (tokens_of text) ≡ Ok (Create def)
         → IsTableDef def }
+
+    // In that of an added column.
+    ensures columns { (text : List ℕ) (def : AlterDef) → statement_of text (tokens_of text) ≡ Ok (Alter def)
+        → IsAlterDef def }
 
     // In the head of a query.
     ensures queries { (text name : List ℕ) (from : ℕ)
@@ -80,6 +86,28 @@ pub fn tables_law()
     ensures later { (schema : Schema) (def : TableDef) (table : Table)
         → All (λ (other : Table). 0 < length other.key) schema.tables → IsTableDef def
         → new_table schema def ≡ Ok table → IsReadLater (schema.tables ++ table ∷ []) def table }
+{}
+
+/// The canonical text of an added column is UTF-8 and short enough to be cut, and it is read as the definition that
+/// says the same.
+pub fn columns_law()
+    // Whatever table has such a column.
+    ensures said { (def : AlterDef) (table : Table) (col : ℕ) → IsAlterDef def → SaysAdded def table col
+        → IsAddedText def (added_text table col) }
+
+    // The column that the definition adds does.
+    ensures made { (schema : Schema) (def : AlterDef) (next : Schema) → IsValid schema → IsAddition schema def next
+        → SaysAdded def (table_at next.tables (altered_table schema def))
+        (length (table_at schema.tables (altered_table schema def)).columns) }
+
+    // So each column that was added is read back as its definition.
+    ensures defined { (schema : Schema) (def : AlterDef) (next : Schema) → IsValid schema → IsAddition schema def next
+        → IsAddedText def (definition_text next (length schema.definitions + 1)) }
+
+    // Also as it is printed of a later table, with more columns and indexes.
+    ensures later { (schema : Schema) (def : AlterDef) (next : Schema) → IsValid schema → IsAddition schema def next
+        → IsAddedLater def (table_at next.tables (altered_table schema def))
+        (length (table_at schema.tables (altered_table schema def)).columns) }
 {}
 
 /// The canonical text of every query over a valid schema is read back: it is UTF-8 and short enough to be cut, its head

@@ -6,5 +6,6 @@
 mod laws;
 
 pub use laws::{
-    names_law, orderly_law, printed_law, queries_law, tables_law, texts_law, whole_statements_law,
+    columns_law, names_law, orderly_law, printed_law, queries_law, tables_law, texts_law,
+    whole_statements_law,
 };
