@@ -24,7 +24,7 @@ use Rattle.pq_clients.specs.Flights.{Flight, table_number, table_of, pair_key, r
 use Rattle.pq_clients.specs.Invariant.{key_table, code_row, has_code_entry, IsRowAt, MayStandAt, Names, Group, is_limit, shares, row_in_group, in_group, group_bound, front_of_group, is_old, is_new, has_place, FlightFits}
 use Rattle.pq_clients.proofs.Basics.{or_first, or_second, and_of, shared_of, has-left_out}
 use Rattle.pq_clients.proofs.Cells.{row_decodes}
-use Rattle.pq_index_keep.specs.Groups.{group_key}
+use Rattle.pq_row_keys.specs.Groups.{group_key}
 
 module _ (tables : List Table) where
   pub key_space : (w : Write) → is_in_space 2 (pair_key tables w) ≡ true

@@ -15,7 +15,7 @@ use Rattle.pq_base.specs.declared.refusal.Refusal.TheVariants as refusal
 use Rattle.pq_base.specs.declared.value.Dir.TheVariants.{Asc}
 use Rattle.pq_row_code.specs.RowReading.{row_decoded, fields_at, cell_at, front_at, field_at}
 use Rattle.pq_row_code.specs.StoredRow.{filled_decoded, short_decoded, filled}
-use Rattle.pq_index_keep.specs.Groups.{group_key}
+use Rattle.pq_row_keys.specs.Groups.{group_key}
 use Rattle.pq_store.specs.Content.{Content, key_cmp}
 use Rattle.pq_index_keep.specs.declared.write.Write.{Write}
 use Rattle.pq_index_keep.specs.declared.write.Write.TheVariants as write

@@ -30,9 +30,9 @@ use Rattle.pq_content.proofs.TableRows.{values_of-primary, dirs_of-primary, sequ
 use Rattle.pq_content.proofs.Values.{same_from_test, same_values_itself, values_of-columns_of}
 use Rattle.pq_calls.specs.Keys.{sequence_key}
 use Rattle.pq_index_keep.specs.Effects.{limit_at}
-use Rattle.pq_index_keep.specs.Groups.{access_of, first_values, group_key}
+use Rattle.pq_row_keys.specs.Groups.{access_of, first_values, group_key}
 use Rattle.pq_index_keep.specs.Sound.{AreWritable, IsWritable}
-use Rattle.pq_index_keep.specs.Tested.{given_value}
+use Rattle.pq_schema.specs.Keys.{given_value}
 use Rattle.pq_index_keep.proofs.Counted.{given_at, access_found}
 use Rattle.pq_index_keep.proofs.Inserting.{writable_at}
 use Rattle.pq_schema.specs.Candidates.{no_limit}

@@ -17,7 +17,7 @@ use Rattle.pq_content.specs.Tables.{cells, dirs_of, values_of}
 use Rattle.pq_content.proofs.Keys.{key_itself}
 use Rattle.pq_index_keep.specs.Bounds.{refers, referring_count}
 use Rattle.pq_index_keep.specs.Effects.{stays}
-use Rattle.pq_index_keep.specs.Groups.{group_key}
+use Rattle.pq_row_keys.specs.Groups.{group_key}
 use Rattle.pq_index_keep.specs.Tested.{touches, touches_index, scope_of, with_sets}
 use Rattle.pq_index_keep.specs.declared.write.SetCol.{SetCol}
 use Rattle.pq_index_keep.specs.declared.write.Write.{Write}

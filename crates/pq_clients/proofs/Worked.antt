@@ -28,7 +28,7 @@ use Rattle.pq_schema.specs.declared.table.Table.{Table}
 use Rattle.pq_content.specs.Pairs.{content_pairs}
 use Rattle.pq_content.specs.Tables.{Keeps, stored_code}
 use Rattle.pq_index_keep.proofs.Inserting.{each_is}
-use Rattle.pq_index_keep.specs.Groups.{group_key}
+use Rattle.pq_row_keys.specs.Groups.{group_key}
 use Rattle.pq_index_keep.specs.Sound.{IsWritable, AreWritable, IsWrite}
 use Rattle.pq_index_keep.specs.declared.write.Write.{Write}
 use Rattle.pq_index_keep.specs.declared.write.Write.TheVariants as write

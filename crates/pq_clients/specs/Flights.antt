@@ -16,7 +16,7 @@ use Rattle.pq_store.specs.Content.{key_cmp}
 use Rattle.pq_index_keep.specs.declared.write.Write.{Write}
 use Rattle.pq_index_keep.specs.declared.write.Write.TheVariants as write
 use Rattle.pq_index_keep.specs.Effects.{stays, no_parent, referenced_refusal, no_room, limit_at}
-use Rattle.pq_index_keep.specs.Groups.{group_key}
+use Rattle.pq_row_keys.specs.Groups.{group_key}
 use Rattle.pq_index_keep.specs.Tested.{touches, scope_of, with_sets}
 use Rattle.pq_clients.specs.Held.{decoded_row}
 

@@ -12,7 +12,7 @@ use Rattle.pq_content.specs.Pairs.{is_in_space, is_of_rows}
 use Rattle.pq_content.specs.Tables.{IsTableNumber, types_of, key_of, agrees, stored_code}
 use Rattle.pq_store.specs.Content.{Content, key_cmp}
 use Rattle.pq_index_keep.specs.Effects.{limit_at}
-use Rattle.pq_index_keep.specs.Groups.{group_key}
+use Rattle.pq_row_keys.specs.Groups.{group_key}
 use Rattle.pq_index_keep.specs.Sound.{IsWrite}
 use Rattle.pq_clients.specs.declared.outcome.Outcome.{Outcome}
 use Rattle.pq_clients.specs.Held.{Cell, Free, Held, cell_of, present_in, decoded_row, held_value}

@@ -2,7 +2,7 @@
 ghost use Rattle.std.specs.Prelude.{◌≡◌, ◌≤◌, ◌+◌, ◌++◌, ◌∷◌, List as Items, Option, ℕ, map, length, All, IfOk, OnOk, IsSome};
 ghost use Rattle.pq_base.specs.Columns.{set_of};
 ghost use Rattle.pq_content.specs.Tables.{cells};
-ghost use Rattle.pq_index_keep.specs.Groups.{group_key};
+ghost use Rattle.pq_row_keys.specs.Groups.{group_key};
 ghost use Rattle.pq_key_code.specs.KeyCode.{row_key};
 ghost use Rattle.pq_schema.specs.Sequences.{group_access};
 ghost use Rattle.pq_schema.specs.declared.table.Foreign.{Foreign as Key};
@@ -15,7 +15,8 @@ ghost use Rattle.pq_clients.specs.Seen.{flight, seen_check};
 use crate::rows::{new_row, table_number, table_of};
 use crate::stage::Check;
 use pq_base::{Bytes, List, NoMem, Refusal, Row};
-use pq_index_keep::{Scope, Write, group_key, key_at, no_parent, null_at, referenced, values_at};
+use pq_index_keep::{Scope, Write, no_parent, referenced};
+use pq_row_keys::{group_key, key_at, null_at, values_at};
 use pq_schema::{Catalog, Foreign, Table};
 use std::alloc::Global;
 

@@ -10,7 +10,8 @@ ghost use Rattle.pq_clients.specs.Seen.{flight};
 
 use crate::rows::{new_row, old_row, table_number, table_of};
 use pq_base::{Bytes, List, NoMem, Row};
-use pq_index_keep::{Write, entry_of};
+use pq_index_keep::Write;
+use pq_row_keys::entry_of;
 use pq_schema::{Catalog, Index, Table};
 use std::alloc::Global;
 

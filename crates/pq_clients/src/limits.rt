@@ -6,7 +6,7 @@ ghost use Rattle.pq_schema.specs.declared.table.Limit.{Limit as Group};
 ghost use Rattle.pq_schema.specs.Sound.{AreColumns};
 ghost use Rattle.pq_content.specs.Tables.{cells};
 ghost use Rattle.pq_index_keep.specs.Effects.{stays, limit_at, no_room};
-ghost use Rattle.pq_index_keep.specs.Groups.{group_key};
+ghost use Rattle.pq_row_keys.specs.Groups.{group_key};
 ghost use Rattle.pq_clients.specs.Fitting.{MayWrite, IsMadeTable, HasColumns, IsTest, IsLate};
 ghost use Rattle.pq_clients.specs.Flights.{table_of, is_tested, limit_tests, tests_of, flight_tests, tested_front};
 ghost use Rattle.pq_clients.specs.Seen.{flight};
@@ -14,7 +14,8 @@ ghost use Rattle.pq_clients.specs.Seen.{flight};
 use crate::checks::{is_tested, known_write};
 use crate::rows::{new_row, old_row, table_number, table_of};
 use pq_base::{Bytes, List, NoMem, Refusal, Row};
-use pq_index_keep::{Write, group_key, no_room, stays, values_at};
+use pq_index_keep::{Write, no_room, stays};
+use pq_row_keys::{group_key, values_at};
 use pq_schema::{Catalog, Limit, Table};
 use std::alloc::Global;
 

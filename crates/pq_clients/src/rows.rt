@@ -13,9 +13,10 @@ ghost use Rattle.pq_clients.specs.Seen.{flight};
 
 use pq_base::{Bytes, ColType, List, NoMem, Row, Value, known_types};
 use pq_calls::types_of;
-use pq_index_keep::{SetCol, Write, key_at, with_sets};
+use pq_index_keep::{SetCol, Write, with_sets};
 use pq_key_code::row_key;
 use pq_row_code::{decode_filled, encode_stored, known_fillers, stored_code_len};
+use pq_row_keys::key_at;
 use pq_schema::{Catalog, Table};
 use std::alloc::Global;
 

@@ -22,9 +22,9 @@ use Rattle.pq_base.specs.Members.{In}
 use Rattle.pq_content.proofs.Scans.{columns_of-primary, rows_counted, entries_counted, group_by_first}
 use Rattle.pq_store.specs.Content.{Content, pairs_within}
 use Rattle.pq_calls.specs.Keys.{sequence_key}
-use Rattle.pq_index_keep.specs.Groups.{access_of, first_values, group_key}
+use Rattle.pq_row_keys.specs.Groups.{access_of, first_values, group_key}
 use Rattle.pq_index_keep.specs.Promises.{HoldsRows}
-use Rattle.pq_index_keep.specs.Tested.{given_value}
+use Rattle.pq_schema.specs.Keys.{given_value}
 use Rattle.pq_base.proofs.Members.{each_in}
 use Rattle.pq_base.proofs.Sets.{set_members, members_set}
 use Rattle.pq_index_keep.proofs.Distinct.{are_distinct}

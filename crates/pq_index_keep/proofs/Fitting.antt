@@ -1,8 +1,8 @@
 -- What the checks of a statement say of its write.
 use Rattle.std.proofs.Common.{◌≡◌, ℕ, zero, suc, ◌+◌, ◌≤◌, ◌<◌, Bool, true, false, cond, not, ◌||◌, ◌&&◌, List, [], ◌∷◌, ◌++◌, length, map, Option, Some, None, Ok, Err, refl, sym, ap, subst, ◌∙◌, arith}
-use Rattle.std.specs.Prelude.{All, slice_index_or, ◌==◌, find, option_map, nat_lt, position}
+use Rattle.std.specs.Prelude.{All, IfSome, slice_index_or, ◌==◌, find, option_map, is_some, unwrap_or, nat_lt, position}
 use Rattle.std.specs.List.{AllByRecursion, list_all, list_any, range_with_len}
-use Rattle.std.proofs.lemmas.Bool.{eqb-true, ltb-false, false≢true}
+use Rattle.std.proofs.lemmas.Bool.{cond_both, eqb-true, ltb-false, false≢true}
 use Rattle.std.proofs.lemmas.Option.{same_Some, none-some}
 use Rattle.pq_schema.specs.Tables.{no_table}
 use Rattle.pq_schema.proofs.Counts.{place_within}
@@ -15,10 +15,12 @@ use Rattle.pq_base.specs.Values.{IsValue, FitsType, AllFit, fits_type}
 use Rattle.pq_schema.specs.declared.table.Column.{Column}
 use Rattle.pq_schema.specs.declared.table.Table.{Table}
 use Rattle.pq_content.specs.Tables.{types_of, type_at, types_at, key_types, IsTableNumber}
-use Rattle.pq_index_keep.specs.Checking.{misfit_refusal, are_among, all_columns, insert_row, insert_names, insert_places, insert_names_refusal, insert_values_refusal, insert_checked, delete_checked, is_insert_wrong, assign_name, names_in, values_in, assigned_misfit, keyed_refusal, set_of_assign, key_given}
+use Rattle.pq_index_keep.specs.Checking.{misfit_refusal, are_among, all_columns, default_at, has_value, inserted_value, insert_row, insert_names, insert_places, insert_names_refusal, insert_values_refusal, insert_checked, delete_checked, is_insert_wrong, assign_name, names_in, values_in, assigned_misfit, keyed_refusal, set_of_assign, key_given}
 use Rattle.pq_index_keep.specs.Sound.{is_among, IsSet}
 use Rattle.pq_schema.specs.ColumnNames.{is_unknown, place_of, places_of, no_column, unknown_refusal}
 use Rattle.pq_schema.specs.Definitions.{refused_if, or_ok}
+use Rattle.pq_schema.specs.Rows.{no_value}
+use Rattle.pq_schema.specs.Sound.{AreDefaults}
 use Rattle.pq_schema.specs.Schema.{Schema, find_table, is_table, number_of}
 use Rattle.pq_base.specs.Answers.{Answers, Passes, or_else}
 use Rattle.pq_index_keep.specs.declared.write.Write.{Write}
@@ -29,7 +31,7 @@ use Rattle.pq_base.proofs.TypeFits.{fits_exact}
 use Rattle.pq_def_read.specs.declared.statement.Assign.{Assign}
 use Rattle.std.proofs.lemmas.List.Quantifiers.{position-Some}
 use Rattle.pq_index_keep.proofs.Inserting.{each_by}
-use Rattle.pq_index_keep.specs.Tested.{given_value}
+use Rattle.pq_schema.specs.Keys.{given_value}
 use Rattle.std.proofs.lemmas.List.{length-map}
 
 -- where no value is a misfit, a column among those named is given one that fits
@@ -67,13 +69,36 @@ row_of (t ∷ ts) f k h = (
   row_of ts f (k + 1) (λ c less. subst (λ (j : ℕ). FitsType (slice_index_or ts c type.Bool) (f j)) (omega arith) (h (suc c) (omega arith))),
 )
 
+-- the default of an added column fits it
+default_fits : (columns : List Column) (fillers : List (Option Value)) (c : ℕ) → AreDefaults columns fillers → is_some (slice_index_or fillers c None) ≡ true → FitsType (type_at columns c) (unwrap_or (slice_index_or fillers c None) no_value)
+default_fits [] [] c defaults some = absurd (false≢true some)
+default_fits [] (f ∷ fillers) c defaults some = absurd defaults
+default_fits (column ∷ columns) [] c defaults some = absurd defaults
+default_fits (column ∷ columns) (f ∷ fillers) zero defaults some = own f defaults.0 some
+  where
+    own : (f : Option Value) → IfSome f (FitsType column.ty) → is_some f ≡ true → FitsType column.ty (unwrap_or f no_value)
+    own None fits some = absurd (false≢true some)
+    own (Some default) fits some = fits
+default_fits (column ∷ columns) (f ∷ fillers) (suc c) defaults some = default_fits columns fillers c defaults.1 some
+
+-- a column that has a value gets one that fits it
+inserted_fits : (table : Table) (names : List (List ℕ)) (places : List ℕ) (values : List Value) (c : ℕ) → has_value table places c ≡ true → length values ≡ length places → length names ≡ length places → misfit_refusal table names places values ≡ None → AllByRecursion IsValue values → AreDefaults table.columns table.fillers → FitsType (type_at table.columns c) (inserted_value table places values c)
+inserted_fits table names places values c has long named none known defaults =
+    cond_both (is_among places c) (given_value places values c) (unwrap_or (default_at table c) no_value) (FitsType (type_at table.columns c))
+    (λ among. given_fits table names places values c none named long known among)
+    (λ left_out. default_fits table.columns table.fillers c defaults (either (is_some (default_at table c)) (is_among places c) left_out has))
+  where
+    either : (a b : Bool) → b ≡ false → (a || b) ≡ true → a ≡ true
+    either true b left_out has = refl
+    either false b left_out has = absurd (false≢true (sym left_out ∙ has))
+
 -- the row of an INSERT fits its table
-pub insert_fits : (table : Table) (names : List (List ℕ)) (places : List ℕ) (values : List Value) → are_among (all_columns table) places ≡ true → length values ≡ length places → length names ≡ length places → misfit_refusal table names places values ≡ None → AllByRecursion IsValue values → AllFit (types_of table) (insert_row table places values)
-insert_fits table names places values all long named none known =
+pub insert_fits : (table : Table) (names : List (List ℕ)) (places : List ℕ) (values : List Value) → list_all (has_value table places) (all_columns table) ≡ true → length values ≡ length places → length names ≡ length places → misfit_refusal table names places values ≡ None → AllByRecursion IsValue values → AreDefaults table.columns table.fillers → AllFit (types_of table) (insert_row table places values)
+insert_fits table names places values all long named none known defaults =
     let types : length (types_of table) ≡ length table.columns = length-map table.columns (λ (column : Column). column.ty) in
-    subst (λ (n : ℕ). AllFit (types_of table) (map (given_value places values) (range_with_len 0 n))) types
-    (row_of (types_of table) (given_value places values) 0 (λ c less. subst (λ (j : ℕ). FitsType (type_at table.columns c) (given_value places values j)) (omega arith)
-    (given_fits table names places values c none named long known (subst (λ (j : ℕ). is_among places j ≡ true) (omega arith) (each_column (is_among places) 0 (length table.columns) all c (omega arith))))))
+    subst (λ (n : ℕ). AllFit (types_of table) (map (inserted_value table places values) (range_with_len 0 n))) types
+    (row_of (types_of table) (inserted_value table places values) 0 (λ c less. subst (λ (j : ℕ). FitsType (type_at table.columns c) (inserted_value table places values j)) (omega arith)
+    (inserted_fits table names places values c (subst (λ (j : ℕ). has_value table places j ≡ true) (omega arith) (each_column (has_value table places) 0 (length table.columns) all c (omega arith))) long named none known defaults)))
 
 -- the key of an UPDATE or DELETE fits its columns
 pub key_fits : (table : Table) (names : List (List ℕ)) (places : List ℕ) (values : List Value) (key : List ℕ) → are_among key places ≡ true → length values ≡ length places → length names ≡ length places → misfit_refusal table names places values ≡ None → AllByRecursion IsValue values → AllFit (types_at table.columns key) (map (given_value places values) key)
@@ -101,10 +126,10 @@ passed true why h = absurd (cc)
 passed false why h = refl
 
 -- the row of an INSERT whose columns and values are not refused
-pub insert_ok : (table : Table) (names : List (List ℕ)) (places : List ℕ) (values : List Value) (wrong : Bool) (why : Refusal) → wrong ≡ is_insert_wrong table places values → refused_if wrong why ≡ None → misfit_refusal table names places values ≡ None → length names ≡ length places → All IsValue values → AllFit (types_of table) (insert_row table places values)
-insert_ok table names places values wrong why is right none named known =
-    let parts = neither (are_among (all_columns table) places) (length values == length places) (sym is ∙ passed wrong why right) in
-    insert_fits table names places values parts.0 (eqb-true (length values) (length places) parts.1) named none (each_by IsValue values known)
+pub insert_ok : (table : Table) (names : List (List ℕ)) (places : List ℕ) (values : List Value) (wrong : Bool) (why : Refusal) → wrong ≡ is_insert_wrong table places values → refused_if wrong why ≡ None → misfit_refusal table names places values ≡ None → length names ≡ length places → All IsValue values → AreDefaults table.columns table.fillers → AllFit (types_of table) (insert_row table places values)
+insert_ok table names places values wrong why is right none named known defaults =
+    let parts = neither (list_all (has_value table places) (all_columns table)) (length values == length places) (sym is ∙ passed wrong why right) in
+    insert_fits table names places values parts.0 (eqb-true (length values) (length places) parts.1) named none (each_by IsValue values known) defaults
 
 -- ---- UPDATE and DELETE
 

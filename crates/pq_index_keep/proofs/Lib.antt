@@ -1,5 +1,4 @@
 pub mod Changing
-pub mod CodedKeys
 pub mod Coding
 pub mod Counted
 pub mod Deleting

@@ -13,27 +13,29 @@ use Rattle.pq_base.specs.declared.number.Choice.{Choice}
 use Rattle.pq_base.specs.declared.number.Choice.TheVariants.{Whole, Stop}
 use Rattle.pq_base.specs.declared.refusal.Refusal.{Refusal}
 use Rattle.pq_base.specs.declared.refusal.Refusal.TheVariants as refusal
+use Rattle.pq_base.specs.declared.value.Value.{Value}
 use Rattle.pq_schema.specs.declared.definition.TableDef.{TableDef}
 use Rattle.pq_schema.specs.declared.query.Query.{Query}
+use Rattle.pq_schema.specs.declared.table.Column.{Column}
 use Rattle.pq_schema.specs.declared.table.Foreign.{Foreign}
 use Rattle.pq_schema.specs.declared.table.Index.{Index}
 use Rattle.pq_schema.specs.declared.table.Limit.{Limit}
 use Rattle.pq_schema.specs.declared.table.NewIndex.{NewIndex}
 use Rattle.pq_schema.specs.declared.table.Table.{Table}
 use Rattle.pq_schema.specs.Candidates.{Candidate, candidates, least}
-use Rattle.pq_schema.specs.Definitions.{bare_table, new_table}
+use Rattle.pq_schema.specs.Definitions.{column_of, bare_table, new_table, altered_table}
 use Rattle.pq_schema.specs.Relations.{relation_at, table_of, tied_set, order_rest, is_rest, part_of}
-use Rattle.pq_schema.specs.Schema.{Schema, with_new_index, with_wanted}
+use Rattle.pq_schema.specs.Schema.{Schema, with_new_index, with_wanted, with_new_column, with_added}
 use Rattle.pq_schema.specs.Sequences.{ascending_part, group_access, groups, with_group, serving_access, new_index}
 use Rattle.pq_schema.specs.Sound.{IsMade, IsMadeLimit, IsMadeForeign, AreMade}
 use Rattle.pq_schema.specs.Tables.{table_at, no_table}
 use Rattle.pq_schema.specs.Valid.{IsValid}
-use Rattle.pq_schema.specs.Valid.IsValid.{empty, then_table, then_query}
+use Rattle.pq_schema.specs.Valid.IsValid.{empty, then_table, then_query, then_column}
 use Rattle.pq_schema.specs.Wanted.{is_large, index_at, index_of, too_many_indexes, ChosenCandidate, with_index, chosen_of, IsWanted}
 use Rattle.pq_schema.proofs.Accepted.{all_groups, made_is}
 use Rattle.pq_schema.proofs.Groups.{IsAsBefore, group_index, groups_as_before}
 use Rattle.pq_schema.proofs.Soundness.{foreign_linked, all_made}
-use Rattle.pq_schema.proofs.Valid.{valid_made}
+use Rattle.pq_schema.proofs.Valid.{valid_made, column_parts}
 use Rattle.pq_index_keep.specs.Sound.{IsWritable, AreWritable}
 
 -- an index's own columns are at most those of a table and of an order
@@ -165,6 +167,12 @@ narrow_with_wanted tables (Some new) all narrow =
     let own : AreNarrow table = at_any AreNarrow tables new.table (All-nil IsNarrow) all in
     All-set AreNarrow tables (new.table - 1) (with_new_index table new.index) (All-push IsNarrow table.indexes new.index own narrow) all
 
+-- an added column leaves the indexes
+narrow_with_added : (tables : List Table) (number : ℕ) (column : Column) (filler : Value) → All AreNarrow tables → All AreNarrow (with_added tables number column filler)
+narrow_with_added tables number column filler all =
+    let table = table_at tables number in
+    All-set AreNarrow tables (number - 1) (with_new_column table column filler) (at_any AreNarrow tables number (All-nil IsNarrow) all) all
+
 -- each index of a valid schema has few columns
 pub valid_narrow : {s : Schema} → IsValid s → All (λ (t : Table). All (λ (index : Index). length index.cols ≤ 36) t.indexes) s.tables
 valid_narrow empty = All-nil AreNarrow
@@ -173,6 +181,9 @@ valid_narrow (then_table s def table v d made) =
 valid_narrow (then_query s query wanted v d) =
     let few = all_made (λ (t : Table). length t.columns ≤ 32) s.tables (λ number table is. is.few_columns) (valid_made v) in
     narrow_with_wanted s.tables wanted (valid_narrow v) (narrow_wanted s.tables query few d.resolved.few_order wanted d.chosen)
+valid_narrow (then_column s def next v is) =
+    subst (λ (x : Schema). All AreNarrow x.tables) (column_parts s def next is.accepted).1
+    (narrow_with_added s.tables (altered_table s def) (column_of def.column) def.filler (valid_narrow v))
 
 -- the rows of a valid schema's tables can be written
 pub valid_writable : {s : Schema} → IsValid s → AreWritable s.tables

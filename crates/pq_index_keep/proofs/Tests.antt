@@ -20,10 +20,10 @@ use Rattle.pq_schema.proofs.TypeKinds.{kinds_from_fit}
 use Rattle.pq_content.proofs.Values.{fit_at, key_of_kinds}
 use Rattle.pq_store.specs.Content.{Content, pairs_within}
 use Rattle.pq_index_keep.specs.Effects.{is_missing, is_full, names_key}
-use Rattle.pq_index_keep.specs.Groups.{group_key}
+use Rattle.pq_row_keys.specs.Groups.{group_key}
 use Rattle.pq_index_keep.specs.Promises.{HoldsRows}
 use Rattle.pq_index_keep.specs.Sound.{MayName}
-use Rattle.pq_index_keep.specs.Tested.{given_value}
+use Rattle.pq_schema.specs.Keys.{given_value}
 use Rattle.pq_index_keep.proofs.Counted.{given_at, given_all, counted}
 
 -- the value at a row's key

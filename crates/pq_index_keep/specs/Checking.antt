@@ -1,5 +1,5 @@
 -- The write of a statement, or the first refusal that is found by reading.
-use Rattle.std.specs.Prelude.{ℕ, Bool, not, ◌||◌, ◌==◌, nat_lt, List, [], ◌∷◌, map, length, Option, Some, None, if◌then◌else◌, Result, Err}
+use Rattle.std.specs.Prelude.{ℕ, Bool, not, ◌||◌, ◌==◌, nat_lt, List, [], ◌∷◌, map, length, slice_index_or, Option, Some, None, is_some, unwrap_or, if◌then◌else◌, Result, Err}
 use Rattle.std.specs.List.{list_all, list_any, range_with_len}
 use Rattle.pq_base.specs.Answers.{or_else}
 use Rattle.pq_base.specs.Values.{fits_type}
@@ -8,6 +8,7 @@ use Rattle.pq_base.specs.declared.refusal.Refusal.TheVariants as refusal
 use Rattle.pq_base.specs.declared.value.Value.{Value}
 use Rattle.pq_schema.specs.ColumnNames.{names_of, place_of, places_of, unknown_refusal, repeated_refusal, names_refusal}
 use Rattle.pq_schema.specs.Definitions.{refused_if, or_ok}
+use Rattle.pq_schema.specs.Rows.{no_value}
 use Rattle.pq_schema.specs.Schema.{Schema, find_table}
 use Rattle.pq_schema.specs.Tables.{table_at}
 use Rattle.pq_schema.specs.declared.table.Table.{Table}
@@ -16,7 +17,7 @@ use Rattle.pq_def_read.specs.declared.statement.Assign.{Assign}
 use Rattle.pq_def_read.specs.declared.statement.Statement.{Statement}
 use Rattle.pq_def_read.specs.declared.statement.Statement.TheVariants as statement
 use Rattle.pq_index_keep.specs.Sound.{is_among}
-use Rattle.pq_index_keep.specs.Tested.{given_value}
+use Rattle.pq_schema.specs.Keys.{given_value}
 use Rattle.pq_index_keep.specs.declared.write.SetCol.{SetCol}
 use Rattle.pq_index_keep.specs.declared.write.Write.{Write}
 use Rattle.pq_index_keep.specs.declared.write.Write.TheVariants as write
@@ -30,6 +31,7 @@ IsWriting (statement.Create def) = ⊥
 IsWriting (statement.Prepare name from) = ⊥
 IsWriting (statement.Explain from) = ⊥
 IsWriting (statement.Run name params after) = ⊥
+IsWriting (statement.Alter def) = ⊥
 IsWriting statement.Show = ⊥
 
 abbrev pub assign_name : Assign → List ℕ
@@ -72,12 +74,26 @@ abbrev pub insert_names_refusal : Table → Option (List (List ℕ)) → Option 
 insert_names_refusal table None = None
 insert_names_refusal table (Some names) = names_refusal table.columns names
 
--- a column is not given, or the number of values is another
+-- the default of an added column; a column of the table's definition has none
+abbrev pub default_at : Table → ℕ → Option Value
+default_at table col = slice_index_or table.fillers col None
+
+-- the column may be left out, since it has a default, or it is one of those that are given
+abbrev pub has_value : Table → List ℕ → ℕ → Bool
+has_value table places col = is_some (default_at table col) || is_among places col
+
+-- a column that was not added is not given, or the number of values is another
 abbrev pub is_insert_wrong : Table → List ℕ → List Value → Bool
-is_insert_wrong table places values = not (are_among (all_columns table) places) || not (length values == length places)
+is_insert_wrong table places values =
+    not (list_all (has_value table places) (all_columns table)) || not (length values == length places)
+
+-- the value that a column is given, or else its default
+abbrev pub inserted_value : Table → List ℕ → List Value → ℕ → Value
+inserted_value table places values col =
+    if is_among places col then given_value places values col else unwrap_or (default_at table col) no_value
 
 abbrev pub insert_row : Table → List ℕ → List Value → List Value
-insert_row table places values = map (given_value places values) (all_columns table)
+insert_row table places values = map (inserted_value table places values) (all_columns table)
 
 abbrev pub long_refusal : Table → List Value → Option Refusal
 long_refusal table row = refused_if (nat_lt 4096 (length (stored_code table row)))
@@ -159,4 +175,5 @@ checked_write schema (statement.Create def) = no_write
 checked_write schema (statement.Prepare name from) = no_write
 checked_write schema (statement.Explain from) = no_write
 checked_write schema (statement.Run name params after) = no_write
+checked_write schema (statement.Alter def) = no_write
 checked_write schema statement.Show = no_write

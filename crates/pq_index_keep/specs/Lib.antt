@@ -1,8 +1,6 @@
 pub mod Bounds
 pub mod Checking
-pub mod Coded
 pub mod Effects
-pub mod Groups
 pub mod Moved
 pub mod Promises
 pub mod Refusals

@@ -6,7 +6,6 @@ use Rattle.pq_base.specs.declared.value.Value.{Value}
 use Rattle.pq_base.specs.declared.value.Value.TheVariants as value
 use Rattle.pq_schema.specs.declared.table.Index.{Index}
 use Rattle.pq_schema.specs.declared.table.Table.{Table}
-pub use Rattle.pq_schema.specs.Keys.{given_value}
 use Rattle.pq_schema.specs.Sequences.{columns_of, index_sequence}
 use Rattle.pq_index_keep.specs.declared.write.SetCol.{SetCol}
 use Rattle.pq_index_keep.specs.declared.write.Scope.{Scope}

@@ -7,10 +7,9 @@ ghost use Rattle.pq_content.specs.Standing.{change_of};
 ghost use Rattle.pq_index_keep.specs.Moved.{moved_entry_changes};
 ghost use Rattle.pq_content.specs.Tables.{stored_code};
 
-use crate::keys::entry_of;
-use crate::rows::same_entry;
 use pq_base::{Bytes, List, NoMem, Row};
 use pq_row_code::{Change, encode_stored};
+use pq_row_keys::{entry_of, same_entry};
 use pq_schema::{Index, Table};
 use std::alloc::Global;
 

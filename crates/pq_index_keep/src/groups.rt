@@ -1,116 +1,24 @@
 //! The rows of a table that have given values at some columns, counted under the first sequence that
 //! begins with these columns.
-ghost use Rattle.std.specs.Prelude.{◌≡◌, ◌≤◌, length, min, IfOk, IfErr, IfSome, IsSome};
+ghost use Rattle.std.specs.Prelude.{◌≡◌, length, min, IfOk, IfErr, IfSome, IsSome};
 ghost use Rattle.pq_base.specs.Columns.{set_of};
 ghost use Rattle.pq_key_code.specs.KeyCode.{past_code};
 ghost use Rattle.pq_store.specs.Content.{pairs_within};
-ghost use Rattle.pq_schema.specs.Sequences.{index_numbered, group_access};
-ghost use Rattle.pq_schema.specs.Sound.{IsTable, AreColumns, AreParts};
+ghost use Rattle.pq_schema.specs.Sequences.{group_access};
+ghost use Rattle.pq_schema.specs.Sound.{IsTable, AreColumns};
 ghost use Rattle.pq_store.specs.Breaks.{IsAnswered};
-ghost use Rattle.pq_calls.specs.Keys.{sequence_key};
-ghost use Rattle.pq_index_keep.specs.Groups.{first_values, group_key};
+ghost use Rattle.pq_row_keys.specs.Groups.{group_key};
 ghost use Rattle.pq_calls.specs.Calls.{Uses, Fails};
 ghost use Rattle.pq_calls.specs.World.{Affords, no_damage};
 
-use crate::keys::put_first;
-use pq_base::{Bytes, ColSet, NoMem, Value};
+use pq_base::{Bytes, Value};
 use pq_calls::Calls;
-use pq_key_code::{entry_front, past, row_front};
-use pq_schema::{Access, Index, Table, columns_in, group_access};
+use pq_key_code::past;
+use pq_row_keys::group_key;
+use pq_schema::Table;
 use pq_store::{Broke, Store};
 use std::alloc::Global;
 use std::sync::ledger::Ledger;
-
-/// The beginning of the keys of the rows with these values at these columns, in the primary sequence.
-fn primary_key(
-    alloc: Global,
-    number: u8,
-    table: &Table,
-    cols: &[u8],
-    values: &[Value],
-) -> Result<Bytes, NoMem>
-    requires columns { AreColumns cols.now }
-    requires table { IsTable table.now }
-    ensures { IfOk result (λ key. key
-        ≡ sequence_key number table.now Access.Primary
-        (first_values table.now Access.Primary cols.now values.now)) }
-{
-    let mut front = row_front(alloc, number)?;
-    put_first(
-        alloc,
-        &mut front,
-        &[],
-        ColSet::empty(),
-        table.key.items(),
-        cols,
-        values,
-    )?;
-    Ok(front)
-}
-
-/// The index of this number, from 1.
-fn index_numbered(table: &Table, number: u8) -> &Index
-    requires table { IsTable table.now }
-    requires from_one { 1 ≤ number }
-    requires there { number ≤ length table.now.indexes }
-    ensures index { result.now ≡ index_numbered table.now number }
-    ensures parts { AreParts result.now.cols }
-{
-    &table.indexes.items()[number as usize - 1]
-}
-
-/// The same in the sequence of an index, by its number from 1.
-fn secondary_key(
-    alloc: Global,
-    number: u8,
-    table: &Table,
-    index: u8,
-    cols: &[u8],
-    values: &[Value],
-) -> Result<Bytes, NoMem>
-    requires columns { AreColumns cols.now }
-    requires table { IsTable table.now }
-    requires from_one { 1 ≤ index }
-    requires there { index ≤ length table.now.indexes }
-    ensures { IfOk result (λ key. key
-        ≡ sequence_key number table.now (Access.Secondary index)
-        (first_values table.now (Access.Secondary index) cols.now values.now)) }
-{
-    let parts = index_numbered(table, index).cols.items();
-    let mut front = entry_front(alloc, number, index)?;
-    put_first(
-        alloc,
-        &mut front,
-        parts,
-        columns_in(parts),
-        table.key.items(),
-        cols,
-        values,
-    )?;
-    Ok(front)
-}
-
-/// The beginning of the keys of the rows with these values at these columns.
-#[tactic(auto, unfolding(crate::specs::Groups::group_key))]
-pub fn group_key(
-    alloc: Global,
-    number: u8,
-    table: &Table,
-    cols: &[u8],
-    values: &[Value],
-) -> Result<Bytes, NoMem>
-    requires columns { AreColumns cols.now }
-    requires table { IsTable table.now }
-    requires access { IsSome (group_access table.now (set_of cols.now)) }
-    ensures { IfOk result (λ key. key ≡ group_key number table.now cols.now values.now) }
-{
-    match group_access(table, ColSet::of(cols)) {
-        Some(Access::Secondary(index)) => {
-            secondary_key(alloc, number, table, index, cols, values)
-        }
-        Some(Access::Primary) | None => primary_key(alloc, number, table, cols, values),
-    }
-}
 
 /// How many rows have these values at these columns, at most `cap`.
 pub(crate) fn count_group<S: Store<L>, L: Ledger>(

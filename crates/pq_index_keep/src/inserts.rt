@@ -1,20 +1,22 @@
 //! The write of an INSERT, or the first refusal that is found by reading.
-ghost use Rattle.std.specs.Prelude.{◌≡◌, ◌≤◌, All, length, IfOk};
+ghost use Rattle.std.specs.Prelude.{◌≡◌, ◌≤◌, All, length, map, is_some, unwrap_or, IfOk};
+ghost use Rattle.std.specs.List.{list_all};
 ghost use Rattle.pq_base.specs.Answers.{Answers, Passes};
 ghost use Rattle.pq_base.specs.Values.{AllFit};
 ghost use Rattle.pq_schema.specs.Definitions.{or_ok};
-ghost use Rattle.pq_schema.specs.Sound.{IsSized};
+ghost use Rattle.pq_schema.specs.Rows.{no_value};
+ghost use Rattle.pq_schema.specs.Sound.{AreDefaults, IsSized};
 ghost use Rattle.pq_schema.specs.Tables.{table_at};
 ghost use Rattle.pq_content.specs.Tables.{IsTableNumber, types_of, stored_code};
 ghost use Rattle.pq_row_code.specs.RowCode.{IsShort};
-ghost use Rattle.pq_index_keep.specs.Checking.{all_columns, insert_names, insert_places, insert_names_refusal, is_insert_wrong, insert_row, long_refusal, insert_values_refusal, insert_checked};
+ghost use Rattle.pq_index_keep.specs.Checking.{all_columns, default_at, has_value, inserted_value, insert_names, insert_places, insert_names_refusal, is_insert_wrong, insert_row, long_refusal, insert_values_refusal, insert_checked};
 ghost use Rattle.pq_index_keep.specs.Sound.{AreWritable, IsWrite};
 
-use crate::column_values::{are_among, check_fit, refuse_columns};
-use crate::rows::all_given;
+use crate::column_values::{check_fit, is_among, refuse_columns};
 use crate::write::Write;
-use pq_base::{List, NoMem, PText, Refusal, Row, Stopped, Value, known_values};
+use pq_base::{List, NoMem, PText, Refusal, Row, Stopped, Value, known_values, no_value};
 use pq_row_code::stored_code_len;
+use pq_row_keys::given;
 use pq_schema::{Catalog, Table, check_names, names_of, places_of};
 use std::alloc::Global;
 
@@ -79,6 +81,32 @@ fn insert_places(
     }
 }
 
+/// Whether the column was added, so that it has a default.
+fn has_default(table: &Table, col: u8) -> bool
+    ensures { result ≡ is_some (default_at table.now col) }
+{
+    matches!(table.fillers.items().get(col as usize), Some(Some(_)))
+}
+
+/// The default of an added column.
+fn default_value(alloc: Global, table: &Table, col: u8) -> Result<Value, NoMem>
+    ensures { IfOk result (λ value. value ≡ unwrap_or (default_at table.now col) no_value) }
+{
+    match table.fillers.items().get(col as usize) {
+        Some(Some(filler)) => filler.copy(alloc),
+        _ => Ok(no_value()),
+    }
+}
+
+/// Whether each column has a value, where these are given.
+fn all_have_values(table: &Table, places: &[u8], columns: &[u8]) -> bool
+    ensures { result ≡ list_all (has_value table.now places.now) columns.now }
+{
+    columns
+        .iter()
+        .all(|col| has_default(table, *col) || is_among(places, *col))
+}
+
 fn is_insert_wrong(
     alloc: Global,
     table: &Table,
@@ -89,7 +117,41 @@ fn is_insert_wrong(
     ensures { IfOk result (λ wrong. wrong ≡ is_insert_wrong table.now places.now values.now) }
 {
     let all = all_columns(alloc, table)?;
-    Ok(!are_among(all.items(), places) || values.len() != places.len())
+    Ok(!all_have_values(table, places, all.items()) || values.len() != places.len())
+}
+
+/// The value that the column is given, or else its default.
+fn inserted_value(
+    alloc: Global,
+    table: &Table,
+    places: &[u8],
+    values: &[Value],
+    col: u8,
+) -> Result<Value, NoMem>
+    ensures { IfOk result (λ value. value ≡ inserted_value table.now places.now values.now col) }
+{
+    if is_among(places, col) {
+        given(alloc, places, values, col)
+    } else {
+        default_value(alloc, table, col)
+    }
+}
+
+/// The values that some columns get.
+fn inserted_values(
+    alloc: Global,
+    table: &Table,
+    places: &[u8],
+    values: &[Value],
+    columns: &[u8],
+) -> Result<Row, NoMem>
+    ensures { IfOk result (λ row. row ≡ map (inserted_value table.now places.now values.now) columns.now) }
+{
+    let mut row = List::with_room(alloc, columns.len())?;
+    for col in columns {
+        row.push(alloc, inserted_value(alloc, table, places, values, *col)?)?;
+    }
+    Ok(row)
 }
 
 fn insert_row(alloc: Global, table: &Table, places: &[u8], values: &[Value]) -> Result<Row, NoMem>
@@ -97,7 +159,7 @@ fn insert_row(alloc: Global, table: &Table, places: &[u8], values: &[Value]) -> 
     ensures { IfOk result (λ row. row ≡ insert_row table.now places.now values.now) }
 {
     let all = all_columns(alloc, table)?;
-    all_given(alloc, places, values, all.items())
+    inserted_values(alloc, table, places, values, all.items())
 }
 
 /// Refuses a row whose code is too long.
@@ -124,6 +186,7 @@ fn check_insert_values(
 ) -> Result<Row, Stopped>
     requires few { length table.now.columns ≤ 32 }
     requires sized { All (λ column. IsSized column.ty) table.now.columns }
+    requires defaults { AreDefaults table.now.columns table.now.fillers }
     requires named { length names.now ≡ length places.now }
     ensures answer { Answers result (or_ok (insert_values_refusal table.now names.now places.now values.now)
         (insert_row table.now places.now values.now)) }

@@ -10,10 +10,10 @@ ghost use Rattle.pq_index_keep.specs.Checking.{names_in, values_in, keyed_names_
 ghost use Rattle.pq_index_keep.specs.Sound.{is_among, AreWritable, IsWrite};
 
 use crate::column_values::{are_among, check_fit, is_among, refuse_columns};
-use crate::rows::all_given;
 use crate::write::{SetCol, Write};
 use pq_base::{List, NoMem, PText, Row, Stopped, known_value};
 use pq_def_read::Assign;
+use pq_row_keys::all_given;
 use pq_schema::{Catalog, Table, check_known, check_repeated, place_of, places_of};
 use std::alloc::Global;
 

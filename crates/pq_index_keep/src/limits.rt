@@ -18,10 +18,10 @@ ghost use Rattle.pq_index_keep.specs.Promises.{HoldsRows};
 ghost use Rattle.pq_index_keep.specs.Tested.{touches};
 
 use crate::groups::count_group;
-use crate::rows::{null_at, same_cells, values_at};
 use crate::write::Scope;
 use pq_base::Row;
 use pq_calls::Calls;
+use pq_row_keys::{null_at, same_cells, values_at};
 use pq_schema::{Limit, Table};
 use pq_store::{Broke, Store};
 use std::alloc::Global;

@@ -13,11 +13,10 @@ ghost use Rattle.pq_calls.specs.World.{Affords, no_damage};
 ghost use Rattle.pq_index_keep.specs.Promises.{HoldsRows};
 ghost use Rattle.pq_index_keep.specs.Tested.{touches};
 
-use crate::keys::key_at;
-use crate::rows::null_at;
 use crate::write::Scope;
 use pq_base::Row;
 use pq_calls::Calls;
+use pq_row_keys::{key_at, null_at};
 use pq_schema::Foreign;
 use pq_store::{Broke, Store};
 use std::alloc::Global;

@@ -18,13 +18,13 @@ ghost use Rattle.pq_index_keep.specs.Refusals.{RefusesAs};
 ghost use Rattle.pq_index_keep.specs.Sound.{AreWritable, IsInsert, IsDelete};
 
 use crate::changes::{puts, removals};
-use crate::keys::key_at;
 use crate::references::child_refusal;
 use crate::refusals::insert_refusal;
 use crate::write::{Scope, Write};
 use pq_base::{Bytes, List, NoMem, Refusal, Row};
 use pq_calls::{Calls, StoredRow};
 use pq_row_code::Change;
+use pq_row_keys::key_at;
 use pq_schema::{Catalog, Table};
 use pq_store::{Broke, Store};
 use std::alloc::Global;

@@ -1,5 +1,0 @@
-use Rattle.std.proofs.Common.{length}
-use Rattle.pq_index_keep.proofs.keys.+put_given.Given as goal
-
-abbrev pub decreases-put_given : goal.decreases-put_given
-decreases-put_given l = length l.cols.now
