@@ -13,7 +13,7 @@ use Rattle.pq_store.specs.Breaks.{IsUndamaged}
 use Rattle.pq_store.specs.declared.damage.Broke.{Broke}
 use Rattle.pq_store.specs.declared.damage.Broke.TheVariants.{Failed, NoMem, Damaged}
 use Rattle.pq_session.specs.declared.session.Started.{Started}
-use Rattle.pq_statement.specs.Actions.{Action, Creates, Writes, Prepares, Explains, Runs, Shows, action_of}
+use Rattle.pq_statement.specs.Actions.{Action, Creates, Adds, Writes, Prepares, Explains, Runs, Shows, action_of}
 use Rattle.pq_step.specs.Matches.{Matches}
 use Rattle.pq_step.specs.Model.{Model}
 use Rattle.pq_opening.specs.Opening.{IsOpening}
@@ -29,6 +29,7 @@ use Rattle.pq_frozen.specs.Reading.{AllRead, AreAnswers, model_behind}
 
 stays : (m : Model) (number : ℕ) (asked : Result Action Refusal) → OnlyReads asked → (acted_as m number asked).model ≡ m
 stays m number (Ok (Creates table)) reads = absurd reads
+stays m number (Ok (Adds def)) reads = absurd reads
 stays m number (Ok (Writes write)) reads = absurd reads
 stays m number (Ok (Prepares plan)) reads = absurd reads
 stays m number (Ok (Explains plan)) reads = refl

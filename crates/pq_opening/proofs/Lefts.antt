@@ -6,18 +6,21 @@ use Rattle.std.proofs.lemmas.Bool.{cases_eq}
 use Rattle.std.proofs.lemmas.List.{length-append, length-set, take_all, get_or-set_same, get_or-set_other}
 use Rattle.std.proofs.lemmas.Option.{none-some, same_Some}
 use Rattle.pq_key_code.specs.KeyCode.{intent_key}
-use Rattle.pq_schema.specs.declared.made.Definition.TheVariants.{OfTable, OfQuery}
+use Rattle.pq_schema.specs.declared.made.Definition.TheVariants.{OfTable, OfQuery, OfColumn}
+use Rattle.pq_schema.specs.declared.definition.AlterDef.{AlterDef}
 use Rattle.pq_schema.specs.declared.made.Made.{Made}
 use Rattle.pq_schema.specs.declared.query.Query.{Query}
 use Rattle.pq_schema.specs.declared.table.NewIndex.{NewIndex}
 use Rattle.pq_schema.specs.declared.table.Table.{Table}
+use Rattle.pq_schema.specs.Definitions.{altered_schema, altered_table}
 use Rattle.pq_schema.specs.Schema.{Schema, made_of, with_new_index, with_wanted}
 use Rattle.pq_schema.specs.Sequences.{index_numbered, no_index}
 use Rattle.pq_schema.specs.Sound.{IsTable}
 use Rattle.pq_schema.specs.Tables.{table_at, no_table}
 use Rattle.pq_schema.specs.Valid.{IsValid, IsDefined}
-use Rattle.pq_schema.specs.Valid.IsValid.{empty, then_table, then_query}
+use Rattle.pq_schema.specs.Valid.IsValid.{empty, then_table, then_query, then_column}
 use Rattle.pq_schema.proofs.Soundness.{valid_tables}
+use Rattle.pq_schema.proofs.Valid.{column_parts}
 use Rattle.pq_intent.specs.Spending.{TakesAtMost}
 use Rattle.pq_store.specs.Breaks.{IsUndamaged}
 use Rattle.pq_store.specs.Counts.{Counts}
@@ -55,10 +58,15 @@ pub record Came (schema : Schema) (made : Made) : Type 0 where
   pub is : schema ≡ next_schema earlier query new
   pub made_is : made ≡ made_of new
 
+-- a column's definition makes none
+column_made : (s : Schema) (def : AlterDef) → last_made (altered_schema s def) ≡ None
+column_made s def = ap made_by (at_end s.definitions (OfColumn (altered_table s def) (length (table_at s.tables (altered_table s def)).columns)))
+
 pub came : (schema : Schema) → IsValid schema → (made : Made) → last_made schema ≡ Some made → Came schema made
 came _ empty made last = absurd (none-some made last)
 came _ (then_table s def table v d is) made last = absurd (none-some made (ap made_by (sym (at_end s.definitions (OfTable (length s.tables + 1) (length table.columns) (length table.indexes)))) ∙ last))
 came _ (then_query s query None v d) made last = absurd (none-some made (ap made_by (sym (at_end s.definitions (OfQuery query None))) ∙ last))
+came _ (then_column s def next v is) made last = absurd (none-some made (sym (column_made s def) ∙ ap last_made (column_parts s def next is.accepted).1 ∙ last))
 came _ (then_query s query (Some new) v d) made last = record {
   earlier = s;
   query = query;

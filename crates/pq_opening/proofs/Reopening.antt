@@ -4,10 +4,13 @@ use Rattle.std.specs.Prelude.{is_some, option_map, option_and_then}
 use Rattle.std.specs.Str.{bytes_eq, is_utf8}
 use Rattle.std.proofs.lemmas.List.{take_all, length-append}
 use Rattle.std.proofs.lemmas.Slice.Eq.{bytes_eq-Decides}
+use Rattle.pq_schema.specs.declared.definition.AlterDef.{AlterDef}
 use Rattle.pq_schema.specs.declared.made.Definition.{Definition}
+use Rattle.pq_schema.specs.Definitions.{new_column}
 use Rattle.pq_schema.specs.Schema.{Schema, empty_schema, definition_at, with_table, with_query}
 use Rattle.pq_schema.specs.Valid.{IsValid}
-use Rattle.pq_schema.specs.Valid.IsValid.{empty, then_table, then_query}
+use Rattle.pq_schema.specs.Valid.IsValid.{empty, then_table, then_query, then_column}
+use Rattle.pq_schema.proofs.Valid.{column_parts}
 use Rattle.pq_key_code.specs.KeyCode.{catalog_key}
 use Rattle.pq_print.specs.Canonical.{definition_text}
 use Rattle.pq_content.specs.Pairs.{Pair}
@@ -22,10 +25,10 @@ use Rattle.pq_step.specs.declared.format.Mark.TheVariants.{Ready, Building}
 use Rattle.pq_opening.specs.Opening.{SchemaAndMark, none_added, has_last_text, if_formatted, text_adds, pair_adds, opened_by, added_from, catalog_in}
 use Rattle.pq_step.specs.Stands.{Holds, content_of, value_at, catalog_pairs, last_made, last_query, earlier_pairs}
 use Rattle.pq_step.proofs.Catalogs.{are_catalog, catalog_rises, pairs_length}
-use Rattle.pq_step.proofs.Definitions.{table_pairs, query_pairs}
+use Rattle.pq_step.proofs.Definitions.{table_pairs, query_pairs, column_pairs}
 use Rattle.pq_opening.proofs.Lefts.{catalog_of_filling, last_pairs}
 use Rattle.pq_step.proofs.Made.{made_of, small_of}
-use Rattle.pq_opening.proofs.Rereading.{IsRead, table_read, query_read}
+use Rattle.pq_opening.proofs.Rereading.{IsRead, table_read, query_read, column_read}
 
 -- ---- one more pair
 
@@ -81,6 +84,19 @@ adds schema next n read last =
 last_number : (definitions : List Definition) (last : Definition) → length (definitions ++ last ∷ []) ≡ length definitions + 1
 last_number definitions last = omega (arith, length-append definitions (last ∷ []))
 
+-- the schema with a column has one definition and one pair more
+module _ (schema : Schema) (def : AlterDef) (next : Schema) (valid : IsValid schema) (accepted : new_column schema def ≡ Ok next) where
+  column_last : length next.definitions ≡ length schema.definitions + 1
+  column_last =
+      subst (λ (s : Schema). length s.definitions ≡ length schema.definitions + 1) (column_parts schema def next accepted).1
+      (last_number schema.definitions _)
+
+  column_ends : catalog_pairs next ≡ catalog_pairs schema ++ (catalog_key (length schema.definitions + 1), value_at next (length schema.definitions + 1)) ∷ []
+  column_ends =
+      let parts = column_parts schema def next accepted in
+      subst (λ (s : Schema). catalog_pairs s ≡ catalog_pairs schema ++ (catalog_key (length schema.definitions + 1), value_at s (length schema.definitions + 1)) ∷ []) parts.1
+      (column_pairs schema def valid parts.0)
+
 pub reopened : (schema : Schema) → IsValid schema → added_from none_added (catalog_pairs schema) ≡ Ok (schema, Ready)
 unfolding added_from
 reopened _ empty = refl
@@ -96,6 +112,11 @@ reopened _ (then_query schema query wanted valid defined) =
     subst (λ (ps : List Pair). added_from none_added ps ≡ Ok (next, Ready)) (sym (query_pairs schema query wanted valid defined))
     (opened_end _ next (catalog_pairs schema) none_added schema (reopened schema valid)
     (adds schema next n (query_read schema query wanted valid defined) (last_number schema.definitions _)))
+reopened _ (then_column schema def next valid is) =
+    let n = length schema.definitions + 1 in
+    subst (λ (ps : List Pair). added_from none_added ps ≡ Ok (next, Ready)) (sym (column_ends schema def next valid is.accepted))
+    (opened_end _ next (catalog_pairs schema) none_added schema (reopened schema valid)
+    (adds schema next n (column_read schema def next valid is) (column_last schema def next valid is.accepted)))
 
 -- the catalog of a model's content has the definitions' pairs
 pub catalog_of : (m : Model) → IsValid m.schema → catalog_in (content_of m) ≡ catalog_pairs m.schema

@@ -12,7 +12,7 @@ use Rattle.pq_def_read.specs.declared.statement.Statement.TheVariants as stateme
 use Rattle.pq_def_read.specs.Reading.{statement_of}
 use Rattle.pq_key_code.specs.KeyCode.{catalog_key, intent_key}
 use Rattle.pq_schema.specs.declared.table.Table.{Table}
-use Rattle.pq_schema.specs.Definitions.{new_table, new_query}
+use Rattle.pq_schema.specs.Definitions.{new_table, new_query, new_column}
 use Rattle.pq_schema.specs.Schema.{Schema, empty_schema, with_table}
 use Rattle.pq_schema.specs.declared.made.Made.{Made}
 use Rattle.pq_schema.specs.Sequences.{index_numbered}
@@ -98,6 +98,7 @@ abbrev pub defined_by : Schema → List ℕ → List Token → Statement → Opt
 defined_by schema text tokens (statement.Create def) = with_made schema (new_table schema def)
 defined_by schema text tokens (statement.Prepare name from) =
     with_planned schema (plan_from schema name text tokens from)
+defined_by schema text tokens (statement.Alter def) = result_ok (new_column schema def)
 defined_by schema text tokens (statement.Insert table cols values) = None
 defined_by schema text tokens (statement.Update table sets key) = None
 defined_by schema text tokens (statement.Delete table key) = None

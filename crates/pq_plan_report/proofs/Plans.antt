@@ -19,7 +19,7 @@ use Rattle.pq_text.specs.declared.token.Token.{Token}
 use Rattle.pq_def_read.specs.declared.statement.Statement.{Statement}
 use Rattle.pq_def_read.specs.declared.statement.Statement.TheVariants as statement
 use Rattle.pq_query_read.specs.Trying.{◌>>=◌, passed_unless}
-use Rattle.pq_statement.specs.Actions.{Action, Creates, Writes, Prepares, Explains, Runs, Shows, action_from, action_of, asked_by}
+use Rattle.pq_statement.specs.Actions.{Action, Creates, Adds, Writes, Prepares, Explains, Runs, Shows, action_from, action_of, asked_by}
 use Rattle.pq_step.specs.Checks.{check_step, checked_as}
 use Rattle.pq_statement.specs.Planning.{PlannedDefinition, arranged_from, as_it_is, definable, explained_from, explained_name, prepared_from}
 use Rattle.pq_print.specs.Report.{is_refusal, printed_report}
@@ -72,6 +72,7 @@ module _ (schema : Schema) (told : List ℕ) where
 
 abbrev pub IsOther : Statement → Type 0
 IsOther (statement.Create def) = Unit {0}
+IsOther (statement.Alter def) = Unit {0}
 IsOther (statement.Prepare name from) = ⊥
 IsOther (statement.Insert table cols values) = Unit {0}
 IsOther (statement.Update table sets key) = Unit {0}
@@ -87,6 +88,7 @@ module _ (schema : Schema) where
 
   by_other : (text : List ℕ) (tokens : List Token) (read : Statement) → IsOther read → TellsAsked schema (asked_by schema text tokens read) []
   by_other text tokens (statement.Create def) is = none_told Creates _ (λ _. refl)
+  by_other text tokens (statement.Alter def) is = none_told (λ (next : Schema). Adds def) _ (λ _. refl)
   by_other text tokens (statement.Prepare name from) is = absurd is
   by_other text tokens (statement.Insert table cols values) is = none_told Writes _ (λ _. refl)
   by_other text tokens (statement.Update table sets key) is = none_told Writes _ (λ _. refl)
@@ -110,6 +112,7 @@ module _ (schema : Schema) where
   -- what is told of a plan sums to its bound
   pub summed_of : (asked : Result Action Refusal) (told : List ℕ) → TellsAsked schema asked told → IsSummed schema asked
   summed_of (Ok (Creates table)) told tells = tt
+  summed_of (Ok (Adds def)) told tells = tt
   summed_of (Ok (Writes write)) told tells = tt
   summed_of (Ok (Prepares plan)) told tells = tells.sums
   summed_of (Ok (Explains plan)) told tells = tells.sums
@@ -119,6 +122,7 @@ module _ (schema : Schema) where
 
   plan_of : (action : Action) (told : List ℕ) → TellsAsked schema (Ok action) told → told ≡ asked_plan schema (Ok action)
   plan_of (Creates table) told tells = tells
+  plan_of (Adds def) told tells = tells
   plan_of (Writes write) told tells = tells
   plan_of (Prepares plan) told tells = tells.text_is
   plan_of (Explains plan) told tells = tells.text_is

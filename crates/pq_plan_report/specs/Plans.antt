@@ -7,7 +7,7 @@ use Rattle.pq_plan.specs.Nodes.{plan_nodes}
 use Rattle.pq_plan_lines.specs.Lines.{plan_lines, sum_of}
 use Rattle.pq_plan_lines.specs.Texts.{line_text}
 use Rattle.pq_plan_lines.specs.declared.node_line.NodeLine.{NodeLine}
-use Rattle.pq_statement.specs.Actions.{Action, Creates, Writes, Prepares, Explains, Runs, Shows}
+use Rattle.pq_statement.specs.Actions.{Action, Creates, Adds, Writes, Prepares, Explains, Runs, Shows}
 use Rattle.pq_statement.specs.Planning.{PlannedDefinition}
 
 -- the nodes of the plan, from the innermost on, with what each costs and gives
@@ -20,6 +20,7 @@ plan_text tables plan = flat_map (line_text tables plan.query plan.chosen.wanted
 -- of what is asked for: just a query that is prepared or explained has a plan to be told
 abbrev pub asked_plan : Schema → Result Action Refusal → List ℕ
 asked_plan schema (Ok (Creates table)) = []
+asked_plan schema (Ok (Adds def)) = []
 asked_plan schema (Ok (Writes write)) = []
 asked_plan schema (Ok (Prepares plan)) = plan_text schema.tables plan
 asked_plan schema (Ok (Explains plan)) = plan_text schema.tables plan
@@ -36,6 +37,7 @@ SumsToBound tables plan = sum_of (lines_of tables plan) ≡ plan.chosen.best.bou
 -- of a query that is prepared or explained
 abbrev pub IsSummed : Schema → Result Action Refusal → Type 0
 IsSummed schema (Ok (Creates table)) = Unit {0}
+IsSummed schema (Ok (Adds def)) = Unit {0}
 IsSummed schema (Ok (Writes write)) = Unit {0}
 IsSummed schema (Ok (Prepares plan)) = SumsToBound schema.tables plan
 IsSummed schema (Ok (Explains plan)) = SumsToBound schema.tables plan
@@ -58,6 +60,7 @@ TellsFound tables (Err why) text = Unit {0}
 -- that of what is asked for, where it is not refused
 abbrev pub TellsAsked : Schema → Result Action Refusal → List ℕ → Type 0
 TellsAsked schema (Ok (Creates table)) text = text ≡ []
+TellsAsked schema (Ok (Adds def)) text = text ≡ []
 TellsAsked schema (Ok (Writes write)) text = text ≡ []
 TellsAsked schema (Ok (Prepares plan)) text = TellsPlan schema.tables plan text
 TellsAsked schema (Ok (Explains plan)) text = TellsPlan schema.tables plan text

@@ -104,6 +104,7 @@ fn statement_plan(
             query_plan(alloc, catalog, name, text, tokens, from)
         }
         Statement::Create(_)
+        | Statement::Alter(_)
         | Statement::Insert { .. }
         | Statement::Update { .. }
         | Statement::Delete { .. }

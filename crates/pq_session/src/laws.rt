@@ -3,6 +3,7 @@ ghost use Rattle.std.specs.Prelude.{◌≡◌, ◌+◌, ◌≤◌, ℕ, List, []
 ghost use Rattle.std.specs.FinMap.{empty};
 ghost use Rattle.pq_base.specs.declared.refusal.Refusal.TheVariants.{NoBound, Syntax};
 ghost use Rattle.pq_base.specs.declared.value.Value.{Value};
+ghost use Rattle.pq_schema.specs.declared.definition.AlterDef.{AlterDef};
 ghost use Rattle.pq_schema.specs.declared.definition.TableDef.{TableDef};
 ghost use Rattle.pq_schema.specs.declared.query.Query.{Query};
 ghost use Rattle.pq_schema.specs.declared.table.NewIndex.{NewIndex};
@@ -10,7 +11,7 @@ ghost use Rattle.pq_schema.specs.declared.table.Table.{Table};
 ghost use Rattle.pq_schema.specs.Definitions.{new_table};
 ghost use Rattle.pq_schema.specs.Names.{IsTableDef};
 ghost use Rattle.pq_schema.specs.Schema.{Schema, IsQueryDefinition, definition_at, empty_schema, find_query, query_at, with_table, with_query};
-ghost use Rattle.pq_schema.specs.Valid.{IsValid, IsDefined};
+ghost use Rattle.pq_schema.specs.Valid.{IsValid, IsDefined, IsAddition};
 ghost use Rattle.pq_schema.specs.Wanted.{no_bound};
 ghost use Rattle.pq_stop_push.specs.Having.{has_candidate};
 ghost use Rattle.pq_arrange.specs.Arrange.{arranged_query};
@@ -87,6 +88,11 @@ pub fn reading_back_law()
         → IsDefined schema query wanted
         → text_defines schema (definition_text (with_query schema query wanted) (length schema.definitions + 1))
         ≡ Some (with_query schema query wanted) }
+
+    // Of an added column over any valid schema, with its default.
+    ensures columns { (schema : Schema) (def : AlterDef) (next : Schema) → IsValid schema
+        → IsAddition schema def next
+        → text_defines schema (definition_text next (length schema.definitions + 1)) ≡ Some next }
 {}
 
 /// A content opens to one schema, and to one set of rows of each table: the same content, whether it has an

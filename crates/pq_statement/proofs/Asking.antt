@@ -32,6 +32,7 @@ writes_asked schema text tokens (statement.Insert table cols values) is = refl
 writes_asked schema text tokens (statement.Update table sets key) is = refl
 writes_asked schema text tokens (statement.Delete table key) is = refl
 writes_asked schema text tokens (statement.Create def) is = absurd is
+writes_asked schema text tokens (statement.Alter def) is = absurd is
 writes_asked schema text tokens (statement.Prepare name from) is = absurd is
 writes_asked schema text tokens (statement.Explain from) is = absurd is
 writes_asked schema text tokens (statement.Run name params after) is = absurd is

@@ -12,7 +12,7 @@ use Rattle.pq_def_read.specs.Grammar.{Spells}
 use Rattle.pq_def_read.specs.Reading.{statement_of}
 use Rattle.pq_def_read.specs.declared.statement.Statement.{Statement}
 use Rattle.pq_def_read.specs.declared.statement.Statement.TheVariants as statement
-use Rattle.pq_reread.proofs.Named.{created_named, prepared_named, spelled}
+use Rattle.pq_reread.proofs.Named.{altered_named, created_named, prepared_named, spelled}
 use Rattle.pq_statement.specs.Names.{IsNamedStatement}
 
 -- a part of one token
@@ -33,6 +33,7 @@ explained_within text tokens from h =
 
 pub named_statement : (text : List ℕ) (tokens : List Token) (read : Statement) → tokens ≡ tokens_of text → statement_of text tokens ≡ Ok read → IsNamedStatement tokens read
 named_statement text tokens (statement.Create def) same read = created_named text def (ap (statement_of text) (sym same) ∙ read)
+named_statement text tokens (statement.Alter def) same read = altered_named text def (ap (statement_of text) (sym same) ∙ read)
 named_statement text tokens (statement.Prepare name from) same read =
     (prepared_named text name from (ap (statement_of text) (sym same) ∙ read), prepared_within text tokens name from (spelled text tokens (statement.Prepare name from) read))
 named_statement text tokens (statement.Insert table cols values) same read = tt

@@ -11,26 +11,27 @@ use Rattle.pq_base.specs.declared.refusal.Refusal.{Refusal}
 use Rattle.pq_base.specs.declared.refusal.Refusal.TheVariants as refusal
 use Rattle.pq_base.proofs.Members.{each_append}
 use Rattle.pq_schema.specs.Candidates.{Candidate, candidates, least}
+use Rattle.pq_schema.specs.Definitions.{altered_table, column_of}
 use Rattle.pq_schema.specs.Relations.{relation_at, table_of, tied_set, order_rest}
 use Rattle.pq_schema.specs.Resolved.{IsResolved}
-use Rattle.pq_schema.specs.Schema.{Schema, def_of, with_new_index, with_wanted, made_of}
+use Rattle.pq_schema.specs.Schema.{Schema, def_of, with_added, with_new_column, with_new_index, with_wanted, made_of}
 use Rattle.pq_schema.specs.Sequences.{serving_access, new_index}
 use Rattle.pq_schema.specs.Sound.{IsMade, AreMade}
 use Rattle.pq_schema.specs.Tables.{table_at}
 use Rattle.pq_schema.specs.Valid.{IsValid}
-use Rattle.pq_schema.specs.Valid.IsValid.{empty, then_table, then_query}
+use Rattle.pq_schema.specs.Valid.IsValid.{empty, then_table, then_query, then_column}
 use Rattle.pq_schema.specs.Wanted.{ChosenCandidate, IsWanted, is_large, too_many_indexes, index_at, index_of, with_index, chosen_of}
 use Rattle.pq_schema.specs.declared.made.Def.{Def}
 use Rattle.pq_schema.specs.declared.made.Def.TheVariants as def
 use Rattle.pq_schema.specs.declared.made.Definition.{Definition}
-use Rattle.pq_schema.specs.declared.made.Definition.TheVariants.{OfTable, OfQuery}
+use Rattle.pq_schema.specs.declared.made.Definition.TheVariants.{OfTable, OfQuery, OfColumn}
 use Rattle.pq_schema.specs.declared.query.Query.{Query}
 use Rattle.pq_schema.specs.declared.table.Index.{Index}
 use Rattle.pq_schema.specs.declared.table.KeyPart.{KeyPart}
 use Rattle.pq_schema.specs.declared.table.NewIndex.{NewIndex}
 use Rattle.pq_schema.specs.declared.table.Table.{Table}
 use Rattle.pq_schema.proofs.Soundness.{all_made}
-use Rattle.pq_schema.proofs.Valid.{valid_made, wanted_fits}
+use Rattle.pq_schema.proofs.Valid.{column_parts, valid_made, wanted_fits}
 use Rattle.pq_print.specs.declared.report.Line.{Line}
 use Rattle.pq_statement.specs.Lines.{AreOf, AreInside, AreShown, IsMadeOf, IsShowable, IsLined}
 use Rattle.pq_statement.proofs.Lists.{each_by, each_weaker}
@@ -112,6 +113,7 @@ made_more : (tables more : List Table) → length tables ≤ length more → (d 
 made_more tables more long (def.Table t made) is = (is.0, omega (arith, is.1, long))
 made_more tables more long (def.Query None) is = tt
 made_more tables more long (def.Query (Some made)) is = ((is.0.0, omega (arith, is.0.1, long)), is.1)
+made_more tables more long (def.Added t col) is = tt
 
 abbrev AreMadeOf : List Table → List Definition → Type 0
 AreMadeOf tables definitions = AllByRecursion (λ definition. IsMadeOf tables (def_of definition)) definitions
@@ -132,6 +134,15 @@ defined_made _ (then_query schema query wanted valid defined) =
     let long : length more ≡ length schema.tables = length_wanted schema.tables wanted in
     each_append (λ (d : Definition). IsMadeOf more (def_of d)) schema.definitions (OfQuery query (option_map made_of wanted) ∷ [])
     (all_more schema.tables more (omega (arith, long)) schema.definitions (defined_made schema valid)) (made_wanted schema.tables query wanted defined.resolved defined.chosen, tt)
+defined_made _ (then_column schema d next valid is) =
+    let parts = column_parts schema d next is.accepted in
+    let number = altered_table schema d in
+    let table = table_at schema.tables number in
+    let more = with_added schema.tables number (column_of d.column) d.filler in
+    let long : length more ≡ length schema.tables = length-set schema.tables (number - 1) (with_new_column table (column_of d.column) d.filler) in
+    subst (λ (s : Schema). AreMadeOf s.tables s.definitions) parts.1
+    (each_append (λ (one : Definition). IsMadeOf more (def_of one)) schema.definitions (OfColumn number (length table.columns) ∷ [])
+    (all_more schema.tables more (omega (arith, long)) schema.definitions (defined_made schema valid)) (tt, tt))
 
 -- the columns of the index that a query wants are there
 pub is_lined : (tables : List Table) (query : Query) (wanted : Option NewIndex) → IsResolved tables query → IsWanted tables query wanted → IsLined tables wanted

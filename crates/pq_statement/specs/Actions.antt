@@ -4,8 +4,9 @@ use Rattle.std.specs.Prelude.{ℕ, ◌-◌, nat_le, List, length, Option, Some, 
 use Rattle.pq_base.specs.declared.number.Bound.{Bound}
 use Rattle.pq_base.specs.declared.refusal.Refusal.{Refusal}
 use Rattle.pq_base.specs.declared.refusal.Refusal.TheVariants as refusal
-use Rattle.pq_schema.specs.Definitions.{new_table}
+use Rattle.pq_schema.specs.Definitions.{altered_schema, new_column, new_table}
 use Rattle.pq_schema.specs.Schema.{Schema, with_table, with_query}
+use Rattle.pq_schema.specs.declared.definition.AlterDef.{AlterDef}
 use Rattle.pq_schema.specs.declared.table.Table.{Table}
 use Rattle.pq_text.specs.Tokens.{tokens_of}
 use Rattle.pq_text.specs.declared.piece.Piece.{Piece}
@@ -26,6 +27,7 @@ use Rattle.pq_statement.specs.Planning.{PlannedDefinition, prepared_from, explai
 
 pub data Action : Type 0 where
   Creates : Table → Action
+  Adds : AlterDef → Action
   Writes : Write → Action
   Prepares : PlannedDefinition → Action
   Explains : PlannedDefinition → Action
@@ -40,6 +42,7 @@ action_from action (Err why) = Err why
 -- what a statement asks for
 abbrev pub asked_by : Schema → List ℕ → List Token → Statement → Result Action Refusal
 asked_by schema text tokens (statement.Create def) = action_from Creates (new_table schema def)
+asked_by schema text tokens (statement.Alter def) = action_from (λ next. Adds def) (new_column schema def)
 asked_by schema text tokens (statement.Insert table cols values) =
     action_from Writes (checked_write schema (statement.Insert table cols values))
 asked_by schema text tokens (statement.Update table sets key) =
@@ -75,6 +78,7 @@ action_of schema piece.TooLong = Err refusal.StatementLong
 -- the bound that the definitions fix, where they do: an index is filled over the rows of its table
 abbrev pub action_bound : Schema → Action → Option Bound
 action_bound schema (Creates table) = Some (bound 1 0)
+action_bound schema (Adds def) = Some (bound 1 0)
 action_bound schema (Writes write) = Some (write_bound schema.tables write)
 action_bound schema (Prepares plan) = prepare_bound plan.chosen.wanted
 action_bound schema (Explains plan) = Some (bound 0 0)
@@ -91,6 +95,7 @@ statement_bound schema of = asked_bound schema (action_of schema of)
 
 abbrev pub action_schema : Schema → Action → Schema
 action_schema schema (Creates table) = with_table schema table
+action_schema schema (Adds def) = altered_schema schema def
 action_schema schema (Writes write) = schema
 action_schema schema (Prepares plan) = with_query schema plan.query plan.chosen.wanted
 action_schema schema (Explains plan) = schema

@@ -47,6 +47,7 @@ abbrev pub IsMadeOf : List Table → Def → Type 0
 IsMadeOf tables (def.Table t made) = IsTableNumber tables t
 IsMadeOf tables (def.Query None) = Unit {0}
 IsMadeOf tables (def.Query (Some made)) = IsTableNumber tables made.table × (made.index ≤ 16)
+IsMadeOf tables (def.Added t col) = Unit {0}
 
 pub record IsShowable (schema : Schema) : Type 0 where
   pub tables : AreShown schema.tables
@@ -60,11 +61,12 @@ table_lines table = index_lines table 1 table.indexes
 abbrev pub lines_at : Table → ℕ → ℕ → List Line
 lines_at table first count = index_lines table first (take count (drop (first - 1) table.indexes))
 
--- the indexes that a definition made: the first ones of a table, or one that a query made
+-- the indexes that a definition made: the first ones of a table, one that a query made, or none
 abbrev pub made_lines : List Table → Def → List Line
 made_lines tables (def.Table t made) = lines_at (table_at tables t) 1 made
 made_lines tables (def.Query None) = []
 made_lines tables (def.Query (Some made)) = lines_at (table_at tables made.table) made.index 1
+made_lines tables (def.Added t col) = []
 
 -- a definition's text, and the indexes that it made
 unfoldable pub definition_lines : Schema → ℕ → List Line

@@ -1,6 +1,6 @@
 -- What a statement that was read has.
 use Rattle.std.specs.Prelude.{◌≤◌, List, length}
-use Rattle.pq_schema.specs.Names.{IsName, IsTableDef}
+use Rattle.pq_schema.specs.Names.{IsName, IsTableDef, IsAlterDef}
 use Rattle.pq_text.specs.declared.token.Token.{Token}
 use Rattle.pq_def_read.specs.declared.statement.Statement.{Statement}
 use Rattle.pq_def_read.specs.declared.statement.Statement.TheVariants as statement
@@ -8,6 +8,7 @@ use Rattle.pq_def_read.specs.declared.statement.Statement.TheVariants as stateme
 -- what it defines has names, and its query begins within the tokens
 abbrev pub IsNamedStatement : List Token → Statement → Type 0
 IsNamedStatement tokens (statement.Create def) = IsTableDef def
+IsNamedStatement tokens (statement.Alter def) = IsAlterDef def
 IsNamedStatement tokens (statement.Prepare name from) = IsName name × (from ≤ length tokens)
 IsNamedStatement tokens (statement.Insert table cols values) = Unit {0}
 IsNamedStatement tokens (statement.Update table sets key) = Unit {0}

@@ -2,13 +2,13 @@
 use Rattle.std.specs.Prelude.{◌≡◌, None, Ok, Result}
 use Rattle.pq_base.specs.Values.{AllFit}
 use Rattle.pq_base.specs.declared.refusal.Refusal.{Refusal}
-use Rattle.pq_schema.specs.Definitions.{new_table, definition_refusal}
-use Rattle.pq_schema.specs.Names.{IsName, IsTableDef}
+use Rattle.pq_schema.specs.Definitions.{new_column, new_table, definition_refusal}
+use Rattle.pq_schema.specs.Names.{IsName, IsTableDef, IsAlterDef}
 use Rattle.pq_schema.specs.Schema.{Schema, query_at}
 use Rattle.pq_index_keep.specs.Sound.{IsWrite}
 use Rattle.pq_nodes.specs.Operators.{IsCursor}
 use Rattle.pq_pages.specs.Running.{IsQueryNumber, Running, running_with}
-use Rattle.pq_statement.specs.Actions.{Action, Creates, Writes, Prepares, Explains, Runs, Shows, action_from}
+use Rattle.pq_statement.specs.Actions.{Action, Creates, Adds, Writes, Prepares, Explains, Runs, Shows, action_from}
 use Rattle.pq_statement.specs.Planned.{IsComputed, IsPlanOf}
 use Rattle.pq_statement.specs.Planning.{PlannedDefinition}
 use Rattle.pq_statement.specs.declared.requests.Request.{Request}
@@ -36,9 +36,11 @@ pub record RunsAs (schema : Schema) (run : RunRequest) (found : Result Running R
   pub cursor : IsCursor schema.tables (query_at schema run.query) run.after
   pub is : found ≡ Ok (running_with run.query (query_at schema run.query) run.params run.after)
 
--- it asks for this; whether a table is refused is found as it is added
+-- it asks for this; whether a table or a column is refused is found as it is added
 abbrev pub Asks : Schema → Request → Result Action Refusal → Type 0
 Asks schema (request.Create def) asked = IsTableDef def × (asked ≡ action_from Creates (new_table schema def))
+Asks schema (request.Alter def) asked =
+    IsAlterDef def × (asked ≡ action_from (λ next. Adds def) (new_column schema def))
 Asks schema (request.Write write) asked = IsWrite schema.tables write × (asked ≡ Ok (Writes write))
 Asks schema (request.Prepare computed) asked = IsDefinable schema computed × IsPlannedAs Prepares asked computed
 Asks schema (request.Explain computed) asked = IsComputed schema.tables computed × IsPlannedAs Explains asked computed

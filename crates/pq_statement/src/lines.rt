@@ -133,6 +133,7 @@ fn put_made_lines(
         Def::Query { made: Some(made) } => {
             put_lines_at(alloc, catalog.table(made.table), made.index, 1, lines)
         }
+        Def::Added { .. } => Ok(()),
     }
 }
 

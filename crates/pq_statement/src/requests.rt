@@ -15,7 +15,7 @@ use pq_base::{List, NoMem, PText, Refusal, Row, Stopped, count_word};
 use pq_def_read::{Statement, read_statement};
 use pq_index_keep::{Write, check_write};
 use pq_pages::begin;
-use pq_schema::{Catalog, DEFINITIONS, TableDef};
+use pq_schema::{AlterDef, Catalog, DEFINITIONS, TableDef};
 use pq_text::{Piece, Token, tokens};
 use std::alloc::Global;
 
@@ -35,6 +35,8 @@ pub struct RunRequest {
 pub enum Request {
     /// Whether a table is refused is found as it is added.
     Create(TableDef),
+    /// Whether a column is refused is found as it is added.
+    Alter(AlterDef),
     Write(Write),
     Prepare(PlannedQuery),
     Explain(PlannedQuery),
@@ -93,6 +95,7 @@ fn asked_by(
 {
     match statement {
         Statement::Create(def) => Ok(Request::Create(def)),
+        Statement::Alter(def) => Ok(Request::Alter(def)),
         Statement::Prepare { name, from } => {
             let plan = definable(alloc, catalog, name, text, tokens, from)?;
             Ok(Request::Prepare(plan))

@@ -12,7 +12,7 @@ use Rattle.pq_print.specs.declared.report.Report.{Report}
 use Rattle.pq_schema.specs.Schema.{Schema, with_query}
 use Rattle.pq_schema.specs.declared.table.NewIndex.{NewIndex}
 use Rattle.pq_text.specs.declared.piece.Piece.{Piece}
-use Rattle.pq_statement.specs.Actions.{Action, Creates, Writes, Prepares, Explains, Runs, Shows, action_of, asked_bound, asked_schema}
+use Rattle.pq_statement.specs.Actions.{Action, Creates, Adds, Writes, Prepares, Explains, Runs, Shows, action_of, asked_bound, asked_schema}
 use Rattle.pq_step.specs.Checks.{IsChecked, action_check, checked_as, check_step, without_rows}
 use Rattle.pq_statement.specs.Lines.{planned_lines}
 use Rattle.pq_statement.specs.Planning.{PlannedDefinition, planned_definition}
@@ -48,6 +48,7 @@ module _ (schema : Schema) (number : ℕ) where
   pub is_check_step : (asked : Result Action Refusal) → IsCheckStep schema number asked (checked_as schema number asked)
   is_check_step (Err why) = record { numbered = refl; bound = refl; unused = refl; unread = refl; can = refl; model = refl }
   is_check_step (Ok (Creates table)) = record { numbered = refl; bound = refl; unused = refl; unread = tt; can = tt; model = refl }
+  is_check_step (Ok (Adds def)) = record { numbered = refl; bound = refl; unused = refl; unread = tt; can = tt; model = refl }
   is_check_step (Ok (Writes write)) = record { numbered = refl; bound = refl; unused = refl; unread = tt; can = tt; model = refl }
   is_check_step (Ok (Prepares plan)) =
       subst (IsCheckStep schema number (Ok (Prepares plan))) (sym (prepared_none plan))

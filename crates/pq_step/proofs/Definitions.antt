@@ -2,15 +2,21 @@
 use Rattle.std.proofs.Common.{◌≡◌, ℕ, ◌+◌, ◌<◌, length, List, [], ◌∷◌, ◌++◌, Option, None, refl, sym, ap, ◌∙◌, arith}
 use Rattle.std.specs.Prelude.{option_map}
 use Rattle.std.specs.FinMap.{find, get, insert}
+use Rattle.pq_schema.specs.declared.definition.AlterDef.{AlterDef}
 use Rattle.pq_schema.specs.declared.table.Table.{Table}
 use Rattle.pq_schema.specs.declared.query.Query.{Query}
 use Rattle.pq_schema.specs.declared.made.Definition.{Definition}
-use Rattle.pq_schema.specs.declared.made.Definition.TheVariants.{OfTable, OfQuery}
+use Rattle.pq_schema.specs.declared.made.Definition.TheVariants.{OfTable, OfQuery, OfColumn}
+use Rattle.pq_schema.specs.Definitions.{altered_schema, altered_table, column_of, column_refusal}
 use Rattle.pq_schema.specs.Schema.{Schema, made_of, with_table, with_wanted, with_query}
+use Rattle.pq_schema.specs.Tables.{table_at}
 use Rattle.pq_schema.specs.Valid.{IsValid, IsDefined}
-use Rattle.pq_schema.proofs.Valid.{valid_made}
+use Rattle.pq_schema.proofs.Valid.{column_takes, valid_made}
 use Rattle.pq_schema.specs.declared.table.NewIndex.{NewIndex}
-use Rattle.pq_runnable.proofs.Growing.{grown_table}
+use Rattle.pq_runnable.proofs.Growing.{grown_altered, grown_table}
+use Rattle.pq_added.specs.Added.{grown_rows}
+use Rattle.pq_added.proofs.Grown.{keeps-grown, pairs-grown}
+use Rattle.pq_base.specs.Values.{FitsType}
 use Rattle.pq_key_code.specs.KeyCode.{catalog_key}
 use Rattle.pq_content.specs.Pairs.{Pair, content_pairs}
 use Rattle.pq_store.specs.Content.{key_cmp}
@@ -60,6 +66,18 @@ query_pairs schema query wanted valid defined =
     ending_pairs more definitions (OfQuery query (option_map made_of wanted))
     ∙ ap (λ (front : List Pair). front ++ last ∷ []) (pairs_stay tables more 1 definitions (grown_defined schema query wanted valid defined) (valid_made valid) (definitions_of schema valid))
 
+-- and with one more column
+pub column_pairs : (schema : Schema) (def : AlterDef) → IsValid schema → column_refusal schema def ≡ None
+    → catalog_pairs (altered_schema schema def) ≡ catalog_pairs schema ++ (catalog_key (length schema.definitions + 1), value_at (altered_schema schema def) (length schema.definitions + 1)) ∷ []
+column_pairs schema def valid none =
+    let tables = schema.tables in
+    let more : List Table = (altered_schema schema def).tables in
+    let definitions = schema.definitions in
+    let definition : Definition = OfColumn (altered_table schema def) (length (table_at tables (altered_table schema def)).columns) in
+    let last : Pair = (catalog_key (length definitions + 1), value_at (altered_schema schema def) (length definitions + 1)) in
+    ending_pairs more definitions definition
+    ∙ ap (λ (front : List Pair). front ++ last ∷ []) (pairs_stay tables more 1 definitions (grown_altered schema def valid none) (valid_made valid) (definitions_of schema valid))
+
 pub put_table : (m : Model) (table : Table) → IsValid m.schema → AreMade m.schema.tables → Keeps m.schema.tables m.rows → length m.schema.definitions < 65535
     → insert (content_of m) (catalog_key (length m.schema.definitions + 1)) (value_at (with_table m.schema table) (length m.schema.definitions + 1)) ≡ content_of (record m { schema = with_table m.schema table })
 unfolding content_of
@@ -75,3 +93,23 @@ unfolding content_of
 put_query m query few =
     put_next m (value_at (with_query m.schema query None) (length m.schema.definitions + 1)) few
     ∙ ap (content_pairs m.schema.tables m.rows) (sym (ending_pairs m.schema.tables m.schema.definitions (OfQuery query None)))
+
+-- the rows with the column's default keep the tables with the column
+pub keeps_column : (m : Model) (def : AlterDef) → IsValid m.schema → column_refusal m.schema def ≡ None → FitsType (column_of def.column).ty def.filler → Keeps m.schema.tables m.rows
+    → Keeps (altered_schema m.schema def).tables (grown_rows (altered_table m.schema def) def.filler m.rows)
+keeps_column m def valid none fits keeps =
+    let takes = column_takes m.schema def none in
+    let room = takes.room in
+    keeps-grown m.schema.tables (altered_table m.schema def) (column_of def.column) def.filler (valid_made valid) (takes.from_one, takes.there) (omega (arith, room)) m.rows keeps fits
+
+-- no pair of a row changes
+pub put_column : (m : Model) (def : AlterDef) → IsValid m.schema → column_refusal m.schema def ≡ None → Keeps m.schema.tables m.rows → length m.schema.definitions < 65535
+    → insert (content_of m) (catalog_key (length m.schema.definitions + 1)) (value_at (altered_schema m.schema def) (length m.schema.definitions + 1)) ≡ content_of (record { schema = altered_schema m.schema def; rows = grown_rows (altered_table m.schema def) def.filler m.rows })
+unfolding content_of
+put_column m def valid none keeps few =
+    let next = altered_schema m.schema def in
+    let takes = column_takes m.schema def none in
+    let room = takes.room in
+    put_next m (value_at next (length m.schema.definitions + 1)) few
+    ∙ ap (content_pairs m.schema.tables m.rows) (sym (column_pairs m.schema def valid none))
+    ∙ sym (pairs-grown m.schema.tables (altered_table m.schema def) (column_of def.column) def.filler (valid_made valid) (takes.from_one, takes.there) (omega (arith, room)) m.rows (catalog_pairs next) keeps)

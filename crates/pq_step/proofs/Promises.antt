@@ -6,7 +6,7 @@ use Rattle.std.proofs.lemmas.Option.{none-some, same_Some}
 use Rattle.pq_base.specs.declared.number.Bound.{Bound}
 use Rattle.pq_base.specs.declared.number.Used.{Used}
 use Rattle.pq_base.specs.declared.refusal.Refusal.{Refusal}
-use Rattle.pq_builds.specs.Bounds.{bound, build_bound, fixed_bound, prepare_bound}
+use Rattle.pq_builds.specs.Bounds.{bound, fixed_bound, prepare_bound}
 use Rattle.pq_builds.specs.Stages.{IsWithinBuild as BuildsWithin, build_ops}
 use Rattle.pq_schema.specs.Schema.{Schema}
 use Rattle.pq_schema.specs.declared.query.Query.{Query}
@@ -17,14 +17,13 @@ use Rattle.pq_index_keep.specs.Effects.{effect}
 use Rattle.pq_index_keep.specs.declared.write.Write.{Write}
 use Rattle.pq_print.specs.Report.{is_refused}
 use Rattle.pq_print.specs.declared.report.End.{End}
-use Rattle.pq_print.specs.declared.report.End.TheVariants as End
 use Rattle.pq_print.specs.declared.report.Report.{Report}
 use Rattle.pq_store.specs.Counts.{Counts}
 use Rattle.pq_store.specs.Content.{Content}
 use Rattle.pq_store.specs.declared.damage.Broke.{Broke}
 use Rattle.pq_store.specs.declared.damage.Broke.TheVariants as broke
 use Rattle.pq_intent.specs.Changing.{IfDamagedSame}
-use Rattle.pq_statement.specs.Actions.{Action, Creates, Writes, Prepares, Explains, Runs, Shows, action_bound, action_schema, action_of, asked_bound, asked_schema, schema_after, statement_bound}
+use Rattle.pq_statement.specs.Actions.{Action, Creates, Adds, Writes, Prepares, Explains, Runs, Shows, action_bound, action_schema, action_of, asked_bound, asked_schema, schema_after, statement_bound}
 use Rattle.pq_step.specs.Evidence.{TellsEvidence}
 use Rattle.pq_step.specs.Model.{Model}
 use Rattle.pq_step.specs.Stands.{HoldsModel, Stands, Opens}
@@ -79,6 +78,7 @@ index_same schema query (Some new) content now same = inl same
 
 action_same : (schema : Schema) (action : Action) (content : Content) (now : Option Content) → now ≡ Some content → StopsAction schema action content now
 action_same schema (Creates table) content now same = same
+action_same schema (Adds def) content now same = same
 action_same schema (Writes write) content now same = same
 action_same schema (Prepares plan) content now same = index_same schema plan.query plan.chosen.wanted content now same
 action_same schema (Explains plan) content now same = same
@@ -128,6 +128,7 @@ written_bound m number write = effected_bound m number (write_bound m.schema.tab
 
 step_bound : (m : Model) (number : ℕ) (action : Action) (most : Bound) → action_bound m.schema action ≡ Some most → (action_step m number action).report.bound ≡ most
 step_bound m number (Creates table) most is = same_Some _ _ is
+step_bound m number (Adds def) most is = same_Some _ _ is
 step_bound m number (Writes write) most is = written_bound m number write ∙ same_Some _ _ is
 step_bound m number (Prepares plan) most is = prepared_bound m number plan (crowding_refusal m plan.chosen.wanted) ∙ index_bound plan.chosen.wanted m.rows most is
 step_bound m number (Explains plan) most is = same_Some _ _ is

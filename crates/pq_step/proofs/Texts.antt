@@ -1,11 +1,13 @@
 -- The canonical texts of definitions stay the same while tables grow.
-use Rattle.std.proofs.Common.{◌≡◌, ℕ, ◌-◌, ◌≤◌, length, List, [], ◌∷◌, ◌++◌, codes, Option, refl, sym, ap, ◌∙◌, arith}
+use Rattle.std.proofs.Common.{◌≡◌, ℕ, ◌-◌, ◌<◌, ◌≤◌, length, List, [], ◌∷◌, ◌++◌, codes, Option, None, refl, sym, ap, ◌∙◌, arith}
+use Rattle.std.specs.Prelude.{unwrap_or}
 use Rattle.std.specs.List.{AllByRecursion}
 use Rattle.std.specs.Option.{option_map_or}
 use Rattle.std.proofs.lemmas.List.{get_or_append_left, take-append-le}
 use Rattle.std.proofs.lemmas.Option.{slice_get-get_or}
+use Rattle.pq_base.specs.declared.value.Value.TheVariants.{Null}
 use Rattle.pq_schema.specs.declared.made.Definition.{Definition}
-use Rattle.pq_schema.specs.declared.made.Definition.TheVariants.{OfTable, OfQuery}
+use Rattle.pq_schema.specs.declared.made.Definition.TheVariants.{OfTable, OfQuery, OfColumn}
 use Rattle.pq_schema.specs.declared.table.Column.{Column}
 use Rattle.pq_schema.specs.declared.table.Foreign.{Foreign}
 use Rattle.pq_schema.specs.declared.table.Table.{Table}
@@ -13,7 +15,8 @@ use Rattle.pq_schema.specs.Sound.{IsMade, IsMadeForeign, AreMade}
 use Rattle.pq_schema.specs.Tables.{table_at, no_table}
 use Rattle.pq_content.specs.Tables.{IsTableNumber}
 use Rattle.pq_print.specs.Lists.{each_after, separate_texts}
-use Rattle.pq_print.specs.Canonical.{absent_column, column_name, column_text, columns_text, limit_text, foreign_text, items_text, table_text, with_first_columns, numbered_text, text_of}
+use Rattle.pq_print.specs.Values.{value_text}
+use Rattle.pq_print.specs.Canonical.{absent_column, added_text, column_name, column_text, columns_text, limit_text, foreign_text, items_text, table_text, with_first_columns, numbered_text, text_of}
 use Rattle.pq_reread.specs.ReadBack.{KeepNames}
 use Rattle.pq_reread.proofs.LaterTables.{query_same}
 use Rattle.pq_runnable.specs.Grown.{HasGrown, HaveGrown}
@@ -51,6 +54,16 @@ grown_text tables before now columns grown few =
 numbered_is : (tables : List Table) (t columns : ℕ) → IsTableNumber tables t → numbered_text tables t columns ≡ table_text tables (with_first_columns columns (table_at tables t))
 numbered_is tables t columns is = ap (λ (o : Option Table). option_map_or (λ table. table_text tables (with_first_columns columns table)) o []) (slice_get-get_or tables (t - 1) no_table (let low = is.0 in let high = is.1 in omega arith))
 
+-- the text of an added column names its table, the column and its default
+added_grown : (before now : Table) (col : ℕ) → HasGrown before now → col < length before.columns → col < length before.fillers → added_text now col ≡ added_text before col
+unfolding added_text
+added_grown before now col grown inside among =
+    ap (λ (table : Table). added_text table col) grown.is
+    ∙ (λ i.
+    codes "ALTER TABLE " ++ before.name ++ codes " ADD COLUMN "
+    ++ column_text (get_or_append_left before.columns grown.columns absent_column col inside i)
+    ++ codes " DEFAULT " ++ value_text (unwrap_or (get_or_append_left before.fillers grown.fillers None col among i) Null) ++ codes ";")
+
 -- ---- tables that have grown
 
 module _ (tables later : List Table) (grown : HaveGrown tables later) where
@@ -76,3 +89,4 @@ module _ (tables later : List Table) (grown : HaveGrown tables later) where
   pub text_stays : (definition : Definition) → AreMade tables → IsKnownDefinition tables definition → text_of later definition ≡ text_of tables definition
   text_stays (OfTable t columns made) are is = numbered_stays t columns are is.0 is.1
   text_stays (OfQuery query made) are is = query_same tables later query is keep_names
+  text_stays (OfColumn t col) are is = added_grown (table_at tables t) (table_at later t) col (grown.each t is.0.0 is.0.1) is.1 is.2

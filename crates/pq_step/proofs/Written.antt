@@ -32,7 +32,7 @@ use Rattle.pq_print.specs.declared.report.Report.{Report}
 use Rattle.pq_runnable.proofs.Staying.{err_not_ok}
 use Rattle.pq_arrange.specs.Arrange.{arranged_query}
 use Rattle.pq_arrange.proofs.Answers.{same_answers}
-use Rattle.pq_statement.specs.Actions.{Action, Creates, Writes, Prepares, Explains, Runs, Shows, action_from, action_of, asked_schema, asked_text, schema_after}
+use Rattle.pq_statement.specs.Actions.{Action, Creates, Adds, Writes, Prepares, Explains, Runs, Shows, action_from, action_of, asked_schema, asked_text, schema_after}
 use Rattle.pq_step.specs.Checks.{IsChecked, checked_as}
 use Rattle.pq_step.specs.Model.{Model}
 use Rattle.pq_step.specs.Promise.{Promises}
@@ -61,6 +61,7 @@ module _ (schema : Schema) (written : Query) where
   abbrev PlansAs : Result Action Refusal → Type 0
   PlansAs (Ok (Prepares plan)) = plan.query ≡ taken
   PlansAs (Ok (Creates table)) = ⊥
+  PlansAs (Ok (Adds def)) = ⊥
   PlansAs (Ok (Writes write)) = ⊥
   PlansAs (Ok (Explains plan)) = ⊥
   PlansAs (Ok (Runs running)) = ⊥
@@ -110,6 +111,7 @@ module _ (schema : Schema) (written : Query) where
       subst (IsDefinedAs schema.tables written) (sym is)
       (defined_as (with_query schema plan.query plan.chosen.wanted) resolved (last_query schema.definitions (OfQuery plan.query _) ∙ as_taken))
   by_asked (Ok (Creates table)) next resolved as_taken ok is = absurd as_taken
+  by_asked (Ok (Adds def)) next resolved as_taken ok is = absurd as_taken
   by_asked (Ok (Writes write)) next resolved as_taken ok is = absurd as_taken
   by_asked (Ok (Explains plan)) next resolved as_taken ok is = absurd as_taken
   by_asked (Ok (Runs running)) next resolved as_taken ok is = absurd as_taken

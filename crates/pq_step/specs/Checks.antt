@@ -8,7 +8,7 @@ use Rattle.pq_print.specs.declared.report.End.TheVariants.{Done}
 use Rattle.pq_print.specs.declared.report.Report.{Report}
 use Rattle.pq_index_keep.specs.Bounds.{write_bound}
 use Rattle.pq_pages.specs.Running.{query_bound}
-use Rattle.pq_statement.specs.Actions.{Action, Creates, Writes, Prepares, Explains, Runs, Shows, action_of}
+use Rattle.pq_statement.specs.Actions.{Action, Creates, Adds, Writes, Prepares, Explains, Runs, Shows, action_of}
 use Rattle.pq_step.specs.Model.{Model}
 use Rattle.pq_step.specs.Step.{Step, action_step, refused_unread, report_of, report_step}
 
@@ -23,6 +23,7 @@ bound_told schema number most = report_step (without_rows schema) (report_of num
 -- a write has no effect and a query no rows; all else is as over tables without rows
 abbrev pub action_check : Schema → ℕ → Action → Step
 action_check schema number (Creates table) = action_step (without_rows schema) number (Creates table)
+action_check schema number (Adds def) = action_step (without_rows schema) number (Adds def)
 action_check schema number (Writes write) = bound_told schema number (write_bound schema.tables write)
 action_check schema number (Prepares plan) = action_step (without_rows schema) number (Prepares plan)
 action_check schema number (Explains plan) = action_step (without_rows schema) number (Explains plan)

@@ -16,7 +16,7 @@ use Rattle.pq_print.specs.declared.report.Report.{Report}
 use Rattle.pq_store.specs.Counts.{Counts}
 use Rattle.pq_store.specs.Content.{Content}
 use Rattle.pq_store.specs.declared.damage.Broke.{Broke}
-use Rattle.pq_statement.specs.Actions.{Action, Creates, Writes, Prepares, Explains, Runs, Shows, asked_bound, asked_schema}
+use Rattle.pq_statement.specs.Actions.{Action, Creates, Adds, Writes, Prepares, Explains, Runs, Shows, asked_bound, asked_schema}
 use Rattle.pq_step.specs.Evidence.{TellsEvidence}
 use Rattle.pq_step.specs.Model.{Model}
 use Rattle.pq_step.specs.Refusing.{CanEnd}
@@ -43,6 +43,7 @@ IsRefusal (end.Refused why) = Unit {0}
 -- a statement that writes nothing: a RUN, an EXPLAIN, a SHOW, or what is refused before any call
 abbrev pub OnlyReads : Result Action Refusal → Type 0
 OnlyReads (Ok (Creates table)) = ⊥
+OnlyReads (Ok (Adds def)) = ⊥
 OnlyReads (Ok (Writes write)) = ⊥
 OnlyReads (Ok (Prepares plan)) = ⊥
 OnlyReads (Ok (Explains plan)) = Unit {0}
@@ -59,6 +60,7 @@ StopsIndex schema query (Some new) content now = StopsBuilding
 
 abbrev pub StopsAction : Schema → Action → Content → Option Content → Type 0
 StopsAction schema (Creates table) content now = now ≡ Some content
+StopsAction schema (Adds def) content now = now ≡ Some content
 StopsAction schema (Writes write) content now = now ≡ Some content
 StopsAction schema (Prepares plan) content now = StopsIndex schema plan.query plan.chosen.wanted content now
 StopsAction schema (Explains plan) content now = now ≡ Some content

@@ -9,7 +9,7 @@ use Rattle.pq_schema.specs.declared.table.Table.{Table}
 use Rattle.pq_print.specs.declared.report.End.{End}
 use Rattle.pq_print.specs.declared.report.End.TheVariants as end
 use Rattle.pq_index_keep.specs.Refusals.{CanRefuse}
-use Rattle.pq_statement.specs.Actions.{Action, Creates, Writes, Prepares, Explains, Runs, Shows}
+use Rattle.pq_statement.specs.Actions.{Action, Creates, Adds, Writes, Prepares, Explains, Runs, Shows}
 
 -- an index can be over too many rows
 abbrev pub CanRefuseIndex : List Table → Option NewIndex → Refusal → Type 0
@@ -19,6 +19,7 @@ CanRefuseIndex tables (Some new) why = why ≡ refusal.TooManyRows (table_at tab
 -- calls of the store can refuse a write and an index, and nothing else
 abbrev pub CanRefuseAction : Schema → Action → Refusal → Type 0
 CanRefuseAction schema (Creates table) why = ⊥
+CanRefuseAction schema (Adds def) why = ⊥
 CanRefuseAction schema (Writes write) why = CanRefuse schema.tables write why
 CanRefuseAction schema (Prepares plan) why = CanRefuseIndex schema.tables plan.chosen.wanted why
 CanRefuseAction schema (Explains plan) why = ⊥

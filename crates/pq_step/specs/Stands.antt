@@ -4,7 +4,7 @@ use Rattle.pq_key_code.specs.KeyCode.{catalog_key}
 use Rattle.pq_schema.specs.Schema.{Schema, definition_at}
 use Rattle.pq_schema.specs.Valid.{IsValid}
 use Rattle.pq_schema.specs.declared.made.Definition.{Definition}
-use Rattle.pq_schema.specs.declared.made.Definition.TheVariants.{OfTable, OfQuery}
+use Rattle.pq_schema.specs.declared.made.Definition.TheVariants.{OfTable, OfQuery, OfColumn}
 use Rattle.pq_schema.specs.declared.made.Made.{Made}
 use Rattle.pq_schema.specs.declared.table.Table.{Table}
 use Rattle.pq_print.specs.Canonical.{text_of, query_text, definition_text}
@@ -61,6 +61,7 @@ content_of m = content_pairs m.schema.tables m.rows (catalog_pairs m.schema)
 abbrev pub made_by : Definition → Option Made
 made_by (OfTable table columns made) = None
 made_by (OfQuery query made) = made
+made_by (OfColumn table col) = None
 
 abbrev pub last_made : Schema → Option Made
 last_made schema = made_by (last_definition schema)

@@ -4,8 +4,9 @@ use Rattle.pq_base.specs.declared.value.Value.{Value}
 use Rattle.pq_base.specs.declared.number.Bound.{Bound}
 use Rattle.pq_base.specs.declared.refusal.Refusal.{Refusal}
 use Rattle.pq_base.specs.declared.refusal.Refusal.TheVariants as refusal
+use Rattle.pq_schema.specs.declared.definition.AlterDef.{AlterDef}
 use Rattle.pq_schema.specs.declared.table.Table.{Table}
-use Rattle.pq_schema.specs.Definitions.{refused_if}
+use Rattle.pq_schema.specs.Definitions.{refused_if, altered_table, altered_schema}
 use Rattle.pq_schema.specs.Schema.{with_table, with_query}
 use Rattle.pq_print.specs.declared.report.Line.{Line}
 use Rattle.pq_print.specs.declared.report.Line.TheVariants as line
@@ -13,12 +14,13 @@ use Rattle.pq_print.specs.declared.report.End.{End}
 use Rattle.pq_print.specs.declared.report.End.TheVariants as end
 use Rattle.pq_print.specs.declared.report.Report.{Report}
 use Rattle.pq_content.specs.Tables.{Rows, rows_of}
+use Rattle.pq_added.specs.Added.{grown_rows}
 use Rattle.pq_builds.specs.Bounds.{bound, prepare_bound}
 use Rattle.pq_schema.specs.Tables.{table_at}
 use Rattle.pq_schema.specs.declared.table.NewIndex.{NewIndex}
 use Rattle.pq_plan.specs.Answer.{selected_values}
 use Rattle.pq_text.specs.declared.piece.Piece.{Piece}
-use Rattle.pq_statement.specs.Actions.{Action, Creates, Writes, Prepares, Explains, Runs, Shows, action_of}
+use Rattle.pq_statement.specs.Actions.{Action, Creates, Adds, Writes, Prepares, Explains, Runs, Shows, action_of}
 use Rattle.pq_statement.specs.Lines.{table_lines, show_lines, query_lines}
 use Rattle.pq_statement.specs.Planning.{PlannedDefinition}
 use Rattle.pq_pages.specs.Running.{Running, query_bound, page_combos, page_size, next_of}
@@ -66,6 +68,18 @@ abbrev pub table_step : Model → ℕ → Table → Step
 table_step m number table = record {
   model = record { schema = with_table m.schema table; rows = m.rows };
   report = report_of number (table_lines table) end.Done (bound 1 0);
+}
+
+-- ---- ALTER TABLE
+
+-- the rows of the table get the column's default
+abbrev pub alter_step : Model → ℕ → AlterDef → Step
+alter_step m number def = record {
+  model = record {
+    schema = altered_schema m.schema def;
+    rows = grown_rows (altered_table m.schema def) def.filler m.rows;
+  };
+  report = report_of number [] end.Done (bound 1 0);
 }
 
 -- ---- INSERT, UPDATE and DELETE
@@ -123,6 +137,7 @@ page_of m number running = rows_report m number running (page_combos m.schema.ta
 -- what an action makes of the rows
 abbrev pub action_step : Model → ℕ → Action → Step
 action_step m number (Creates table) = table_step m number table
+action_step m number (Adds def) = alter_step m number def
 action_step m number (Writes write) = write_step m number write
 action_step m number (Prepares plan) = prepared_over m number plan (crowding_refusal m plan.chosen.wanted)
 action_step m number (Explains plan) = report_step m (explanation m.schema.tables number plan)

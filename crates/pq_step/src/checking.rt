@@ -2,9 +2,9 @@
 ghost use Rattle.std.specs.Prelude.{◌≡◌, [], false, Result, IfOk};
 ghost use Rattle.pq_base.specs.declared.refusal.Refusal.{Refusal};
 ghost use Rattle.pq_builds.specs.Bounds.{prepare_bound};
-ghost use Rattle.pq_schema.specs.Definitions.{new_table};
-ghost use Rattle.pq_schema.specs.Names.{IsTableDef};
-ghost use Rattle.pq_statement.specs.Actions.{Action, Creates, Prepares, action_from};
+ghost use Rattle.pq_schema.specs.Definitions.{new_table, new_column};
+ghost use Rattle.pq_schema.specs.Names.{IsTableDef, IsAlterDef};
+ghost use Rattle.pq_statement.specs.Actions.{Action, Creates, Adds, Prepares, action_from};
 ghost use Rattle.pq_step.specs.Checks.{IsChecked, check_step, without_rows};
 ghost use Rattle.pq_statement.specs.Requests.{Asks, IsDefinable, IsPlannedAs, IsRequest};
 ghost use Rattle.pq_step.specs.Written.{IsPrepareOf, IsDefinedAs};
@@ -13,11 +13,11 @@ ghost use Rattle.pq_schema.specs.declared.query.Query.{Query};
 
 use crate::planned::PlannedCatalog;
 use crate::reports::{NOTHING_USED, done_report, unpaid_report, unread_report};
-use pq_base::{Bound, NoMem, Stopped};
+use pq_base::{Bound, List, NoMem, Stopped};
 use pq_compile::Compiled;
 use pq_index_keep::write_bound;
 use pq_print::Report;
-use pq_schema::{NewIndex, TableDef};
+use pq_schema::{AlterDef, NewIndex, TableDef};
 use pq_statement::{PlannedQuery, Request, planned_lines};
 use pq_text::Piece;
 use std::alloc::Global;
@@ -68,6 +68,7 @@ impl PlannedCatalog {
     {
         match request {
             Request::Create(def) => self.check_table(alloc, number, def),
+            Request::Alter(def) => self.check_column(alloc, number, def),
             Request::Write(write) => {
                 let bound = write_bound(&self.catalog, &write);
                 Ok((self, done_report(alloc, number, bound, NOTHING_USED)))
@@ -102,6 +103,27 @@ impl PlannedCatalog {
                 let lines = planned.lines_of(alloc, table)?;
                 let bound = Bound { ops: 1, entries: 0 };
                 Ok((planned, unpaid_report(number, lines, bound)))
+            }
+        }
+    }
+
+    /// Adds a column to a table, where nothing refuses it.
+    fn check_column(
+        self,
+        alloc: Global,
+        number: u32,
+        def: AlterDef,
+    ) -> Result<(PlannedCatalog, Report), NoMem>
+        requires { IsAlterDef def }
+        ensures { IfOk result (λ p. IsChecked self number (action_from (λ next. Adds def) (new_column self def))
+            p.0 p.1) }
+    {
+        let (planned, made) = self.with_column_of(alloc, def)?;
+        match made {
+            Err(why) => Ok((planned, unread_report(alloc, number, why))),
+            Ok(_) => {
+                let bound = Bound { ops: 1, entries: 0 };
+                Ok((planned, unpaid_report(number, List::new(alloc), bound)))
             }
         }
     }

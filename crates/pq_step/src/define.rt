@@ -176,7 +176,7 @@ impl PlannedCatalog {
     }
 
     /// Writes the pair of the last definition, and reports it with these lines.
-    fn write_last<S: Store<L>, L: Ledger>(
+    pub(crate) fn write_last<S: Store<L>, L: Ledger>(
         self,
         alloc: Global,
         number: u32,

@@ -20,6 +20,9 @@ const TABLE_FORMAT: u8 = 1;
 /// The format of a query's pair.
 pub(crate) const QUERY_FORMAT: u8 = 1;
 
+/// The format of an added column's pair.
+const COLUMN_FORMAT: u8 = 2;
+
 /// The format of a definition's pair, by its kind.
 fn format_of(definition: &Definition) -> u8
     ensures { result ≡ format_of definition.now }
@@ -27,6 +30,7 @@ fn format_of(definition: &Definition) -> u8
     match definition {
         Definition::OfTable { .. } => TABLE_FORMAT,
         Definition::OfQuery { .. } => QUERY_FORMAT,
+        Definition::OfColumn { .. } => COLUMN_FORMAT,
     }
 }
 

@@ -1,6 +1,7 @@
 //! Statements over a store: each makes one step of the model.
 #![tactic(auto)]
 
+mod alter;
 mod checking;
 mod define;
 mod format;

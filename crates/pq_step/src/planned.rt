@@ -40,7 +40,7 @@ use std::sync::ledger::Ledger;
 #[derive(Debug, Drop)]
 pub struct PlannedCatalog {
     pub(crate) catalog: Catalog,
-    /// One for each definition, `None` for a table's.
+    /// One for each definition, `None` for a table's and for an added column's.
     pub(crate) plans: List<Option<BoundedPlan>>,
 }
 
@@ -198,6 +198,7 @@ impl PlannedCatalog {
     {
         match request {
             Request::Create(def) => self.create(alloc, number, def, store, meter),
+            Request::Alter(def) => self.alter(alloc, number, def, store, meter),
             Request::Write(write) => self.make_write(alloc, number, &write, store, meter),
             Request::Prepare(plan) => self.define_query(alloc, number, plan, store, meter),
             Request::Explain(plan) => {

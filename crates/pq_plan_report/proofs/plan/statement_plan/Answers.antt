@@ -28,14 +28,17 @@ returns-clause-told c =
     let other : IsOther c.args.statement = elim c.in-Create.is [
       | inl i ↦ subst IsOther (sym i.1) tt
       | inr r ↦ elim r [
-        | inl i ↦ subst IsOther (sym i.3) tt
+        | inl i ↦ subst IsOther (sym i.1) tt
         | inr r ↦ elim r [
           | inl i ↦ subst IsOther (sym i.3) tt
           | inr r ↦ elim r [
-            | inl i ↦ subst IsOther (sym i.2) tt
+            | inl i ↦ subst IsOther (sym i.3) tt
             | inr r ↦ elim r [
-              | inl i ↦ subst IsOther (sym i.3) tt
-              | inr i ↦ subst IsOther (sym i) tt
+              | inl i ↦ subst IsOther (sym i.2) tt
+              | inr r ↦ elim r [
+                | inl i ↦ subst IsOther (sym i.3) tt
+                | inr i ↦ subst IsOther (sym i) tt
+              ]
             ]
           ]
         ]

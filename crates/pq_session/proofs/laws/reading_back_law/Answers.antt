@@ -1,4 +1,4 @@
-use Rattle.pq_opening.proofs.Rereading.{table_read, query_read}
+use Rattle.pq_opening.proofs.Rereading.{table_read, query_read, column_read}
 use Rattle.pq_session.proofs.laws.reading_back_law.Goals as goal
 
 pub returns-clause-tables : goal.returns-clause-tables
@@ -6,3 +6,6 @@ returns-clause-tables c schema def table valid is made = (table_read schema def 
 
 pub returns-clause-queries : goal.returns-clause-queries
 returns-clause-queries c schema query wanted valid defined = (query_read schema query wanted valid defined).defines
+
+pub returns-clause-columns : goal.returns-clause-columns
+returns-clause-columns c schema def next valid is = (column_read schema def next valid is).defines

@@ -14,6 +14,9 @@ use Rattle.pq_statement.proofs.requests.asked_by.Goals as goal
 pub returns-in-Create-clause-asks : goal.returns-in-Create-clause-asks
 returns-in-Create-clause-asks c = rw c.in-Create.is (subst (IsNamedStatement c.args.tokens.now) c.in-Create.is c.requires.named, refl)
 
+pub returns-in-Alter-clause-asks : goal.returns-in-Alter-clause-asks
+returns-in-Alter-clause-asks c = rw c.in-Alter.is (subst (IsNamedStatement c.args.tokens.now) c.in-Alter.is c.requires.named, refl)
+
 pub returns-in_err-plan-in-Prepare-clause-refused : goal.returns-in_err-plan-in-Prepare-clause-refused
 returns-in_err-plan-in-Prepare-clause-refused c =
     let p = err_from_is_err_and c.from_residual.result c.from_residual.ensures.1 in

@@ -12,6 +12,9 @@ use Rattle.pq_step.proofs.planned.PlannedCatalog.act.Goals as goal
 pub create-requires : goal.create-requires
 create-requires g c = (subst (λ (r : Request). Asks c.args.self r c.requires.0) c.in-Create.is c.requires.1).0
 
+pub alter-requires : goal.alter-requires
+alter-requires g c = (subst (λ (r : Request). Asks c.args.self r c.requires.0) c.in-Alter.is c.requires.1).0
+
 pub make_write-requires : goal.make_write-requires
 make_write-requires g c = (subst (λ (r : Request). Asks c.args.self r c.requires.0) c.in-Write.is c.requires.1).0
 
@@ -34,6 +37,11 @@ pub returns-in-Create-clause-step : goal.returns-in-Create-clause-step
 returns-in-Create-clause-step g c asked asks =
     let a = subst (λ (r : Request). Asks c.args.self r asked) c.in-Create.is asks in
     rw a.1 c.create.ensures.step
+
+pub returns-in-Alter-clause-step : goal.returns-in-Alter-clause-step
+returns-in-Alter-clause-step g c asked asks =
+    let a = subst (λ (r : Request). Asks c.args.self r asked) c.in-Alter.is asks in
+    rw a.1 c.alter.ensures.step
 
 pub returns-in-Write-clause-step : goal.returns-in-Write-clause-step
 returns-in-Write-clause-step g c asked asks =
