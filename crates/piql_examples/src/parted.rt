@@ -19,7 +19,7 @@ struct Parted {
 }
 
 fn is_definition(part: &[u8]) -> bool {
-    part.starts_with(b"CREATE") || part.starts_with(b"PREPARE")
+    part.starts_with(b"CREATE") || part.starts_with(b"ALTER") || part.starts_with(b"PREPARE")
 }
 
 impl Parted {

@@ -6,7 +6,7 @@ use std::alloc::{AllocError, Global};
 use std::sync::ledger::Ledger;
 
 /// Scripts in a row over one store: each with its text.
-pub const RUNS: [(&[u8], &[u8]); 3] = [
+pub const RUNS: [(&[u8], &[u8]); 5] = [
     (b"", b"open defs 0 bound 2 257\n"),
     (
         b"CREATE TABLE m (id INT, v INT, PRIMARY KEY (id));
@@ -39,6 +39,47 @@ index c 1 (p)
 3 ok bound 6 2
 4 refused E505 c 1 bound 6 2
 5 refused E506 c 1 bound 3 2
+",
+    ),
+    (
+        b"ALTER TABLE m ADD COLUMN w INT DEFAULT 5;
+INSERT INTO m VALUES (2, 8, 6);
+INSERT INTO m (id, v) VALUES (3, 9);
+PREPARE all AS SELECT * FROM m LIMIT 9;
+RUN all;
+UPDATE m SET w = 5 WHERE id = 2;
+UPDATE c SET p = 3 WHERE id = 1;
+",
+        b"open defs 3 bound 2 257
+1 ok bound 1 0
+2 ok bound 2 1
+3 ok bound 2 1
+query all stop 1 bound 1 9
+4 ok bound 1 0
+row 1, 7, 5
+row 2, 8, 6
+row 3, 9, 5
+5 ok rows 3 bound 1 9
+6 ok bound 2 1
+7 ok bound 7 2
+",
+    ),
+    (
+        b"SHOW;
+RUN all;
+",
+        b"open defs 5 bound 2 257
+def 1 CREATE TABLE m (id INT, v INT, PRIMARY KEY (id));
+def 2 PREPARE one AS SELECT m.v FROM m AS m WHERE m.id = [1];
+def 3 CREATE TABLE c (id INT, p INT, PRIMARY KEY (id), FOREIGN KEY (p) REFERENCES m);
+index c 1 (p)
+def 4 ALTER TABLE m ADD COLUMN w INT DEFAULT 5;
+def 5 PREPARE all AS SELECT m.id, m.v, m.w FROM m AS m LIMIT 9;
+1 ok bound 0 0
+row 1, 7, 5
+row 2, 8, 5
+row 3, 9, 5
+2 ok rows 3 bound 1 9
 ",
     ),
 ];
