@@ -21,7 +21,9 @@ from tools.statuses import USAGE
 NAME = "dump"
 REFUSED = 1
 INTENT = 4
-FORMAT, READY = 1, 0
+# The format of a definition's pair, by the first word of its text.
+FORMATS = {b"CREATE": 1, b"PREPARE": 1, b"ALTER": 2}
+READY = 0
 
 
 def check_whole(file: sqlite3.Connection) -> None:
@@ -29,7 +31,7 @@ def check_whole(file: sqlite3.Connection) -> None:
     if next(pairs(file, INTENT), None):
         raise OperationalError("a write of it was cut off; a run over it, also of nothing, makes the write whole")
     for key, value in pairs(file, DEFINITIONS):
-        if value[0] != FORMAT:
+        if value[0] != FORMATS.get(value[2:].partition(b" ")[0]):
             raise OperationalError(f"definition {int.from_bytes(key[1:], 'big')} was written by a later version")
         if value[1] != READY:
             raise OperationalError("an index of it isn't filled to its end; a run over it, also of nothing, fills it")

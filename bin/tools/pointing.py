@@ -24,6 +24,8 @@ NUMBERS = {
     "stop": (("LIMIT", "PAGINATE"), 1, 1000),
 }
 MOST = 4
+# The place of the column's name in an ALTER TABLE.
+ADDED = 5
 
 
 def after(found: Tokens, *words: str) -> int:
@@ -54,7 +56,9 @@ def name_of_column(found: Tokens, fields: Fields) -> Token | None:
 
 
 def repeated(found: Tokens, fields: Fields) -> Token | None:
-    """The name where it stands for the second time in one list."""
+    """The name where it stands for the second time in one list, or where a column is added that is there."""
+    if found[0].is_word("ALTER"):
+        return found[ADDED]
     lists: list[int] = [0]
     for token in found:
         if token.is_mark("("):
@@ -114,7 +118,9 @@ def assigned(found: Tokens, name: str) -> Token | None:
 
 
 def misfit(found: Tokens, fields: Fields, columns: Sequence[str]) -> Token | None:
-    """The value of a column: in an INSERT by its place in the list of columns, or else in the table."""
+    """The value of a column: in an INSERT by its place in the list of columns, or else in the table. A default."""
+    if found[0].is_word("ALTER"):
+        return found[-2]
     name = fields[1]
     if not found[0].is_word("INSERT"):
         return assigned(found, name)
@@ -137,6 +143,8 @@ def count(found: Tokens, fields: Fields) -> Token | None:
         words, back, most = NUMBERS[word]
         places = [i for i in range(back, len(found)) if found[i].kind == "number" and found[i - back].is_word(*words)]
         return next((found[i] for i in places if not 1 <= int(found[i].text) <= most), None)
+    if word == "columns" and found[0].is_word("ALTER"):
+        return found[ADDED]
     if word == "limit_columns":
         return too_many_in_list(found)
     if word in ("limits", "foreign"):

@@ -1,7 +1,7 @@
 """What is known of tables and queries from the statements that were made: the columns of each."""
 
 from piql.reports import DefinitionLine
-from piql.schema import Table, read_table
+from piql.schema import Table, read_added, read_table
 from piql.scripts import Token, tokens
 from piql.statements import normal
 
@@ -46,6 +46,10 @@ class Shapes:
             if found[0].is_word("CREATE"):
                 table = read_table(" ".join(map(normal, found)))
                 self.tables[table.name] = table
+            elif found[0].is_word("ALTER"):
+                added = read_added(" ".join(map(normal, found)))
+                if added.table in self.tables:
+                    self.tables[added.table] = self.tables[added.table].with_column(added.column)
             elif found[0].is_word("PREPARE"):
                 self.queries[found[1].text.lower()] = self.selected(found)
 

@@ -1,7 +1,7 @@
 """The version: the numbers of the language, of the file format and of the driver."""
 
-LANGUAGE = 2
-FILE_FORMAT = 2
+LANGUAGE = 3
+FILE_FORMAT = 3
 DRIVER = 1
 
 NUMBER = f"{LANGUAGE}.{FILE_FORMAT}.{DRIVER}"

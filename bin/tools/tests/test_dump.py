@@ -31,6 +31,21 @@ PAIRS = {
     b"\x03\x02\x01\x08\x10x\ny\x00\x01": b"",
     b"\x03\x02\x01\x10\x7f" + b"\xff" * 7 + b"\x10it's\x00\x01": b"",
 }
+# The first table with two added columns: a stored row leaves out the defaults at its end.
+ADDED = [
+    b"ALTER TABLE a ADD COLUMN n INT DEFAULT 5;",
+    b"ALTER TABLE a ADD COLUMN s TEXT(9) NULL DEFAULT NULL;",
+]
+GROWN = PAIRS | {
+    b"\x01\x00\x04": b"\x02\x00" + ADDED[0],
+    b"\x01\x00\x05": b"\x02\x00" + ADDED[1],
+    b"\x02\x01\x10\x80" + b"\x00" * 6 + b"\x08": b"\x04" + b"\x00" * 7 + b"\x08\x00" + b"\x00" * 7 + b"\x05\x00\x00",
+}
+GROWN_ROWS = """\
+INSERT INTO a VALUES (-1, TRUE, 5, NULL);
+INSERT INTO a VALUES (7, FALSE, 5, NULL);
+INSERT INTO a VALUES (8, FALSE, 5, '');
+"""
 SCRIPT = f"""\
 {TABLES[0].decode()}
 {QUERY.decode()}
@@ -107,6 +122,19 @@ class BytesTest(unittest.TestCase):
     def test_a_later_version_is_told(self) -> None:
         self.write(PAIRS | {b"\x01\x00\x03": b"\x02\x00" + TABLES[1]})
         self.assertIn("definition 3 was written by a later version", self.refused())
+
+    def test_added_columns_are_added_again(self) -> None:
+        self.write(GROWN)
+        definitions = b"".join(line + b"\n" for line in (TABLES[0], QUERY, TABLES[1], *ADDED)).decode()
+        run = run_dump(self.path)
+        self.assertEqual((run.stderr, run.returncode), (b"", 0))
+        self.assertTrue(run.stdout.decode().startswith(definitions + GROWN_ROWS))
+
+    def test_an_added_column_of_another_format_is_told(self) -> None:
+        for number, wrong in ((4, b"\x01\x00" + ADDED[0]), (4, b"\x03\x00" + ADDED[0]), (3, b"\x02\x00" + TABLES[1])):
+            self.path.unlink(missing_ok=True)
+            self.write(GROWN | {bytes([1, 0, number]): wrong})
+            self.assertIn(f"definition {number} was written by a later version", self.refused())
 
     def test_a_row_of_another_shape_is_told(self) -> None:
         for code in (b"\x03" + b"\xff" * 8 + b"\x01", b"\x02" + b"\xff" * 8 + b"\x01\x00"):

@@ -13,6 +13,7 @@ QUERY = "PREPARE q AS SELECT x.a, b FROM t AS x JOIN u AS x, w WHERE x.a = 1 AND
 RUN = "RUN q (7, 'x') AFTER 'AQ';"
 INSERT = "INSERT INTO t VALUES (7, 'x', TRUE);"
 LISTED = "INSERT INTO t (c, a, b) VALUES (7, 'x', TRUE);"
+ALTER = "ALTER TABLE t ADD COLUMN w TEXT(1001) DEFAULT 7;"
 UPDATE = "UPDATE t SET b = 'x', b = 'y' WHERE a = 7;"
 # A statement, its refusal, and the place of the token, as what stands before it and the token.
 CASES = [
@@ -43,6 +44,11 @@ CASES = [
     (INSERT, "E501 t b", "7, |'x'"),
     (INSERT, "E503 t", "INTO |t"),
     (LISTED, "E501 t b", "'x', |TRUE"),
+    (ALTER, "E202 t", "TABLE |t"),
+    (ALTER, "E204 w", "COLUMN |w"),
+    (ALTER, "E206 columns", "COLUMN |w"),
+    (ALTER, "E206 text", "TEXT(|1001"),
+    (ALTER, "E501 t w", "DEFAULT |7"),
     (UPDATE, "E204 b", "'x', |b"),
     (UPDATE, "E501 t a", "a = |7"),
     (UPDATE, "E504 t", "'y' |WHERE"),

@@ -18,6 +18,8 @@ INSERT INTO t
   VALUES (7, 'x', 'y');
 PREPARE q AS SELECT t.a, t.b, t.c FROM t ORDER BY t.a LIMIT 9;
 PREPARE all AS SELECT * FROM t LIMIT 2; RUN q (); RUN all;
+alter table T add column W int default 5; PREPARE more AS SELECT * FROM t LIMIT 2; RUN more;
+INSERT INTO t VALUES (1, 'x', TRUE, 'y');
 SELECT b FROM t
 """
 REPORT = """\
@@ -34,7 +36,13 @@ row 12, NULL, false
 5 ok rows 2 bound 1 9 used 1 2
 row 7, 'it''s so', true
 6 ok rows 1 next AQAC bound 1 2 used 1 1
-7 refused E102 bound 0 0 used 0 0
+7 ok bound 1 0 used 1 0
+query more stop 1 bound 1 2
+8 ok bound 1 0 used 1 0
+row 7, 'it''s so', true, 5
+9 ok rows 1 bound 1 2 used 1 1
+10 refused E501 t w bound 0 0 used 0 0
+11 refused E102 bound 0 0 used 0 0
 """
 TOLD = """\
 NAME:4: statement 2 is refused: E501 t c
@@ -60,14 +68,29 @@ NAME:6: RUN all;
   7 | it's so | true
   1 row, the next page is behind 'AQAC'; bound 1 2, used 1 1
 
-NAME:7: statement 7 is refused: E102
-     7 | SELECT b FROM t
+  query more: bound 1 2 (stop 1)
+NAME:7: RUN more;
+  a | b       | c    | w
+  --+---------+------+--
+  7 | it's so | true | 5
+  1 row; bound 1 2, used 1 1
+
+NAME:8: statement 10 is refused: E501 t w
+     8 | INSERT INTO t VALUES (1, 'x', TRUE, 'y');
+       |                                     ^
+  a value doesn't fit its column. It is of another kind, a text longer than the column, or NULL for
+    a column that isn't nullable, as each column of a key. Lengths are in bytes of UTF-8, not in
+    letters.
+  way out: cut or refuse it in the site. A column can't be made nullable later.
+
+NAME:9: statement 11 is refused: E102
+     9 | SELECT b FROM t
        |                ^
   the script ends within a statement. There is something after the last ;. Mostly the ; is missing,
     or a text isn't closed and goes on to the end.
   way out: end it.
 
-7 statements, 2 refused
+11 statements, 3 refused
 """
 HEAD = re.compile(
     r"^\S+:(\d+): statement \d+ is refused: (E\d\d\d)[^\n]*\n *\d+ \| ([^\n]*)\n {7}\| ( *)\^\n", re.MULTILINE

@@ -82,11 +82,11 @@ def value_of(column: Column, text: str, null: str) -> Value:
 
 
 def columns_of(table: Table, head: Record) -> list[Column]:
-    """The table's columns in the order of the head, which has to name each one that isn't nullable."""
+    """The table's columns in the order of the head, which has to name each one without NULL and without a default."""
     names = [name.strip().lower() for name in head.cells]
     known = {column.name for column in table.columns}
     wrong = [name for name in names if name not in known or names.count(name) > 1]
-    lacking = [it.name for it in table.columns if not it.nullable and it.name not in names]
+    lacking = [it.name for it in table.columns if not it.nullable and not it.is_added and it.name not in names]
     if wrong or lacking:
         raise ProgrammingError(f"the first line names the columns of {table.name}; wrong {wrong}, lacking {lacking}")
     return [table.column(name) for name in names]
@@ -106,7 +106,7 @@ class Load:
         if len(record.cells) != len(columns):
             raise ValueError(f"{len(record.cells)} cells, and not {len(columns)}")
         given = {it.name: value_of(it, cell, self.null) for it, cell in zip(columns, record.cells)}
-        return [given.get(column.name) for column in self.table.columns]
+        return [given.get(column.name, column.default) for column in self.table.columns]
 
     def refusal(self, columns: list[Column], record: Record, may_be_made: bool) -> str | None:
         """Inserts a record's row; why not, or None. The first row behind a stop may have been made before it."""

@@ -31,7 +31,8 @@ def told_lines(name: str, report: Report) -> tuple[str, ...]:
     """A definition's report for a reader."""
     queries = [f"query {it.name} {it.way} bound {it.bound}" for it in report.queries()]
     indexes = [f"index {it.table} ({', '.join(it.columns)})" for it in report.indexes()]
-    return (*(queries or [f"table {name}"]), *indexes)
+    kind = "column" if "." in name else "table"
+    return (*(queries or [f"{kind} {name}"]), *indexes)
 
 
 def define_each(scratch: Connection, script: str, source: str) -> list[Report]:
@@ -42,7 +43,7 @@ def define_each(scratch: Connection, script: str, source: str) -> list[Report]:
         try:
             statement = read_statement(text.decode())
             if not statement.kind.defines:
-                raise ProgrammingError("a schema has CREATE TABLE and PREPARE alone")
+                raise ProgrammingError("a schema has CREATE TABLE, ALTER TABLE and PREPARE alone")
             reports.append(scratch.report(Sent(statement, "", ())))
         except Error as error:
             begins = piece.start + first_token(text)
@@ -74,7 +75,7 @@ def missing_of(connection: Connection, wanted: list[Wanted]) -> list[Wanted]:
     different = [it for it in wanted if there.get(it.name, it.text) != it.text]
     if different:
         lines = [f"  {it.name}\n    in the store:  {there[it.name]}\n    in the schema: {it.text}" for it in different]
-        way = "nothing is dropped or changed in a store; `python -m piql rebuild OLD NEW SCHEMA` makes a new one"
+        way = "an ALTER TABLE in the schema adds a column; for all else `python -m piql rebuild OLD NEW SCHEMA`"
         raise SchemaDiffers("\n".join(["these definitions differ:", *lines, way]))
     return [it for it in wanted if it.name not in there]
 

@@ -16,7 +16,7 @@ from .schema import Schema, Table
 from .stored import opened, read_stored_schema, stored_rows
 
 Program = str | os.PathLike[str] | None
-# The values of columns that the old table lacks, by table and column.
+# The values of columns that the old table lacks, by table and column. An added column else has its default.
 Values = Mapping[tuple[str, str], Value]
 
 
@@ -37,12 +37,12 @@ class Source(NamedTuple):
 def sources_of(old: Table, new: Table, values: Values) -> list[Source]:
     """One source for each column of the new table."""
     places = {column.name: place for place, column in enumerate(old.columns)}
-    lacking = [it.name for it in new.columns if it.name not in places and not it.nullable]
+    lacking = [it.name for it in new.columns if it.name not in places and not it.nullable and not it.is_added]
     unknown = [name for name in lacking if (new.name, name) not in values]
     if unknown:
         way = f"give --value {new.name}.{unknown[0]}=.."
         raise ProgrammingError(f"the old {new.name} has no {', '.join(unknown)}: {way}")
-    return [Source(places.get(it.name), values.get((new.name, it.name))) for it in new.columns]
+    return [Source(places.get(it.name), values.get((new.name, it.name), it.default)) for it in new.columns]
 
 
 def tell_losses(old: Schema, new: Schema, tell: TextIO) -> None:

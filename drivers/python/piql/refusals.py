@@ -94,8 +94,8 @@ def way_out_of(rule: Rule, fields: tuple[str, ...], statement: str, place: Place
         return cases_with(rule, {fields[0]}) + (WITHOUT_DROP if fields[0] in REBUILDS else "")
     if place is not None:
         return one_line(way_out_at(rule.cases, statement, character_of(statement, place))) or rule.way_out
-    if rule.code == "E502":
-        return cases_with(rule, {token.text.upper() for token in tokens(statement)[:1]})
+    if rule.code in ("E501", "E502"):
+        return cases_with(rule, {token.text.upper() for token in tokens(statement)[:1]}) or rule.way_out
     if rule.code == "E304":
         return unbounded(rule, statement)
     return rule.way_out

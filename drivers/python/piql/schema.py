@@ -1,18 +1,22 @@
-"""Tables and queries, read from the canonical texts that SHOW prints."""
+"""Tables, queries and added columns, read from the canonical texts that SHOW prints."""
 
+from collections.abc import Callable
 from typing import NamedTuple
 
-from .reports import DefinitionLine
+from .reports import DefinitionLine, Value
 from .scripts import Token, tokens
+from .values import read_literal
 
 
 class Column(NamedTuple):
-    """A column: its type is INT, BOOL or TEXT, its size the most bytes of a TEXT."""
+    """A column: its type is INT, BOOL or TEXT, its size the most bytes of a TEXT. An added one has a default."""
 
     name: str
     type: str
     size: int | None
     nullable: bool
+    is_added: bool = False
+    default: Value = None
 
 
 class Table(NamedTuple):
@@ -26,6 +30,23 @@ class Table(NamedTuple):
     def column(self, name: str) -> Column:
         """The column of this name."""
         return next(column for column in self.columns if column.name == name)
+
+    def with_column(self, column: Column) -> "Table":
+        """The table with one column more."""
+        return self._replace(columns=(*self.columns, column))
+
+
+class Added(NamedTuple):
+    """A column that an ALTER TABLE adds to a table."""
+
+    table: str
+    column: Column
+    text: str
+
+    @property
+    def name(self) -> str:
+        """The table's name, a point and the column's, as no table and no query is called."""
+        return f"{self.table}.{self.column.name}"
 
 
 class Query(NamedTuple):
@@ -46,11 +67,17 @@ class Query(NamedTuple):
 class Schema(NamedTuple):
     """All definitions of a store, in order."""
 
-    definitions: tuple[Table | Query, ...]
+    definitions: tuple[Table | Query | Added, ...]
 
     def tables(self) -> dict[str, Table]:
-        """The tables by their names."""
-        return {it.name: it for it in self.definitions if isinstance(it, Table)}
+        """The tables by their names, with the columns that were added. A table's text is that of its CREATE TABLE."""
+        found: dict[str, Table] = {}
+        for it in self.definitions:
+            if isinstance(it, Table):
+                found[it.name] = it
+            elif isinstance(it, Added):
+                found[it.table] = found[it.table].with_column(it.column)
+        return found
 
     def queries(self) -> dict[str, Query]:
         """The queries by their names."""
@@ -73,7 +100,7 @@ def names_behind(found: list[Token], at: int) -> tuple[tuple[str, ...], int]:
 
 
 def read_column(found: list[Token], at: int) -> tuple[Column, int]:
-    """A column of CREATE TABLE, and the place behind it."""
+    """A column of CREATE TABLE or ALTER TABLE, and the place behind it."""
     name, type_name = found[at].text, found[at + 1].text
     at += 2
     size = None
@@ -95,6 +122,14 @@ def read_table(text: str) -> Table:
     return Table(found[2].text, tuple(columns), key, text)
 
 
+def read_added(text: str) -> Added:
+    """An added column of its canonical text."""
+    found = tokens(text)
+    column, at = read_column(found, 5)
+    default = read_literal(found[at + 1].text)
+    return Added(found[2].text, column._replace(is_added=True, default=default), text)
+
+
 def place_of(found: list[Token], *words: str) -> int:
     """The place of the first of these keywords, or the end."""
     return next((i for i, token in enumerate(found) if token.is_word(*words)), len(found))
@@ -114,7 +149,13 @@ def read_query(text: str) -> Query:
     return Query(found[1].text, selected, relations, max(params, default=0), pages, text)
 
 
+READERS: dict[str, Callable[[str], Table | Query | Added]] = {
+    "CREATE": read_table,
+    "PREPARE": read_query,
+    "ALTER": read_added,
+}
+
+
 def read_schema(definitions: list[DefinitionLine]) -> Schema:
     """The schema that SHOW lists."""
-    texts = [line.text for line in definitions]
-    return Schema(tuple(read_table(it) if it.startswith("CREATE") else read_query(it) for it in texts))
+    return Schema(tuple(READERS[line.text.partition(" ")[0]](line.text) for line in definitions))

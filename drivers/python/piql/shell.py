@@ -19,6 +19,7 @@ from .cursor import Cursor
 from .engine import find_program
 from .errors import Error
 from .reports import Work
+from .schema import Query
 from .scripts import Place, pieces
 from .statements import read_statement
 from .tables import table
@@ -101,7 +102,8 @@ class Shell:
         if word == ".next":
             return self.next_page()
         if word == ".tables":
-            return "\n".join(it.text for it in self.connection.refresh().tables().values())
+            definitions = self.connection.refresh().definitions
+            return "\n".join(it.text for it in definitions if not isinstance(it, Query))
         if word == ".queries":
             return "\n".join(it.text for it in self.connection.refresh().queries().values())
         if word == ".bounds":

@@ -22,6 +22,7 @@ class Kind(Enum):
     UPDATE = "UPDATE"
     DELETE = "DELETE"
     CREATE = "CREATE"
+    ALTER = "ALTER"
     PREPARE = "PREPARE"
     EXPLAIN = "EXPLAIN"
     SHOW = "SHOW"
@@ -29,7 +30,7 @@ class Kind(Enum):
 
     def __init__(self, word: str) -> None:
         self.reads = word in ("RUN", "EXPLAIN", "SHOW")
-        self.defines = word in ("CREATE", "PREPARE")
+        self.defines = word in ("CREATE", "ALTER", "PREPARE")
         self.writes = word in ("INSERT", "UPDATE", "DELETE")
         # Its answer is rows, page by page.
         self.has_pages = word in ("SELECT", "RUN")

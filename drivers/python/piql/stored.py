@@ -65,20 +65,25 @@ def read_cell(column: Column, code: bytes, at: int) -> tuple[Value, int]:
 
 
 def read_row(columns: tuple[Column, ...], code: bytes) -> Row:
-    """The row that a code is."""
+    """The row of a stored row's code. The added columns that it leaves out have their defaults."""
     has_null = code[0] >= HAS_NULL
+    count = code[0] - has_null * HAS_NULL
+    left_out = columns[count:]
     marks = int.from_bytes(code[1:5]) if has_null else 0
     at, row = 5 if has_null else 1, []
-    if code[0] - has_null * HAS_NULL != len(columns):
-        raise InternalError(f"a row of {code[0]} columns, where the table has {len(columns)}")
-    for place, column in enumerate(columns):
+    if count > len(columns) or not all(column.is_added for column in left_out):
+        raise InternalError(f"a row of {count} columns, where the table has {len(columns)}")
+    for place, column in enumerate(columns[:count]):
         value: Value = None
         if not marks >> place & 1:
             value, at = read_cell(column, code, at)
         row.append(value)
     if at != len(code):
         raise InternalError("a row's code goes on behind its last column")
-    return tuple(row)
+    last = columns[count - 1]
+    if last.is_added and row[-1] == last.default:
+        raise InternalError(f"a row's code ends with the default of {last.name}")
+    return (*row, *(column.default for column in left_out))
 
 
 def stored_rows(file: sqlite3.Connection, number: int, columns: tuple[Column, ...]) -> Iterator[Row]:

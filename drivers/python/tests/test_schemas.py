@@ -14,7 +14,8 @@ from helpers import TOP, needs_file, new_folder, piql
 from piql.__main__ import main
 from piql.load import Loaded, load
 from piql.rebuild import Rebuilt, rebuild
-from piql.schema import Column, read_query, read_table
+from piql.reports import DefinitionLine
+from piql.schema import Added, Column, read_added, read_query, read_schema, read_table
 from piql.stored import opened, read_row, read_stored_schema, stored_rows
 
 FIRST = """-- users and what they write
@@ -35,6 +36,21 @@ CODES = [
     ("43 00000002 0000000000000007 00", (7, None, False)),
     ("43 00000006 0000000000000007", (7, None, None)),
 ]
+# The same with two added columns, and codes of stored rows, which leave out the defaults at their end.
+GROWN = (*COLUMNS, Column("d", "INT", None, False, True, 5), Column("e", "TEXT", 4, True, True, None))
+STORED_CODES = [
+    ("03 FFFFFFFFFFFFFFFE 0002 6869 01", (-2, "hi", True, 5, None)),
+    ("43 00000002 0000000000000007 00", (7, None, False, 5, None)),
+    ("04 FFFFFFFFFFFFFFFE 0002 6869 01 0000000000000006", (-2, "hi", True, 6, None)),
+    ("05 FFFFFFFFFFFFFFFE 0002 6869 01 0000000000000005 0000", (-2, "hi", True, 5, "")),
+]
+STRANGE_CODES = [
+    "02 0000000000000007 0000",
+    "04 FFFFFFFFFFFFFFFE 0002 6869 01 0000000000000005",
+    "45 00000010 FFFFFFFFFFFFFFFE 0002 6869 01 0000000000000006",
+    "06 FFFFFFFFFFFFFFFE 0002 6869 01 0000000000000005 0000 00",
+]
+ADDED = "ALTER TABLE users ADD COLUMN karma INT DEFAULT 7;\n"
 
 
 class ReadingTest(unittest.TestCase):
@@ -47,6 +63,33 @@ class ReadingTest(unittest.TestCase):
         )
         table = read_table(text)
         self.assertEqual((table.name, table.columns, table.key), ("t", COLUMNS, ("a", "c")))
+
+    def test_added_column(self) -> None:
+        cases = {
+            "w INT DEFAULT -5": Column("w", "INT", None, False, True, -5),
+            "b BOOL NULL DEFAULT true": Column("b", "BOOL", None, True, True, True),
+            "s TEXT(9) DEFAULT 'it''s; so'": Column("s", "TEXT", 9, False, True, "it's; so"),
+            "s TEXT(9) NULL DEFAULT NULL": Column("s", "TEXT", 9, True, True, None),
+            "null INT NULL DEFAULT 0": Column("null", "INT", None, True, True, 0),
+            "add INT DEFAULT 0": Column("add", "INT", None, False, True, 0),
+        }
+        for column, wanted in cases.items():
+            text = f"ALTER TABLE t ADD COLUMN {column};"
+            self.assertEqual(read_added(text), Added("t", wanted, text))
+
+    def test_a_schema_with_added_columns(self) -> None:
+        texts = [
+            "CREATE TABLE t (a INT, b TEXT(9) NULL, c BOOL NULL, PRIMARY KEY (a));",
+            "CREATE TABLE u (a INT, PRIMARY KEY (a));",
+            "ALTER TABLE t ADD COLUMN d INT DEFAULT 5;",
+            "PREPARE q AS SELECT t.d FROM t AS t WHERE t.a = [1];",
+            "ALTER TABLE t ADD COLUMN e TEXT(4) NULL DEFAULT NULL;",
+        ]
+        schema = read_schema([DefinitionLine(number, text) for number, text in enumerate(texts, 1)])
+        self.assertEqual([it.name for it in schema.definitions], ["t", "u", "t.d", "q", "t.e"])
+        self.assertEqual(schema.tables()["t"].columns, GROWN)
+        self.assertEqual(list(schema.tables()), ["t", "u"])
+        self.assertEqual(schema.columns_of(schema.queries()["q"]), [("d", GROWN[3])])
 
     def test_query(self) -> None:
         text = (
@@ -65,6 +108,15 @@ class ReadingTest(unittest.TestCase):
         for code in ("02 0000000000000007", "03 0000000000000007 0000 01 00"):
             with self.subTest(code), self.assertRaises(piql.InternalError):
                 read_row(COLUMNS, bytes.fromhex(code))
+
+
+    def test_stored_rows(self) -> None:
+        for code, wanted in STORED_CODES:
+            with self.subTest(code):
+                self.assertEqual(read_row(GROWN, bytes.fromhex(code)), wanted)
+        for code in STRANGE_CODES:
+            with self.subTest(code), self.assertRaises(piql.InternalError):
+                read_row(GROWN, bytes.fromhex(code))
 
 
 class StoredTest(unittest.TestCase):
@@ -115,6 +167,22 @@ class SchemaTest(unittest.TestCase):
         self.assertEqual(piql.migrate(connection, self.schema, out=out), ["notes", "latest"])
         self.assertIn("query latest stop 1 bound 1 5\n", out.getvalue())
         self.assertEqual(len(connection.schema().definitions), 4)
+
+    def test_migrate_adds_a_column(self) -> None:
+        connection, out = self.open(), io.StringIO()
+        piql.migrate(connection, self.schema, out=out)
+        connection.execute("INSERT INTO users VALUES ('ann', 'rome')")
+        self.schema.write_text(SECOND + ADDED)
+        out = io.StringIO()
+        self.assertEqual(piql.migrate(connection, self.schema, out=out), ["notes", "latest", "users.karma"])
+        self.assertIn("column users.karma\n", out.getvalue())
+        self.assertEqual(piql.migrate(connection, self.schema, out=out), [])
+        rows = connection.execute("SELECT * FROM users WHERE name = 'ann'").fetchall()
+        self.assertEqual(rows, [("ann", "rome", 7)])
+        self.schema.write_text(SECOND + ADDED.replace("7", "8"))
+        with self.assertRaises(piql.ProgrammingError) as caught:
+            piql.migrate(connection, self.schema, out=out)
+        self.assertIn("users.karma", str(caught.exception))
 
     def test_migrate_refuses_what_differs(self) -> None:
         connection, out = self.open(), io.StringIO()
@@ -170,6 +238,17 @@ class SchemaTest(unittest.TestCase):
         self.assertEqual(connection.execute("RUN town ('b,o\"b')").fetchall(), [(None,)])
         self.assertEqual(connection.execute("RUN town ('two\nlines')").fetchall(), [("oslo",)])
         self.assertFalse(mark.exists())
+
+    def test_load_leaves_out_an_added_column(self) -> None:
+        connection, tell, mark = self.open(), io.StringIO(), self.folder / "mark"
+        self.schema.write_text(FIRST + ADDED)
+        piql.migrate(connection, self.schema, out=io.StringIO())
+        rows = "name,town\nann,rome\n"
+        self.assertEqual(load(connection, "users", io.StringIO(rows), mark, tell), Loaded(1, 0))
+        rows = "karma,name\n9,bob\n"
+        self.assertEqual(load(connection, "users", io.StringIO(rows), mark, tell), Loaded(1, 0))
+        found = connection.execute("SELECT * FROM users ORDER BY name LIMIT 9").fetchall()
+        self.assertEqual(found, [("ann", "rome", 7), ("bob", None, 9)])
 
     def test_load_goes_on_where_it_stopped(self) -> None:
         connection, tell, mark = self.open(), io.StringIO(), self.folder / "mark"
@@ -247,6 +326,22 @@ class SchemaTest(unittest.TestCase):
         self.assertEqual(rows, [("rome", "ann", 30, None), (None, "bob", 30, None)])
         with self.assertRaises(piql.OperationalError):
             rebuild(str(self.path), str(new), self.schema, tell, {})
+
+    def test_rebuild_with_added_columns(self) -> None:
+        self.rows_of_old()
+        with self.open() as connection:
+            connection.execute(ADDED)
+            connection.execute("UPDATE users SET karma = 9 WHERE name = 'bob'")
+        new, newer = self.folder / "new.db", self.folder / "newer.db"
+        self.schema.write_text(FIRST + ADDED.replace("7", "8") + "ALTER TABLE users ADD COLUMN ok BOOL DEFAULT TRUE;")
+        tell, wanted = io.StringIO(), [("ann", "rome", 7, True), ("bob", None, 9, True), ("c" * 20, "it's", 7, True)]
+        self.assertEqual(rebuild(str(self.path), str(new), self.schema, tell, {}), Rebuilt(3, 0))
+        rows = self.open(new).execute("SELECT * FROM users ORDER BY name LIMIT 9").fetchall()
+        self.assertEqual(rows, wanted)
+        done = rebuild(str(self.path), str(newer), self.schema, tell, {("users", "ok"): False})
+        self.assertEqual(done, Rebuilt(3, 0))
+        rows = self.open(newer).execute("SELECT * FROM users ORDER BY name LIMIT 9").fetchall()
+        self.assertEqual(rows, [(*row[:3], False) for row in wanted])
 
     def test_rebuild_leaves_out(self) -> None:
         self.rows_of_old()

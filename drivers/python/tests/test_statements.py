@@ -55,6 +55,13 @@ class StatementTest(unittest.TestCase):
         self.assertEqual((statement.kind, statement.name, statement.params), (Kind.RUN, "q", 2))
         self.assertEqual(Sent(statement, "", ("1", "NULL")).data(), b"RUN q (1, '?', NULL);")
 
+    def test_a_default_may_be_a_value(self) -> None:
+        statement = read_statement("alter table t add column c text(9) default ?")
+        self.assertEqual((statement.kind, statement.params), (Kind.ALTER, 1))
+        self.assertTrue(statement.kind.defines)
+        self.assertFalse(statement.kind.reads or statement.kind.writes or statement.kind.has_pages)
+        self.assertEqual(Sent(statement, "", ("'x'",)).data(), b"alter table t add column c text(9) default 'x';")
+
     def test_refused_before_it_is_sent(self) -> None:
         for text in NO_STATEMENT:
             with self.subTest(text), self.assertRaises(piql.ProgrammingError):
