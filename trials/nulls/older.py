@@ -1,4 +1,4 @@
-"""The language without NULL: a script with tables and columns of the names of soft words, and a store of before."""
+"""The language without NULL: a script with tables and columns of the names `is` and `null`, and a store of before."""
 
 import pathlib
 import sqlite3
@@ -50,13 +50,6 @@ NAMED: list[Case] = [
     ("DELETE FROM Is WHERE Null = 2", "ok", []),
     ("DELETE FROM Null WHERE Is = 2", "ok", []),
     ("RUN of_null ('is')", "ok rows 0", []),
-    ("CREATE TABLE Add (alter INT, COLUMN INT NULL, PRIMARY KEY (alter))", "ok", []),
-    ("ALTER TABLE ADD ADD COLUMN Default INT NULL DEFAULT NULL", "ok", []),
-    ("ALTER TABLE add ADD COLUMN add TEXT(4) DEFAULT 'add'", "ok", []),
-    ("INSERT INTO Add (ALTER, column) VALUES (1, 2)", "ok", []),
-    ("UPDATE add SET default = 3, column = NULL WHERE alter = 1", "ok", []),
-    ("PREPARE alter AS SELECT column, default, add.add FROM add WHERE alter = [1: column]", "ok", []),
-    ("RUN Alter (1)", "ok rows 1", ["row NULL, 3, 'add'"]),
 ]
 
 DEFINITIONS = [
