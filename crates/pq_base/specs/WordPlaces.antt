@@ -8,6 +8,7 @@ abbrev pub count_names : List (ℕ × List ℕ)
 count_names =
     (count.CARDINALITY, codes "cardinality")
     ∷ (count.COLUMNS, codes "columns")
+    ∷ (count.COUNTERS, codes "counters")
     ∷ (count.DEFINITIONS, codes "definitions")
     ∷ (count.FOREIGN, codes "foreign")
     ∷ (count.INDEXES, codes "indexes")
@@ -36,6 +37,7 @@ refusal_names =
     ∷ (place.COUNT, codes "E206")
     ∷ (place.TOO_MANY_ROWS, codes "E207")
     ∷ (place.NULLABLE_KEY, codes "E208")
+    ∷ (place.NOT_EMPTY, codes "E209")
     ∷ (place.ALIAS, codes "E301")
     ∷ (place.OPERAND_KIND, codes "E302")
     ∷ (place.PARAMS, codes "E303")
@@ -45,6 +47,7 @@ refusal_names =
     ∷ (place.PARAM_VALUE, codes "E402")
     ∷ (place.CURSOR, codes "E403")
     ∷ (place.NOT_PAGED, codes "E404")
+    ∷ (place.NO_COUNTER, codes "E405")
     ∷ (place.VALUE_KIND, codes "E501")
     ∷ (place.WRONG_COLUMNS, codes "E502")
     ∷ (place.DUPLICATE_KEY, codes "E503")
@@ -52,7 +55,8 @@ refusal_names =
     ∷ (place.NO_PARENT, codes "E505")
     ∷ (place.REFERENCED, codes "E506")
     ∷ (place.CARDINALITY, codes "E507")
-    ∷ (place.ROW_LONG, codes "E508") ∷ []
+    ∷ (place.ROW_LONG, codes "E508")
+    ∷ (place.COUNTER_FULL, codes "E510") ∷ []
 
 -- each constant is the place of its word in the table
 abbrev pub AreNamedIn : List (List ℕ) → List (ℕ × List ℕ) → Type 0

@@ -71,6 +71,7 @@ refusals =
     ∷ codes "E206"
     ∷ codes "E207"
     ∷ codes "E208"
+    ∷ codes "E209"
     ∷ codes "E301"
     ∷ codes "E302"
     ∷ codes "E303"
@@ -80,6 +81,7 @@ refusals =
     ∷ codes "E402"
     ∷ codes "E403"
     ∷ codes "E404"
+    ∷ codes "E405"
     ∷ codes "E501"
     ∷ codes "E502"
     ∷ codes "E503"
@@ -87,13 +89,15 @@ refusals =
     ∷ codes "E505"
     ∷ codes "E506"
     ∷ codes "E507"
-    ∷ codes "E508" ∷ []
+    ∷ codes "E508"
+    ∷ codes "E510" ∷ []
 
 -- the words for counts outside their limits
 abbrev pub counts : List (List ℕ)
 counts =
     codes "cardinality"
     ∷ codes "columns"
+    ∷ codes "counters"
     ∷ codes "definitions"
     ∷ codes "foreign"
     ∷ codes "indexes"
@@ -114,6 +118,9 @@ softs =
     codes "ADD"
     ∷ codes "ALTER"
     ∷ codes "COLUMN"
+    ∷ codes "COUNTER"
     ∷ codes "DEFAULT"
     ∷ codes "IS"
-    ∷ codes "NULL" ∷ []
+    ∷ codes "NULL"
+    ∷ codes "OF"
+    ∷ codes "READ" ∷ []

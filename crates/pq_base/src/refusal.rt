@@ -13,7 +13,7 @@ pub enum Refusal {
     StatementLong,
     /// E104: the tokens spell no statement; the byte offset of the first token that fits none.
     Syntax { at: u32 },
-    /// E201: a table or a query has the name.
+    /// E201: a table, a query or a counter has the name.
     NameTaken { name: PText },
     /// E202: no table has the name.
     NoTable { name: PText },
@@ -29,6 +29,8 @@ pub enum Refusal {
     TooManyRows { table: PText },
     /// E208: a column of the key is nullable; the first such.
     NullableKey { name: PText },
+    /// E209: a counter is made over a table without rows, and this one has some.
+    NotEmpty { table: PText },
     /// E301: the alias is unknown or repeated.
     Alias { name: PText },
     /// E302: the operand of this predicate, counted from 1, is of another kind than its column, a text of
@@ -48,6 +50,8 @@ pub enum Refusal {
     Cursor,
     /// E404: the query has no pages.
     NotPaged,
+    /// E405: no counter has the name.
+    NoCounter { name: PText },
     /// E501: a value does not fit its column's type.
     ValueKind { table: PText, column: PText },
     /// E502: the statement names other columns than it has to, or has another number of values.
@@ -64,6 +68,8 @@ pub enum Refusal {
     Cardinality { table: PText, number: u8, n: u32 },
     /// E508: the row's code is too long.
     RowLong { table: PText, length: u32 },
+    /// E510: a group of this counter that would grow has the greatest number of rows.
+    CounterFull { name: PText },
 }
 
 /// Why a call that may refuse gave no answer.

@@ -36,53 +36,62 @@ pub const TOO_MANY_ROWS: usize = 10;
 /// E208.
 pub const NULLABLE_KEY: usize = 11;
 
+/// E209.
+pub const NOT_EMPTY: usize = 12;
+
 /// E301.
-pub const ALIAS: usize = 12;
+pub const ALIAS: usize = 13;
 
 /// E302.
-pub const OPERAND_KIND: usize = 13;
+pub const OPERAND_KIND: usize = 14;
 
 /// E303.
-pub const PARAMS: usize = 14;
+pub const PARAMS: usize = 15;
 
 /// E304.
-pub const NO_BOUND: usize = 15;
+pub const NO_BOUND: usize = 16;
 
 /// E305.
-pub const BOUND_LARGE: usize = 16;
+pub const BOUND_LARGE: usize = 17;
 
 /// E401.
-pub const NO_QUERY: usize = 17;
+pub const NO_QUERY: usize = 18;
 
 /// E402.
-pub const PARAM_VALUE: usize = 18;
+pub const PARAM_VALUE: usize = 19;
 
 /// E403.
-pub const CURSOR: usize = 19;
+pub const CURSOR: usize = 20;
 
 /// E404.
-pub const NOT_PAGED: usize = 20;
+pub const NOT_PAGED: usize = 21;
+
+/// E405.
+pub const NO_COUNTER: usize = 22;
 
 /// E501.
-pub const VALUE_KIND: usize = 21;
+pub const VALUE_KIND: usize = 23;
 
 /// E502.
-pub const WRONG_COLUMNS: usize = 22;
+pub const WRONG_COLUMNS: usize = 24;
 
 /// E503.
-pub const DUPLICATE_KEY: usize = 23;
+pub const DUPLICATE_KEY: usize = 25;
 
 /// E504.
-pub const NO_ROW: usize = 24;
+pub const NO_ROW: usize = 26;
 
 /// E505.
-pub const NO_PARENT: usize = 25;
+pub const NO_PARENT: usize = 27;
 
 /// E506.
-pub const REFERENCED: usize = 26;
+pub const REFERENCED: usize = 28;
 
 /// E507.
-pub const CARDINALITY: usize = 27;
+pub const CARDINALITY: usize = 29;
 
 /// E508.
-pub const ROW_LONG: usize = 28;
+pub const ROW_LONG: usize = 30;
+
+/// E510.
+pub const COUNTER_FULL: usize = 31;

@@ -176,22 +176,23 @@ pub fn keyword_table() -> WordTable<35>
     WordTable { words: &KEYWORDS }
 }
 
-const REFUSALS: [&'static str; 29] = [
+const REFUSALS: [&'static str; 32] = [
     "E101", "E102", "E103", "E104", "E201", "E202", "E203", "E204", "E205", "E206", "E207", "E208",
-    "E301", "E302", "E303", "E304", "E305", "E401", "E402", "E403", "E404", "E501", "E502", "E503",
-    "E504", "E505", "E506", "E507", "E508",
+    "E209", "E301", "E302", "E303", "E304", "E305", "E401", "E402", "E403", "E404", "E405", "E501",
+    "E502", "E503", "E504", "E505", "E506", "E507", "E508", "E510",
 ];
 
 /// The table of the numbers of refusals.
-pub fn refusal_numbers() -> WordTable<29>
+pub fn refusal_numbers() -> WordTable<32>
     ensures { result ≡ refusals }
 {
     WordTable { words: &REFUSALS }
 }
 
-const COUNTS: [&'static str; 15] = [
+const COUNTS: [&'static str; 16] = [
     "cardinality",
     "columns",
+    "counters",
     "definitions",
     "foreign",
     "indexes",
@@ -208,16 +209,18 @@ const COUNTS: [&'static str; 15] = [
 ];
 
 /// The table of the words that name a count outside its limit.
-pub fn count_words() -> WordTable<15>
+pub fn count_words() -> WordTable<16>
     ensures { result ≡ counts }
 {
     WordTable { words: &COUNTS }
 }
 
-const SOFT: [&'static str; 6] = ["ADD", "ALTER", "COLUMN", "DEFAULT", "IS", "NULL"];
+const SOFT: [&'static str; 9] = [
+    "ADD", "ALTER", "COLUMN", "COUNTER", "DEFAULT", "IS", "NULL", "OF", "READ",
+];
 
 /// The table of the words that are known where the grammar has them, and are names elsewhere.
-pub fn soft_words() -> WordTable<6>
+pub fn soft_words() -> WordTable<9>
     ensures { result ≡ softs }
 {
     WordTable { words: &SOFT }

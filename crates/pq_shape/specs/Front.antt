@@ -17,9 +17,12 @@ abbrev pub soft_name : Soft → List ℕ
 soft_name soft_word.Add = codes "add"
 soft_name soft_word.Alter = codes "alter"
 soft_name soft_word.Column = codes "column"
+soft_name soft_word.Counter = codes "counter"
 soft_name soft_word.Default = codes "default"
 soft_name soft_word.Is = codes "is"
 soft_name soft_word.Null = codes "null"
+soft_name soft_word.Of = codes "of"
+soft_name soft_word.Read = codes "read"
 
 unfoldable pub is_soft_shape : Soft → Shape → Bool
 is_soft_shape s (shape.Name n) = bytes_eq n (soft_name s)

@@ -8,9 +8,12 @@ pub enum Soft {
     Add,
     Alter,
     Column,
+    Counter,
     Default,
     Is,
     Null,
+    Of,
+    Read,
 }
 
 impl Soft {
@@ -22,9 +25,12 @@ impl Soft {
             Soft::Add => b"add",
             Soft::Alter => b"alter",
             Soft::Column => b"column",
+            Soft::Counter => b"counter",
             Soft::Default => b"default",
             Soft::Is => b"is",
             Soft::Null => b"null",
+            Soft::Of => b"of",
+            Soft::Read => b"read",
         }
     }
 }
