@@ -7,12 +7,12 @@ use Rattle.pq_base.specs.declared.number.Choice.TheVariants.{Whole, Stop}
 use Rattle.pq_base.specs.declared.refusal.Refusal.{Refusal}
 use Rattle.pq_base.specs.declared.refusal.Refusal.TheVariants as refusal
 use Rattle.pq_schema.specs.declared.made.Definition.{Definition}
-use Rattle.pq_schema.specs.declared.made.Definition.TheVariants.{OfTable, OfQuery, OfColumn}
+use Rattle.pq_schema.specs.declared.made.Definition.TheVariants.{OfTable, OfQuery, OfColumn, OfCounter}
 use Rattle.pq_schema.specs.declared.query.Query.{Query}
 use Rattle.pq_schema.specs.declared.table.NewIndex.{NewIndex}
 use Rattle.pq_schema.specs.declared.table.Table.{Table}
 use Rattle.pq_schema.specs.Candidates.{Candidate, candidates, least}
-use Rattle.pq_schema.specs.Definitions.{altered_table, altered_schema}
+use Rattle.pq_schema.specs.Definitions.{altered_table, altered_schema, counter_of_def}
 use Rattle.pq_schema.specs.Relations.{relation_at, table_of, tied_set, order_rest}
 use Rattle.pq_schema.specs.Resolved.{IsResolved}
 use Rattle.pq_schema.specs.Schema.{Schema, with_wanted, with_new_index, made_of, definition_at, query_at, query_of, no_definition, IsQueryDefinition}
@@ -20,10 +20,10 @@ use Rattle.pq_schema.specs.Sequences.{serves, serving_access, index_sequence, ne
 use Rattle.pq_schema.specs.Sound.{IsQuery, AreMade}
 use Rattle.pq_schema.specs.Tables.{no_table, table_at}
 use Rattle.pq_schema.specs.Valid.{IsValid}
-use Rattle.pq_schema.specs.Valid.IsValid.{empty, then_table, then_query, then_column}
+use Rattle.pq_schema.specs.Valid.IsValid.{empty, then_table, then_query, then_column, then_counter}
 use Rattle.pq_schema.specs.Wanted.{is_large, index_at, index_of, too_many_indexes, ChosenCandidate, with_index, chosen_of, chosen_candidate, no_bound, IsWanted}
 use Rattle.pq_schema.proofs.Soundness.{valid_query}
-use Rattle.pq_schema.proofs.Valid.{valid_made, column_parts, wanted_there}
+use Rattle.pq_schema.proofs.Valid.{valid_made, column_parts, counter_parts, wanted_there}
 use Rattle.pq_runnable.specs.Grown.{HasGrown, HaveGrown, WasDefined, IsStillChosen}
 use Rattle.pq_runnable.proofs.Growing.{grown_altered, grown_table, grown_wanted, tables_themselves, tables_then, relation_grown, resolved_stays}
 use Rattle.pq_runnable.proofs.Indexes.{new_serves, serving_stays, served_by_last}
@@ -224,6 +224,10 @@ valid_was (then_column b def next v is_added) place is =
     let parts = column_parts b def next is_added.accepted in
     subst (λ (s : Schema). (place : ℕ) → IsQueryDefinition (get_or s.definitions place no_definition) → Was s.tables (get_or s.definitions place no_definition)) parts.1
     (one_more b.tables (altered_schema b def).tables b.definitions (OfColumn (altered_table b def) (length (table_at b.tables (altered_table b def)).columns)) (grown_altered b def v parts.0) (valid_was v) (λ h. absurd h))
+    place is
+valid_was (then_counter b def next v is_counted) place is =
+    subst (λ (s : Schema). (place : ℕ) → IsQueryDefinition (get_or s.definitions place no_definition) → Was s.tables (get_or s.definitions place no_definition)) (counter_parts b def next is_counted.accepted).1
+    (one_more b.tables b.tables b.definitions (OfCounter (counter_of_def b def)) (tables_themselves b.tables (valid_made v)) (valid_was v) (λ h. absurd h))
     place is
 
 -- the query of each definition was defined over a catalog before

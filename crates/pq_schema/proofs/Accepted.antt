@@ -132,7 +132,7 @@ module _ (columns : List Column) where
       let known = known_names columns names (none_mapped no_column (find (is_unknown columns) names) parts.0) in
       (places_within columns names known, different_places columns names known (none_mapped repeated_name (first_repeated names) parts.1))
 
-  key_columns : (names : List (List ℕ)) → names_refusal columns names ≡ None → is_outside (length names) 4 ≡ false → AreKeyColumns (length columns) (places_of columns names)
+  pub key_columns : (names : List (List ℕ)) → names_refusal columns names ≡ None → is_outside (length names) 4 ≡ false → AreKeyColumns (length columns) (places_of columns names)
   key_columns names none count =
       let made = names_made names none in
       let few = inside (length names) 4 count in

@@ -1,5 +1,5 @@
 -- Numbers found by name, as more definitions come.
-use Rattle.std.proofs.Common.{◌≡◌, ℕ, suc, ◌+◌, ◌-◌, ◌<◌, ◌≤◌, Bool, true, false, cond, if◌then◌else◌, not, ◌||◌, List, [], ◌∷◌, ◌++◌, length, set, get_or, position, Option, Some, None, is_some, option_map, refl, sym, ap, ◌∙◌, subst, true≢false, arith}
+use Rattle.std.proofs.Common.{◌≡◌, ℕ, suc, ◌+◌, ◌-◌, ◌≤◌, Bool, true, false, cond, if◌then◌else◌, not, ◌||◌, List, [], ◌∷◌, ◌++◌, length, set, get_or, position, Option, Some, None, is_some, option_map, refl, sym, ap, ◌∙◌, subst, true≢false, arith}
 use Rattle.std.specs.Prelude.{nat_lt, IfSome}
 use Rattle.std.proofs.lemmas.List.{length-set}
 use Rattle.std.proofs.lemmas.List.Folds.{position_or_len-set}
@@ -10,16 +10,16 @@ use Rattle.std.specs.String.{string_bytes}
 use Rattle.std.specs.Map.{lookup}
 use Rattle.std.specs.declared.string.String.{String}
 use Rattle.std.proofs.lemmas.Slice.Eq.{bytes_eq-Decides}
+use Rattle.pq_schema.specs.declared.counter.Counter.{Counter}
 use Rattle.pq_schema.specs.declared.made.Definition.{Definition}
-use Rattle.pq_schema.specs.declared.made.Definition.TheVariants.{OfTable, OfQuery, OfColumn}
-use Rattle.pq_schema.specs.declared.made.Made.{Made}
+use Rattle.pq_schema.specs.declared.made.Definition.TheVariants.{OfTable, OfQuery, OfColumn, OfCounter}
 use Rattle.pq_schema.specs.declared.query.Query.{Query}
 use Rattle.pq_base.specs.declared.value.Value.{Value}
 use Rattle.pq_schema.specs.declared.table.Column.{Column}
 use Rattle.pq_schema.specs.declared.table.NewIndex.{NewIndex}
 use Rattle.pq_schema.specs.declared.table.Table.{Table}
 use Rattle.pq_schema.specs.Numbered.{text_is, AreNumbered}
-use Rattle.pq_schema.specs.Schema.{Schema, empty_schema, find_table, find_query, is_table, is_query, is_taken, number_of, with_table, with_query, with_column, with_wanted, with_added, with_new_index, with_new_column, made_of}
+use Rattle.pq_schema.specs.Schema.{Schema, empty_schema, find_table, find_query, find_counter, is_table, is_query, is_taken, number_of, with_table, with_query, with_column, with_counter, with_wanted, with_added, with_new_index, with_new_column, made_of}
 use Rattle.pq_schema.specs.Tables.{no_table, table_at}
 use Rattle.pq_schema.specs.Valid.{IsSound}
 
@@ -155,17 +155,23 @@ module _ {A : Type 0} (schema : Schema) (tables queries : List (String A × ℕ)
     query = λ name. numbers_same (is_query name) schema.definitions (OfColumn number (length (table_at schema.tables number).columns)) refl ∙ numbered.query name;
   }
 
+  pub counter_numbered : (counter : Counter) → AreNumbered (with_counter schema counter) tables queries
+  counter_numbered counter = record {
+    table = numbered.table;
+    query = λ name. numbers_same (is_query name) schema.definitions (OfCounter counter) refl ∙ numbered.query name;
+  }
+
   -- a name that is not taken has no number
-  neither : (o p : Option ℕ) → (is_some o || is_some p) ≡ false → (o ≡ None) × (p ≡ None)
-  neither None None free = (refl, refl)
-  neither None (Some n) free = absurd (true≢false free)
-  neither (Some n) p free = absurd (true≢false free)
+  neither : (o p q : Option ℕ) → (is_some o || (is_some p || is_some q)) ≡ false → (o ≡ None) × (p ≡ None)
+  neither None None q free = (refl, refl)
+  neither None (Some n) q free = absurd (true≢false free)
+  neither (Some n) p q free = absurd (true≢false free)
 
   pub no_table_number : (name : List ℕ) → is_taken schema name ≡ false → lookup (text_is name) tables ≡ None
-  no_table_number name free = sym (numbered.table name) ∙ (neither (find_table schema name) (find_query schema name) free).0
+  no_table_number name free = sym (numbered.table name) ∙ (neither (find_table schema name) (find_query schema name) (find_counter schema name) free).0
 
   pub no_query_number : (name : List ℕ) → is_taken schema name ≡ false → lookup (text_is name) queries ≡ None
-  no_query_number name free = sym (numbered.query name) ∙ (neither (find_table schema name) (find_query schema name) free).1
+  no_query_number name free = sym (numbered.query name) ∙ (neither (find_table schema name) (find_query schema name) (find_counter schema name) free).1
 
 -- the number of a table that is found is one of theirs
 pub table_there : (schema : Schema) (name : List ℕ) → IfSome (find_table schema name) (λ number. (1 ≤ number) × (number ≤ length schema.tables))

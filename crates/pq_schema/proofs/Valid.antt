@@ -20,9 +20,9 @@ use Rattle.pq_base.specs.declared.number.Choice.{Choice}
 use Rattle.pq_base.specs.declared.number.Choice.TheVariants.{Whole, Stop}
 use Rattle.pq_base.specs.declared.refusal.Refusal.{Refusal}
 use Rattle.pq_base.specs.declared.refusal.Refusal.TheVariants as refusal
-use Rattle.pq_schema.specs.declared.made.Definition.{Definition}
-use Rattle.pq_schema.specs.declared.made.Definition.TheVariants.{OfTable, OfQuery, OfColumn}
+use Rattle.pq_schema.specs.declared.made.Definition.TheVariants.{OfTable, OfQuery, OfColumn, OfCounter}
 use Rattle.pq_schema.specs.declared.definition.AlterDef.{AlterDef}
+use Rattle.pq_schema.specs.declared.definition.CounterDef.{CounterDef}
 use Rattle.pq_schema.specs.declared.query.OrderItem.{OrderItem}
 use Rattle.pq_schema.specs.declared.query.Query.{Query}
 use Rattle.pq_schema.specs.declared.table.Column.{Column}
@@ -34,15 +34,15 @@ use Rattle.pq_schema.specs.declared.table.NewIndex.{NewIndex}
 use Rattle.pq_schema.specs.declared.table.Table.{Table}
 use Rattle.pq_schema.specs.Candidates.{Candidate, candidates, whole_candidates, stop_at, stop_size, can_stop_at, lesser, least, reached_after, are_bounded, stop_cost}
 use Rattle.pq_schema.specs.Costs.{is_less}
-use Rattle.pq_schema.specs.Definitions.{has_type, column_of, refused_if, room_refusal, definition_refusal, altered_refusal, column_refusal, altered_table, altered_schema, or_ok, new_column}
+use Rattle.pq_schema.specs.Definitions.{has_type, column_of, refused_if, room_refusal, definition_refusal, altered_refusal, column_refusal, altered_table, altered_schema, counting_refusal, counter_refusal, counter_of_def, counted_schema, or_ok, new_column, new_counter}
 use Rattle.pq_schema.specs.Relations.{relation_at, table_of, tied_set, order_rest, is_rest, part_of, no_relation}
 use Rattle.pq_schema.specs.Resolved.{IsRelation, IsColumnOf, IsResolved}
-use Rattle.pq_schema.specs.Schema.{Schema, IsSmall, empty_schema, find_column, find_table, with_query, with_wanted, with_new_index, with_new_column, with_added, with_column, made_of}
+use Rattle.pq_schema.specs.Schema.{Schema, IsSmall, empty_schema, find_column, find_table, with_query, with_wanted, with_new_index, with_new_column, with_added, made_of}
 use Rattle.pq_schema.specs.Sequences.{ascending_part, group_access, serving_access, new_index}
 use Rattle.pq_schema.specs.Sound.{IsSized, AreKeyColumns, IsMadeLimit, IsMadeForeign, AreDefaults, IsMade, AreMade}
 use Rattle.pq_schema.specs.Tables.{no_table, table_at, type_at, types_at, same_kinds}
 use Rattle.pq_schema.specs.Valid.{IsValid, IsSound}
-use Rattle.pq_schema.specs.Valid.IsValid.{empty, then_table, then_query, then_column}
+use Rattle.pq_schema.specs.Valid.IsValid.{empty, then_table, then_query, then_column, then_counter}
 use Rattle.pq_schema.specs.Wanted.{is_large, index_at, index_of, too_many_indexes, ChosenCandidate, with_index, chosen_of, no_bound, IsWanted}
 use Rattle.pq_schema.proofs.Accepted.{accepted, neither, not_refused, sized_column, definition_room, table_room, room, made_none, made_by_def}
 use Rattle.pq_schema.proofs.Numbered.{table_there}
@@ -110,7 +110,7 @@ made_over before now number table same made = record {
 
 -- ---- one more table
 
-table_before : (tables : List Table) (table : Table) (number : ℕ) → 1 ≤ number → number < length tables + 1 → table_at (tables ++ table ∷ []) number ≡ table_at tables number
+pub table_before : (tables : List Table) (table : Table) (number : ℕ) → 1 ≤ number → number < length tables + 1 → table_at (tables ++ table ∷ []) number ≡ table_at tables number
 table_before tables table number one there = get_or-append tables (table ∷ []) no_table (number - 1) (omega arith)
 
 table_last : (tables : List Table) (table : Table) (number : ℕ) → number ≡ length tables + 1 → table_at (tables ++ table ∷ []) number ≡ table
@@ -316,6 +316,21 @@ column_parts s def next made = accepted (column_refusal s def) (altered_schema s
 pub column_takes : (s : Schema) (def : AlterDef) → column_refusal s def ≡ None → TakesColumn s.tables (altered_table s def) (column_of def.column)
 column_takes s def none = added_takes s def (find_table s def.table) refl (neither (room_refusal s) (altered_refusal s def (find_table s def.table)) none).1
 
+-- ---- a counter
+
+-- a definition that is not refused gives the schema with its counter
+pub counter_accepted : (s : Schema) (def : CounterDef) → counter_refusal s def ≡ None → new_counter s def ≡ Ok (counted_schema s def)
+unfolding new_counter
+counter_accepted s def none = ap (λ o. or_ok o (counted_schema s def)) none
+
+pub counter_parts : (s : Schema) (def : CounterDef) (next : Schema) → new_counter s def ≡ Ok next → (counter_refusal s def ≡ None) × (counted_schema s def ≡ next)
+unfolding new_counter
+counter_parts s def next made = accepted (counter_refusal s def) (counted_schema s def) next made
+
+counter_room : (s : Schema) (def : CounterDef) → counter_refusal s def ≡ None → length s.definitions < 256
+counter_room s def none =
+    definition_room s def.name (neither (definition_refusal s def.name) (counting_refusal s def (find_table s def.table)) none).0
+
 -- ---- the wanted index of a query
 
 abbrev IsChoice : ℕ → Choice → Type 0
@@ -452,6 +467,8 @@ valid_made (then_column s def next v is) =
     let parts = column_parts s def next is.accepted in
     subst (λ (x : Schema). AreMade x.tables) parts.1
     (tables_widened s.tables (altered_table s def) (column_of def.column) def.filler (column_takes s def parts.0) is.fits (valid_made v))
+valid_made (then_counter s def next v is) =
+    subst (λ (x : Schema). AreMade x.tables) (counter_parts s def next is.accepted).1 (valid_made v)
 
 pub valid_small : {s : Schema} → IsValid s → IsSmall s
 valid_small empty = record { tables = omega arith; definitions = omega arith }
@@ -480,6 +497,12 @@ valid_small (then_column s def next v is) =
     let two = length-append s.definitions (OfColumn number (length table.columns) ∷ []) in
     let few = before.tables in
     subst IsSmall parts.1 (record { tables = omega (arith, one, few); definitions = omega (arith, two, room) })
+valid_small (then_counter s def next v is) =
+    let parts = counter_parts s def next is.accepted in
+    let before = valid_small v in
+    let room = counter_room s def parts.0 in
+    let two = length-append s.definitions (OfCounter (counter_of_def s def) ∷ []) in
+    subst IsSmall parts.1 (record { tables = before.tables; definitions = omega (arith, two, room) })
 
 pub valid_sound : {s : Schema} → IsValid s → IsSound s
 valid_sound v = record { small = valid_small v; valid = v }

@@ -1,4 +1,4 @@
--- What a CREATE TABLE and an ALTER TABLE define, or the first refusal in the written order.
+-- What a CREATE TABLE, an ALTER TABLE and a CREATE COUNTER define, or the first refusal in the written order.
 use Rattle.std.specs.Prelude.{◌≡◌, ℕ, ℤ, pos, negsuc, ◌+◌, Bool, true, false, not, ◌||◌, ◌&&◌, nat_lt, nat_le, List, [], ◌∷◌, length, map, codes, unwrap_or, is_some, find, option_map, Option, Some, None, Result, Ok, Err, if◌then◌else◌}
 use Rattle.std.specs.Str.{bytes_eq}
 use Rattle.std.specs.List.{list_all}
@@ -11,7 +11,9 @@ use Rattle.pq_base.specs.declared.value.ColType.{ColType}
 use Rattle.pq_base.specs.declared.value.ColType.TheVariants as type
 use Rattle.pq_base.specs.declared.value.Value.{Value}
 use Rattle.pq_schema.specs.declared.definition.AlterDef.{AlterDef}
+use Rattle.pq_schema.specs.declared.counter.Counter.{Counter}
 use Rattle.pq_schema.specs.declared.definition.ColumnDef.{ColumnDef}
+use Rattle.pq_schema.specs.declared.definition.CounterDef.{CounterDef}
 use Rattle.pq_schema.specs.declared.definition.LimitDef.{LimitDef}
 use Rattle.pq_schema.specs.declared.definition.ForeignDef.{ForeignDef}
 use Rattle.pq_schema.specs.declared.definition.TableDef.{TableDef}
@@ -24,7 +26,7 @@ use Rattle.pq_schema.specs.declared.table.Table.{Table}
 use Rattle.pq_schema.specs.ColumnNames.{names_of, place_of, places_of, repeated_refusal, names_refusal}
 use Rattle.pq_schema.specs.Sequences.{with_groups}
 use Rattle.pq_schema.specs.Tables.{table_at, same_kinds, type_at, types_at}
-use Rattle.pq_schema.specs.Schema.{Schema, find_column, find_table, is_taken, with_table, with_query, with_column}
+use Rattle.pq_schema.specs.Schema.{Schema, counters_of, find_column, find_table, is_taken, with_table, with_query, with_column, with_counter}
 
 -- n of TEXT(n), from 1 to 1,000
 abbrev pub text_size : ℤ → Option ℕ
@@ -259,4 +261,49 @@ pub record AddsColumn (before : Schema) (def : AlterDef) (now : Schema) (number 
   pub made : new_column before def ≡ Ok now
   pub added : now ≡ altered_schema before def
   pub fits : FitsType (column_of def.column).ty def.filler
+  pub last : number ≡ length before.definitions + 1
+
+-- ---- a counter
+
+-- a counter too many, the names of its columns, and their number
+abbrev pub counted_refusal : Schema → CounterDef → ℕ → Option Refusal
+counted_refusal schema def table =
+    or_else (refused_if (nat_le 4 (length (counters_of schema table))) (refusal.Count count_word.COUNTERS))
+    (or_else (names_refusal (table_at schema.tables table).columns def.cols)
+    (refused_if (is_outside (length def.cols) 4) (refusal.Count count_word.LIMIT_COLUMNS)))
+
+-- the counter's table is unknown, or the counter is refused over it
+abbrev pub counting_refusal : Schema → CounterDef → Option ℕ → Option Refusal
+counting_refusal schema def None = Some (refusal.NoTable def.table)
+counting_refusal schema def (Some table) = counted_refusal schema def table
+
+-- definitions, the name, the table, and the counter
+abbrev pub counter_refusal : Schema → CounterDef → Option Refusal
+counter_refusal schema def =
+    or_else (definition_refusal schema def.name) (counting_refusal schema def (find_table schema def.table))
+
+-- the number of the table whose rows are counted
+abbrev pub counted_table : Schema → CounterDef → ℕ
+counted_table schema def = unwrap_or (find_table schema def.table) 0
+
+-- the counter, with numbers and places for names
+abbrev pub counter_of_def : Schema → CounterDef → Counter
+counter_of_def schema def = record {
+  name = def.name;
+  table = counted_table schema def;
+  cols = places_of (table_at schema.tables (counted_table schema def)).columns def.cols;
+}
+
+-- the schema with the counter that is defined where nothing refuses it
+abbrev pub counted_schema : Schema → CounterDef → Schema
+counted_schema schema def = with_counter schema (counter_of_def schema def)
+
+-- the schema with the counter, or the first refusal
+unfoldable pub new_counter : Schema → CounterDef → Result Schema Refusal
+new_counter schema def = or_ok (counter_refusal schema def) (counted_schema schema def)
+
+-- the counter was defined, and its definition comes last
+pub record AddsCounter (before : Schema) (def : CounterDef) (now : Schema) (number : ℕ) : Type 0 where
+  pub made : new_counter before def ≡ Ok now
+  pub added : now ≡ counted_schema before def
   pub last : number ≡ length before.definitions + 1

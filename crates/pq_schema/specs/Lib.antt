@@ -1,6 +1,7 @@
 pub mod Candidates
 pub mod ColumnNames
 pub mod Costs
+pub mod Counters
 pub mod Definitions
 pub mod Keys
 pub mod Numbered

@@ -6,6 +6,7 @@ use Rattle.std.specs.List.{list_any, list_all}
 use Rattle.pq_base.specs.Words.{uppercase_byte, keywords}
 use Rattle.pq_schema.specs.declared.definition.AlterDef.{AlterDef}
 use Rattle.pq_schema.specs.declared.definition.ColumnDef.{ColumnDef}
+use Rattle.pq_schema.specs.declared.definition.CounterDef.{CounterDef}
 use Rattle.pq_schema.specs.declared.definition.LimitDef.{LimitDef}
 use Rattle.pq_schema.specs.declared.definition.ForeignDef.{ForeignDef}
 use Rattle.pq_schema.specs.declared.definition.TableDef.{TableDef}
@@ -61,3 +62,9 @@ pub record IsTableDef (def : TableDef) : Type 0 where
 pub record IsAlterDef (def : AlterDef) : Type 0 where
   pub table : IsName def.table
   pub column : IsColumnDef def.column
+
+-- and one of a counter
+pub record IsCounterDef (def : CounterDef) : Type 0 where
+  pub name : IsName def.name
+  pub table : IsName def.table
+  pub cols : All IsName def.cols

@@ -2,13 +2,14 @@
 use Rattle.std.specs.Prelude.{◌≡◌, Option, Ok}
 use Rattle.pq_base.specs.Values.{FitsType}
 use Rattle.pq_schema.specs.declared.definition.AlterDef.{AlterDef}
+use Rattle.pq_schema.specs.declared.definition.CounterDef.{CounterDef}
 use Rattle.pq_schema.specs.declared.definition.TableDef.{TableDef}
 use Rattle.pq_schema.specs.declared.query.Query.{Query}
 use Rattle.pq_schema.specs.declared.table.NewIndex.{NewIndex}
 use Rattle.pq_schema.specs.declared.table.Table.{Table}
-use Rattle.pq_schema.specs.Names.{IsName, IsTableDef, IsAlterDef}
+use Rattle.pq_schema.specs.Names.{IsName, IsTableDef, IsAlterDef, IsCounterDef}
 use Rattle.pq_schema.specs.Schema.{Schema, IsSmall, empty_schema, with_table, with_query}
-use Rattle.pq_schema.specs.Definitions.{column_of, new_table, new_query, new_column}
+use Rattle.pq_schema.specs.Definitions.{column_of, new_table, new_query, new_column, new_counter}
 use Rattle.pq_schema.specs.Resolved.{IsResolved}
 use Rattle.pq_schema.specs.Wanted.{IsWanted}
 
@@ -25,6 +26,11 @@ pub record IsAddition (schema : Schema) (def : AlterDef) (next : Schema) : Type 
   pub fits : FitsType (column_of def.column).ty def.filler
   pub accepted : new_column schema def ≡ Ok next
 
+-- the counter may be defined over the schema, which makes the next one
+pub record IsCounted (schema : Schema) (def : CounterDef) (next : Schema) : Type 0 where
+  pub names : IsCounterDef def
+  pub accepted : new_counter schema def ≡ Ok next
+
 pub data IsValid : Schema → Type 0 where
   empty : IsValid empty_schema
   then_table : (schema : Schema) (def : TableDef) (table : Table) → IsValid schema → IsTableDef def
@@ -32,6 +38,8 @@ pub data IsValid : Schema → Type 0 where
   then_query : (schema : Schema) (query : Query) (wanted : Option NewIndex) → IsValid schema
       → IsDefined schema query wanted → IsValid (with_query schema query wanted)
   then_column : (schema : Schema) (def : AlterDef) (next : Schema) → IsValid schema → IsAddition schema def next
+      → IsValid next
+  then_counter : (schema : Schema) (def : CounterDef) (next : Schema) → IsValid schema → IsCounted schema def next
       → IsValid next
 
 -- a valid schema, whose numbers are small

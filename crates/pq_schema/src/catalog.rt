@@ -1,10 +1,12 @@
 //! The definitions of a schema in order: tables by their numbers from 1, definitions likewise.
-ghost use Rattle.std.specs.Prelude.{◌≡◌, ◌≤◌, ◌<◌, ◌++◌, ◌∷◌, [], length, option_map, false, string_bytes, vec_capacity, Some, None, IfOk, IfSome, OnOk, OnErr};
-ghost use Rattle.pq_schema.specs.Schema.{empty_schema, definition_at, def_of, find_table, find_query, is_taken, IsQueryDefinition, query_at, query_of, with_table, with_query, with_column, with_wanted, with_new_column, with_added, made_of};
+ghost use Rattle.std.specs.Prelude.{◌≡◌, ◌≤◌, ◌<◌, ◌++◌, ◌∷◌, [], length, option_map, position, false, string_bytes, vec_capacity, Some, None, IfOk, IfSome, OnOk, OnErr};
+ghost use Rattle.pq_schema.specs.Counters.{IsCounterNumber};
+ghost use Rattle.pq_schema.specs.Schema.{empty_schema, definition_at, def_of, find_table, find_query, find_counter, is_taken, IsQueryDefinition, query_at, query_of, IsCounterDefinition, counter_at, counter_of, is_counter, is_counter_of, counters_of, with_table, with_query, with_column, with_counter, with_wanted, with_new_column, with_added, made_of};
 ghost use Rattle.indexmap.specs.IndexMap.{get_by_text, spare};
 ghost use Rattle.pq_schema.specs.Tables.{table_at, referring_limits, foreign_to};
 ghost use Rattle.pq_schema.specs.Valid.{IsValid, IsDefined};
 
+use crate::counter::Counter;
 use crate::made::{Def, Definition, Made};
 use crate::query::Query;
 use crate::table::{Column, Foreign, NewIndex, Referring, Table};
@@ -13,7 +15,7 @@ use pq_base::{List, NoMem, PText, Value};
 use std::alloc::Global;
 use std::marker::Model;
 
-/// The tables, queries and added columns that are defined: at most 64 tables and 256 definitions.
+/// The tables, queries, added columns and counters that are defined: at most 64 tables and 256 definitions.
 #[derive(Debug, Drop)]
 pub struct Catalog {
     tables: Vec<Table>,
@@ -44,8 +46,43 @@ impl Definition {
         ensures { result.now ≡ query_of self.now }
     {
         match self {
-            Definition::OfTable { .. } | Definition::OfColumn { .. } => unreachable!(),
+            Definition::OfTable { .. }
+            | Definition::OfColumn { .. }
+            | Definition::OfCounter { .. } => unreachable!(),
             Definition::OfQuery { query, .. } => query,
+        }
+    }
+
+    fn as_counter(&self) -> &Counter
+        requires { IsCounterDefinition self.now }
+        ensures { result.now ≡ counter_of self.now }
+    {
+        match self {
+            Definition::OfTable { .. } | Definition::OfQuery { .. } | Definition::OfColumn { .. } =>
+                { unreachable!() }
+            Definition::OfCounter { counter } => counter,
+        }
+    }
+
+    /// Whether it is a counter of this name.
+    fn is_counter(&self, name: &PText) -> bool
+        ensures { result ≡ is_counter name.now self.now }
+    {
+        match self {
+            Definition::OfTable { .. } | Definition::OfQuery { .. } | Definition::OfColumn { .. } =>
+                { false }
+            Definition::OfCounter { counter } => counter.name.bytes() == name.bytes(),
+        }
+    }
+
+    /// Whether it is a counter of the table of this number.
+    fn is_counter_of(&self, table: u8) -> bool
+        ensures { result ≡ is_counter_of table self.now }
+    {
+        match self {
+            Definition::OfTable { .. } | Definition::OfQuery { .. } | Definition::OfColumn { .. } =>
+                { false }
+            Definition::OfCounter { counter } => counter.table == table,
         }
     }
 
@@ -63,6 +100,7 @@ impl Definition {
                 table: *table,
                 col: *col,
             },
+            Definition::OfCounter { .. } => Def::Counter,
         }
     }
 }
@@ -187,6 +225,15 @@ fn push_foreign(
     Ok(())
 }
 
+/// The place of the counter of this name among the definitions, from 0; None exactly where there is none.
+fn counter_place(definitions: &[Definition], name: &PText) -> Option<usize>
+    ensures { result ≡ position (is_counter name.now) definitions.now }
+{
+    definitions
+        .iter()
+        .position(|definition| definition.is_counter(name))
+}
+
 impl Catalog {
     /// No definitions.
     pub fn new(alloc: Global) -> Catalog
@@ -228,11 +275,23 @@ impl Catalog {
         }
     }
 
-    /// Whether a table or a query has the name.
+    /// The number of the counter of this name among the definitions, None exactly where there is none.
+    pub fn find_counter(&self, name: &PText) -> Option<u16>
+        ensures found { result ≡ find_counter self.now name.now }
+        ensures there { IfSome result (IsCounterNumber self.now) }
+    {
+        match counter_place(self.definitions.as_slice(), name) {
+            None => None,
+            Some(place) => Some(place as u16 + 1),
+        }
+    }
+
+    /// Whether a table, a query or a counter has the name.
     pub fn is_taken(&self, name: &PText) -> bool
         ensures { result ≡ is_taken self.now name.now }
     {
-        self.find_table(name).is_some() || self.find_query(name).is_some()
+        self.find_table(name).is_some()
+            || (self.find_query(name).is_some() || self.find_counter(name).is_some())
     }
 
     /// The table of this number, from 1.
@@ -270,6 +329,29 @@ impl Catalog {
         ensures { result.now ≡ query_at self.now number }
     {
         self.definition_at(number).as_query()
+    }
+
+    /// The counter of this definition's number, from 1.
+    pub fn counter(&self, number: u16) -> &Counter
+        requires from_one { 1 ≤ number }
+        requires there { number ≤ length self.now.definitions }
+        requires counter { IsCounterDefinition (definition_at self.now number) }
+        ensures { result.now ≡ counter_at self.now number }
+    {
+        self.definition_at(number).as_counter()
+    }
+
+    /// The numbers of the counters of this table, in the order of their definitions.
+    pub fn counters_of(&self, alloc: Global, table: u8) -> Result<List<u16>, NoMem>
+        ensures { IfOk result (λ found. found ≡ counters_of self.now table) }
+    {
+        let mut found = List::new(alloc);
+        for (place, definition) in self.definitions.iter().enumerate() {
+            if definition.is_counter_of(table) {
+                found.push(alloc, place as u16 + 1)?;
+            }
+        }
+        Ok(found)
     }
 
     /// Puts a table behind the others, and its definition last. After `NoMem` nothing is changed.
@@ -344,6 +426,17 @@ impl Catalog {
             &mut self.definitions,
             Definition::OfColumn { table: number, col },
         );
+        Ok(())
+    }
+
+    /// Puts a counter's definition last. After `NoMem` nothing is changed.
+    pub(crate) fn push_counter(&mut self, counter: Counter) -> Result<(), NoMem>
+        requires { IsValid (with_counter self.old counter) }
+        ensures ok { OnOk result (self.new ≡ with_counter self.old counter) }
+        ensures err { OnErr result (self.new ≡ self.old) }
+    {
+        self.definitions.reserve(1)?;
+        put_last(&mut self.definitions, Definition::OfCounter { counter });
         Ok(())
     }
 

@@ -1,5 +1,5 @@
-//! A table's definition, and that of an added column, as their texts have them, with names in place of
-//! numbers.
+//! The definitions of a table, of an added column and of a counter as their texts have them, with names in
+//! place of numbers.
 
 use pq_base::{List, PText, Value};
 
@@ -42,4 +42,12 @@ pub struct AlterDef {
     pub table: PText,
     pub column: ColumnDef,
     pub filler: Value,
+}
+
+/// A counter of the rows of a table that have the same values at the columns.
+#[derive(Debug, Drop)]
+pub struct CounterDef {
+    pub name: PText,
+    pub table: PText,
+    pub cols: List<PText>,
 }

@@ -3,11 +3,14 @@
 
 mod catalog;
 mod column_names;
+mod counter;
+mod counter_checks;
 mod definition;
 pub mod laws;
 mod made;
 mod names;
 mod new_column;
+mod new_counter;
 mod new_table;
 mod query;
 mod sequences;
@@ -16,7 +19,8 @@ mod table_checks;
 
 pub use catalog::Catalog;
 pub use column_names::{check_known, check_names, check_repeated, names_of, place_of, places_of};
-pub use definition::{AlterDef, ColumnDef, ForeignDef, LimitDef, TableDef};
+pub use counter::Counter;
+pub use definition::{AlterDef, ColumnDef, CounterDef, ForeignDef, LimitDef, TableDef};
 pub use made::{Def, Definition, Made};
 pub use names::{NAME_BYTES, is_name};
 pub use query::{ColRef, Op, Operand, OrderItem, Pred, Query, Relation, Stop};

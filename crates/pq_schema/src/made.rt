@@ -1,5 +1,6 @@
 //! What a definition made.
 
+use crate::counter::Counter;
 use crate::query::Query;
 
 /// An index that a PREPARE made: the table's number and the index's, each from 1.
@@ -10,12 +11,13 @@ pub struct Made {
 }
 
 /// A definition by its kind: a table's number with how many indexes its CREATE TABLE made, the index
-/// that a query's PREPARE made, or the place of an added column with its table's number.
+/// that a query's PREPARE made, the place of an added column with its table's number, or a counter.
 #[derive(Clone, Copy, Debug, PartialEq, Eq)]
 pub enum Def {
     Table { table: u8, made: u8 },
     Query { made: Option<Made> },
     Added { table: u8, col: u8 },
+    Counter,
 }
 
 /// A definition of a schema.
@@ -28,4 +30,6 @@ pub enum Definition {
     OfQuery { query: Query, made: Option<Made> },
     /// The added column at this place of the table of this number.
     OfColumn { table: u8, col: u8 },
+    /// A counter.
+    OfCounter { counter: Counter },
 }

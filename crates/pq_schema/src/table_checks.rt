@@ -21,10 +21,10 @@ const COLUMNS: usize = 32;
 /// The greatest number of tables.
 pub const TABLES: usize = 64;
 
-/// The greatest number of definitions: tables, queries and added columns together.
+/// The greatest number of definitions: tables, queries, added columns and counters together.
 pub const DEFINITIONS: usize = 256;
 
-fn counted(word: u8) -> Stopped
+pub(crate) fn counted(word: u8) -> Stopped
     ensures { result ≡ Stopped.Refused (Refusal.Count word) }
 {
     Stopped::Refused(Refusal::Count { word })
@@ -119,7 +119,7 @@ fn columns_of(alloc: Global, defs: &[ColumnDef]) -> Result<List<Column>, NoMem>
     Ok(columns)
 }
 
-fn is_outside(count: usize, most: usize) -> bool
+pub(crate) fn is_outside(count: usize, most: usize) -> bool
     ensures { result ≡ is_outside count most }
 {
     count < 1 || most < count

@@ -1,7 +1,7 @@
 use Rattle.std.proofs.Common.{◌≡◌, ap, sym, subst}
 use Rattle.std.specs.Prelude.{unwrap_or}
 use Rattle.pq_schema.specs.declared.table.Column.{Column}
-use Rattle.pq_schema.specs.Definitions.{altered_table, column_of}
+use Rattle.pq_schema.specs.Definitions.{altered_table}
 use Rattle.pq_schema.specs.Schema.{with_column}
 use Rattle.pq_schema.specs.Valid.{IsValid}
 use Rattle.pq_schema.specs.Valid.IsValid.{then_column}
