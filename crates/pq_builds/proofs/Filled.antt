@@ -1,5 +1,5 @@
 -- What a content tells while an index is filled.
-use Rattle.std.proofs.Common.{◌≡◌, ℕ, true, false, ◌&&◌, ◌==◌, List, [], ◌∷◌, ◌++◌, map, Option, Some, None, refl, sym, ap, ◌∙◌, subst, arith}
+use Rattle.std.proofs.Common.{◌≡◌, ℕ, true, false, ◌&&◌, ◌==◌, List, [], ◌∷◌, ◌++◌, map, Option, Some, None, refl, sym, ap, ◌∙◌, append_assoc, subst, arith}
 use Rattle.std.specs.Prelude.{All, IsPermutation}
 use Rattle.std.specs.List.{AllByRecursion}
 use Rattle.std.specs.FinMap.{find, get, insert, is_sorted}
@@ -17,7 +17,7 @@ use Rattle.pq_schema.specs.declared.table.Table.{Table}
 use Rattle.pq_schema.specs.Sequences.{primary_sequence}
 use Rattle.pq_schema.specs.Tables.{table_at}
 use Rattle.pq_store.specs.Content.{key_cmp, Content, pairs_within}
-use Rattle.pq_content.specs.Pairs.{Pair, AreBeside, AreCatalog, is_in_space, is_of_rows, row_pair, content_pairs, HoldsRows}
+use Rattle.pq_content.specs.Pairs.{Pair, AreBeside, AreCatalog, AreOfCounters, is_in_space, is_of_rows, row_pair, content_pairs, HoldsRows}
 use Rattle.pq_content.specs.Standing.{is_numbered, is_entry_of}
 use Rattle.pq_content.specs.Tables.{Rows, rows_of, types_of, shape_of, values_of, dirs_of, Keeps, stored_code}
 use Rattle.pq_content.proofs.Building.{part_range, get_part}
@@ -57,20 +57,26 @@ beside_push : (front : List Pair) (k v : List ℕ) → AreBeside front → is_of
 beside_push [] k v h there = (there, tt)
 beside_push (e ∷ es) k v h there = (h.0, beside_push es k v h.1 there)
 
-module _ (tables : List Table) (rows : Rows) (others : List Pair) (made : Made) (query : NewQuery) (content : Content) where
+module _ (tables : List Table) (rows : Rows) (beside catalog : List Pair) (made : Made) (query : NewQuery) (content : Content) (counters : AreOfCounters beside) (are : AreCatalog catalog)
+    (key : is_in_space 1 query.key ≡ true) where
   abbrev marked_pairs : List Pair
-  marked_pairs = others ++ (query.key, building_value query) ∷ []
+  marked_pairs = catalog ++ (query.key, building_value query) ∷ []
 
-  pub catalog_filling : AreCatalog others → is_in_space 1 query.key ≡ true → is_sorted key_cmp marked_pairs ≡ true → IsFilling tables rows others made query content
-      → pairs_within content (1 ∷ []) (2 ∷ []) ≡ marked_pairs
-  catalog_filling catalog key rises f =
-      part_range (is_entry_of made.table made.index) (content_pairs tables rows marked_pairs) content (1 ∷ []) (2 ∷ []) f.part (catalog_safe made.table made.index)
-      ∙ rising_catalog_range tables rows marked_pairs (catalog_push others query.key (building_value query) catalog key) rises
+  -- the definition stands behind the catalog's pairs
+  placed : (beside ++ catalog) ++ (query.key, building_value query) ∷ [] ≡ beside ++ marked_pairs
+  placed = append_assoc beside catalog ((query.key, building_value query) ∷ [])
 
-  pub intent_filling : AreCatalog others → is_in_space 1 query.key ≡ true → IsFilling tables rows others made query content → get content intent_key ≡ None
-  intent_filling catalog key f =
-      get_part (is_entry_of made.table made.index) (content_pairs tables rows marked_pairs) content intent_key f.part refl
-      ∙ no_intent tables rows marked_pairs (catalog_push others query.key (building_value query) catalog key)
+  pub catalog_filling : is_sorted key_cmp marked_pairs ≡ true → IsFilling tables rows (beside ++ catalog) made query content → pairs_within content (1 ∷ []) (2 ∷ []) ≡ marked_pairs
+  catalog_filling rises f =
+      part_range (is_entry_of made.table made.index) (content_pairs tables rows ((beside ++ catalog) ++ (query.key, building_value query) ∷ [])) content (1 ∷ []) (2 ∷ []) f.part (catalog_safe made.table made.index)
+      ∙ ap (λ (others : List Pair). pairs_within (content_pairs tables rows others) (1 ∷ []) (2 ∷ [])) placed
+      ∙ rising_catalog_range tables rows beside marked_pairs counters (catalog_push catalog query.key (building_value query) are key) rises
+
+  pub intent_filling : IsFilling tables rows (beside ++ catalog) made query content → get content intent_key ≡ None
+  intent_filling f =
+      get_part (is_entry_of made.table made.index) (content_pairs tables rows ((beside ++ catalog) ++ (query.key, building_value query) ∷ [])) content intent_key f.part refl
+      ∙ ap (λ (others : List Pair). get (content_pairs tables rows others) intent_key) placed
+      ∙ no_intent tables rows beside marked_pairs counters (catalog_push catalog query.key (building_value query) are key)
 
 -- ---- rows by their pairs
 

@@ -10,7 +10,7 @@ ghost use Rattle.pq_schema.specs.declared.table.Table.{Table};
 ghost use Rattle.pq_schema.specs.Tables.{table_at};
 ghost use Rattle.pq_store.specs.Content.{key_cmp, Content, pairs_within};
 ghost use Rattle.pq_store.specs.Counts.{Counts};
-ghost use Rattle.pq_content.specs.Pairs.{Pair, AreBeside, AreCatalog, is_in_space, is_of_rows, content_pairs, HoldsRows};
+ghost use Rattle.pq_content.specs.Pairs.{Pair, AreBeside, AreCatalog, AreOfCounters, is_in_space, is_of_rows, content_pairs, HoldsRows};
 ghost use Rattle.pq_content.specs.Tables.{Rows, Keeps, rows_of, types_of};
 ghost use Rattle.pq_builds.specs.declared.build.Built.{Built};
 ghost use Rattle.pq_builds.specs.declared.target.NewQuery.{NewQuery};
@@ -22,13 +22,13 @@ ghost use Rattle.pq_builds.specs.Standing.{defined_content, IsFilling, Origin, I
 
 /// What is told by a content in which an index is being filled.
 pub fn filling_law()
-    // The catalog has the pairs beside the rows, and the definition with its mark as the last one.
-    ensures catalog { (tables : List Table) (rows : Rows) (others : List Pair) (made : Made) (query : NewQuery)
-        (content : Content)
-        → AreCatalog others → is_in_space 1 query.key ≡ true
-        → is_sorted key_cmp (others ++ (query.key, building_value query) ∷ []) ≡ true
-        → IsFilling tables rows others made query content
-        → pairs_within content (1 ∷ []) (2 ∷ []) ≡ others ++ (query.key, building_value query) ∷ [] }
+    // The catalog has the other definitions' pairs, and the definition with its mark as the last one.
+    ensures catalog { (tables : List Table) (rows : Rows) (beside catalog : List Pair) (made : Made)
+        (query : NewQuery) (content : Content) → AreOfCounters beside → AreCatalog catalog
+        → is_in_space 1 query.key ≡ true
+        → is_sorted key_cmp (catalog ++ (query.key, building_value query) ∷ []) ≡ true
+        → IsFilling tables rows (beside ++ catalog) made query content
+        → pairs_within content (1 ∷ []) (2 ∷ []) ≡ catalog ++ (query.key, building_value query) ∷ [] }
 
     // The rows' pairs of each table are those of the rows alone.
     ensures rows { (tables : List Table) (rows : Rows) (others : List Pair) (made : Made) (query : NewQuery)
@@ -38,10 +38,10 @@ pub fn filling_law()
         → row_pairs_in t content ≡ row_pairs_in t (content_pairs tables rows []) }
 
     // No intent is there.
-    ensures no_intent { (tables : List Table) (rows : Rows) (others : List Pair) (made : Made)
-        (query : NewQuery) (content : Content)
-        → AreCatalog others → is_in_space 1 query.key ≡ true
-        → IsFilling tables rows others made query content → get content intent_key ≡ None }
+    ensures no_intent { (tables : List Table) (rows : Rows) (beside catalog : List Pair) (made : Made)
+        (query : NewQuery) (content : Content) → AreOfCounters beside → AreCatalog catalog
+        → is_in_space 1 query.key ≡ true → IsFilling tables rows (beside ++ catalog) made query content
+        → get content intent_key ≡ None }
 
     // Of which rows a table's pairs are: of one set alone.
     ensures once { (tables : List Table) (rows more : Rows) (t : ℕ)

@@ -1,5 +1,5 @@
 -- Keys in the store: which keys are equal, and in which space they lie.
-use Rattle.std.proofs.Common.{◌≡◌, ℕ, ◌+◌, ◌≤◌, true, false, cond, ◌&&◌, ◌==◌, nat_eq, List, [], ◌∷◌, length, replicate, Some, None, refl, sym, ap, ◌∙◌, arith, not, ◌||◌, Bool}
+use Rattle.std.proofs.Common.{◌≡◌, ℕ, ◌+◌, ◌≤◌, true, false, cond, ◌&&◌, ◌==◌, nat_eq, List, [], ◌∷◌, ◌++◌, length, replicate, Some, None, refl, sym, ap, ◌∙◌, arith, not, ◌||◌, Bool}
 use Rattle.std.specs.Ordering.{eq_by_cmp, ordering_then}
 use Rattle.std.specs.Cmp.{Equal-is, tied_itself, nat_cmp_total, nat_eq_equiv, eq_by_cmp_equiv}
 use Rattle.std.specs.Cmp.Lexicographic.{nat_list_cmp_total, pointwise, texts_ties}
@@ -14,7 +14,7 @@ use Rattle.pq_schema.specs.declared.table.Index.{Index}
 use Rattle.pq_schema.specs.declared.table.Table.{Table}
 use Rattle.pq_schema.specs.Sequences.{index_sequence}
 use Rattle.pq_schema.specs.Tables.{table_at}
-use Rattle.pq_content.specs.Pairs.{Pair, is_in_space, AreCatalog, entry_pair, entries_from, pairs_of_row, row_pairs, AreBeside, is_of_rows}
+use Rattle.pq_content.specs.Pairs.{Pair, is_in_space, AreCatalog, entry_pair, entries_from, pairs_of_row, row_pairs, AreBeside, is_of_rows, AreOfCounters, is_of_counters}
 use Rattle.pq_key_code.specs.KeyCode.{row_key, code_of}
 use Rattle.pq_store.specs.Content.{key_cmp}
 use Rattle.pq_content.specs.Tables.{Rows, AllOfKinds, same_values, stored_code, key_of}
@@ -54,6 +54,25 @@ pub not_in_catalog : (others : List Pair) (q : List ℕ) → AreCatalog others �
 not_in_catalog [] q h apart = refl
 not_in_catalog (e ∷ es) q h apart =
     ap (λ b. cond b (Some e.1) (find key_cmp q es)) (apart_by (is_in_space 1) q e.0 h.0 apart) ∙ not_in_catalog es q h.1 apart
+
+-- a key of no counter is that of none of the counters' pairs
+pub not_in_counters : (beside : List Pair) (q : List ℕ) → AreOfCounters beside → is_of_counters q ≡ false → find key_cmp q beside ≡ None
+not_in_counters [] q h apart = refl
+not_in_counters (e ∷ es) q h apart =
+    ap (λ b. cond b (Some e.1) (find key_cmp q es)) (apart_by is_of_counters q e.0 h.0 apart) ∙ not_in_counters es q h.1 apart
+
+-- the counters' pairs are beside those of the rows, and so are they before the catalog's
+pub counters_beside : (beside : List Pair) → AreOfCounters beside → AreBeside beside
+counters_beside [] h = tt
+counters_beside (e ∷ es) h = (outside e.0 h.0, counters_beside es h.1)
+  where
+    outside : (k : List ℕ) → is_of_counters k ≡ true → is_of_rows k ≡ false
+    outside [] is = refl
+    outside (b ∷ bs) is = ap (λ (x : ℕ). x == 2 || x == 3) (eqb-true b 5 is)
+
+pub both_beside : (beside catalog : List Pair) → AreBeside beside → AreBeside catalog → AreBeside (beside ++ catalog)
+both_beside [] catalog h more = more
+both_beside (e ∷ es) catalog h more = (h.0, both_beside es catalog h.1 more)
 
 -- the catalog's pairs are beside those of the rows
 pub catalog_beside : (others : List Pair) → AreCatalog others → AreBeside others

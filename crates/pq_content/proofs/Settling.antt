@@ -12,7 +12,7 @@ use Rattle.pq_base.specs.declared.value.Value.{Value}
 use Rattle.pq_schema.specs.declared.table.Index.{Index}
 use Rattle.pq_schema.specs.declared.table.Table.{Table}
 use Rattle.pq_schema.specs.Sequences.{index_sequence}
-use Rattle.pq_content.specs.Pairs.{Pair, Change, changed_content, puts, removals, entry_pair, entries_from, pairs_of_row, entry_changes, update_changes, is_of_rows}
+use Rattle.pq_content.specs.Pairs.{Pair, Change, changed_content, puts, removals, entry_pair, entries_from, pairs_of_row, entry_changes, update_changes, is_of_rows, is_of_counters}
 use Rattle.pq_store.specs.Content.{key_cmp, Content}
 use Rattle.pq_content.specs.Tables.{same_values, values_of}
 use Rattle.pq_content.specs.Standing.{change_of, AreIntended, IsIntent, SettlesTo, may_intend, AreOfRows}
@@ -134,7 +134,7 @@ IsRowKey key = is_of_rows key ≡ true
 -- what a write may change, an intent may hold
 pub rows_intended : (cs : List Change) → AreOfRows cs → AreIntended cs
 rows_intended [] h = tt
-rows_intended (c ∷ cs) h = (h.0, rows_intended cs h.1)
+rows_intended (c ∷ cs) h = (ap (λ of. of || is_of_counters c.0) h.0, rows_intended cs h.1)
 
 entries_of_rows : (t i : ℕ) (table : Table) (indexes : List Index) (row : List Value) → AllByRecursion (λ (pair : Pair). IsRowKey pair.0) (entries_from t i table indexes row)
 entries_of_rows t i table [] row = tt

@@ -1,5 +1,5 @@
 -- A content stands for at most one catalog and one set of rows.
-use Rattle.std.proofs.Common.{◌≡◌, ℕ, true, List, [], ◌∷◌, map, IsPermutation, All, refl, sym, ap, ◌∙◌, subst, arith}
+use Rattle.std.proofs.Common.{◌≡◌, ℕ, true, List, [], ◌∷◌, ◌++◌, map, IsPermutation, All, refl, sym, ap, ◌∙◌, subst, arith}
 use Rattle.std.specs.List.{AllByRecursion}
 use Rattle.std.specs.FinMap.{entries, from_entries, is_sorted}
 use Rattle.std.proofs.lemmas.List.Sorted.{IsPermutation-sym, IsPermutation-trans}
@@ -10,7 +10,7 @@ use Rattle.pq_key_code.specs.KeyCode.{past_code, row_key}
 use Rattle.pq_schema.specs.declared.table.Table.{Table}
 use Rattle.pq_schema.specs.Sequences.{primary_sequence}
 use Rattle.pq_schema.specs.Tables.{table_at}
-use Rattle.pq_content.specs.Pairs.{Pair, AreCatalog, row_pair, content_pairs, AreBeside}
+use Rattle.pq_content.specs.Pairs.{Pair, AreCatalog, AreOfCounters, row_pair, content_pairs, AreBeside}
 use Rattle.pq_store.specs.Content.{key_cmp, Content, pairs_within}
 use Rattle.pq_base.specs.Sorting.{sort_by}
 use Rattle.pq_content.specs.Tables.{Rows, rows_of, types_of, values_of, dirs_of, Keeps, stored_code}
@@ -24,16 +24,17 @@ use Rattle.pq_content.proofs.TableRows.{AreRows, rows_are}
 use Rattle.pq_content.proofs.Codes.{stored_code_injective}
 
 -- the catalog's pairs, in the order of their keys
-pub one_catalog : (tables tables' : List Table) (rows rows' : Rows) (others others' : List Pair) → AreCatalog others → AreCatalog others' → content_pairs tables rows others ≡ content_pairs tables' rows' others' → entries (from_entries {R = key_cmp} others) ≡ entries (from_entries {R = key_cmp} others')
-one_catalog tables tables' rows rows' others others' catalog catalog' same =
-    sym (catalog_range tables rows others catalog)
-    ∙ ap (λ (c : Content). pairs_within c (1 ∷ []) (2 ∷ [])) same
-    ∙ catalog_range tables' rows' others' catalog'
+module _ (tables more : List Table) (rows others : Rows) (beside behind catalog after : List Pair) (counters : AreOfCounters beside) (counted : AreOfCounters behind)
+    (are : AreCatalog catalog) (more_are : AreCatalog after) where
+  one_catalog : content_pairs tables rows (beside ++ catalog) ≡ content_pairs more others (behind ++ after) → entries (from_entries {R = key_cmp} catalog) ≡ entries (from_entries {R = key_cmp} after)
+  one_catalog same =
+      sym (catalog_range tables rows beside catalog counters are)
+      ∙ ap (λ (c : Content). pairs_within c (1 ∷ []) (2 ∷ [])) same
+      ∙ catalog_range more others behind after counted more_are
 
--- where the keys rise, the catalogs are one list
-pub rising_catalog : (tables tables' : List Table) (rows rows' : Rows) (others others' : List Pair) → AreCatalog others → AreCatalog others' → is_sorted key_cmp others ≡ true → is_sorted key_cmp others' ≡ true → content_pairs tables rows others ≡ content_pairs tables' rows' others' → others ≡ others'
-rising_catalog tables tables' rows rows' others others' catalog catalog' rising rising' same =
-    sym (entries-rising others rising) ∙ one_catalog tables tables' rows rows' others others' catalog catalog' same ∙ entries-rising others' rising'
+  -- where the keys rise, the catalogs are one list
+  pub rising_catalog : is_sorted key_cmp catalog ≡ true → is_sorted key_cmp after ≡ true → content_pairs tables rows (beside ++ catalog) ≡ content_pairs more others (behind ++ after) → catalog ≡ after
+  rising_catalog rising more_rise same = sym (entries-rising catalog rising) ∙ one_catalog same ∙ entries-rising after more_rise
 
 each_fits : (table : Table) (rows : List (List Value)) → AreRows table rows → AllByRecursion (AllFit (types_of table)) rows
 each_fits table [] h = tt

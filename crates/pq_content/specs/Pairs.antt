@@ -43,6 +43,14 @@ is_in_space space (byte ∷ bytes) = byte == space
 abbrev pub AreCatalog : List Pair → Type 0
 AreCatalog pairs = AllByRecursion (λ pair. is_in_space 1 pair.0 ≡ true) pairs
 
+-- whether a key is of the groups of counters (space 05)
+abbrev pub is_of_counters : List ℕ → Bool
+is_of_counters key = is_in_space 5 key
+
+-- pairs of that space
+abbrev pub AreOfCounters : List Pair → Type 0
+AreOfCounters pairs = AllByRecursion (λ pair. is_of_counters pair.0 ≡ true) pairs
+
 -- whether a key is of the rows (space 02) or of their entries (space 03)
 abbrev pub is_of_rows : List ℕ → Bool
 is_of_rows key = is_in_space 2 key || is_in_space 3 key

@@ -1,10 +1,10 @@
 -- What a content settles to, and a content in which an index is being filled.
-use Rattle.std.specs.Prelude.{◌≡◌, ℕ, Bool, false, true, ◌&&◌, ◌==◌, List, [], ◌∷◌, map, MatchOption, ◌+◌, if◌then◌else◌}
+use Rattle.std.specs.Prelude.{◌≡◌, ℕ, Bool, false, true, ◌&&◌, ◌||◌, ◌==◌, List, [], ◌∷◌, map, MatchOption, ◌+◌, if◌then◌else◌}
 use Rattle.std.specs.List.{AllByRecursion}
 use Rattle.std.specs.FinMap.{get, remove, retain_keys}
 use Rattle.pq_row_code.specs.declared.changes.Change.{Change as Coded}
 use Rattle.pq_row_code.specs.Changes.{changes_code, AreChanges}
-use Rattle.pq_content.specs.Pairs.{Change, changed_content, is_of_rows}
+use Rattle.pq_content.specs.Pairs.{Change, changed_content, is_of_rows, is_of_counters}
 use Rattle.pq_store.specs.Content.{Content}
 use Rattle.pq_key_code.specs.KeyCode.{intent_key}
 
@@ -15,9 +15,9 @@ change_of change = (change.key, change.new)
 abbrev pub AreOfRows : List Change → Type 0
 AreOfRows changes = AllByRecursion (λ change. is_of_rows change.0 ≡ true) changes
 
--- whether an intent may hold a change of this key: one of rows and entries
+-- whether an intent may hold a change of this key: one of rows, entries and counters
 abbrev pub may_intend : List ℕ → Bool
-may_intend key = is_of_rows key
+may_intend key = is_of_rows key || is_of_counters key
 
 -- changes that an intent may hold
 abbrev pub AreIntended : List Change → Type 0

@@ -15,7 +15,7 @@ ghost use Rattle.pq_schema.specs.declared.table.KeyPart.{KeyPart};
 ghost use Rattle.pq_schema.specs.declared.table.Table.{Table};
 ghost use Rattle.pq_schema.specs.Sequences.{columns_of, primary_sequence, index_sequence, begins_with};
 ghost use Rattle.pq_schema.specs.Tables.{table_at};
-ghost use Rattle.pq_content.specs.Pairs.{Pair, Change, AreCatalog, row_pair, entry_pair, pairs_of_row, row_pairs, changed_content, puts, removals, update_changes, content_pairs, is_of_rows, AreBeside, pairs_of_rows, pairs_beside};
+ghost use Rattle.pq_content.specs.Pairs.{Pair, Change, AreCatalog, AreOfCounters, row_pair, entry_pair, pairs_of_row, row_pairs, changed_content, puts, removals, update_changes, content_pairs, is_of_rows, AreBeside, pairs_of_rows, pairs_beside};
 ghost use Rattle.pq_store.specs.Content.{key_cmp, Content, pairs_within};
 ghost use Rattle.pq_base.specs.Sorting.{sort_by};
 ghost use Rattle.pq_content.specs.Standing.{change_of, AreOfRows, SettlesTo, IsIntent, IsFilledPartOf, is_entry_of, AreIntended};
@@ -182,7 +182,7 @@ pub fn beside_laws()
         → content ≡ content_pairs tables rows (pairs_beside content) }
 {}
 
-/// What a content has beside the rows' pairs.
+/// What a content has beside the rows' pairs: those of the counters, and those of the catalog.
 pub fn catalog_laws()
     // A key that is of neither rows nor entries is looked up among the other pairs.
     ensures get { (tables : List Table) (rows : Rows) (others : List Pair) (key : List ℕ)
@@ -195,13 +195,13 @@ pub fn catalog_laws()
         ≡ content_pairs tables rows (others ++ (key, value) ∷ []) }
 
     // No intent is there.
-    ensures no_intent { (tables : List Table) (rows : Rows) (others : List Pair) → AreCatalog others
-        → get (content_pairs tables rows others) intent_key ≡ None }
+    ensures no_intent { (tables : List Table) (rows : Rows) (beside catalog : List Pair) → AreOfCounters beside
+        → AreCatalog catalog → get (content_pairs tables rows (beside ++ catalog)) intent_key ≡ None }
 
     // The range of the catalog's space has just the catalog's pairs.
-    ensures range { (tables : List Table) (rows : Rows) (others : List Pair) → AreCatalog others
-        → is_sorted key_cmp others ≡ true → pairs_within (content_pairs tables rows others) (1 ∷ []) (2 ∷ [])
-        ≡ others }
+    ensures range { (tables : List Table) (rows : Rows) (beside catalog : List Pair) → AreOfCounters beside
+        → AreCatalog catalog → is_sorted key_cmp catalog ≡ true
+        → pairs_within (content_pairs tables rows (beside ++ catalog)) (1 ∷ []) (2 ∷ []) ≡ catalog }
 
     // With no rows and no catalog there is nothing.
     ensures nothing { content_pairs [] [] [] ≡ empty }
@@ -209,9 +209,10 @@ pub fn catalog_laws()
 
 /// What a content stands for: one catalog, and for each table one set of rows.
 pub fn standing_laws()
-    ensures catalog { (tables more : List Table) (rows others : Rows) (catalog after : List Pair)
-        → AreCatalog catalog → AreCatalog after → is_sorted key_cmp catalog ≡ true
-        → is_sorted key_cmp after ≡ true → content_pairs tables rows catalog ≡ content_pairs more others after
+    ensures catalog { (tables more : List Table) (rows others : Rows) (beside behind catalog after : List Pair)
+        → AreOfCounters beside → AreOfCounters behind → AreCatalog catalog → AreCatalog after
+        → is_sorted key_cmp catalog ≡ true → is_sorted key_cmp after ≡ true
+        → content_pairs tables rows (beside ++ catalog) ≡ content_pairs more others (behind ++ after)
         → catalog ≡ after }
 
     ensures rows { (tables : List Table) (rows others : Rows) (beside after : List Pair) (t : ℕ)

@@ -8,12 +8,12 @@ use pq_base::{List, NoMem};
 use pq_row_code::{Change, decode_changes};
 use std::alloc::Global;
 
-/// Whether an intent may hold a change of this key: one of a row or of an entry.
+/// Whether an intent may hold a change of this key: one of a row, an entry or a counter.
 fn may_intend(key: &[u8]) -> bool
     ensures { result ≡ may_intend key.now }
 {
     match key {
-        [space, ..] => *space == 0x02 || *space == 0x03,
+        [space, ..] => *space == 0x02 || *space == 0x03 || *space == 0x05,
         [] => false,
     }
 }
