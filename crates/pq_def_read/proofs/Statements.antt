@@ -8,22 +8,22 @@ use Rattle.pq_grammar.proofs.Readers.{pair_reads, close_reads, map_reads}
 use Rattle.pq_grammar.proofs.Options.{always, option_reads, rest_reads}
 use Rattle.pq_grammar.proofs.Lists.{one_opens, then_opens, one_shuts, then_shuts, pair_free, skip_free, close_free, same_set, separated_reads}
 use Rattle.pq_grammar.proofs.Choices.{made_reads, choice_reads, listed_reads, begins_with, first_of_then, any_of, not_first, not_second, one_or_other}
-use Rattle.pq_shape.specs.Front.{is_word_shape, is_mark_shape, is_constant, is_soft_shape, soft_name, is_value, word_at, mark_at, name_at, text_at, value_shape_at}
-use Rattle.pq_shape.specs.Parts.{word, mark, comma, name, text, a_value}
-use Rattle.pq_shape.proofs.Tokens.{word_reads, soft_passes, mark_reads, name_reads, text_reads, value_reads, value_opens, comma_separated}
+use Rattle.pq_shape.specs.Front.{is_word_shape, is_mark_shape, is_constant, is_soft_shape, soft_name, is_value, word_at, soft_at, mark_at, name_at, text_at, value_shape_at}
+use Rattle.pq_shape.specs.Parts.{word, soft, mark, comma, name, text, a_value}
+use Rattle.pq_shape.proofs.Tokens.{word_reads, soft_reads, soft_passes, mark_reads, name_reads, text_reads, value_reads, value_opens, comma_separated}
 use Rattle.pq_shape.specs.declared.soft.Soft.TheVariants as soft_word
 use Rattle.pq_shape.specs.declared.shape.Shape.{Shape}
 use Rattle.pq_shape.specs.declared.shape.Shape.TheVariants as shape
-use Rattle.pq_shape.specs.declared.keyword.TheConstants.{AFTER, AND, AS, CREATE, DELETE, EXPLAIN, FROM, INSERT, INTO, PREPARE, RUN, SET, SHOW, UPDATE, VALUES, WHERE}
+use Rattle.pq_shape.specs.declared.keyword.TheConstants.{AFTER, AND, AS, CREATE, DELETE, EXPLAIN, FROM, INSERT, INTO, PREPARE, RUN, SET, SHOW, TABLE, UPDATE, VALUES, WHERE}
 use Rattle.pq_shape.specs.declared.mark.TheConstants.{CLOSE, COMMA, EQUAL, OPEN, SEMICOLON}
-use Rattle.pq_def_read.specs.Definitions.{cols_at, create_at, alter_at, statement_end_at}
-use Rattle.pq_def_read.specs.Reading.{values_clause_at, assign_at, sets_at, key_clause_at, insert_at, update_at, delete_at, prepare_at, explain_at, listed_values_at, arguments_at, after_at, run_at, show_at, statement_at}
-use Rattle.pq_def_read.specs.Grammar.{cols, create, alter, insert, assign, key, update, delete, arguments, cursor, run, Spells}
+use Rattle.pq_def_read.specs.Definitions.{cols_at, table_definition_at, counter_definition_at, alter_at, statement_end_at}
+use Rattle.pq_def_read.specs.Reading.{values_clause_at, assign_at, sets_at, key_clause_at, create_statement_at, insert_at, update_at, delete_at, prepare_at, explain_at, listed_values_at, arguments_at, after_at, run_at, read_counter_at, show_at, statement_at}
+use Rattle.pq_def_read.specs.Grammar.{cols, alter, insert, assign, key, update, delete, arguments, cursor, run, read, Spells}
 use Rattle.pq_def_read.specs.declared.statement.Assign.{Assign}
 use Rattle.pq_def_read.specs.declared.statement.Statement.{Statement}
-use Rattle.pq_def_read.specs.declared.statement.Statement.TheVariants.{Create, Insert, Update, Delete, Prepare, Explain, Run, Alter, Show}
+use Rattle.pq_def_read.specs.declared.statement.Statement.TheVariants.{Create, Insert, Update, Delete, Prepare, Explain, Run, Alter, Counter, Read, Show}
 use Rattle.pq_def_read.proofs.Parts.{cols_reads}
-use Rattle.pq_def_read.proofs.Tables.{stop, stop_reads, stop_shuts, create_reads, alter_reads}
+use Rattle.pq_def_read.proofs.Tables.{stop, stop_reads, stop_shuts, table_definition, table_definition_reads, counter_definition, counter_definition_reads, alter_reads}
 
 values_reads : Reads (separated_by comma a_value) (is_mark_shape COMMA) values_clause_at
 unfolding values_clause_at
@@ -48,6 +48,32 @@ key_reads =
 key_end_reads : Reads (λ ks. key ks ⋅ mark SEMICOLON) never (close_at key_clause_at (mark_at SEMICOLON))
 unfolding is_word_shape
 key_end_reads = close_reads key (mark SEMICOLON) (is_word_shape AND) never key_clause_at (mark_at SEMICOLON) key_reads (mark_reads SEMICOLON) (λ v rest h e. one_shuts (is_word_shape AND) (shape.Mark SEMICOLON) refl v rest h)
+
+-- ---- CREATE
+
+abbrev a_table : Statement → List Shape → Type 0
+a_table = made_from (λ d. Create d) table_definition
+
+abbrev a_counter : Statement → List Shape → Type 0
+a_counter = made_from (λ d. Counter d) counter_definition
+
+abbrev a_create : Statement → List Shape → Type 0
+a_create s = word CREATE ⋅ one_or_other a_table a_counter s
+
+create_reads : Reads a_create never create_statement_at
+unfolding create_statement_at is_word_shape
+create_reads =
+    skip_free (word CREATE) (one_or_other a_table a_counter) never (word_at CREATE) _ (word_reads CREATE)
+    (choice_reads a_table a_counter (is_word_shape TABLE) (map_at (λ d. Create d) table_definition_at) (map_at (λ d. Counter d) counter_definition_at) never
+    (made_reads (λ d. Create d) table_definition never table_definition_at table_definition_reads)
+    (made_reads (λ d. Counter d) counter_definition never counter_definition_at counter_definition_reads)
+    (λ s w h. then_opens (is_word_shape TABLE) (shape.Keyword TABLE) _ refl w h.2)
+    (λ s w rest h e. then_shuts (is_word_shape TABLE) (shape.Name (soft_name soft_word.Counter)) _ refl w rest h.2))
+
+-- what follows CREATE is a table's definition, or a counter's
+created : (s : Statement) (w front back : List Shape) → word CREATE front → w ≡ front ++ back → one_or_other a_table a_counter s back → Spells s w
+created s w front back first parts (inl h) = subst (λ (v : Statement). Spells v w) h.1 (record { front = front; back = back; fits_front = first; fits_back = h.2; parts = parts })
+created s w front back first parts (inr h) = subst (λ (v : Statement). Spells v w) h.1 (record { front = front; back = back; fits_front = first; fits_back = h.2; parts = parts })
 
 -- ---- INSERT
 
@@ -190,6 +216,23 @@ run_reads =
     (close_reads (optional cursor) (mark SEMICOLON) (is_word_shape AFTER) never after_at (mark_at SEMICOLON) after_reads (mark_reads SEMICOLON) (λ v rest h e. one_shuts (is_word_shape AFTER) (shape.Mark SEMICOLON) refl v rest h))
     (λ t v rest h e. not_open t v rest h))))
 
+-- ---- READ
+
+abbrev Tallied : Type 0
+Tallied = List ℕ × List Value
+
+abbrev tallies : Tallied → List Shape → Type 0
+tallies x = read x.0 x.1
+
+read_reads : Reads (made_from (λ (x : Tallied). Read x.0 x.1) tallies) never read_counter_at
+unfolding read_counter_at
+read_reads =
+    made_reads (λ (x : Tallied). Read x.0 x.1) tallies never _
+    (skip_free (soft soft_word.Read) (λ (x : Tallied). name x.0 ⋅ mark OPEN ⋅ separated_by comma a_value x.1 ⋅ stop) never (soft_at soft_word.Read) _ (soft_reads soft_word.Read)
+    (pair_free name (λ vs. mark OPEN ⋅ separated_by comma a_value vs ⋅ stop) never name_at _ name_reads
+    (skip_free (mark OPEN) (λ vs. separated_by comma a_value vs ⋅ stop) never (mark_at OPEN) _ (mark_reads OPEN)
+    (close_reads (separated_by comma a_value) stop (is_mark_shape COMMA) never values_clause_at statement_end_at values_reads stop_reads (λ v rest h e. stop_shuts v rest h)))))
+
 -- ---- SHOW
 
 abbrev shows : Unit {0} → List Shape → Type 0
@@ -200,9 +243,6 @@ unfolding show_at
 show_reads = made_reads (λ u. Show) shows never _ (skip_free (word SHOW) (λ _. mark SEMICOLON) never (word_at SHOW) (mark_at SEMICOLON) (word_reads SHOW) (mark_reads SEMICOLON))
 
 -- ---- the choice
-
-abbrev a_create : Statement → List Shape → Type 0
-a_create = made_from (λ d. Create d) create
 
 abbrev a_insert : Statement → List Shape → Type 0
 a_insert = made_from (λ (x : Inserted). Insert x.0 x.1.0 x.1.1) inserts
@@ -225,11 +265,17 @@ a_run = made_from (λ (x : Started). Run x.0 x.1.0 x.1.1) runs
 abbrev a_alter : Statement → List Shape → Type 0
 a_alter = made_from (λ d. Alter d) alter
 
+abbrev a_read : Statement → List Shape → Type 0
+a_read = made_from (λ (x : Tallied). Read x.0 x.1) tallies
+
 abbrev a_show : Statement → List Shape → Type 0
 a_show = made_from (λ (u : Unit {0}). Show) shows
 
+abbrev from_read : Statement → List Shape → Type 0
+from_read = one_or_other a_read a_show
+
 abbrev from_alter : Statement → List Shape → Type 0
-from_alter = one_or_other a_alter a_show
+from_alter = one_or_other a_alter from_read
 
 abbrev from_run : Statement → List Shape → Type 0
 from_run = one_or_other a_run from_alter
@@ -255,7 +301,7 @@ from_create = one_or_other a_create from_insert
 -- each form begins with its own word
 
 first_create : (s : Statement) (w : List Shape) → a_create s w → first_of_list w ≡ Some (shape.Keyword CREATE)
-first_create s w h = first_of_then (shape.Keyword CREATE) _ w h.2
+first_create s w h = first_of_then (shape.Keyword CREATE) _ w h
 
 first_insert : (s : Statement) (w : List Shape) → a_insert s w → first_of_list w ≡ Some (shape.Keyword INSERT)
 first_insert s w h = first_of_then (shape.Keyword INSERT) _ w h.2
@@ -278,6 +324,9 @@ first_run s w h = first_of_then (shape.Keyword RUN) _ w h.2
 first_alter : (s : Statement) (w : List Shape) → a_alter s w → first_of_list w ≡ Some (shape.Name (soft_name soft_word.Alter))
 first_alter s w h = first_of_then (shape.Name (soft_name soft_word.Alter)) _ w h.2
 
+first_read : (s : Statement) (w : List Shape) → a_read s w → first_of_list w ≡ Some (shape.Name (soft_name soft_word.Read))
+first_read s w h = first_of_then (shape.Name (soft_name soft_word.Read)) _ w h.2
+
 first_show : (s : Statement) (w : List Shape) → a_show s w → first_of_list w ≡ Some (shape.Keyword SHOW)
 first_show s w h = first_of_then (shape.Keyword SHOW) _ w h.2
 
@@ -290,7 +339,8 @@ no_create s w rest (inr (inr (inr (inl h)))) = begins_with (is_word_shape CREATE
 no_create s w rest (inr (inr (inr (inr (inl h))))) = begins_with (is_word_shape CREATE) (shape.Keyword EXPLAIN) w rest (first_explain s w h)
 no_create s w rest (inr (inr (inr (inr (inr (inl h)))))) = begins_with (is_word_shape CREATE) (shape.Keyword RUN) w rest (first_run s w h)
 no_create s w rest (inr (inr (inr (inr (inr (inr (inl h))))))) = begins_with (is_word_shape CREATE) (shape.Name (soft_name soft_word.Alter)) w rest (first_alter s w h)
-no_create s w rest (inr (inr (inr (inr (inr (inr (inr h))))))) = begins_with (is_word_shape CREATE) (shape.Keyword SHOW) w rest (first_show s w h)
+no_create s w rest (inr (inr (inr (inr (inr (inr (inr (inl h)))))))) = begins_with (is_word_shape CREATE) (shape.Name (soft_name soft_word.Read)) w rest (first_read s w h)
+no_create s w rest (inr (inr (inr (inr (inr (inr (inr (inr h)))))))) = begins_with (is_word_shape CREATE) (shape.Keyword SHOW) w rest (first_show s w h)
 
 no_insert : (s : Statement) (w rest : List Shape) → from_update s w → begins (is_word_shape INSERT) (w ++ rest) ≡ false
 unfolding is_word_shape
@@ -300,7 +350,8 @@ no_insert s w rest (inr (inr (inl h))) = begins_with (is_word_shape INSERT) (sha
 no_insert s w rest (inr (inr (inr (inl h)))) = begins_with (is_word_shape INSERT) (shape.Keyword EXPLAIN) w rest (first_explain s w h)
 no_insert s w rest (inr (inr (inr (inr (inl h))))) = begins_with (is_word_shape INSERT) (shape.Keyword RUN) w rest (first_run s w h)
 no_insert s w rest (inr (inr (inr (inr (inr (inl h)))))) = begins_with (is_word_shape INSERT) (shape.Name (soft_name soft_word.Alter)) w rest (first_alter s w h)
-no_insert s w rest (inr (inr (inr (inr (inr (inr h)))))) = begins_with (is_word_shape INSERT) (shape.Keyword SHOW) w rest (first_show s w h)
+no_insert s w rest (inr (inr (inr (inr (inr (inr (inl h))))))) = begins_with (is_word_shape INSERT) (shape.Name (soft_name soft_word.Read)) w rest (first_read s w h)
+no_insert s w rest (inr (inr (inr (inr (inr (inr (inr h))))))) = begins_with (is_word_shape INSERT) (shape.Keyword SHOW) w rest (first_show s w h)
 
 no_update : (s : Statement) (w rest : List Shape) → from_delete s w → begins (is_word_shape UPDATE) (w ++ rest) ≡ false
 unfolding is_word_shape
@@ -309,7 +360,8 @@ no_update s w rest (inr (inl h)) = begins_with (is_word_shape UPDATE) (shape.Key
 no_update s w rest (inr (inr (inl h))) = begins_with (is_word_shape UPDATE) (shape.Keyword EXPLAIN) w rest (first_explain s w h)
 no_update s w rest (inr (inr (inr (inl h)))) = begins_with (is_word_shape UPDATE) (shape.Keyword RUN) w rest (first_run s w h)
 no_update s w rest (inr (inr (inr (inr (inl h))))) = begins_with (is_word_shape UPDATE) (shape.Name (soft_name soft_word.Alter)) w rest (first_alter s w h)
-no_update s w rest (inr (inr (inr (inr (inr h))))) = begins_with (is_word_shape UPDATE) (shape.Keyword SHOW) w rest (first_show s w h)
+no_update s w rest (inr (inr (inr (inr (inr (inl h)))))) = begins_with (is_word_shape UPDATE) (shape.Name (soft_name soft_word.Read)) w rest (first_read s w h)
+no_update s w rest (inr (inr (inr (inr (inr (inr h)))))) = begins_with (is_word_shape UPDATE) (shape.Keyword SHOW) w rest (first_show s w h)
 
 no_delete : (s : Statement) (w rest : List Shape) → from_prepare s w → begins (is_word_shape DELETE) (w ++ rest) ≡ false
 unfolding is_word_shape
@@ -317,29 +369,38 @@ no_delete s w rest (inl h) = begins_with (is_word_shape DELETE) (shape.Keyword P
 no_delete s w rest (inr (inl h)) = begins_with (is_word_shape DELETE) (shape.Keyword EXPLAIN) w rest (first_explain s w h)
 no_delete s w rest (inr (inr (inl h))) = begins_with (is_word_shape DELETE) (shape.Keyword RUN) w rest (first_run s w h)
 no_delete s w rest (inr (inr (inr (inl h)))) = begins_with (is_word_shape DELETE) (shape.Name (soft_name soft_word.Alter)) w rest (first_alter s w h)
-no_delete s w rest (inr (inr (inr (inr h)))) = begins_with (is_word_shape DELETE) (shape.Keyword SHOW) w rest (first_show s w h)
+no_delete s w rest (inr (inr (inr (inr (inl h))))) = begins_with (is_word_shape DELETE) (shape.Name (soft_name soft_word.Read)) w rest (first_read s w h)
+no_delete s w rest (inr (inr (inr (inr (inr h))))) = begins_with (is_word_shape DELETE) (shape.Keyword SHOW) w rest (first_show s w h)
 
 no_prepare : (s : Statement) (w rest : List Shape) → from_explain s w → begins (is_word_shape PREPARE) (w ++ rest) ≡ false
 unfolding is_word_shape
 no_prepare s w rest (inl h) = begins_with (is_word_shape PREPARE) (shape.Keyword EXPLAIN) w rest (first_explain s w h)
 no_prepare s w rest (inr (inl h)) = begins_with (is_word_shape PREPARE) (shape.Keyword RUN) w rest (first_run s w h)
 no_prepare s w rest (inr (inr (inl h))) = begins_with (is_word_shape PREPARE) (shape.Name (soft_name soft_word.Alter)) w rest (first_alter s w h)
-no_prepare s w rest (inr (inr (inr h))) = begins_with (is_word_shape PREPARE) (shape.Keyword SHOW) w rest (first_show s w h)
+no_prepare s w rest (inr (inr (inr (inl h)))) = begins_with (is_word_shape PREPARE) (shape.Name (soft_name soft_word.Read)) w rest (first_read s w h)
+no_prepare s w rest (inr (inr (inr (inr h)))) = begins_with (is_word_shape PREPARE) (shape.Keyword SHOW) w rest (first_show s w h)
 
 no_explain : (s : Statement) (w rest : List Shape) → from_run s w → begins (is_word_shape EXPLAIN) (w ++ rest) ≡ false
 unfolding is_word_shape
 no_explain s w rest (inl h) = begins_with (is_word_shape EXPLAIN) (shape.Keyword RUN) w rest (first_run s w h)
 no_explain s w rest (inr (inl h)) = begins_with (is_word_shape EXPLAIN) (shape.Name (soft_name soft_word.Alter)) w rest (first_alter s w h)
-no_explain s w rest (inr (inr h)) = begins_with (is_word_shape EXPLAIN) (shape.Keyword SHOW) w rest (first_show s w h)
+no_explain s w rest (inr (inr (inl h))) = begins_with (is_word_shape EXPLAIN) (shape.Name (soft_name soft_word.Read)) w rest (first_read s w h)
+no_explain s w rest (inr (inr (inr h))) = begins_with (is_word_shape EXPLAIN) (shape.Keyword SHOW) w rest (first_show s w h)
 
 no_run : (s : Statement) (w rest : List Shape) → from_alter s w → begins (is_word_shape RUN) (w ++ rest) ≡ false
 unfolding is_word_shape
 no_run s w rest (inl h) = begins_with (is_word_shape RUN) (shape.Name (soft_name soft_word.Alter)) w rest (first_alter s w h)
-no_run s w rest (inr h) = begins_with (is_word_shape RUN) (shape.Keyword SHOW) w rest (first_show s w h)
+no_run s w rest (inr (inl h)) = begins_with (is_word_shape RUN) (shape.Name (soft_name soft_word.Read)) w rest (first_read s w h)
+no_run s w rest (inr (inr h)) = begins_with (is_word_shape RUN) (shape.Keyword SHOW) w rest (first_show s w h)
 
-no_alter : (s : Statement) (w rest : List Shape) → a_show s w → begins (is_soft_shape soft_word.Alter) (w ++ rest) ≡ false
+no_alter : (s : Statement) (w rest : List Shape) → from_read s w → begins (is_soft_shape soft_word.Alter) (w ++ rest) ≡ false
 unfolding is_soft_shape
-no_alter s w rest h = begins_with (is_soft_shape soft_word.Alter) (shape.Keyword SHOW) w rest (first_show s w h)
+no_alter s w rest (inl h) = begins_with (is_soft_shape soft_word.Alter) (shape.Name (soft_name soft_word.Read)) w rest (first_read s w h)
+no_alter s w rest (inr h) = begins_with (is_soft_shape soft_word.Alter) (shape.Keyword SHOW) w rest (first_show s w h)
+
+no_read : (s : Statement) (w rest : List Shape) → a_show s w → begins (is_soft_shape soft_word.Read) (w ++ rest) ≡ false
+unfolding is_soft_shape
+no_read s w rest h = begins_with (is_soft_shape soft_word.Read) (shape.Keyword SHOW) w rest (first_show s w h)
 
 -- what begins with a word
 opens_by : (k : ℕ) (w : List Shape) → first_of_list w ≡ Some (shape.Keyword k) → is_word_shape k (shape.Keyword k) ≡ true → begins (is_word_shape k) w ≡ true
@@ -347,7 +408,7 @@ opens_by k [] e is = absurd cc
 opens_by k (t ∷ w) e is = let same : t ≡ shape.Keyword k = cc in ap (is_word_shape k) same ∙ is
 
 statement_to : (s : Statement) (w : List Shape) → from_create s w → Spells s w
-statement_to s w (inl h) = subst (λ (v : Statement). Spells v w) h.1 h.2
+statement_to s w (inl h) = created s w h.front h.back h.fits_front h.parts h.fits_back
 statement_to s w (inr (inl h)) = subst (λ (v : Statement). Spells v w) h.1 h.2
 statement_to s w (inr (inr (inl h))) = subst (λ (v : Statement). Spells v w) h.1 h.2
 statement_to s w (inr (inr (inr (inl h)))) = subst (λ (v : Statement). Spells v w) h.1 h.2
@@ -355,10 +416,12 @@ statement_to s w (inr (inr (inr (inr (inl h))))) = subst (λ (v : Statement). Sp
 statement_to s w (inr (inr (inr (inr (inr (inl h)))))) = subst (λ (v : Statement). Spells v w) h.1 (refl, h.2)
 statement_to s w (inr (inr (inr (inr (inr (inr (inl h))))))) = subst (λ (v : Statement). Spells v w) h.1 h.2
 statement_to s w (inr (inr (inr (inr (inr (inr (inr (inl h)))))))) = subst (λ (v : Statement). Spells v w) h.1 h.2
-statement_to s w (inr (inr (inr (inr (inr (inr (inr (inr h)))))))) = subst (λ (v : Statement). Spells v w) h.1 h.2
+statement_to s w (inr (inr (inr (inr (inr (inr (inr (inr (inl h))))))))) = subst (λ (v : Statement). Spells v w) h.1 h.2
+statement_to s w (inr (inr (inr (inr (inr (inr (inr (inr (inr h))))))))) = subst (λ (v : Statement). Spells v w) h.1 h.2
 
 statement_from : (s : Statement) (w : List Shape) → Spells s w → from_create s w
-statement_from (Create d) w h = inl (d, refl, h)
+statement_from (Create d) w h = inl (record { front = h.front; back = h.back; fits_front = h.fits_front; fits_back = inl (d, refl, h.fits_back); parts = h.parts })
+statement_from (Counter d) w h = inl (record { front = h.front; back = h.back; fits_front = h.fits_front; fits_back = inr (d, refl, h.fits_back); parts = h.parts })
 statement_from (Insert t cs vs) w h = inr (inl ((t, (cs, vs)), refl, h))
 statement_from (Update t ss ks) w h = inr (inr (inl ((t, (ss, ks)), refl, h)))
 statement_from (Delete t ks) w h = inr (inr (inr (inl ((t, ks), refl, h))))
@@ -366,7 +429,8 @@ statement_from (Prepare n from) w h = inr (inr (inr (inr (inl (n, ap (λ (i : �
 statement_from (Explain from) w h = inr (inr (inr (inr (inr (inl (tt, ap (λ (i : ℕ). Explain i) h.0, h.1))))))
 statement_from (Run n vs t) w h = inr (inr (inr (inr (inr (inr (inl ((n, (vs, t)), refl, h)))))))
 statement_from (Alter d) w h = inr (inr (inr (inr (inr (inr (inr (inl (d, refl, h))))))))
-statement_from Show w h = inr (inr (inr (inr (inr (inr (inr (inr (tt, refl, h))))))))
+statement_from (Read n vs) w h = inr (inr (inr (inr (inr (inr (inr (inr (inl ((n, vs), refl, h)))))))))
+statement_from Show w h = inr (inr (inr (inr (inr (inr (inr (inr (inr (tt, refl, h)))))))))
 
 wide : (S : Statement → List Shape → Type 0) (r : Reader Shape Statement) → Reads S never r → Reads S always r
 wide S r h = wider_reads S never always r (λ rest e. begins-never rest) h
@@ -375,14 +439,16 @@ pub statement_reads : Reads Spells always statement_at
 unfolding statement_at is_word_shape
 statement_reads =
     same_set from_create Spells always statement_at statement_to statement_from
-    (choice_reads a_create from_insert (is_word_shape CREATE) (map_at (λ d. Create d) create_at) _ always (wide a_create (map_at (λ d. Create d) create_at) (made_reads (λ d. Create d) create never create_at create_reads))
+    (choice_reads a_create from_insert (is_word_shape CREATE) create_statement_at _ always (wide a_create create_statement_at create_reads)
     (choice_reads a_insert from_update (is_word_shape INSERT) insert_at _ always (wide a_insert insert_at insert_reads)
     (choice_reads a_update from_delete (is_word_shape UPDATE) update_at _ always (wide a_update update_at update_reads)
     (choice_reads a_delete from_prepare (is_word_shape DELETE) delete_at _ always (wide a_delete delete_at delete_reads)
     (choice_reads a_prepare from_explain (is_word_shape PREPARE) prepare_at _ always prepare_reads
     (choice_reads a_explain from_run (is_word_shape EXPLAIN) explain_at _ always explain_reads
     (choice_reads a_run from_alter (is_word_shape RUN) run_at _ always (wide a_run run_at run_reads)
-    (choice_reads a_alter a_show (is_soft_shape soft_word.Alter) (map_at (λ d. Alter d) alter_at) _ always (wide a_alter (map_at (λ d. Alter d) alter_at) (made_reads (λ d. Alter d) alter never alter_at alter_reads)) (wide a_show show_at show_reads)
+    (choice_reads a_alter from_read (is_soft_shape soft_word.Alter) (map_at (λ d. Alter d) alter_at) _ always (wide a_alter (map_at (λ d. Alter d) alter_at) (made_reads (λ d. Alter d) alter never alter_at alter_reads))
+    (choice_reads a_read a_show (is_soft_shape soft_word.Read) read_counter_at _ always (wide a_read read_counter_at read_reads) (wide a_show show_at show_reads)
+    (λ s w h. then_opens (is_soft_shape soft_word.Read) (shape.Name (soft_name soft_word.Read)) _ (soft_passes soft_word.Read) w h.2) (λ s w rest h e. no_read s w rest h))
     (λ s w h. then_opens (is_soft_shape soft_word.Alter) (shape.Name (soft_name soft_word.Alter)) _ (soft_passes soft_word.Alter) w h.2) (λ s w rest h e. no_alter s w rest h))
     (λ s w h. opens_by RUN w (first_run s w h) refl) (λ s w rest h e. no_run s w rest h))
     (λ s w h. opens_by EXPLAIN w (first_explain s w h) refl) (λ s w rest h e. no_explain s w rest h))

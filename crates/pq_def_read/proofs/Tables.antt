@@ -1,4 +1,4 @@
--- The readers of the definitions of tables and added columns read what the grammar says.
+-- The readers of the definitions of tables, added columns and counters read what the grammar says.
 use Rattle.std.proofs.Common.{◌≡◌, ℕ, false, List, ◌++◌, refl}
 use Rattle.pq_base.specs.declared.value.Value.{Value}
 use Rattle.pq_grammar.specs.Language.{◌⋅◌, separated_by}
@@ -12,11 +12,13 @@ use Rattle.pq_shape.proofs.Tokens.{word_reads, soft_reads, mark_reads, name_read
 use Rattle.pq_shape.specs.declared.soft.Soft.TheVariants as soft_word
 use Rattle.pq_shape.specs.declared.shape.Shape.{Shape}
 use Rattle.pq_shape.specs.declared.shape.Shape.TheVariants as shape
-use Rattle.pq_shape.specs.declared.keyword.TheConstants.{CREATE, KEY, PRIMARY, TABLE}
+use Rattle.pq_shape.specs.declared.keyword.TheConstants.{KEY, PRIMARY, TABLE}
 use Rattle.pq_shape.specs.declared.mark.TheConstants.{CLOSE, COMMA, OPEN, SEMICOLON}
 use Rattle.pq_schema.specs.declared.definition.ColumnDef.{ColumnDef}
-use Rattle.pq_def_read.specs.Definitions.{cols_at, column_at, columns_at, constraints_at, statement_end_at, body_at, create_at, alter_at}
-use Rattle.pq_def_read.specs.Grammar.{cols, column, constraints, create, alter}
+use Rattle.pq_schema.specs.declared.definition.CounterDef.{CounterDef}
+use Rattle.pq_schema.specs.declared.definition.TableDef.{TableDef}
+use Rattle.pq_def_read.specs.Definitions.{cols_at, column_at, columns_at, constraints_at, statement_end_at, body_at, table_definition_at, counter_definition_at, alter_at}
+use Rattle.pq_def_read.specs.Grammar.{cols, column, constraints, alter}
 use Rattle.pq_def_read.specs.declared.definition.Constraints.{Constraints}
 use Rattle.pq_def_read.proofs.Parts.{cols_reads, column_reads, columns_reads, constraints_reads}
 
@@ -58,16 +60,40 @@ from_columns_reads =
 abbrev Table : Type 0
 Table = List ℕ × (List ColumnDef × (List (List ℕ) × Constraints))
 
-pub create_reads : Reads create never create_at
-unfolding create_at
-create_reads =
-    map_reads (λ (x : Table). word CREATE ⋅ word TABLE ⋅ name x.0 ⋅ mark OPEN ⋅ from_columns x.1) create never
+-- a table's definition, from TABLE on
+abbrev pub table_definition : TableDef → List Shape → Type 0
+table_definition d = word TABLE ⋅ name d.name ⋅ mark OPEN ⋅ from_columns (d.columns, (d.key, record { limits = d.limits; foreign = d.foreign }))
+
+pub table_definition_reads : Reads table_definition never table_definition_at
+unfolding table_definition_at
+table_definition_reads =
+    map_reads (λ (x : Table). word TABLE ⋅ name x.0 ⋅ mark OPEN ⋅ from_columns x.1) table_definition never
     (λ x. record { name = x.0; columns = x.1.0; key = x.1.1.0; limits = x.1.1.1.limits; foreign = x.1.1.1.foreign }) _
-    (skip_free (word CREATE) (λ (x : Table). word TABLE ⋅ name x.0 ⋅ mark OPEN ⋅ from_columns x.1) never (word_at CREATE) _ (word_reads CREATE)
     (skip_free (word TABLE) (λ (x : Table). name x.0 ⋅ mark OPEN ⋅ from_columns x.1) never (word_at TABLE) _ (word_reads TABLE)
     (pair_free name (λ y. mark OPEN ⋅ from_columns y) never name_at (skip_at (mark_at OPEN) (pair_at columns_at body_at)) name_reads
-    (skip_free (mark OPEN) from_columns never (mark_at OPEN) (pair_at columns_at body_at) (mark_reads OPEN) from_columns_reads))))
+    (skip_free (mark OPEN) from_columns never (mark_at OPEN) (pair_at columns_at body_at) (mark_reads OPEN) from_columns_reads)))
     (λ x w h. h) (λ d w h. ((d.name, (d.columns, (d.key, record { limits = d.limits; foreign = d.foreign }))), refl, h))
+
+-- ---- counters
+
+abbrev Counted : Type 0
+Counted = List ℕ × (List ℕ × List (List ℕ))
+
+-- a counter's definition, from COUNTER on
+abbrev pub counter_definition : CounterDef → List Shape → Type 0
+counter_definition d = soft soft_word.Counter ⋅ name d.name ⋅ soft soft_word.Of ⋅ name d.table ⋅ cols d.cols ⋅ mark SEMICOLON
+
+pub counter_definition_reads : Reads counter_definition never counter_definition_at
+unfolding counter_definition_at
+counter_definition_reads =
+    map_reads (λ (x : Counted). soft soft_word.Counter ⋅ name x.0 ⋅ soft soft_word.Of ⋅ name x.1.0 ⋅ cols x.1.1 ⋅ mark SEMICOLON) counter_definition never
+    (λ x. record { name = x.0; table = x.1.0; cols = x.1.1 }) _
+    (skip_free (soft soft_word.Counter) (λ (x : Counted). name x.0 ⋅ soft soft_word.Of ⋅ name x.1.0 ⋅ cols x.1.1 ⋅ mark SEMICOLON) never (soft_at soft_word.Counter) _ (soft_reads soft_word.Counter)
+    (pair_free name (λ (y : List ℕ × List (List ℕ)). soft soft_word.Of ⋅ name y.0 ⋅ cols y.1 ⋅ mark SEMICOLON) never name_at _ name_reads
+    (skip_free (soft soft_word.Of) (λ (y : List ℕ × List (List ℕ)). name y.0 ⋅ cols y.1 ⋅ mark SEMICOLON) never (soft_at soft_word.Of) _ (soft_reads soft_word.Of)
+    (pair_free name (λ ns. cols ns ⋅ mark SEMICOLON) never name_at (close_at cols_at (mark_at SEMICOLON)) name_reads
+    (close_free cols (mark SEMICOLON) never cols_at (mark_at SEMICOLON) cols_reads (mark_reads SEMICOLON))))))
+    (λ x w h. h) (λ d w h. ((d.name, (d.table, d.cols)), refl, h))
 
 -- ---- added columns
 

@@ -1,13 +1,14 @@
--- Reading the definition of a table, and that of an added column, from left to right.
+-- Reading the definitions of a table, of an added column and of a counter, from left to right.
 use Rattle.std.specs.Prelude.{ℕ, ℤ, pos, Bool, is_some, List, [], ◌∷◌, ◌++◌, codes}
 use Rattle.pq_grammar.specs.Reader.{Reader, pair_at, skip_at, close_at, map_at, choice_at, option_at, many_at, separated_at, ended_at}
 use Rattle.pq_schema.specs.declared.definition.AlterDef.{AlterDef}
 use Rattle.pq_schema.specs.declared.definition.ColumnDef.{ColumnDef}
+use Rattle.pq_schema.specs.declared.definition.CounterDef.{CounterDef}
 use Rattle.pq_schema.specs.declared.definition.LimitDef.{LimitDef}
 use Rattle.pq_schema.specs.declared.definition.ForeignDef.{ForeignDef}
 use Rattle.pq_schema.specs.declared.definition.TableDef.{TableDef}
 use Rattle.pq_shape.specs.Front.{is_word_shape, is_mark_shape, is_name_shape, is_soft_shape, soft_at, word_at, mark_at, name_at, number_at, value_shape_at}
-use Rattle.pq_shape.specs.declared.keyword.TheConstants.{BOOL, CARDINALITY, CREATE, FOREIGN, INT, KEY, LIMIT, PRIMARY, REFERENCES, TABLE, TEXT}
+use Rattle.pq_shape.specs.declared.keyword.TheConstants.{BOOL, CARDINALITY, FOREIGN, INT, KEY, LIMIT, PRIMARY, REFERENCES, TABLE, TEXT}
 use Rattle.pq_shape.specs.declared.mark.TheConstants.{CLOSE, COMMA, OPEN, SEMICOLON}
 use Rattle.pq_shape.specs.declared.soft.Soft.TheVariants as soft_word
 use Rattle.pq_shape.specs.declared.shape.Shape.{Shape}
@@ -96,8 +97,9 @@ statement_end_at = skip_at (mark_at CLOSE) (mark_at SEMICOLON)
 unfoldable pub body_at : Reader Shape (List (List ℕ) × Constraints)
 body_at = skip_at (word_at PRIMARY) (skip_at (word_at KEY) (pair_at cols_at (close_at constraints_at statement_end_at)))
 
-unfoldable pub create_at : Reader Shape TableDef
-create_at =
+-- a table's definition, from TABLE on
+unfoldable pub table_definition_at : Reader Shape TableDef
+table_definition_at =
     map_at (λ x. record {
       name = x.0;
       columns = x.1.0;
@@ -105,8 +107,14 @@ create_at =
       limits = x.1.1.1.limits;
       foreign = x.1.1.1.foreign;
     })
-    (skip_at (word_at CREATE) (skip_at (word_at TABLE)
-    (pair_at name_at (skip_at (mark_at OPEN) (pair_at columns_at body_at)))))
+    (skip_at (word_at TABLE) (pair_at name_at (skip_at (mark_at OPEN) (pair_at columns_at body_at))))
+
+-- a counter's definition, from COUNTER on
+unfoldable pub counter_definition_at : Reader Shape CounterDef
+counter_definition_at =
+    map_at (λ x. record { name = x.0; table = x.1.0; cols = x.1.1 })
+    (skip_at (soft_at soft_word.Counter) (pair_at name_at
+    (skip_at (soft_at soft_word.Of) (pair_at name_at (close_at cols_at (mark_at SEMICOLON))))))
 
 unfoldable pub alter_at : Reader Shape AlterDef
 alter_at =

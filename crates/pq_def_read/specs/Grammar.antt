@@ -4,6 +4,7 @@ use Rattle.pq_base.specs.declared.value.Value.{Value}
 use Rattle.pq_grammar.specs.Language.{◌⋅◌, nothing, anything, each, optional, separated_by, listed_by, made_from}
 use Rattle.pq_schema.specs.declared.definition.AlterDef.{AlterDef}
 use Rattle.pq_schema.specs.declared.definition.ColumnDef.{ColumnDef}
+use Rattle.pq_schema.specs.declared.definition.CounterDef.{CounterDef}
 use Rattle.pq_schema.specs.declared.definition.LimitDef.{LimitDef}
 use Rattle.pq_schema.specs.declared.definition.ForeignDef.{ForeignDef}
 use Rattle.pq_schema.specs.declared.definition.TableDef.{TableDef}
@@ -19,7 +20,7 @@ use Rattle.pq_def_read.specs.declared.definition.Constraints.{Constraints}
 use Rattle.pq_def_read.specs.declared.definition.Kind.{Kind}
 use Rattle.pq_def_read.specs.declared.statement.Assign.{Assign}
 use Rattle.pq_def_read.specs.declared.statement.Statement.{Statement}
-use Rattle.pq_def_read.specs.declared.statement.Statement.TheVariants.{Create, Insert, Update, Delete, Prepare, Explain, Run, Alter, Show}
+use Rattle.pq_def_read.specs.declared.statement.Statement.TheVariants.{Create, Insert, Update, Delete, Prepare, Explain, Run, Alter, Counter, Read, Show}
 
 -- "(" name { "," name } ")"
 abbrev pub cols : List (List ℕ) → List Shape → Type 0
@@ -65,6 +66,11 @@ create d =
     ⋅ word KEY ⋅ cols d.key
     ⋅ constraints (record { limits = d.limits; foreign = d.foreign }) ⋅ mark CLOSE ⋅ mark SEMICOLON
 
+-- CREATE COUNTER name OF name cols
+abbrev pub counter : CounterDef → List Shape → Type 0
+counter d =
+    word CREATE ⋅ soft soft_word.Counter ⋅ name d.name ⋅ soft soft_word.Of ⋅ name d.table ⋅ cols d.cols ⋅ mark SEMICOLON
+
 -- ALTER TABLE name ADD COLUMN column DEFAULT value
 abbrev pub alter : AlterDef → List Shape → Type 0
 alter d =
@@ -105,6 +111,11 @@ cursor t = word AFTER ⋅ text t
 abbrev pub run : List ℕ → List Value → Option (List ℕ) → List Shape → Type 0
 run query values after = word RUN ⋅ name query ⋅ arguments values ⋅ optional cursor after ⋅ mark SEMICOLON
 
+-- READ name "(" value { "," value } ")"
+abbrev pub read : List ℕ → List Value → List Shape → Type 0
+read n values = soft soft_word.Read ⋅ name n ⋅ mark OPEN ⋅ separated_by comma a_value values ⋅ mark CLOSE
+    ⋅ mark SEMICOLON
+
 -- these tokens spell this statement; of PREPARE and EXPLAIN the head alone, with the number of its tokens
 abbrev pub Spells : Statement → List Shape → Type 0
 Spells (Create d) w = create d w
@@ -115,4 +126,6 @@ Spells (Prepare n from) w = (3 ≡ from) × (word PREPARE ⋅ name n ⋅ word AS
 Spells (Explain from) w = (1 ≡ from) × (word EXPLAIN ⋅ anything) w
 Spells (Run query values after) w = run query values after w
 Spells (Alter d) w = alter d w
+Spells (Counter d) w = counter d w
+Spells (Read n values) w = read n values w
 Spells Show w = (word SHOW ⋅ mark SEMICOLON) w

@@ -3,16 +3,16 @@ use Rattle.std.specs.Prelude.{ℕ, List, Option, Result}
 use Rattle.pq_base.specs.declared.value.Value.{Value}
 use Rattle.pq_grammar.specs.Reader.{Reader, pair_at, skip_at, close_at, map_at, choice_at, option_at, rest_at, separated_at, listed_at, option_items, all_at}
 use Rattle.pq_text.specs.declared.token.Token.{Token}
-use Rattle.pq_shape.specs.Front.{is_word_shape, is_mark_shape, is_soft_shape, is_value, word_at, mark_at, name_at, text_at, value_shape_at}
+use Rattle.pq_shape.specs.Front.{is_word_shape, is_mark_shape, is_soft_shape, is_value, word_at, soft_at, mark_at, name_at, text_at, value_shape_at}
 use Rattle.pq_shape.specs.Shapes.{shapes_of}
-use Rattle.pq_shape.specs.declared.keyword.TheConstants.{AFTER, AND, AS, CREATE, DELETE, EXPLAIN, FROM, INSERT, INTO, PREPARE, RUN, SET, SHOW, UPDATE, VALUES, WHERE}
+use Rattle.pq_shape.specs.declared.keyword.TheConstants.{AFTER, AND, AS, CREATE, DELETE, EXPLAIN, FROM, INSERT, INTO, PREPARE, RUN, SET, SHOW, TABLE, UPDATE, VALUES, WHERE}
 use Rattle.pq_shape.specs.declared.mark.TheConstants.{CLOSE, COMMA, EQUAL, OPEN, SEMICOLON}
 use Rattle.pq_shape.specs.declared.soft.Soft.TheVariants as soft_word
 use Rattle.pq_shape.specs.declared.shape.Shape.{Shape}
-use Rattle.pq_def_read.specs.Definitions.{cols_at, create_at, alter_at, statement_end_at}
+use Rattle.pq_def_read.specs.Definitions.{cols_at, table_definition_at, counter_definition_at, alter_at, statement_end_at}
 use Rattle.pq_def_read.specs.declared.statement.Assign.{Assign}
 use Rattle.pq_def_read.specs.declared.statement.Statement.{Statement}
-use Rattle.pq_def_read.specs.declared.statement.Statement.TheVariants.{Create, Insert, Update, Delete, Prepare, Explain, Run, Alter, Show}
+use Rattle.pq_def_read.specs.declared.statement.Statement.TheVariants.{Create, Insert, Update, Delete, Prepare, Explain, Run, Alter, Counter, Read, Show}
 
 unfoldable pub values_clause_at : Reader Shape (List Value)
 values_clause_at = separated_at (is_mark_shape COMMA) (mark_at COMMA) value_shape_at
@@ -25,6 +25,11 @@ sets_at = separated_at (is_mark_shape COMMA) (mark_at COMMA) assign_at
 
 unfoldable pub key_clause_at : Reader Shape (List Assign)
 key_clause_at = separated_at (is_word_shape AND) (word_at AND) assign_at
+
+-- a table or a counter
+unfoldable pub create_statement_at : Reader Shape Statement
+create_statement_at = skip_at (word_at CREATE) (choice_at (is_word_shape TABLE)
+    (map_at (λ d. Create d) table_definition_at) (map_at (λ d. Counter d) counter_definition_at))
 
 unfoldable pub insert_at : Reader Shape Statement
 insert_at =
@@ -66,19 +71,24 @@ unfoldable pub run_at : Reader Shape Statement
 run_at = map_at (λ x. Run x.0 x.1.0 x.1.1) (skip_at (word_at RUN)
     (pair_at name_at (pair_at arguments_at (close_at after_at (mark_at SEMICOLON)))))
 
+unfoldable pub read_counter_at : Reader Shape Statement
+read_counter_at = map_at (λ x. Read x.0 x.1) (skip_at (soft_at soft_word.Read)
+    (pair_at name_at (skip_at (mark_at OPEN) (close_at values_clause_at statement_end_at))))
+
 unfoldable pub show_at : Reader Shape Statement
 show_at = map_at (λ u. Show) (skip_at (word_at SHOW) (mark_at SEMICOLON))
 
 unfoldable pub statement_at : Reader Shape Statement
 statement_at =
-    choice_at (is_word_shape CREATE) (map_at (λ d. Create d) create_at)
+    choice_at (is_word_shape CREATE) create_statement_at
     (choice_at (is_word_shape INSERT) insert_at
     (choice_at (is_word_shape UPDATE) update_at
     (choice_at (is_word_shape DELETE) delete_at
     (choice_at (is_word_shape PREPARE) prepare_at
     (choice_at (is_word_shape EXPLAIN) explain_at
     (choice_at (is_word_shape RUN) run_at
-    (choice_at (is_soft_shape soft_word.Alter) (map_at (λ d. Alter d) alter_at) show_at)))))))
+    (choice_at (is_soft_shape soft_word.Alter) (map_at (λ d. Alter d) alter_at)
+    (choice_at (is_soft_shape soft_word.Read) read_counter_at show_at))))))))
 
 unfoldable pub read_at : List Shape → Result Statement ℕ
 read_at = all_at statement_at

@@ -1,14 +1,14 @@
-//! Reading the definition of a table, and that of an added column.
+//! Reading the definitions of a table, of an added column and of a counter.
 ghost use Rattle.std.specs.Prelude.{◌≡◌, IfOk, OnOk};
 ghost use Rattle.pq_grammar.specs.Answers.{Gives};
-ghost use Rattle.pq_def_read.specs.Definitions.{names_at, cols_at, text_kind_at, kind_at, nullable_at, column_at, ended_column_at, columns_at, limit_clause_at, foreign_at, constraint_at, next_constraint_at, constraints_at, with_constraint, statement_end_at, body_at, create_at, alter_at};
+ghost use Rattle.pq_def_read.specs.Definitions.{names_at, cols_at, text_kind_at, kind_at, nullable_at, column_at, ended_column_at, columns_at, limit_clause_at, foreign_at, constraint_at, next_constraint_at, constraints_at, with_constraint, statement_end_at, body_at, table_definition_at, counter_definition_at, alter_at};
 
 use pq_base::{List, NoMem, PText};
 use pq_grammar::ReadError;
-use pq_schema::{AlterDef, ColumnDef, ForeignDef, LimitDef, TableDef};
+use pq_schema::{AlterDef, ColumnDef, CounterDef, ForeignDef, LimitDef, TableDef};
 use pq_shape::{
-    BOOL, Between, CARDINALITY, CLOSE, COMMA, CREATE, Cursor, FOREIGN, INT, KEY, LIMIT, OPEN,
-    PRIMARY, REFERENCES, SEMICOLON, Soft, TABLE, TEXT, separated,
+    BOOL, Between, CARDINALITY, CLOSE, COMMA, Cursor, FOREIGN, INT, KEY, LIMIT, OPEN, PRIMARY,
+    REFERENCES, SEMICOLON, Soft, TABLE, TEXT, separated,
 };
 use std::alloc::Global;
 
@@ -237,12 +237,11 @@ fn table_body(alloc: Global, c: &mut Cursor) -> Result<Body, ReadError>
     Ok(Body { key, held })
 }
 
-/// Reads CREATE TABLE.
-#[tactic(auto, unfolding(crate::specs::Definitions::create_at))]
-pub fn create(alloc: Global, c: &mut Cursor) -> Result<TableDef, ReadError>
-    ensures { Gives (λ x. (x, c.new)) result (create_at c.old) }
+/// Reads a table's definition from TABLE on.
+#[tactic(auto, unfolding(crate::specs::Definitions::table_definition_at))]
+pub fn table_definition(alloc: Global, c: &mut Cursor) -> Result<TableDef, ReadError>
+    ensures { Gives (λ x. (x, c.new)) result (table_definition_at c.old) }
 {
-    c.word(CREATE)?;
     c.word(TABLE)?;
     let name = c.name(alloc)?;
     c.mark(OPEN)?;
@@ -255,6 +254,20 @@ pub fn create(alloc: Global, c: &mut Cursor) -> Result<TableDef, ReadError>
         limits: body.held.limits,
         foreign: body.held.foreign,
     })
+}
+
+/// Reads a counter's definition from COUNTER on.
+#[tactic(auto, unfolding(crate::specs::Definitions::counter_definition_at))]
+pub fn counter_definition(alloc: Global, c: &mut Cursor) -> Result<CounterDef, ReadError>
+    ensures { Gives (λ x. (x, c.new)) result (counter_definition_at c.old) }
+{
+    c.soft(Soft::Counter)?;
+    let name = c.name(alloc)?;
+    c.soft(Soft::Of)?;
+    let table = c.name(alloc)?;
+    let cols = cols(alloc, c)?;
+    c.mark(SEMICOLON)?;
+    Ok(CounterDef { name, table, cols })
 }
 
 /// Reads ALTER TABLE.

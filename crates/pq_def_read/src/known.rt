@@ -33,7 +33,9 @@ pub fn known_statement(statement: &Statement)
         Statement::Delete { key, .. } => known_assigns(key.items()),
         Statement::Run { values, .. } => known_values(values.items()),
         Statement::Alter(def) => known_value(&def.filler),
+        Statement::Read { values, .. } => known_values(values.items()),
         Statement::Create(_)
+        | Statement::Counter(_)
         | Statement::Prepare { .. }
         | Statement::Explain { .. }
         | Statement::Show => {}

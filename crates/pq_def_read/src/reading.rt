@@ -4,7 +4,7 @@ ghost use Rattle.pq_grammar.specs.Answers.{Gives};
 ghost use Rattle.pq_grammar.specs.Reader.{option_at};
 ghost use Rattle.pq_shape.specs.Front.{is_mark_shape};
 ghost use Rattle.pq_def_read.specs.Definitions.{cols_at};
-ghost use Rattle.pq_def_read.specs.Reading.{assign_at, values_clause_at, sets_at, key_clause_at, insert_at, update_at, delete_at, prepare_at, explain_at, listed_values_at, arguments_at, after_at, run_at, show_at, statement_at, read_at, statement_of};
+ghost use Rattle.pq_def_read.specs.Reading.{assign_at, values_clause_at, sets_at, key_clause_at, create_statement_at, insert_at, update_at, delete_at, prepare_at, explain_at, listed_values_at, arguments_at, after_at, run_at, read_counter_at, show_at, statement_at, read_at, statement_of};
 ghost use Rattle.pq_shape.specs.Shapes.{shapes_of};
 ghost use Rattle.pq_shape.specs.Faults.{IsRefusalOf, IsNoMem};
 ghost use Rattle.pq_def_read.specs.Grammar.{Spells};
@@ -12,15 +12,15 @@ ghost use Rattle.pq_def_read.specs.Faults.{IsFault};
 ghost use Rattle.pq_def_read.specs.Known.{HasValues};
 ghost use Rattle.pq_def_read.specs.declared.statement.Statement as declared;
 
-use crate::definition::{alter, cols, create, stop};
+use crate::definition::{alter, cols, counter_definition, stop, table_definition};
 use crate::known::known_statement;
 use crate::statement::{Assign, Statement};
 use pq_base::{List, PText, Stopped, Value};
 use pq_grammar::ReadError;
 use pq_shape::{
     AFTER, AND, AS, Between, CLOSE, COMMA, CREATE, Cursor, DELETE, EQUAL, EXPLAIN, FROM, INSERT,
-    INTO, OPEN, PREPARE, Part, RUN, SEMICOLON, SET, SHOW, Shape, Soft, UPDATE, VALUES, WHERE,
-    separated, shapes, syntax,
+    INTO, OPEN, PREPARE, Part, RUN, SEMICOLON, SET, SHOW, Shape, Soft, TABLE, UPDATE, VALUES,
+    WHERE, separated, shapes, syntax,
 };
 use pq_text::Token;
 use std::alloc::Global;
@@ -77,6 +77,18 @@ fn option_cols(alloc: Global, c: &mut Cursor) -> Result<Option<List<PText>>, Rea
         return Ok(Some(names));
     }
     Ok(None)
+}
+
+/// Reads CREATE TABLE or CREATE COUNTER.
+#[tactic(auto, unfolding(crate::specs::Reading::create_statement_at))]
+fn create(alloc: Global, c: &mut Cursor) -> Result<Statement, ReadError>
+    ensures { Gives (λ x. (x, c.new)) result (create_statement_at c.old) }
+{
+    c.word(CREATE)?;
+    if c.is_word(TABLE) {
+        return Ok(Statement::Create(table_definition(alloc, c)?));
+    }
+    Ok(Statement::Counter(counter_definition(alloc, c)?))
 }
 
 #[tactic(auto, unfolding(crate::specs::Reading::insert_at))]
@@ -198,6 +210,22 @@ fn run(alloc: Global, c: &mut Cursor) -> Result<Statement, ReadError>
     })
 }
 
+/// Reads a READ of a counter.
+#[tactic(auto, unfolding(crate::specs::Reading::read_counter_at))]
+fn read_counter(alloc: Global, c: &mut Cursor) -> Result<Statement, ReadError>
+    ensures { Gives (λ x. (x, c.new)) result (read_counter_at c.old) }
+{
+    c.soft(Soft::Read)?;
+    let name = c.name(alloc)?;
+    c.mark(OPEN)?;
+    let group = values(alloc, c)?;
+    stop(c)?;
+    Ok(Statement::Read {
+        name,
+        values: group,
+    })
+}
+
 #[tactic(auto, unfolding(crate::specs::Reading::show_at))]
 fn show(c: &mut Cursor) -> Result<Statement, ReadError>
     ensures { Gives (λ x. (x, c.new)) result (show_at c.old) }
@@ -212,7 +240,7 @@ fn any_statement(alloc: Global, c: &mut Cursor) -> Result<Statement, ReadError>
     ensures { Gives (λ x. (x, c.new)) result (statement_at c.old) }
 {
     by_word!(c;
-        CREATE => Ok(Statement::Create(create(alloc, c)?)),
+        CREATE => create(alloc, c),
         INSERT => insert(alloc, c),
         UPDATE => update(alloc, c),
         DELETE => delete(alloc, c),
@@ -221,6 +249,8 @@ fn any_statement(alloc: Global, c: &mut Cursor) -> Result<Statement, ReadError>
         RUN => run(alloc, c),
         _ => if c.is_soft(Soft::Alter) {
             Ok(Statement::Alter(alter(alloc, c)?))
+        } else if c.is_soft(Soft::Read) {
+            read_counter(alloc, c)
         } else {
             show(c)
         }

@@ -1,6 +1,6 @@
 //! Statements, with names in place of numbers.
 use pq_base::{List, PText, Value};
-use pq_schema::{AlterDef, TableDef};
+use pq_schema::{AlterDef, CounterDef, TableDef};
 
 /// A column and the value that it is to have.
 #[derive(Debug, Drop)]
@@ -48,6 +48,13 @@ pub enum Statement {
     },
     /// ALTER TABLE.
     Alter(AlterDef),
+    /// CREATE COUNTER.
+    Counter(CounterDef),
+    /// READ of a counter, with the values of a group.
+    Read {
+        name: PText,
+        values: List<Value>,
+    },
     /// SHOW.
     Show,
 }

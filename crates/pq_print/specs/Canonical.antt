@@ -10,6 +10,7 @@ use Rattle.pq_schema.specs.declared.table.Column.{Column}
 use Rattle.pq_schema.specs.declared.table.Limit.{Limit}
 use Rattle.pq_schema.specs.declared.table.Foreign.{Foreign}
 use Rattle.pq_schema.specs.declared.table.Table.{Table}
+use Rattle.pq_schema.specs.declared.counter.Counter.{Counter}
 use Rattle.pq_schema.specs.declared.query.ColRef.{ColRef}
 use Rattle.pq_schema.specs.declared.query.Op.{Op}
 use Rattle.pq_schema.specs.declared.query.Op.TheVariants as op
@@ -22,7 +23,7 @@ use Rattle.pq_schema.specs.declared.query.Stop.TheVariants as stop
 use Rattle.pq_schema.specs.declared.query.Relation.{Relation}
 use Rattle.pq_schema.specs.declared.query.Query.{Query}
 use Rattle.pq_schema.specs.declared.made.Definition.{Definition}
-use Rattle.pq_schema.specs.declared.made.Definition.TheVariants.{OfTable, OfQuery, OfColumn}
+use Rattle.pq_schema.specs.declared.made.Definition.TheVariants.{OfTable, OfQuery, OfColumn, OfCounter}
 use Rattle.pq_schema.specs.Tables.{table_at}
 use Rattle.pq_schema.specs.Relations.{relation_at, table_of}
 use Rattle.pq_schema.specs.Schema.{Schema, definition_at}
@@ -87,6 +88,12 @@ added_text table col =
     ++ column_text (column_at table.columns col)
     ++ codes " DEFAULT " ++ value_text (filler_at table.fillers col) ++ codes ";"
 
+-- a counter, over the tables
+unfoldable pub counter_text : List Table → Counter → List ℕ
+counter_text tables counter =
+    codes "CREATE COUNTER " ++ counter.name ++ codes " OF " ++ (table_at tables counter.table).name ++ codes " "
+    ++ columns_text (table_at tables counter.table).columns counter.cols ++ codes ";"
+
 -- a column as alias.column
 unfoldable pub ref_text : List Table → Query → ColRef → List ℕ
 ref_text tables query ref =
@@ -146,6 +153,7 @@ abbrev pub text_of : List Table → Definition → List ℕ
 text_of tables (OfTable table columns made) = numbered_text tables table columns
 text_of tables (OfQuery query made) = query_text tables query
 text_of tables (OfColumn table col) = added_text (table_at tables table) col
+text_of tables (OfCounter counter) = counter_text tables counter
 
 -- the canonical text of the definition of this number, from 1
 unfoldable pub definition_text : Schema → ℕ → List ℕ

@@ -17,6 +17,7 @@ refusal_number (refusal.ForeignShape number) = codes "E205"
 refusal_number (refusal.Count word) = codes "E206"
 refusal_number (refusal.TooManyRows table) = codes "E207"
 refusal_number (refusal.NullableKey name) = codes "E208"
+refusal_number (refusal.NotEmpty table) = codes "E209"
 refusal_number (refusal.Alias name) = codes "E301"
 refusal_number (refusal.OperandKind pred) = codes "E302"
 refusal_number refusal.Params = codes "E303"
@@ -26,6 +27,7 @@ refusal_number (refusal.NoQuery name) = codes "E401"
 refusal_number (refusal.ParamValue number) = codes "E402"
 refusal_number refusal.Cursor = codes "E403"
 refusal_number refusal.NotPaged = codes "E404"
+refusal_number (refusal.NoCounter name) = codes "E405"
 refusal_number (refusal.ValueKind table column) = codes "E501"
 refusal_number (refusal.WrongColumns table) = codes "E502"
 refusal_number (refusal.DuplicateKey table) = codes "E503"
@@ -34,6 +36,7 @@ refusal_number (refusal.NoParent table number) = codes "E505"
 refusal_number (refusal.Referenced table number) = codes "E506"
 refusal_number (refusal.Cardinality table number n) = codes "E507"
 refusal_number (refusal.RowLong table length) = codes "E508"
+refusal_number (refusal.CounterFull name) = codes "E510"
 
 abbrev pub refusal_field : List ℕ → List ℕ
 refusal_field text = codes " " ++ text
@@ -52,6 +55,7 @@ refusal_fields (refusal.ForeignShape number) = refusal_field (decimal number)
 refusal_fields (refusal.Count word) = refusal_field (slice_index_or counts word [])
 refusal_fields (refusal.TooManyRows table) = refusal_field table
 refusal_fields (refusal.NullableKey name) = refusal_field name
+refusal_fields (refusal.NotEmpty table) = refusal_field table
 refusal_fields (refusal.Alias name) = refusal_field name
 refusal_fields (refusal.OperandKind pred) = refusal_field (decimal pred)
 refusal_fields refusal.Params = []
@@ -61,6 +65,7 @@ refusal_fields (refusal.NoQuery name) = refusal_field name
 refusal_fields (refusal.ParamValue number) = refusal_field (decimal number)
 refusal_fields refusal.Cursor = []
 refusal_fields refusal.NotPaged = []
+refusal_fields (refusal.NoCounter name) = refusal_field name
 refusal_fields (refusal.ValueKind table column) = refusal_field table ++ refusal_field column
 refusal_fields (refusal.WrongColumns table) = refusal_field table
 refusal_fields (refusal.DuplicateKey table) = refusal_field table
@@ -70,6 +75,7 @@ refusal_fields (refusal.Referenced table number) = refusal_field table ++ refusa
 refusal_fields (refusal.Cardinality table number n) =
     refusal_field table ++ refusal_field (decimal number) ++ refusal_field (decimal n)
 refusal_fields (refusal.RowLong table length) = refusal_field table ++ refusal_field (decimal length)
+refusal_fields (refusal.CounterFull name) = refusal_field name
 
 abbrev pub refusal_text : Refusal → List ℕ
 refusal_text why = refusal_number why ++ refusal_fields why

@@ -3,6 +3,7 @@ ghost use Rattle.std.specs.Prelude.{◌≡◌, ◌≤◌, ◌++◌, length, take
 ghost use Rattle.pq_print.specs.Canonical.{text_of, definition_text};
 
 use crate::added::put_added;
+use crate::counter::put_counter;
 use crate::query::put_query;
 use crate::table::put_table;
 use pq_base::{NoMem, PText};
@@ -37,6 +38,7 @@ fn put_definition(
         }
         Definition::OfQuery { query, .. } => put_query(tables, query, out),
         Definition::OfColumn { table, col } => put_added(tables, *table, *col, out),
+        Definition::OfCounter { counter } => put_counter(tables, counter, out),
     }
 }
 

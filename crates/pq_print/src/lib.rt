@@ -6,6 +6,7 @@
 
 mod added;
 mod canonical;
+mod counter;
 mod names;
 mod number;
 mod part;

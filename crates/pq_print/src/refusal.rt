@@ -42,6 +42,7 @@ fn number_of(refusal: &Refusal) -> &'static str
         Refusal::Count { .. } => number_at(refusal_place::COUNT),
         Refusal::TooManyRows { .. } => number_at(refusal_place::TOO_MANY_ROWS),
         Refusal::NullableKey { .. } => number_at(refusal_place::NULLABLE_KEY),
+        Refusal::NotEmpty { .. } => number_at(refusal_place::NOT_EMPTY),
         Refusal::Alias { .. } => number_at(refusal_place::ALIAS),
         Refusal::OperandKind { .. } => number_at(refusal_place::OPERAND_KIND),
         Refusal::Params => number_at(refusal_place::PARAMS),
@@ -51,6 +52,7 @@ fn number_of(refusal: &Refusal) -> &'static str
         Refusal::ParamValue { .. } => number_at(refusal_place::PARAM_VALUE),
         Refusal::Cursor => number_at(refusal_place::CURSOR),
         Refusal::NotPaged => number_at(refusal_place::NOT_PAGED),
+        Refusal::NoCounter { .. } => number_at(refusal_place::NO_COUNTER),
         Refusal::ValueKind { .. } => number_at(refusal_place::VALUE_KIND),
         Refusal::WrongColumns { .. } => number_at(refusal_place::WRONG_COLUMNS),
         Refusal::DuplicateKey { .. } => number_at(refusal_place::DUPLICATE_KEY),
@@ -59,6 +61,7 @@ fn number_of(refusal: &Refusal) -> &'static str
         Refusal::Referenced { .. } => number_at(refusal_place::REFERENCED),
         Refusal::Cardinality { .. } => number_at(refusal_place::CARDINALITY),
         Refusal::RowLong { .. } => number_at(refusal_place::ROW_LONG),
+        Refusal::CounterFull { .. } => number_at(refusal_place::COUNTER_FULL),
     }
 }
 
@@ -99,9 +102,12 @@ fn put_fields(refusal: &Refusal, out: &mut String) -> Result<(), AllocError>
         | Refusal::Repeated { name }
         | Refusal::Alias { name }
         | Refusal::NullableKey { name }
-        | Refusal::NoQuery { name } => put_name(name, out),
+        | Refusal::NoQuery { name }
+        | Refusal::NoCounter { name }
+        | Refusal::CounterFull { name } => put_name(name, out),
         Refusal::NoBound { alias } => put_name(alias, out),
         Refusal::TooManyRows { table }
+        | Refusal::NotEmpty { table }
         | Refusal::WrongColumns { table }
         | Refusal::DuplicateKey { table }
         | Refusal::NoRow { table } => put_name(table, out),

@@ -73,6 +73,17 @@ fn put_columns(home: &Home<'_>, cols: &[u8], out: &mut String) -> Result<(), All
     out.push_str(")")
 }
 
+/// Puts the names of the columns at these places, from 0, behind what is there.
+pub fn put_names(columns: &[Column], cols: &[u8], out: &mut String) -> Result<(), AllocError>
+    ensures { OnOk result (string_bytes out.new ≡ string_bytes out.old ++ columns_text columns.now cols.now) }
+{
+    let home = Home {
+        tables: &[],
+        columns,
+    };
+    put_columns(&home, cols, out)
+}
+
 #[tactic(auto, unfolding(crate::specs::Canonical::limit_text))]
 fn put_limit(home: &Home<'_>, limit: &Limit, out: &mut String) -> Result<(), AllocError>
     ensures { OnOk result (string_bytes out.new ≡ string_bytes out.old ++ limit_text home.now.columns.now limit.now) }

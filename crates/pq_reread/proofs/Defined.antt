@@ -64,7 +64,7 @@ pub none_passes : {X : Type 0} (p : X → Bool) (x : X) (xs : List X) (b : Bool)
 none_passes p x xs true e = absurd cc
 none_passes p x xs false e = (refl, e)
 
-names_there : (cs : List Column) (names : List (List ℕ)) → find (is_unknown cs) names ≡ None → Pairwise (λ name col. column_name cs col ≡ name) names (places_of cs names)
+pub names_there : (cs : List Column) (names : List (List ℕ)) → find (is_unknown cs) names ≡ None → Pairwise (λ name col. column_name cs col ≡ name) names (places_of cs names)
 names_there cs [] e = tt
 names_there cs (n ∷ ns) e =
     let parts = none_passes (is_unknown cs) n ns (is_unknown cs n) e in

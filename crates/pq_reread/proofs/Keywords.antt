@@ -63,6 +63,14 @@ default_word : word_shape (codes "DEFAULT") ≡ shape.Name (codes "default")
 unfolding word_place
 default_word = ap named_shape (checked_name (codes "default") refl)
 
+counter_word : word_shape (codes "COUNTER") ≡ shape.Name (codes "counter")
+unfolding word_place
+counter_word = ap named_shape (checked_name (codes "counter") refl)
+
+of_word : word_shape (codes "OF") ≡ shape.Name (codes "of")
+unfolding word_place
+of_word = ap named_shape (checked_name (codes "of") refl)
+
 pub alter_prints : Prints (soft soft_word.Alter) joins_none (codes "ALTER") is_word_byte
 alter_prints = word_prints (codes "ALTER") (shape.Name (codes "alter")) refl alter_word
 
@@ -74,6 +82,12 @@ column_prints = word_prints (codes "COLUMN") (shape.Name (codes "column")) refl 
 
 pub default_prints : Prints (soft soft_word.Default) joins_none (codes "DEFAULT") is_word_byte
 default_prints = word_prints (codes "DEFAULT") (shape.Name (codes "default")) refl default_word
+
+pub counter_prints : Prints (soft soft_word.Counter) joins_none (codes "COUNTER") is_word_byte
+counter_prints = word_prints (codes "COUNTER") (shape.Name (codes "counter")) refl counter_word
+
+pub of_prints : Prints (soft soft_word.Of) joins_none (codes "OF") is_word_byte
+of_prints = word_prints (codes "OF") (shape.Name (codes "of")) refl of_word
 
 pub null_prints : Prints (soft soft_word.Null) joins_none (codes "NULL") is_word_byte
 null_prints = word_prints (codes "NULL") (shape.Name (codes "null")) refl null_word

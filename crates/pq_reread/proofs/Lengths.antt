@@ -44,7 +44,7 @@ separated_short between text m [] all = omega arith
 separated_short between text m (y ∷ ys) all =
     omega (arith, all.0, length-append (text y) (each_after between text ys), each_short between text m ys all.1, suc-mul (length ys) m)
 
-same_length : {X Y : Type 0} (R : X → Y → Type 0) (xs : List X) (ys : List Y) → Pairwise R xs ys → length xs ≡ length ys
+pub same_length : {X Y : Type 0} (R : X → Y → Type 0) (xs : List X) (ys : List Y) → Pairwise R xs ys → length xs ≡ length ys
 same_length R [] [] says = refl
 same_length R [] (y ∷ ys) says = absurd says
 same_length R (x ∷ xs) [] says = absurd says
@@ -104,7 +104,7 @@ names_short columns [] (p ∷ ps) are says = absurd says
 names_short columns (n ∷ ns) [] are says = absurd says
 names_short columns (n ∷ ns) (p ∷ ps) are says = (omega (arith, ap length says.0, name_short n are.0), names_short columns ns ps are.1 says.1)
 
-cols_short : (table : Table) (names : List (List ℕ)) (places : List ℕ) → length names ≤ 4 → All IsName names → SaysColumns table.columns names places → length (columns_text table.columns places) ≤ 138
+pub cols_short : (table : Table) (names : List (List ℕ)) (places : List ℕ) → length names ≤ 4 → All IsName names → SaysColumns table.columns names places → length (columns_text table.columns places) ≤ 138
 unfolding columns_text
 cols_short table names places few are says =
     let inner = separate_texts (codes ", ") (column_name table.columns) places in
@@ -216,7 +216,7 @@ text_short tables def table few is says =
       length-append columns (codes ", PRIMARY KEY "),
     )
 
-inside_most : (n most : ℕ) → is_outside n most ≡ false → n ≤ most
+pub inside_most : (n most : ℕ) → is_outside n most ≡ false → n ≤ most
 inside_most n most e = grind (arith, nat_tests)
 
 not_more : (n most : ℕ) → nat_lt most n ≡ false → n ≤ most

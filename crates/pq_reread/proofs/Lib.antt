@@ -22,4 +22,7 @@ pub mod ReadBack
 pub mod TablesAgain
 pub mod Added
 pub mod AddedAgain
+pub mod Countings
+pub mod Counters
+pub mod CountersAgain
 pub mod WholeStatements

@@ -8,20 +8,21 @@ use Rattle.pq_grammar.specs.Language.{◌⋅◌}
 use Rattle.pq_grammar.proofs.Options.{always}
 use Rattle.pq_grammar.proofs.Whole.{whole_found, whole_again}
 use Rattle.pq_schema.specs.declared.definition.AlterDef.{AlterDef}
+use Rattle.pq_schema.specs.declared.definition.CounterDef.{CounterDef}
 use Rattle.pq_schema.specs.declared.definition.TableDef.{TableDef}
-use Rattle.pq_schema.specs.Names.{IsName, IsKind, IsColumnDef, IsLimitDef, IsForeignDef, IsTableDef, IsAlterDef}
+use Rattle.pq_schema.specs.Names.{IsName, IsKind, IsColumnDef, IsLimitDef, IsForeignDef, IsTableDef, IsAlterDef, IsCounterDef}
 use Rattle.pq_shape.specs.Parts.{comma, name as a_name}
 use Rattle.pq_shape.specs.Shapes.{shapes_of}
 use Rattle.pq_shape.specs.declared.shape.Shape.{Shape}
 use Rattle.pq_def_read.specs.Definitions.{limits_of, foreign_of}
-use Rattle.pq_def_read.specs.Grammar.{cols, kind as a_kind, column, limit, foreign, a_constraint, constraints, create, alter, Spells}
+use Rattle.pq_def_read.specs.Grammar.{cols, kind as a_kind, column, limit, foreign, a_constraint, constraints, create, alter, counter as a_counter, Spells}
 use Rattle.pq_def_read.specs.Reading.{statement_at, read_at, statement_of}
 use Rattle.pq_def_read.specs.declared.definition.Constraint.{Constraint}
 use Rattle.pq_def_read.specs.declared.definition.Constraint.TheVariants as constraint
 use Rattle.pq_def_read.specs.declared.definition.Constraints.{Constraints}
 use Rattle.pq_def_read.specs.declared.definition.Kind.{Kind as ColumnKind}
 use Rattle.pq_def_read.specs.declared.statement.Statement.{Statement}
-use Rattle.pq_def_read.specs.declared.statement.Statement.TheVariants.{Create, Prepare, Alter}
+use Rattle.pq_def_read.specs.declared.statement.Statement.TheVariants.{Create, Prepare, Alter, Counter}
 use Rattle.pq_def_read.proofs.Statements.{statement_reads}
 use Rattle.pq_reread.proofs.Alls.{each_place}
 use Rattle.pq_query_read.proofs.Named.{IsNamed, AreNamed, named_tokens, name_gives}
@@ -133,6 +134,22 @@ alter_gives d w h named =
       column = column_gives d.column added.front added.fits_front g;
     }
 
+counter_gives : Gives a_counter IsCounterDef
+counter_gives d w h named =
+    let a = (both_named _ _ w h named).1 in
+    let b = (both_named _ _ h.back h.fits_back a).1 in
+    let counter = h.fits_back.fits_back in
+    let c = both_named _ _ h.fits_back.back counter b in
+    let e = (both_named _ _ counter.back counter.fits_back c.1).1 in
+    let table = counter.fits_back.fits_back in
+    let f = both_named _ _ counter.fits_back.back table e in
+    let g = (both_named _ _ table.back table.fits_back f.1).0 in
+    record {
+      name = name_gives d.name counter.front counter.fits_front c.0;
+      table = name_gives d.table table.front table.fits_front f.0;
+      cols = cols_gives d.cols table.fits_back.front table.fits_back.fits_front g;
+    }
+
 -- ---- statements
 
 pub spelled : (text : List ℕ) (ts : List Token) (s : Statement) → statement_of text ts ≡ Ok s → Spells s (shapes_of text ts)
@@ -148,6 +165,9 @@ created_named text def e = create_gives def (shapes_of text (tokens_of text)) (s
 
 pub altered_named : (text : List ℕ) (def : AlterDef) → statement_of text (tokens_of text) ≡ Ok (Alter def) → IsAlterDef def
 altered_named text def e = alter_gives def (shapes_of text (tokens_of text)) (spelled text (tokens_of text) (Alter def) e) (named_tokens text (tokens_of text) (tokens_have_forms text))
+
+pub counted_named : (text : List ℕ) (def : CounterDef) → statement_of text (tokens_of text) ≡ Ok (Counter def) → IsCounterDef def
+counted_named text def e = counter_gives def (shapes_of text (tokens_of text)) (spelled text (tokens_of text) (Counter def) e) (named_tokens text (tokens_of text) (tokens_have_forms text))
 
 pub prepared_named : (text name : List ℕ) (from : ℕ) → statement_of text (tokens_of text) ≡ Ok (Prepare name from) → IsName name
 prepared_named text name from e =

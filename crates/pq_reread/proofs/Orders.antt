@@ -17,17 +17,18 @@ use Rattle.pq_base.specs.Columns.{set_of}
 use Rattle.pq_base.specs.declared.value.Value.{Value}
 use Rattle.pq_schema.specs.declared.definition.AlterDef.{AlterDef}
 use Rattle.pq_schema.specs.declared.definition.ColumnDef.{ColumnDef}
+use Rattle.pq_schema.specs.declared.definition.CounterDef.{CounterDef}
 use Rattle.pq_schema.specs.declared.definition.TableDef.{TableDef}
 use Rattle.pq_schema.specs.declared.table.Column.{Column}
 use Rattle.pq_schema.specs.declared.table.Table.{Table}
 use Rattle.pq_schema.specs.ColumnNames.{names_of, is_unknown, place_of, places_of, no_column, repeated_name, repeated_after, unknown_refusal, repeated_refusal, names_refusal}
-use Rattle.pq_schema.specs.Definitions.{column_of, refused_if, is_outside, definition_refusal, name_refusal, counts_refusal, columns_refusal, nullable_refusal, key_refusal, groups_refusal, table_refusal, bare_table, table_of_def, altered_table, new_table}
+use Rattle.pq_schema.specs.Definitions.{column_of, refused_if, is_outside, definition_refusal, name_refusal, counts_refusal, columns_refusal, nullable_refusal, key_refusal, groups_refusal, table_refusal, bare_table, table_of_def, altered_table, new_table, counter_refusal, counted_schema, new_counter}
 use Rattle.pq_schema.specs.Names.{IsName, IsColumnDef, IsTableDef}
 use Rattle.pq_schema.specs.declared.table.NewIndex.{NewIndex}
-use Rattle.pq_schema.specs.Schema.{Schema, has_name, find_column, is_table, is_taken, number_of, find_query, with_wanted, with_new_index, with_new_column}
+use Rattle.pq_schema.specs.Schema.{Schema, has_name, find_column, is_table, is_taken, number_of, find_query, find_counter, with_wanted, with_new_index, with_new_column}
 use Rattle.pq_schema.specs.Tables.{no_table, table_at}
-use Rattle.pq_schema.specs.Valid.{IsValid, IsAddition}
-use Rattle.pq_schema.specs.Valid.IsValid.{empty, then_table, then_query, then_column}
+use Rattle.pq_schema.specs.Valid.{IsValid, IsAddition, IsCounted}
+use Rattle.pq_schema.specs.Valid.IsValid.{empty, then_table, then_query, then_column, then_counter}
 use Rattle.pq_schema.proofs.Counts.{place_within}
 use Rattle.pq_schema.proofs.Valid.{wanted_there, column_parts, column_takes}
 use Rattle.pq_schema.specs.Sequences.{ascending_part, group_access, with_group}
@@ -110,7 +111,7 @@ named_columns : (cs : List ColumnDef) → AllByRecursion IsColumnDef cs → AllB
 named_columns [] all = tt
 named_columns (c ∷ cs) all = (all.0.name, named_columns cs all.1)
 
-places_inside : (cs : List Column) (names : List (List ℕ)) → find (is_unknown cs) names ≡ None → AllByRecursion (λ col. col < length cs) (places_of cs names)
+pub places_inside : (cs : List Column) (names : List (List ℕ)) → find (is_unknown cs) names ≡ None → AllByRecursion (λ col. col < length cs) (places_of cs names)
 places_inside cs [] e = tt
 places_inside cs (n ∷ ns) e =
     let parts = none_passes (is_unknown cs) n ns (is_unknown cs n) e in
@@ -160,7 +161,7 @@ groups_name (cols ∷ groups) t = groups_name groups (with_group t cols) ∙ gro
 
 -- a name that is free is no table's
 free_name : (schema : Schema) (name : List ℕ) → is_taken schema name ≡ false → position_or_len (is_table name) schema.tables ≡ length schema.tables
-free_name schema name e = by_test (nat_lt (position_or_len (is_table name) schema.tables) (length schema.tables)) refl (is_some (find_query schema name)) e
+free_name schema name e = by_test (nat_lt (position_or_len (is_table name) schema.tables) (length schema.tables)) refl (is_some (find_query schema name) || is_some (find_counter schema name)) e
   where
     by_test : (b : Bool) → nat_lt (position_or_len (is_table name) schema.tables) (length schema.tables) ≡ b → (other : Bool)
         → (is_some (option_map number_of (cond b (Some (position_or_len (is_table name) schema.tables)) None)) || other) ≡ false → position_or_len (is_table name) schema.tables ≡ length schema.tables
@@ -266,6 +267,12 @@ added_orderly schema def next are is =
     (widened_orderly (table_at schema.tables number) (column_of def.column) def.filler (table_orderly_at schema.tables number takes.from_one takes.there are) is.names.column.name (accepted_column schema def parts.0).free)
     are)
 
+-- a counter leaves the tables
+counted_orderly : (schema : Schema) (def : CounterDef) (next : Schema) → AreOrderly schema.tables → IsCounted schema def next → AreOrderly next.tables
+unfolding new_counter
+counted_orderly schema def next are is =
+    subst (λ (s : Schema). AreOrderly s.tables) (ok_is (counter_refusal schema def) (counted_schema schema def) next is.accepted).1 are
+
 -- the tables of a valid schema are orderly
 pub valid_orderly : {schema : Schema} → IsValid schema → AreOrderly schema.tables
 valid_orderly empty = none_orderly
@@ -273,6 +280,7 @@ valid_orderly (then_table schema def table valid is made) = table_orderly schema
 valid_orderly (then_query schema query wanted valid d) =
     wanted_orderly schema.tables wanted (wanted_there schema.tables query wanted d.resolved d.chosen) (valid_orderly valid)
 valid_orderly (then_column schema def next valid is) = added_orderly schema def next (valid_orderly valid) is
+valid_orderly (then_counter schema def next valid is) = counted_orderly schema def next (valid_orderly valid) is
 
 pub keys_of : (tables : List Table) → AreOrderly tables → All (λ (table : Table). 0 < length table.key) tables
 keys_of tables are k d lt = (are.each k d lt).some_key

@@ -143,7 +143,7 @@ names_print columns (n ∷ ns) [] are says = absurd says
 names_print columns (n ∷ ns) (p ∷ ps) are says =
     (subst (λ (v : List ℕ). Prints (a_name n) joins_none v is_word_byte) (sym says.0) (name_prints n are.0), names_print columns ns ps are.1 says.1)
 
-cols_prints : (table : Table) (names : List (List ℕ)) (places : List ℕ) → All IsName names → SaysColumns table.columns names places → Prints (cols names) joins_none (columns_text table.columns places) joins_none
+pub cols_prints : (table : Table) (names : List (List ℕ)) (places : List ℕ) → All IsName names → SaysColumns table.columns names places → Prints (cols names) joins_none (columns_text table.columns places) joins_none
 unfolding columns_text
 cols_prints table names places are says =
     join (mark_prints 40 joins_none refl refl)

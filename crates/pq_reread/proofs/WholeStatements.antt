@@ -131,6 +131,8 @@ with_found w (statement.Update t s k) whole h e = same_whole (Plain (statement.U
 with_found w (statement.Delete t k) whole h e = same_whole (Plain (statement.Delete t k)) whole w e (tt, h)
 with_found w (statement.Run n v a) whole h e = same_whole (Plain (statement.Run n v a)) whole w e (tt, h)
 with_found w (statement.Alter d) whole h e = same_whole (Plain (statement.Alter d)) whole w e (tt, h)
+with_found w (statement.Counter d) whole h e = same_whole (Plain (statement.Counter d)) whole w e (tt, h)
+with_found w (statement.Read n v) whole h e = same_whole (Plain (statement.Read n v)) whole w e (tt, h)
 with_found w statement.Show whole h e = same_whole (Plain statement.Show) whole w e (tt, h)
 
 pub whole_is_spelled : (w : List Shape) (whole : WholeStatement) → whole_of w ≡ Ok whole → SpellsWhole whole w
@@ -149,6 +151,8 @@ plain_with w (statement.Update t s k) none = refl
 plain_with w (statement.Delete t k) none = refl
 plain_with w (statement.Run n v a) none = refl
 plain_with w (statement.Alter d) none = refl
+plain_with w (statement.Counter d) none = refl
+plain_with w (statement.Read n v) none = refl
 plain_with w statement.Show none = refl
 
 pub spelled_is_whole : (w : List Shape) (whole : WholeStatement) → SpellsWhole whole w → whole_of w ≡ Ok whole
@@ -228,6 +232,8 @@ begins_whole front back w (statement.Update t s k) rest is h none = (Plain (stat
 begins_whole front back w (statement.Delete t k) rest is h none = (Plain (statement.Delete t k), rest, (tt, h))
 begins_whole front back w (statement.Run n v a) rest is h none = (Plain (statement.Run n v a), rest, (tt, h))
 begins_whole front back w (statement.Alter d) rest is h none = (Plain (statement.Alter d), rest, (tt, h))
+begins_whole front back w (statement.Counter d) rest is h none = (Plain (statement.Counter d), rest, (tt, h))
+begins_whole front back w (statement.Read n v) rest is h none = (Plain (statement.Read n v), rest, (tt, h))
 begins_whole front back w statement.Show rest is h none = (Plain statement.Show, rest, (tt, h))
 
 head_fault : (w : List Shape) (place : ℕ) → IsFaultPlace Spells w place → ((s : Statement) → Spells s w → ⊥) → IsFaultPlace SpellsWhole w place
@@ -337,6 +343,8 @@ with_stop w (statement.Update t s k) left h e = absurd (ok_not_err (Plain (state
 with_stop w (statement.Delete t k) left h e = absurd (ok_not_err (Plain (statement.Delete t k)) left e)
 with_stop w (statement.Run n v a) left h e = absurd (ok_not_err (Plain (statement.Run n v a)) left e)
 with_stop w (statement.Alter d) left h e = absurd (ok_not_err (Plain (statement.Alter d)) left e)
+with_stop w (statement.Counter d) left h e = absurd (ok_not_err (Plain (statement.Counter d)) left e)
+with_stop w (statement.Read n v) left h e = absurd (ok_not_err (Plain (statement.Read n v)) left e)
 with_stop w statement.Show left h e = absurd (ok_not_err (Plain statement.Show) left e)
 
 pub whole_stops : (w : List Shape) (left : ℕ) → whole_of w ≡ Err left → (left ≤ length w) × IsFaultPlace SpellsWhole w (length w - left)

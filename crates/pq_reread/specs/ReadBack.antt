@@ -1,4 +1,4 @@
--- The text of a query is read as the query, and that of a table or of an added column as its definition.
+-- The text of a query is read as the query, and that of a table, an added column or a counter as its definition.
 use Rattle.std.specs.Prelude.{◌≡◌, ℕ, ◌≤◌, ◌<◌, ◌+◌, true, List, length, take, Ok, Option}
 use Rattle.std.specs.Str.{is_utf8}
 use Rattle.pq_schema.specs.Names.{IsName}
@@ -6,7 +6,9 @@ use Rattle.pq_schema.specs.Resolved.{IsResolved}
 use Rattle.pq_schema.specs.Schema.{Schema, with_query}
 use Rattle.pq_schema.specs.Tables.{table_at}
 use Rattle.pq_schema.specs.Valid.{IsDefined}
+use Rattle.pq_schema.specs.declared.counter.Counter.{Counter}
 use Rattle.pq_schema.specs.declared.definition.AlterDef.{AlterDef}
+use Rattle.pq_schema.specs.declared.definition.CounterDef.{CounterDef}
 use Rattle.pq_schema.specs.declared.definition.TableDef.{TableDef}
 use Rattle.pq_schema.specs.declared.query.Query.{Query}
 use Rattle.pq_schema.specs.declared.table.NewIndex.{NewIndex}
@@ -14,7 +16,8 @@ use Rattle.pq_schema.specs.declared.table.Table.{Table}
 use Rattle.pq_text.specs.Tokens.{text_limit, tokens_of}
 use Rattle.pq_def_read.specs.Reading.{statement_of}
 use Rattle.pq_def_read.specs.declared.statement.Statement.TheVariants.{Create, Prepare, Alter}
-use Rattle.pq_print.specs.Canonical.{column_at, column_name, filler_at, query_text, table_text, added_text, with_first_columns, definition_text}
+use Rattle.pq_def_read.specs.declared.statement.Statement.TheVariants as statement
+use Rattle.pq_print.specs.Canonical.{column_at, column_name, filler_at, query_text, table_text, added_text, counter_text, with_first_columns, definition_text}
 use Rattle.pq_query_read.specs.Queries.{read_query_of}
 use Rattle.pq_reread.specs.Orderly.{AreOrderly}
 
@@ -86,3 +89,14 @@ pub record KeepsAdded (table now : Table) (col : ℕ) : Type 0 where
 -- so is the text of the column at this place as it is printed of a later table
 abbrev pub IsAddedLater : AlterDef → Table → ℕ → Type 0
 IsAddedLater def table col = (now : Table) → KeepsAdded table now col → IsAddedText def (added_text now col)
+
+-- the text is the CREATE COUNTER of this definition
+pub record IsCounterText (def : CounterDef) (text : List ℕ) : Type 0 where
+  pub utf8 : is_utf8 text ≡ true
+  pub short : length text ≤ text_limit
+  pub reads : statement_of text (tokens_of text) ≡ Ok (statement.Counter def)
+
+-- so is the counter's text as it is printed over later tables
+abbrev pub IsCounterLater : List Table → CounterDef → Counter → Type 0
+IsCounterLater tables def counter =
+    (later : List Table) → KeepNames tables later → IsCounterText def (counter_text later counter)

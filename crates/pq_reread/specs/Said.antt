@@ -1,8 +1,10 @@
--- A table says what its definition says, with places and numbers where the definition has names.
-use Rattle.std.specs.Prelude.{◌≡◌, ℕ, pos, true, ◌^◌, ◌<◌, List, [], ◌∷◌, length}
+-- A table and a counter say what their definitions say, with places and numbers where those have names.
+use Rattle.std.specs.Prelude.{◌≡◌, ℕ, pos, true, ◌^◌, ◌<◌, ◌≤◌, List, [], ◌∷◌, length}
 use Rattle.pq_base.specs.Values.{FitsType}
 use Rattle.pq_schema.specs.declared.definition.AlterDef.{AlterDef}
+use Rattle.pq_schema.specs.declared.counter.Counter.{Counter}
 use Rattle.pq_schema.specs.declared.definition.ColumnDef.{ColumnDef}
+use Rattle.pq_schema.specs.declared.definition.CounterDef.{CounterDef}
 use Rattle.pq_schema.specs.declared.definition.LimitDef.{LimitDef}
 use Rattle.pq_schema.specs.declared.definition.ForeignDef.{ForeignDef}
 use Rattle.pq_schema.specs.declared.definition.TableDef.{TableDef}
@@ -54,3 +56,10 @@ pub record SaysAdded (def : AlterDef) (table : Table) (col : ℕ) : Type 0 where
   pub column : SaysColumn def.column (column_at table.columns col)
   pub filler : filler_at table.fillers col ≡ def.filler
   pub fits : FitsType (column_of def.column).ty def.filler
+
+-- the counter, of the table with this name and of some of its columns, at most four
+pub record SaysCounter (tables : List Table) (def : CounterDef) (counter : Counter) : Type 0 where
+  pub name : counter.name ≡ def.name
+  pub table : (table_at tables counter.table).name ≡ def.table
+  pub cols : SaysColumns (table_at tables counter.table).columns def.cols counter.cols
+  pub few : length counter.cols ≤ 4

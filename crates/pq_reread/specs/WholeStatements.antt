@@ -40,6 +40,8 @@ with_query_read w (statement.Update table sets key) = Ok (Plain (statement.Updat
 with_query_read w (statement.Delete table key) = Ok (Plain (statement.Delete table key))
 with_query_read w (statement.Run n values after) = Ok (Plain (statement.Run n values after))
 with_query_read w (statement.Alter def) = Ok (Plain (statement.Alter def))
+with_query_read w (statement.Counter def) = Ok (Plain (statement.Counter def))
+with_query_read w (statement.Read n values) = Ok (Plain (statement.Read n values))
 with_query_read w statement.Show = Ok (Plain statement.Show)
 
 -- the whole statement of these tokens, head first, or how many tokens are left where reading stopped

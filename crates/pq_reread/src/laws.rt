@@ -1,26 +1,29 @@
 //! What the definitions promise by themselves: each law is the contract of a call that does nothing.
 ghost use Rattle.std.specs.Prelude.{◌≡◌, ◌<◌, ◌≤◌, ◌∷◌, ◌++◌, ◌+◌, ◌-◌, ℕ, List, [], All, Ok, Err, length, true};
 ghost use Rattle.std.specs.Str.{is_utf8};
+ghost use Rattle.pq_schema.specs.declared.counter.Counter.{Counter};
 ghost use Rattle.pq_schema.specs.declared.definition.AlterDef.{AlterDef};
+ghost use Rattle.pq_schema.specs.declared.definition.CounterDef.{CounterDef};
 ghost use Rattle.pq_schema.specs.declared.definition.TableDef.{TableDef};
 ghost use Rattle.pq_schema.specs.declared.query.Query.{Query};
 ghost use Rattle.pq_schema.specs.declared.table.Table.{Table};
-ghost use Rattle.pq_schema.specs.Definitions.{altered_table, new_table};
-ghost use Rattle.pq_schema.specs.Names.{IsName, IsTableDef, IsAlterDef};
+ghost use Rattle.pq_schema.specs.Definitions.{altered_table, counter_of_def, new_table};
+ghost use Rattle.pq_schema.specs.Names.{IsName, IsTableDef, IsAlterDef, IsCounterDef};
 ghost use Rattle.pq_schema.specs.Schema.{Schema};
 ghost use Rattle.pq_schema.specs.Tables.{table_at};
-ghost use Rattle.pq_schema.specs.Valid.{IsValid, IsAddition};
+ghost use Rattle.pq_schema.specs.Valid.{IsValid, IsAddition, IsCounted};
 ghost use Rattle.pq_grammar.specs.Language.{IsFaultPlace};
 ghost use Rattle.pq_text.specs.Tokens.{text_limit, tokens_of};
 ghost use Rattle.pq_text.specs.declared.token.Token.{Token};
 ghost use Rattle.pq_shape.specs.Shapes.{shapes_of};
 ghost use Rattle.pq_def_read.specs.Reading.{statement_of};
 ghost use Rattle.pq_def_read.specs.declared.statement.Statement.TheVariants.{Create, Prepare, Alter};
-ghost use Rattle.pq_print.specs.Canonical.{table_text, query_text, added_text, definition_text};
+ghost use Rattle.pq_def_read.specs.declared.statement.Statement.TheVariants as statement;
+ghost use Rattle.pq_print.specs.Canonical.{table_text, query_text, added_text, counter_text, definition_text};
 ghost use Rattle.pq_reread.specs.Orderly.{AreOrderly};
 ghost use Rattle.pq_reread.specs.Printed.{Piece, ArePieces, joins_none, printed_pieces, shapes_printed};
-ghost use Rattle.pq_reread.specs.ReadBack.{IsNamedQuery, IsReadBack, IsReadBackLater, IsReadBackDefined, IsReadLater, IsAddedText, IsAddedLater};
-ghost use Rattle.pq_reread.specs.Said.{Says, SaysAdded};
+ghost use Rattle.pq_reread.specs.ReadBack.{IsNamedQuery, IsReadBack, IsReadBackLater, IsReadBackDefined, IsReadLater, IsAddedText, IsAddedLater, IsCounterText, IsCounterLater};
+ghost use Rattle.pq_reread.specs.Said.{Says, SaysAdded, SaysCounter};
 ghost use Rattle.pq_reread.specs.WholeStatements.{WholeStatement, SpellsWhole, whole_of};
 
 /// Names in a statement are words in small letters, of at most 32 bytes, and no keywords.
@@ -32,6 +35,10 @@ pub fn names_law()
     // In that of an added column.
     ensures columns { (text : List ℕ) (def : AlterDef) → statement_of text (tokens_of text) ≡ Ok (Alter def)
         → IsAlterDef def }
+
+    // In that of a counter.
+    ensures counters { (text : List ℕ) (def : CounterDef)
+        → statement_of text (tokens_of text) ≡ Ok (statement.Counter def) → IsCounterDef def }
 
     // In the head of a query.
     ensures queries { (text name : List ℕ) (from : ℕ)
@@ -108,6 +115,26 @@ pub fn columns_law()
     ensures later { (schema : Schema) (def : AlterDef) (next : Schema) → IsValid schema → IsAddition schema def next
         → IsAddedLater def (table_at next.tables (altered_table schema def))
         (length (table_at schema.tables (altered_table schema def)).columns) }
+{}
+
+/// The canonical text of a counter is UTF-8 and short enough to be cut, and it is read as the definition that says the
+/// same.
+pub fn counters_law()
+    // Whatever counter says it.
+    ensures said { (tables : List Table) (def : CounterDef) (counter : Counter) → IsCounterDef def
+        → SaysCounter tables def counter → IsCounterText def (counter_text tables counter) }
+
+    // The counter that the definition makes does.
+    ensures made { (schema : Schema) (def : CounterDef) (next : Schema) → IsValid schema → IsCounted schema def next
+        → SaysCounter next.tables def (counter_of_def schema def) }
+
+    // So each counter that was defined is read back as its definition.
+    ensures defined { (schema : Schema) (def : CounterDef) (next : Schema) → IsValid schema
+        → IsCounted schema def next → IsCounterText def (definition_text next (length schema.definitions + 1)) }
+
+    // Also as it is printed over later tables, with more tables, columns and indexes.
+    ensures later { (schema : Schema) (def : CounterDef) (next : Schema) → IsValid schema
+        → IsCounted schema def next → IsCounterLater schema.tables def (counter_of_def schema def) }
 {}
 
 /// The canonical text of every query over a valid schema is read back: it is UTF-8 and short enough to be cut, its head

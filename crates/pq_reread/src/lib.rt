@@ -6,6 +6,6 @@
 mod laws;
 
 pub use laws::{
-    columns_law, names_law, orderly_law, printed_law, queries_law, tables_law, texts_law,
-    whole_statements_law,
+    columns_law, counters_law, names_law, orderly_law, printed_law, queries_law, tables_law,
+    texts_law, whole_statements_law,
 };
