@@ -81,7 +81,7 @@ fields_short (x ∷ xs) h =
     let rest = fields_short xs h.1 in
     omega (arith, suc-mul (length xs) 1002)
 
-whole_short : (tables : List Table) (table : Table) → IsWritable tables table → (row : List Value) → AllFit (types_of table) row → length (row_code row) ≤ 40000
+pub whole_short : (tables : List Table) (table : Table) → IsWritable tables table → (row : List Value) → AllFit (types_of table) row → length (row_code row) ≤ 40000
 whole_short tables table w row fits =
     let most = fields_short row (shorts tables table w row fits) in
     let few = fit_columns tables table w row fits in

@@ -48,23 +48,35 @@ commit_few n = elim (n == 1) as (λ b. (if b then 1 else n + 2) ≤ n + 2) [
   | false ↦ omega arith
 ]
 
-pub few_of : (tables : List Table) (write : Write) → AreWritable tables → length tables ≤ 64 → IsWrite tables write → IsFew (write_bound tables write)
-few_of tables (write.Insert t row) sound small is =
+-- at most so many operations and entries
+pub record IsSmallBound (bound : Bound) : Type 0 where
+  pub ops : bound.ops ≤ 300
+  pub entries : bound.entries ≤ 40005
+
+pub small_of : (tables : List Table) (write : Write) → AreWritable tables → length tables ≤ 64 → IsWrite tables write → IsSmallBound (write_bound tables write)
+small_of tables (write.Insert t row) sound small is =
     let table = writable_at tables t sound is.number in
     let few = tests_few tables (table_at tables t) scope.All table in
     let indexes = table.made.few_indexes in
     let commits = commit_few (1 + length (table_at tables t).indexes) in
     record { ops = omega (arith, few.0, indexes, commits); entries = omega (arith, few.1) }
-few_of tables (write.Update t key sets) sound small is =
+small_of tables (write.Update t key sets) sound small is =
     let table = writable_at tables t sound is.number in
     let few = tests_few tables (table_at tables t) (scope_of sets) table in
     let indexes = table.made.few_indexes in
     let touched = count_by-le-length (touches_index (scope_of sets) (table_at tables t)) (table_at tables t).indexes in
     let commits = commit_few (most_changes tables (write.Update t key sets)) in
     record { ops = omega (arith, few.0, indexes, touched, commits); entries = omega (arith, few.1) }
-few_of tables (write.Delete t key) sound small is =
+small_of tables (write.Delete t key) sound small is =
     let table = writable_at tables t sound is.number in
     let few = referring_few tables t sound small in
     let indexes = table.made.few_indexes in
     let commits = commit_few (1 + length (table_at tables t).indexes) in
     record { ops = omega (arith, few, indexes, commits); entries = omega (arith, few) }
+
+pub few_of : (tables : List Table) (write : Write) → AreWritable tables → length tables ≤ 64 → IsWrite tables write → IsFew (write_bound tables write)
+few_of tables write sound small is =
+    let most = small_of tables write sound small is in
+    let ops = most.ops in
+    let entries = most.entries in
+    record { ops = omega (arith, ops); entries = omega (arith, entries) }

@@ -30,12 +30,12 @@ use Rattle.pq_schema.specs.Sequences.{ascending_part, group_access, groups, with
 use Rattle.pq_schema.specs.Sound.{IsMade, IsMadeLimit, IsMadeForeign, AreMade}
 use Rattle.pq_schema.specs.Tables.{table_at, no_table}
 use Rattle.pq_schema.specs.Valid.{IsValid}
-use Rattle.pq_schema.specs.Valid.IsValid.{empty, then_table, then_query, then_column}
+use Rattle.pq_schema.specs.Valid.IsValid.{empty, then_table, then_query, then_column, then_counter}
 use Rattle.pq_schema.specs.Wanted.{is_large, index_at, index_of, too_many_indexes, ChosenCandidate, with_index, chosen_of, IsWanted}
 use Rattle.pq_schema.proofs.Accepted.{all_groups, made_is}
 use Rattle.pq_schema.proofs.Groups.{IsAsBefore, group_index, groups_as_before}
 use Rattle.pq_schema.proofs.Soundness.{foreign_linked, all_made}
-use Rattle.pq_schema.proofs.Valid.{valid_made, column_parts}
+use Rattle.pq_schema.proofs.Valid.{valid_made, column_parts, counter_parts}
 use Rattle.pq_index_keep.specs.Sound.{IsWritable, AreWritable}
 
 -- an index's own columns are at most those of a table and of an order
@@ -184,6 +184,8 @@ valid_narrow (then_query s query wanted v d) =
 valid_narrow (then_column s def next v is) =
     subst (λ (x : Schema). All AreNarrow x.tables) (column_parts s def next is.accepted).1
     (narrow_with_added s.tables (altered_table s def) (column_of def.column) def.filler (valid_narrow v))
+valid_narrow (then_counter s def next v is) =
+    subst (λ (x : Schema). All AreNarrow x.tables) (counter_parts s def next is.accepted).1 (valid_narrow v)
 
 -- the rows of a valid schema's tables can be written
 pub valid_writable : {s : Schema} → IsValid s → AreWritable s.tables

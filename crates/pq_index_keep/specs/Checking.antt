@@ -32,6 +32,8 @@ IsWriting (statement.Prepare name from) = ⊥
 IsWriting (statement.Explain from) = ⊥
 IsWriting (statement.Run name params after) = ⊥
 IsWriting (statement.Alter def) = ⊥
+IsWriting (statement.Counter def) = ⊥
+IsWriting (statement.Read name values) = ⊥
 IsWriting statement.Show = ⊥
 
 abbrev pub assign_name : Assign → List ℕ
@@ -176,4 +178,6 @@ checked_write schema (statement.Prepare name from) = no_write
 checked_write schema (statement.Explain from) = no_write
 checked_write schema (statement.Run name params after) = no_write
 checked_write schema (statement.Alter def) = no_write
+checked_write schema (statement.Counter def) = no_write
+checked_write schema (statement.Read name values) = no_write
 checked_write schema statement.Show = no_write

@@ -138,7 +138,7 @@ fn referring(tables: &[Table], number: u8) -> u128
 }
 
 /// The operations that so many changes take.
-fn commit_ops(changes: usize) -> u128
+pub fn commit_ops(changes: usize) -> u128
     ensures ops { result ≡ write_ops changes }
     ensures few { result < 2 ^ 80 }
 {
@@ -146,7 +146,7 @@ fn commit_ops(changes: usize) -> u128
 }
 
 /// The greatest number of pairs that the write changes.
-fn most_changes(catalog: &Catalog, write: &Write) -> usize
+pub fn most_changes(catalog: &Catalog, write: &Write) -> usize
     requires sound { AreWritable catalog.now.tables }
     requires write { IsWrite catalog.now.tables write.now }
     ensures { result ≡ most_changes catalog.now.tables write.now }

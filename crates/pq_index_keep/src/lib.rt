@@ -19,7 +19,7 @@ mod update;
 mod write;
 mod writes;
 
-pub use bound::write_bound;
+pub use bound::{commit_ops, most_changes, write_bound};
 pub use check::check_write;
 pub use limits::stays;
 pub use plan::{Planned, table_of};
