@@ -21,6 +21,8 @@ as_writing (statement.Prepare name from) = None
 as_writing (statement.Explain from) = None
 as_writing (statement.Run name params after) = None
 as_writing (statement.Alter def) = None
+as_writing (statement.Counter def) = None
+as_writing (statement.Read name values) = None
 as_writing statement.Show = None
 
 abbrev pub read_writing : Result Statement ℕ → Option Statement

@@ -6,21 +6,22 @@ use Rattle.std.proofs.lemmas.Bool.{cases_eq}
 use Rattle.std.proofs.lemmas.List.{length-append, length-set, take_all, get_or-set_same, get_or-set_other}
 use Rattle.std.proofs.lemmas.Option.{none-some, same_Some}
 use Rattle.pq_key_code.specs.KeyCode.{intent_key}
-use Rattle.pq_schema.specs.declared.made.Definition.TheVariants.{OfTable, OfQuery, OfColumn}
+use Rattle.pq_schema.specs.declared.made.Definition.TheVariants.{OfTable, OfQuery, OfColumn, OfCounter}
 use Rattle.pq_schema.specs.declared.definition.AlterDef.{AlterDef}
+use Rattle.pq_schema.specs.declared.definition.CounterDef.{CounterDef}
 use Rattle.pq_schema.specs.declared.made.Made.{Made}
 use Rattle.pq_schema.specs.declared.query.Query.{Query}
 use Rattle.pq_schema.specs.declared.table.NewIndex.{NewIndex}
 use Rattle.pq_schema.specs.declared.table.Table.{Table}
-use Rattle.pq_schema.specs.Definitions.{altered_schema, altered_table}
+use Rattle.pq_schema.specs.Definitions.{altered_schema, altered_table, counted_schema, counter_of_def}
 use Rattle.pq_schema.specs.Schema.{Schema, made_of, with_new_index, with_wanted}
 use Rattle.pq_schema.specs.Sequences.{index_numbered, no_index}
 use Rattle.pq_schema.specs.Sound.{IsTable}
 use Rattle.pq_schema.specs.Tables.{table_at, no_table}
 use Rattle.pq_schema.specs.Valid.{IsValid, IsDefined}
-use Rattle.pq_schema.specs.Valid.IsValid.{empty, then_table, then_query, then_column}
+use Rattle.pq_schema.specs.Valid.IsValid.{empty, then_table, then_query, then_column, then_counter}
 use Rattle.pq_schema.proofs.Soundness.{valid_tables}
-use Rattle.pq_schema.proofs.Valid.{column_parts}
+use Rattle.pq_schema.proofs.Valid.{column_parts, counter_parts}
 use Rattle.pq_intent.specs.Spending.{TakesAtMost}
 use Rattle.pq_store.specs.Breaks.{IsUndamaged}
 use Rattle.pq_store.specs.Counts.{Counts}
@@ -62,11 +63,16 @@ pub record Came (schema : Schema) (made : Made) : Type 0 where
 column_made : (s : Schema) (def : AlterDef) → last_made (altered_schema s def) ≡ None
 column_made s def = ap made_by (at_end s.definitions (OfColumn (altered_table s def) (length (table_at s.tables (altered_table s def)).columns)))
 
+-- nor does a counter's
+counter_made : (s : Schema) (def : CounterDef) → last_made (counted_schema s def) ≡ None
+counter_made s def = ap made_by (at_end s.definitions (OfCounter (counter_of_def s def)))
+
 pub came : (schema : Schema) → IsValid schema → (made : Made) → last_made schema ≡ Some made → Came schema made
 came _ empty made last = absurd (none-some made last)
 came _ (then_table s def table v d is) made last = absurd (none-some made (ap made_by (sym (at_end s.definitions (OfTable (length s.tables + 1) (length table.columns) (length table.indexes)))) ∙ last))
 came _ (then_query s query None v d) made last = absurd (none-some made (ap made_by (sym (at_end s.definitions (OfQuery query None))) ∙ last))
 came _ (then_column s def next v is) made last = absurd (none-some made (sym (column_made s def) ∙ ap last_made (column_parts s def next is.accepted).1 ∙ last))
+came _ (then_counter s def next v is) made last = absurd (none-some made (sym (counter_made s def) ∙ ap last_made (counter_parts s def next is.accepted).1 ∙ last))
 came _ (then_query s query (Some new) v d) made last = record {
   earlier = s;
   query = query;
@@ -108,11 +114,11 @@ module _ (m : Model) (content : Content) (valid : IsValid m.schema) (f : IsFilli
       sorted_alike earlier query.key (building_value query) (ready_value query) ∙ ap (is_sorted key_cmp) (sym pairs) ∙ catalog_rises m.schema few in
       let long : length building ≡ length m.schema.definitions =
       length-append earlier ((query.key, building_value query) ∷ []) ∙ sym (length-append earlier ((query.key, ready_value query) ∷ [])) ∙ ap (λ (ps : List Pair). length ps) (sym pairs) ∙ pairs_length m.schema in
-      ap (take 257) (catalog_filling m.schema.tables m.rows earlier f.made query content (earlier_catalog m.schema valid f.made f.last) refl rises f.filling)
+      ap (take 257) (catalog_filling m.schema.tables m.rows [] earlier f.made query content tt (earlier_catalog m.schema valid f.made f.last) refl rises f.filling)
       ∙ take_all 257 building (omega (arith, long, few))
 
   pub no_intent_filling : get content intent_key ≡ None
-  no_intent_filling = intent_filling m.schema.tables m.rows (earlier_pairs m.schema) f.made (last_query m.schema) content (earlier_catalog m.schema valid f.made f.last) refl f.filling
+  no_intent_filling = intent_filling m.schema.tables m.rows [] (earlier_pairs m.schema) f.made (last_query m.schema) content tt (earlier_catalog m.schema valid f.made f.last) refl f.filling
 
 pub filling_in_opens : (content : Option Content) (m : Model) → IsFillingIn content m → Opens content m
 filling_in_opens content m f = record {

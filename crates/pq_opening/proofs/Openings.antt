@@ -14,10 +14,11 @@ use Rattle.pq_store.specs.declared.damage.Damage.{Damage}
 use Rattle.pq_store.specs.declared.store.Pair.{Pair as Stored}
 use Rattle.pq_base.specs.declared.refusal.Refusal.{Refusal}
 use Rattle.pq_schema.specs.declared.definition.AlterDef.{AlterDef}
+use Rattle.pq_schema.specs.declared.definition.CounterDef.{CounterDef}
 use Rattle.pq_schema.specs.declared.table.Table.{Table}
 use Rattle.pq_schema.specs.declared.query.Query.{Query}
 use Rattle.pq_schema.specs.declared.table.NewIndex.{NewIndex}
-use Rattle.pq_schema.specs.Definitions.{altered_schema, column_refusal, definition_refusal, new_column, new_query, new_table, or_ok}
+use Rattle.pq_schema.specs.Definitions.{altered_schema, column_refusal, counted_schema, counter_refusal, definition_refusal, new_column, new_counter, new_query, new_table, or_ok}
 use Rattle.pq_text.specs.declared.token.Token.{Token}
 use Rattle.pq_text.specs.Tokens.{tokens_of}
 use Rattle.pq_def_read.specs.declared.statement.Statement.{Statement}
@@ -58,15 +59,25 @@ column_one schema next def is = by (column_refusal schema def) is
     by None is = subst (IsOneMore schema) (same_Some _ _ is) (length-append schema.definitions _)
     by (Some why) is = absurd (none-some _ is)
 
+counter_one : (schema next : Schema) (def : CounterDef) → result_ok (new_counter schema def) ≡ Some next → IsOneMore schema next
+unfolding new_counter
+counter_one schema next def is = by (counter_refusal schema def) is
+  where
+    by : (why : Option Refusal) → result_ok (or_ok why (counted_schema schema def)) ≡ Some next → IsOneMore schema next
+    by None is = subst (IsOneMore schema) (same_Some _ _ is) (length-append schema.definitions _)
+    by (Some why) is = absurd (none-some _ is)
+
 statement_one : (schema next : Schema) (text : List ℕ) (tokens : List Token) (read : Statement) → defined_by schema text tokens read ≡ Some next → IsOneMore schema next
 statement_one schema next text tokens (statement.Create def) is = made_one schema next (new_table schema def) is
 statement_one schema next text tokens (statement.Prepare name from) is = planned_one schema next (plan_from schema name text tokens from) is
 statement_one schema next text tokens (statement.Alter def) is = column_one schema next def is
+statement_one schema next text tokens (statement.Counter def) is = counter_one schema next def is
 statement_one schema next text tokens (statement.Insert table cols values) is = absurd (none-some _ is)
 statement_one schema next text tokens (statement.Update table sets key) is = absurd (none-some _ is)
 statement_one schema next text tokens (statement.Delete table key) is = absurd (none-some _ is)
 statement_one schema next text tokens (statement.Explain from) is = absurd (none-some _ is)
 statement_one schema next text tokens (statement.Run name values after) is = absurd (none-some _ is)
+statement_one schema next text tokens (statement.Read name values) is = absurd (none-some _ is)
 statement_one schema next text tokens statement.Show is = absurd (none-some _ is)
 
 result_one : (schema next : Schema) (text : List ℕ) (tokens : List Token) (read : Result Statement ℕ) → defined_as schema text tokens read ≡ Some next → IsOneMore schema next

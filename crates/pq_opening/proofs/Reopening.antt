@@ -5,12 +5,13 @@ use Rattle.std.specs.Str.{bytes_eq, is_utf8}
 use Rattle.std.proofs.lemmas.List.{take_all, length-append}
 use Rattle.std.proofs.lemmas.Slice.Eq.{bytes_eq-Decides}
 use Rattle.pq_schema.specs.declared.definition.AlterDef.{AlterDef}
+use Rattle.pq_schema.specs.declared.definition.CounterDef.{CounterDef}
 use Rattle.pq_schema.specs.declared.made.Definition.{Definition}
-use Rattle.pq_schema.specs.Definitions.{new_column}
+use Rattle.pq_schema.specs.Definitions.{new_column, new_counter}
 use Rattle.pq_schema.specs.Schema.{Schema, empty_schema, definition_at, with_table, with_query}
 use Rattle.pq_schema.specs.Valid.{IsValid}
-use Rattle.pq_schema.specs.Valid.IsValid.{empty, then_table, then_query, then_column}
-use Rattle.pq_schema.proofs.Valid.{column_parts}
+use Rattle.pq_schema.specs.Valid.IsValid.{empty, then_table, then_query, then_column, then_counter}
+use Rattle.pq_schema.proofs.Valid.{column_parts, counter_parts}
 use Rattle.pq_key_code.specs.KeyCode.{catalog_key}
 use Rattle.pq_print.specs.Canonical.{definition_text}
 use Rattle.pq_content.specs.Pairs.{Pair}
@@ -25,10 +26,10 @@ use Rattle.pq_step.specs.declared.format.Mark.TheVariants.{Ready, Building}
 use Rattle.pq_opening.specs.Opening.{SchemaAndMark, none_added, has_last_text, if_formatted, text_adds, pair_adds, opened_by, added_from, catalog_in}
 use Rattle.pq_step.specs.Stands.{Holds, content_of, value_at, catalog_pairs, last_made, last_query, earlier_pairs}
 use Rattle.pq_step.proofs.Catalogs.{are_catalog, catalog_rises, pairs_length}
-use Rattle.pq_step.proofs.Definitions.{table_pairs, query_pairs, column_pairs}
+use Rattle.pq_step.proofs.Definitions.{table_pairs, query_pairs, column_pairs, counted_pairs}
 use Rattle.pq_opening.proofs.Lefts.{catalog_of_filling, last_pairs}
 use Rattle.pq_step.proofs.Made.{made_of, small_of}
-use Rattle.pq_opening.proofs.Rereading.{IsRead, table_read, query_read, column_read}
+use Rattle.pq_opening.proofs.Rereading.{IsRead, table_read, query_read, column_read, counter_read}
 
 -- ---- one more pair
 
@@ -97,6 +98,18 @@ module _ (schema : Schema) (def : AlterDef) (next : Schema) (valid : IsValid sch
       subst (λ (s : Schema). catalog_pairs s ≡ catalog_pairs schema ++ (catalog_key (length schema.definitions + 1), value_at s (length schema.definitions + 1)) ∷ []) parts.1
       (column_pairs schema def valid parts.0)
 
+-- and so has the schema with a counter
+module _ (schema : Schema) (def : CounterDef) (next : Schema) (accepted : new_counter schema def ≡ Ok next) where
+  counter_last : length next.definitions ≡ length schema.definitions + 1
+  counter_last =
+      subst (λ (s : Schema). length s.definitions ≡ length schema.definitions + 1) (counter_parts schema def next accepted).1
+      (last_number schema.definitions _)
+
+  counter_ends : catalog_pairs next ≡ catalog_pairs schema ++ (catalog_key (length schema.definitions + 1), value_at next (length schema.definitions + 1)) ∷ []
+  counter_ends =
+      subst (λ (s : Schema). catalog_pairs s ≡ catalog_pairs schema ++ (catalog_key (length schema.definitions + 1), value_at s (length schema.definitions + 1)) ∷ []) (counter_parts schema def next accepted).1
+      (counted_pairs schema def)
+
 pub reopened : (schema : Schema) → IsValid schema → added_from none_added (catalog_pairs schema) ≡ Ok (schema, Ready)
 unfolding added_from
 reopened _ empty = refl
@@ -117,13 +130,18 @@ reopened _ (then_column schema def next valid is) =
     subst (λ (ps : List Pair). added_from none_added ps ≡ Ok (next, Ready)) (sym (column_ends schema def next valid is.accepted))
     (opened_end _ next (catalog_pairs schema) none_added schema (reopened schema valid)
     (adds schema next n (column_read schema def next valid is) (column_last schema def next valid is.accepted)))
+reopened _ (then_counter schema def next valid is) =
+    let n = length schema.definitions + 1 in
+    subst (λ (ps : List Pair). added_from none_added ps ≡ Ok (next, Ready)) (sym (counter_ends schema def next is.accepted))
+    (opened_end _ next (catalog_pairs schema) none_added schema (reopened schema valid)
+    (adds schema next n (counter_read schema def next valid is) (counter_last schema def next is.accepted)))
 
 -- the catalog of a model's content has the definitions' pairs
 pub catalog_of : (m : Model) → IsValid m.schema → catalog_in (content_of m) ≡ catalog_pairs m.schema
 unfolding content_of
 catalog_of m valid =
     let few : length m.schema.definitions ≤ 256 = small_of m.schema valid in
-    ap (take 257) (rising_catalog_range m.schema.tables m.rows (catalog_pairs m.schema) (are_catalog m.schema) (catalog_rises m.schema few))
+    ap (take 257) (rising_catalog_range m.schema.tables m.rows [] (catalog_pairs m.schema) tt (are_catalog m.schema) (catalog_rises m.schema few))
     ∙ take_all 257 (catalog_pairs m.schema) (omega (arith, pairs_length m.schema, few))
 
 pub catalog_tells : (m : Model) → IsValid m.schema → added_from none_added (catalog_in (content_of m)) ≡ Ok (m.schema, Ready)

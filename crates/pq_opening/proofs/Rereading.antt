@@ -10,26 +10,28 @@ use Rattle.std.proofs.lemmas.List.{take_all}
 use Rattle.pq_base.specs.declared.refusal.Refusal.{Refusal}
 use Rattle.pq_grammar.specs.Language.{one}
 use Rattle.pq_schema.specs.declared.definition.AlterDef.{AlterDef}
+use Rattle.pq_schema.specs.declared.definition.CounterDef.{CounterDef}
 use Rattle.pq_schema.specs.declared.definition.TableDef.{TableDef}
 use Rattle.pq_schema.specs.declared.made.Definition.{Definition}
 use Rattle.pq_schema.specs.declared.made.Definition.TheVariants.{OfTable}
 use Rattle.pq_schema.specs.declared.query.Query.{Query}
 use Rattle.pq_schema.specs.declared.table.NewIndex.{NewIndex}
 use Rattle.pq_schema.specs.declared.table.Table.{Table}
-use Rattle.pq_schema.specs.Definitions.{new_table, new_column}
+use Rattle.pq_schema.specs.Definitions.{new_table, new_column, new_counter}
 use Rattle.pq_schema.specs.Names.{IsTableDef}
 use Rattle.pq_schema.specs.Schema.{Schema, no_definition, with_table, with_query}
 use Rattle.pq_schema.specs.Tables.{no_table}
-use Rattle.pq_schema.specs.Valid.{IsValid, IsDefined, IsAddition}
+use Rattle.pq_schema.specs.Valid.{IsValid, IsDefined, IsAddition, IsCounted}
 use Rattle.pq_schema.specs.Wanted.{ChosenCandidate}
 use Rattle.pq_text.specs.Tokens.{tokens_of}
 use Rattle.pq_def_read.specs.Reading.{statement_of}
-use Rattle.pq_def_read.specs.declared.statement.Statement.TheVariants.{Create, Alter}
+use Rattle.pq_def_read.specs.declared.statement.Statement.TheVariants.{Create, Alter, Counter}
 use Rattle.pq_print.specs.Canonical.{table_text, with_first_columns, numbered_text, text_of, definition_text}
 use Rattle.pq_query_read.specs.Queries.{read_query_of}
 use Rattle.pq_query_read.specs.Trying.{◌>>=◌}
-use Rattle.pq_reread.specs.ReadBack.{IsReadBack, IsAddedText}
+use Rattle.pq_reread.specs.ReadBack.{IsReadBack, IsAddedText, IsCounterText}
 use Rattle.pq_reread.proofs.AddedAgain.{addition_back}
+use Rattle.pq_reread.proofs.CountersAgain.{counter_defined}
 use Rattle.pq_reread.proofs.Defined.{defined_says, defined_reads}
 use Rattle.pq_reread.proofs.Lengths.{table_short}
 use Rattle.pq_reread.proofs.Orders.{valid_orderly, keys_of}
@@ -133,4 +135,20 @@ column_read schema def next valid is =
       utf8 = back.utf8;
       short = short_enough (length text) 1048576 back.short;
       defines = defines_column schema def next text back.reads is.accepted;
+    }
+
+defines_counter : (schema : Schema) (def : CounterDef) (next : Schema) (text : List ℕ) → statement_of text (tokens_of text) ≡ Ok (Counter def) → new_counter schema def ≡ Ok next → text_defines schema text ≡ Some next
+unfolding text_defines
+defines_counter schema def next text read made = ap (defined_as schema text (tokens_of text)) read ∙ ap result_ok made
+
+-- the text of a counter's definition
+pub counter_read : (schema : Schema) (def : CounterDef) (next : Schema) → IsValid schema → IsCounted schema def next
+    → IsRead schema next (definition_text next (length schema.definitions + 1))
+counter_read schema def next valid is =
+    let text = definition_text next (length schema.definitions + 1) in
+    let back : IsCounterText def text = counter_defined schema def next valid is in
+    record {
+      utf8 = back.utf8;
+      short = short_enough (length text) 1048576 back.short;
+      defines = defines_counter schema def next text back.reads is.accepted;
     }

@@ -12,7 +12,7 @@ use Rattle.pq_def_read.specs.declared.statement.Statement.TheVariants as stateme
 use Rattle.pq_def_read.specs.Reading.{statement_of}
 use Rattle.pq_key_code.specs.KeyCode.{catalog_key, intent_key}
 use Rattle.pq_schema.specs.declared.table.Table.{Table}
-use Rattle.pq_schema.specs.Definitions.{new_table, new_query, new_column}
+use Rattle.pq_schema.specs.Definitions.{new_table, new_query, new_column, new_counter}
 use Rattle.pq_schema.specs.Schema.{Schema, empty_schema, with_table}
 use Rattle.pq_schema.specs.declared.made.Made.{Made}
 use Rattle.pq_schema.specs.Sequences.{index_numbered}
@@ -104,6 +104,8 @@ defined_by schema text tokens (statement.Update table sets key) = None
 defined_by schema text tokens (statement.Delete table key) = None
 defined_by schema text tokens (statement.Explain from) = None
 defined_by schema text tokens (statement.Run name params after) = None
+defined_by schema text tokens (statement.Counter def) = result_ok (new_counter schema def)
+defined_by schema text tokens (statement.Read name values) = None
 defined_by schema text tokens statement.Show = None
 
 abbrev pub defined_as : Schema → List ℕ → List Token → Result Statement ℕ → Option Schema

@@ -30,7 +30,7 @@ pub(crate) fn last_made(catalog: &Catalog) -> Option<Made>
     }
     match catalog.definition(number) {
         Def::Query { made } => made,
-        Def::Table { .. } | Def::Added { .. } => None,
+        Def::Table { .. } | Def::Added { .. } | Def::Counter => None,
     }
 }
 

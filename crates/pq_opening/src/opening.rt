@@ -2,9 +2,9 @@
 ghost use Rattle.std.specs.Prelude.{◌≡◌, ◌≤◌, length, map, option_map, option_and_then, Some, IfOk, IfSome};
 ghost use Rattle.std.specs.Result.{result_ok};
 ghost use Rattle.pq_store.specs.Content.{entry};
-ghost use Rattle.pq_schema.specs.Definitions.{new_table, new_query, new_column};
+ghost use Rattle.pq_schema.specs.Definitions.{new_table, new_query, new_column, new_counter};
 ghost use Rattle.pq_statement.specs.Planned.{IsComputed};
-ghost use Rattle.pq_schema.specs.Names.{IsName, IsTableDef, IsAlterDef};
+ghost use Rattle.pq_schema.specs.Names.{IsName, IsTableDef, IsAlterDef, IsCounterDef};
 ghost use Rattle.pq_text.specs.Tokens.{tokens_of};
 ghost use Rattle.pq_statement.specs.Planning.{plan_from};
 ghost use Rattle.pq_opening.specs.Opening.{has_last_text, with_made, with_planned, defined_by, text_defines, text_adds, if_formatted, pair_adds, goes_on, added_from};
@@ -17,7 +17,7 @@ use pq_compile::Compiled;
 use pq_def_read::{Statement, read_statement};
 use pq_key_code::catalog_key;
 use pq_print::print_definition;
-use pq_schema::{AlterDef, Catalog, TableDef};
+use pq_schema::{AlterDef, Catalog, CounterDef, TableDef};
 use pq_statement::{PlannedQuery, plan_query};
 use pq_step::{Mark, PlannedCatalog, has_format, marked_text};
 use pq_store::{Damage, Pair};
@@ -97,6 +97,21 @@ fn read_column(
     }
 }
 
+/// The catalog with the counter that is defined, None where it is refused.
+fn read_counter(
+    alloc: Global,
+    planned: PlannedCatalog,
+    def: CounterDef,
+) -> Result<Option<PlannedCatalog>, NoMem>
+    requires { IsCounterDef def }
+    ensures { IfOk result (λ next. next ≡ result_ok (new_counter planned def)) }
+{
+    match planned.with_counter_of(alloc, def)? {
+        (next, Ok(_)) => Ok(Some(next)),
+        (_, Err(_)) => Ok(None),
+    }
+}
+
 /// The catalog with the query that the tokens from a place on spell and the index that it wants, None
 /// where it is refused.
 fn read_query(
@@ -156,6 +171,7 @@ fn define(
     match statement {
         Statement::Create(def) => read_table(alloc, planned, def),
         Statement::Alter(def) => read_column(alloc, planned, def),
+        Statement::Counter(def) => read_counter(alloc, planned, def),
         Statement::Prepare { name, from } => {
             read_query(alloc, planned, name, text, tokens, from)
         }

@@ -79,6 +79,8 @@ IsOther (statement.Update table sets key) = Unit {0}
 IsOther (statement.Delete table key) = Unit {0}
 IsOther (statement.Explain from) = ⊥
 IsOther (statement.Run name params after) = Unit {0}
+IsOther (statement.Counter def) = Unit {0}
+IsOther (statement.Read name values) = Unit {0}
 IsOther statement.Show = Unit {0}
 
 module _ (schema : Schema) where
@@ -95,6 +97,8 @@ module _ (schema : Schema) where
   by_other text tokens (statement.Delete table key) is = none_told Writes _ (λ _. refl)
   by_other text tokens (statement.Explain from) is = absurd is
   by_other text tokens (statement.Run name params after) is = none_told Runs _ (λ _. refl)
+  by_other text tokens (statement.Counter def) is = tt
+  by_other text tokens (statement.Read name values) is = tt
   by_other text tokens statement.Show is = refl
 
   pub other_told : (text : List ℕ) (tokens : List Token) (read : Statement) (told : List ℕ) → IsOther read → told ≡ [] → TellsAsked schema (asked_by schema text tokens read) told

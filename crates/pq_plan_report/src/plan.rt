@@ -109,6 +109,8 @@ fn statement_plan(
         | Statement::Update { .. }
         | Statement::Delete { .. }
         | Statement::Run { .. }
+        | Statement::Counter(_)
+        | Statement::Read { .. }
         | Statement::Show => Ok(String::new(alloc)),
     }
 }

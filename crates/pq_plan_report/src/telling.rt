@@ -83,6 +83,13 @@ fn rest_report(alloc: Global, number: u32) -> Report
     }
 }
 
+/// Puts the report of an unfinished rest behind what is told so far.
+fn put_rest(alloc: Global, number: u32, text: &mut Bytes) -> Result<(), NoMem>
+    ensures { OnOk result (text.new ≡ text.old ++ printed_report (unread_report number Refusal.Unfinished)) }
+{
+    print_report(alloc, &rest_report(alloc, number), text)
+}
+
 impl Telling {
     /// Nothing is told.
     fn new(alloc: Global) -> Telling
@@ -135,7 +142,7 @@ impl Telling {
         let Telling { number, told, .. } = self;
         let mut told = told;
         if unfinished {
-            print_report(alloc, &rest_report(alloc, number), &mut told.text)?;
+            put_rest(alloc, number, &mut told.text)?;
         }
         told.refused = told.refused || unfinished;
         Ok(told)

@@ -65,6 +65,8 @@ module _ (schema : Schema) (text : List ℕ) where
   asked_with (statement.Delete table key) = refl
   asked_with (statement.Run name values after) = refl
   asked_with (statement.Alter def) = refl
+  asked_with (statement.Counter def) = refl
+  asked_with (statement.Read name values) = refl
   asked_with statement.Show = refl
 
   asked_as : length text ≤ 65536 → (read : Result Statement ℕ) → statement_of text tokens ≡ read

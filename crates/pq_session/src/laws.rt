@@ -4,6 +4,7 @@ ghost use Rattle.std.specs.FinMap.{empty};
 ghost use Rattle.pq_base.specs.declared.refusal.Refusal.TheVariants.{NoBound, Syntax};
 ghost use Rattle.pq_base.specs.declared.value.Value.{Value};
 ghost use Rattle.pq_schema.specs.declared.definition.AlterDef.{AlterDef};
+ghost use Rattle.pq_schema.specs.declared.definition.CounterDef.{CounterDef};
 ghost use Rattle.pq_schema.specs.declared.definition.TableDef.{TableDef};
 ghost use Rattle.pq_schema.specs.declared.query.Query.{Query};
 ghost use Rattle.pq_schema.specs.declared.table.NewIndex.{NewIndex};
@@ -11,7 +12,7 @@ ghost use Rattle.pq_schema.specs.declared.table.Table.{Table};
 ghost use Rattle.pq_schema.specs.Definitions.{new_table};
 ghost use Rattle.pq_schema.specs.Names.{IsTableDef};
 ghost use Rattle.pq_schema.specs.Schema.{Schema, IsQueryDefinition, definition_at, empty_schema, find_query, query_at, with_table, with_query};
-ghost use Rattle.pq_schema.specs.Valid.{IsValid, IsDefined, IsAddition};
+ghost use Rattle.pq_schema.specs.Valid.{IsValid, IsDefined, IsAddition, IsCounted};
 ghost use Rattle.pq_schema.specs.Wanted.{no_bound};
 ghost use Rattle.pq_stop_push.specs.Having.{has_candidate};
 ghost use Rattle.pq_arrange.specs.Arrange.{arranged_query};
@@ -92,6 +93,11 @@ pub fn reading_back_law()
     // Of an added column over any valid schema, with its default.
     ensures columns { (schema : Schema) (def : AlterDef) (next : Schema) → IsValid schema
         → IsAddition schema def next
+        → text_defines schema (definition_text next (length schema.definitions + 1)) ≡ Some next }
+
+    // Of a counter over any valid schema.
+    ensures counters { (schema : Schema) (def : CounterDef) (next : Schema) → IsValid schema
+        → IsCounted schema def next
         → text_defines schema (definition_text next (length schema.definitions + 1)) ≡ Some next }
 {}
 

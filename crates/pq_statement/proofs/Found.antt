@@ -11,7 +11,7 @@ use Rattle.pq_base.specs.declared.refusal.Stopped.TheVariants.{Refused, NoMem}
 use Rattle.pq_base.specs.declared.value.Value.{Value}
 use Rattle.pq_schema.specs.Schema.{Schema, IsQueryDefinition, find_query, is_query, no_definition, number_of, query_at}
 use Rattle.pq_schema.specs.declared.made.Definition.{Definition}
-use Rattle.pq_schema.specs.declared.made.Definition.TheVariants.{OfTable, OfQuery, OfColumn}
+use Rattle.pq_schema.specs.declared.made.Definition.TheVariants.{OfTable, OfQuery, OfColumn, OfCounter}
 use Rattle.pq_pages.specs.Running.{IsQueryNumber, cursor_start, running_as, running_at, running_of}
 
 -- ---- the query of a number
@@ -20,6 +20,7 @@ named_query : (name : List ℕ) (definition : Definition) → is_query name defi
 named_query name (OfTable t columns made) h = absurd (cc)
 named_query name (OfQuery q made) h = tt
 named_query name (OfColumn t col) h = absurd (cc)
+named_query name (OfCounter counter) h = absurd (cc)
 
 -- a query that is found has a number
 pub found_query : (schema : Schema) (name : List ℕ) (n : ℕ) → find_query schema name ≡ Some n → IsQueryNumber schema n

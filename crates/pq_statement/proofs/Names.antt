@@ -12,7 +12,7 @@ use Rattle.pq_def_read.specs.Grammar.{Spells}
 use Rattle.pq_def_read.specs.Reading.{statement_of}
 use Rattle.pq_def_read.specs.declared.statement.Statement.{Statement}
 use Rattle.pq_def_read.specs.declared.statement.Statement.TheVariants as statement
-use Rattle.pq_reread.proofs.Named.{altered_named, created_named, prepared_named, spelled}
+use Rattle.pq_reread.proofs.Named.{altered_named, counted_named, created_named, prepared_named, spelled}
 use Rattle.pq_statement.specs.Names.{IsNamedStatement}
 
 -- a part of one token
@@ -41,4 +41,6 @@ named_statement text tokens (statement.Update table sets key) same read = tt
 named_statement text tokens (statement.Delete table key) same read = tt
 named_statement text tokens (statement.Explain from) same read = explained_within text tokens from (spelled text tokens (statement.Explain from) read)
 named_statement text tokens (statement.Run query values after) same read = tt
+named_statement text tokens (statement.Counter def) same read = counted_named text def (ap (statement_of text) (sym same) ∙ read)
+named_statement text tokens (statement.Read name values) same read = tt
 named_statement text tokens statement.Show same read = tt

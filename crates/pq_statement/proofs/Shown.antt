@@ -11,7 +11,7 @@ use Rattle.pq_base.specs.declared.refusal.Refusal.{Refusal}
 use Rattle.pq_base.specs.declared.refusal.Refusal.TheVariants as refusal
 use Rattle.pq_base.proofs.Members.{each_append}
 use Rattle.pq_schema.specs.Candidates.{Candidate, candidates, least}
-use Rattle.pq_schema.specs.Definitions.{altered_table, column_of}
+use Rattle.pq_schema.specs.Definitions.{altered_table, column_of, counter_of_def}
 use Rattle.pq_schema.specs.Relations.{relation_at, table_of, tied_set, order_rest}
 use Rattle.pq_schema.specs.Resolved.{IsResolved}
 use Rattle.pq_schema.specs.Schema.{Schema, def_of, with_added, with_new_column, with_new_index, with_wanted, made_of}
@@ -19,19 +19,19 @@ use Rattle.pq_schema.specs.Sequences.{serving_access, new_index}
 use Rattle.pq_schema.specs.Sound.{IsMade, AreMade}
 use Rattle.pq_schema.specs.Tables.{table_at}
 use Rattle.pq_schema.specs.Valid.{IsValid}
-use Rattle.pq_schema.specs.Valid.IsValid.{empty, then_table, then_query, then_column}
+use Rattle.pq_schema.specs.Valid.IsValid.{empty, then_table, then_query, then_column, then_counter}
 use Rattle.pq_schema.specs.Wanted.{ChosenCandidate, IsWanted, is_large, too_many_indexes, index_at, index_of, with_index, chosen_of}
 use Rattle.pq_schema.specs.declared.made.Def.{Def}
 use Rattle.pq_schema.specs.declared.made.Def.TheVariants as def
 use Rattle.pq_schema.specs.declared.made.Definition.{Definition}
-use Rattle.pq_schema.specs.declared.made.Definition.TheVariants.{OfTable, OfQuery, OfColumn}
+use Rattle.pq_schema.specs.declared.made.Definition.TheVariants.{OfTable, OfQuery, OfColumn, OfCounter}
 use Rattle.pq_schema.specs.declared.query.Query.{Query}
 use Rattle.pq_schema.specs.declared.table.Index.{Index}
 use Rattle.pq_schema.specs.declared.table.KeyPart.{KeyPart}
 use Rattle.pq_schema.specs.declared.table.NewIndex.{NewIndex}
 use Rattle.pq_schema.specs.declared.table.Table.{Table}
 use Rattle.pq_schema.proofs.Soundness.{all_made}
-use Rattle.pq_schema.proofs.Valid.{column_parts, valid_made, wanted_fits}
+use Rattle.pq_schema.proofs.Valid.{column_parts, counter_parts, valid_made, wanted_fits}
 use Rattle.pq_print.specs.declared.report.Line.{Line}
 use Rattle.pq_statement.specs.Lines.{AreOf, AreInside, AreShown, IsMadeOf, IsShowable, IsLined}
 use Rattle.pq_statement.proofs.Lists.{each_by, each_weaker}
@@ -114,6 +114,7 @@ made_more tables more long (def.Table t made) is = (is.0, omega (arith, is.1, lo
 made_more tables more long (def.Query None) is = tt
 made_more tables more long (def.Query (Some made)) is = ((is.0.0, omega (arith, is.0.1, long)), is.1)
 made_more tables more long (def.Added t col) is = tt
+made_more tables more long def.Counter is = tt
 
 abbrev AreMadeOf : List Table → List Definition → Type 0
 AreMadeOf tables definitions = AllByRecursion (λ definition. IsMadeOf tables (def_of definition)) definitions
@@ -143,6 +144,10 @@ defined_made _ (then_column schema d next valid is) =
     subst (λ (s : Schema). AreMadeOf s.tables s.definitions) parts.1
     (each_append (λ (one : Definition). IsMadeOf more (def_of one)) schema.definitions (OfColumn number (length table.columns) ∷ [])
     (all_more schema.tables more (omega (arith, long)) schema.definitions (defined_made schema valid)) (tt, tt))
+defined_made _ (then_counter schema d next valid is) =
+    subst (λ (s : Schema). AreMadeOf s.tables s.definitions) (counter_parts schema d next is.accepted).1
+    (each_append (λ (one : Definition). IsMadeOf schema.tables (def_of one)) schema.definitions (OfCounter (counter_of_def schema d) ∷ [])
+    (defined_made schema valid) (tt, tt))
 
 -- the columns of the index that a query wants are there
 pub is_lined : (tables : List Table) (query : Query) (wanted : Option NewIndex) → IsResolved tables query → IsWanted tables query wanted → IsLined tables wanted

@@ -1,12 +1,14 @@
 -- What a piece of a script asks for, as far as the definitions decide it, or the first refusal that needs no
 -- call of the store.
-use Rattle.std.specs.Prelude.{ℕ, ◌-◌, nat_le, List, length, Option, Some, Result, Ok, Err, if◌then◌else◌}
+use Rattle.std.specs.Prelude.{ℕ, ◌-◌, nat_le, List, length, unwrap_or, Option, Some, Result, Ok, Err, if◌then◌else◌}
+use Rattle.pq_base.specs.declared.count_word.TheConstants as count_word
 use Rattle.pq_base.specs.declared.number.Bound.{Bound}
 use Rattle.pq_base.specs.declared.refusal.Refusal.{Refusal}
 use Rattle.pq_base.specs.declared.refusal.Refusal.TheVariants as refusal
-use Rattle.pq_schema.specs.Definitions.{altered_schema, new_column, new_table}
+use Rattle.pq_schema.specs.Definitions.{altered_schema, counter_refusal, new_column, new_table}
 use Rattle.pq_schema.specs.Schema.{Schema, with_table, with_query}
 use Rattle.pq_schema.specs.declared.definition.AlterDef.{AlterDef}
+use Rattle.pq_schema.specs.declared.definition.CounterDef.{CounterDef}
 use Rattle.pq_schema.specs.declared.table.Table.{Table}
 use Rattle.pq_text.specs.Tokens.{tokens_of}
 use Rattle.pq_text.specs.declared.piece.Piece.{Piece}
@@ -39,6 +41,10 @@ abbrev pub action_from : {A : Type 0} → (A → Action) → Result A Refusal �
 action_from action (Ok found) = Ok (action found)
 action_from action (Err why) = Err why
 
+-- why a counter is refused: by the first refusal of its definition, and else as one too many
+abbrev pub refused_counter : Schema → CounterDef → Refusal
+refused_counter schema def = unwrap_or (counter_refusal schema def) (refusal.Count count_word.COUNTERS)
+
 -- what a statement asks for
 abbrev pub asked_by : Schema → List ℕ → List Token → Statement → Result Action Refusal
 asked_by schema text tokens (statement.Create def) = action_from Creates (new_table schema def)
@@ -53,6 +59,8 @@ asked_by schema text tokens (statement.Prepare name from) =
     action_from Prepares (prepared_from schema name text tokens from)
 asked_by schema text tokens (statement.Explain from) = action_from Explains (explained_from schema text tokens from)
 asked_by schema text tokens (statement.Run name params after) = action_from Runs (running_of schema name params after)
+asked_by schema text tokens (statement.Counter def) = Err (refused_counter schema def)
+asked_by schema text tokens (statement.Read name values) = Err (refusal.NoCounter name)
 asked_by schema text tokens statement.Show = Ok Shows
 
 -- tokens that spell no statement are refused with the place where reading stopped

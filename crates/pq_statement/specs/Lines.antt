@@ -48,6 +48,7 @@ IsMadeOf tables (def.Table t made) = IsTableNumber tables t
 IsMadeOf tables (def.Query None) = Unit {0}
 IsMadeOf tables (def.Query (Some made)) = IsTableNumber tables made.table × (made.index ≤ 16)
 IsMadeOf tables (def.Added t col) = Unit {0}
+IsMadeOf tables def.Counter = Unit {0}
 
 pub record IsShowable (schema : Schema) : Type 0 where
   pub tables : AreShown schema.tables
@@ -67,6 +68,7 @@ made_lines tables (def.Table t made) = lines_at (table_at tables t) 1 made
 made_lines tables (def.Query None) = []
 made_lines tables (def.Query (Some made)) = lines_at (table_at tables made.table) made.index 1
 made_lines tables (def.Added t col) = []
+made_lines tables def.Counter = []
 
 -- a definition's text, and the indexes that it made
 unfoldable pub definition_lines : Schema → ℕ → List Line

@@ -1,6 +1,6 @@
 -- What a statement that was read has.
 use Rattle.std.specs.Prelude.{◌≤◌, List, length}
-use Rattle.pq_schema.specs.Names.{IsName, IsTableDef, IsAlterDef}
+use Rattle.pq_schema.specs.Names.{IsName, IsTableDef, IsAlterDef, IsCounterDef}
 use Rattle.pq_text.specs.declared.token.Token.{Token}
 use Rattle.pq_def_read.specs.declared.statement.Statement.{Statement}
 use Rattle.pq_def_read.specs.declared.statement.Statement.TheVariants as statement
@@ -15,4 +15,6 @@ IsNamedStatement tokens (statement.Update table sets key) = Unit {0}
 IsNamedStatement tokens (statement.Delete table key) = Unit {0}
 IsNamedStatement tokens (statement.Explain from) = from ≤ length tokens
 IsNamedStatement tokens (statement.Run name params after) = Unit {0}
+IsNamedStatement tokens (statement.Counter def) = IsCounterDef def
+IsNamedStatement tokens (statement.Read name values) = Unit {0}
 IsNamedStatement tokens statement.Show = Unit {0}

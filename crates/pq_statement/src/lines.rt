@@ -134,6 +134,7 @@ fn put_made_lines(
             put_lines_at(alloc, catalog.table(made.table), made.index, 1, lines)
         }
         Def::Added { .. } => Ok(()),
+        Def::Counter => Ok(()),
     }
 }
 

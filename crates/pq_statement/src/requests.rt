@@ -1,10 +1,10 @@
 //! What a piece of a script asks for, as far as the definitions decide it.
-ghost use Rattle.std.specs.Prelude.{◌≡◌, ◌≤◌, None, length, option_copied, IfOk, IfErr};
+ghost use Rattle.std.specs.Prelude.{◌≡◌, ◌≤◌, None, Err, length, option_copied, IfOk, IfErr};
 ghost use Rattle.pq_base.specs.Answers.{Passes, Refuses};
 ghost use Rattle.pq_pages.specs.Running.{running_of};
 ghost use Rattle.pq_schema.specs.Definitions.{definition_refusal};
 ghost use Rattle.pq_text.specs.Tokens.{tokens_of};
-ghost use Rattle.pq_statement.specs.Actions.{action_of, asked_by, asked_text};
+ghost use Rattle.pq_statement.specs.Actions.{Action, action_of, asked_by, asked_text, refused_counter};
 ghost use Rattle.pq_statement.specs.Names.{IsNamedStatement};
 ghost use Rattle.pq_statement.specs.Planned.{IsPlanned};
 ghost use Rattle.pq_statement.specs.Planning.{arranged_from, explained_name, prepared_from};
@@ -15,7 +15,7 @@ use pq_base::{List, NoMem, PText, Refusal, Row, Stopped, count_word};
 use pq_def_read::{Statement, read_statement};
 use pq_index_keep::{Write, check_write};
 use pq_pages::begin;
-use pq_schema::{AlterDef, Catalog, DEFINITIONS, TableDef};
+use pq_schema::{AlterDef, Catalog, CounterDef, DEFINITIONS, TableDef};
 use pq_text::{Piece, Token, tokens};
 use std::alloc::Global;
 
@@ -113,6 +113,8 @@ fn asked_by(
             let run = asked_run(alloc, catalog, name, values, after.as_ref())?;
             Ok(Request::Run(run))
         }
+        Statement::Counter(def) => Err(refused_counter(alloc, catalog, &def)),
+        Statement::Read { name, .. } => Err(Stopped::Refused(Refusal::NoCounter { name })),
         Statement::Show => Ok(Request::Show),
         written @ (Statement::Insert { .. }
         | Statement::Update { .. }
@@ -120,6 +122,18 @@ fn asked_by(
             let write = check_write(alloc, catalog, &written)?;
             Ok(Request::Write(write))
         }
+    }
+}
+
+/// Why a counter is refused: its definition's first refusal, and else that it is one too many.
+fn refused_counter(alloc: Global, catalog: &Catalog, def: &CounterDef) -> Stopped
+    ensures { Refuses {A = Action} result (Err (refused_counter catalog.now def.now)) }
+{
+    match catalog.check_counter(alloc, def) {
+        Ok(_) => Stopped::Refused(Refusal::Count {
+            word: count_word::COUNTERS,
+        }),
+        Err(stopped) => stopped,
     }
 }
 

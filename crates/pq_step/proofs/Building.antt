@@ -165,7 +165,7 @@ module _ (m : Model) (query : Query) (new : NewIndex) (valid : IsValid m.schema)
     settles = record {
       pairs = content;
       told = is;
-      settles = settles_to_itself content (intent_filling later.tables m.rows (catalog_pairs m.schema) (made_of new) (last_query later) content (are_catalog m.schema) refl filling);
+      settles = settles_to_itself content (intent_filling later.tables m.rows [] (catalog_pairs m.schema) (made_of new) (last_query later) content tt (are_catalog m.schema) refl filling);
     };
     holds = inr (filling_last content filling);
   }

@@ -3,11 +3,12 @@ use Rattle.std.proofs.Common.{◌≡◌, ℕ, ◌+◌, ◌<◌, length, List, []
 use Rattle.std.specs.Prelude.{option_map}
 use Rattle.std.specs.FinMap.{find, get, insert}
 use Rattle.pq_schema.specs.declared.definition.AlterDef.{AlterDef}
+use Rattle.pq_schema.specs.declared.definition.CounterDef.{CounterDef}
 use Rattle.pq_schema.specs.declared.table.Table.{Table}
 use Rattle.pq_schema.specs.declared.query.Query.{Query}
 use Rattle.pq_schema.specs.declared.made.Definition.{Definition}
-use Rattle.pq_schema.specs.declared.made.Definition.TheVariants.{OfTable, OfQuery, OfColumn}
-use Rattle.pq_schema.specs.Definitions.{altered_schema, altered_table, column_of, column_refusal}
+use Rattle.pq_schema.specs.declared.made.Definition.TheVariants.{OfTable, OfQuery, OfColumn, OfCounter}
+use Rattle.pq_schema.specs.Definitions.{altered_schema, altered_table, column_of, column_refusal, counted_schema, counter_of_def}
 use Rattle.pq_schema.specs.Schema.{Schema, made_of, with_table, with_wanted, with_query}
 use Rattle.pq_schema.specs.Tables.{table_at}
 use Rattle.pq_schema.specs.Valid.{IsValid, IsDefined}
@@ -77,6 +78,11 @@ column_pairs schema def valid none =
     let last : Pair = (catalog_key (length definitions + 1), value_at (altered_schema schema def) (length definitions + 1)) in
     ending_pairs more definitions definition
     ∙ ap (λ (front : List Pair). front ++ last ∷ []) (pairs_stay tables more 1 definitions (grown_altered schema def valid none) (valid_made valid) (definitions_of schema valid))
+
+-- and with one more counter, which changes no table
+pub counted_pairs : (schema : Schema) (def : CounterDef)
+    → catalog_pairs (counted_schema schema def) ≡ catalog_pairs schema ++ (catalog_key (length schema.definitions + 1), value_at (counted_schema schema def) (length schema.definitions + 1)) ∷ []
+counted_pairs schema def = ending_pairs schema.tables schema.definitions (OfCounter (counter_of_def schema def))
 
 pub put_table : (m : Model) (table : Table) → IsValid m.schema → AreMade m.schema.tables → Keeps m.schema.tables m.rows → length m.schema.definitions < 65535
     → insert (content_of m) (catalog_key (length m.schema.definitions + 1)) (value_at (with_table m.schema table) (length m.schema.definitions + 1)) ≡ content_of (record m { schema = with_table m.schema table })

@@ -7,14 +7,15 @@ use Rattle.std.proofs.lemmas.List.{length-append, get_or_append_left}
 use Rattle.std.proofs.Math.Seq.{get_or-append_seam}
 use Rattle.pq_schema.specs.Candidates.{Candidate, least}
 use Rattle.pq_schema.specs.Costs.{bound}
-use Rattle.pq_schema.specs.Definitions.{altered_schema, altered_table, column_refusal}
+use Rattle.pq_schema.specs.Definitions.{altered_schema, altered_table, column_refusal, counted_schema, counter_of_def}
 use Rattle.pq_schema.specs.Resolved.{IsResolved}
 use Rattle.pq_schema.specs.Schema.{Schema, IsQueryDefinition, definition_at, empty_schema, made_of, no_definition, query_at, query_of, with_query, with_table, with_wanted}
 use Rattle.pq_schema.specs.Valid.{IsValid, IsDefined}
 use Rattle.pq_schema.proofs.Valid.{valid_made}
 use Rattle.pq_schema.specs.declared.made.Definition.{Definition}
-use Rattle.pq_schema.specs.declared.made.Definition.TheVariants.{OfTable, OfQuery, OfColumn}
+use Rattle.pq_schema.specs.declared.made.Definition.TheVariants.{OfTable, OfQuery, OfColumn, OfCounter}
 use Rattle.pq_schema.specs.declared.definition.AlterDef.{AlterDef}
+use Rattle.pq_schema.specs.declared.definition.CounterDef.{CounterDef}
 use Rattle.pq_schema.specs.declared.query.Query.{Query}
 use Rattle.pq_schema.specs.declared.table.NewIndex.{NewIndex}
 use Rattle.pq_schema.specs.declared.table.Table.{Table}
@@ -24,7 +25,7 @@ use Rattle.pq_plan.specs.declared.physical.Physical.{Physical}
 use Rattle.pq_compile.specs.Chosen.{IsCompiled}
 use Rattle.pq_compile.specs.declared.compiler.Compiled.{Compiled}
 use Rattle.pq_runnable.specs.Grown.{HaveGrown}
-use Rattle.pq_runnable.proofs.Growing.{grown_altered, grown_table}
+use Rattle.pq_runnable.proofs.Growing.{grown_altered, grown_table, tables_themselves}
 use Rattle.pq_runnable.proofs.Same.{same_candidates}
 use Rattle.pq_runnable.proofs.Staying.{chosen_parts, query_resolved}
 use Rattle.pq_pages.specs.Running.{IsQueryNumber, query_bound}
@@ -127,6 +128,10 @@ pub column_kept : (s : Schema) (plans : List (Option Physical)) (def : AlterDef)
 column_kept s plans def valid kept none =
     one_more s plans valid kept (altered_schema s def).tables (grown_altered s def valid none)
     (OfColumn (altered_table s def) (length (table_at s.tables (altered_table s def)).columns)) None (λ no. no)
+
+pub counter_kept : (s : Schema) (plans : List (Option Physical)) (def : CounterDef) → IsValid s → ArePlans s plans → ArePlans (counted_schema s def) (plans ++ None ∷ [])
+counter_kept s plans def valid kept =
+    one_more s plans valid kept s.tables (tables_themselves s.tables (valid_made valid)) (OfCounter (counter_of_def s def)) None (λ no. no)
 
 pub query_kept : (s : Schema) (plans : List (Option Physical)) (query : Query) (plan : Physical) (wanted : Option NewIndex) → IsValid s → ArePlans s plans → IsDefined s query wanted → IsPlanWanting s.tables query plan wanted → ArePlans (with_query s query wanted) (plans ++ Some plan ∷ [])
 query_kept s plans query plan wanted valid kept defined is =

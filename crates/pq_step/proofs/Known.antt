@@ -8,21 +8,24 @@ use Rattle.std.proofs.Math.Seq.{get_or-append_seam}
 use Rattle.pq_base.proofs.Members.{each_append}
 use Rattle.pq_base.specs.declared.value.Value.{Value}
 use Rattle.pq_schema.specs.declared.definition.AlterDef.{AlterDef}
+use Rattle.pq_schema.specs.declared.definition.CounterDef.{CounterDef}
 use Rattle.pq_schema.specs.declared.made.Definition.{Definition}
-use Rattle.pq_schema.specs.declared.made.Definition.TheVariants.{OfTable, OfQuery, OfColumn}
+use Rattle.pq_schema.specs.declared.made.Definition.TheVariants.{OfTable, OfQuery, OfColumn, OfCounter}
 use Rattle.pq_schema.specs.declared.query.Query.{Query}
 use Rattle.pq_schema.specs.declared.table.Column.{Column}
 use Rattle.pq_schema.specs.declared.table.NewIndex.{NewIndex}
 use Rattle.pq_schema.specs.declared.table.Table.{Table}
-use Rattle.pq_schema.specs.Definitions.{altered_schema, altered_table, column_of, column_refusal}
+use Rattle.pq_schema.specs.Definitions.{altered_schema, altered_table, column_of, column_refusal, counted_table, counter_of_def, counter_refusal}
 use Rattle.pq_schema.specs.Resolved.{IsResolved}
 use Rattle.pq_schema.specs.Schema.{Schema, made_of, with_new_column, with_wanted}
 use Rattle.pq_schema.specs.Sound.{AreDefaults, IsMade}
 use Rattle.pq_schema.specs.Tables.{no_table, table_at}
 use Rattle.pq_schema.specs.Valid.{IsValid, IsDefined}
-use Rattle.pq_schema.specs.Valid.IsValid.{empty, then_table, then_query, then_column}
-use Rattle.pq_schema.proofs.Valid.{column_parts, column_takes, valid_made, wanted_there}
+use Rattle.pq_schema.specs.Valid.IsValid.{empty, then_table, then_query, then_column, then_counter}
+use Rattle.pq_schema.proofs.Valid.{column_parts, column_takes, counter_parts, valid_made, wanted_there}
 use Rattle.pq_content.specs.Tables.{IsTableNumber}
+use Rattle.pq_reread.proofs.Countings.{accepted_counter}
+use Rattle.pq_reread.proofs.Orders.{places_inside}
 use Rattle.pq_runnable.specs.Grown.{HaveGrown}
 use Rattle.pq_runnable.proofs.Growing.{grown_altered, grown_table, grown_wanted, resolved_stays}
 use Rattle.pq_statement.proofs.Lists.{each_weaker}
@@ -31,6 +34,7 @@ abbrev pub IsKnownDefinition : List Table → Definition → Type 0
 IsKnownDefinition tables (OfTable t columns made) = IsTableNumber tables t × (columns ≤ length (table_at tables t).columns)
 IsKnownDefinition tables (OfQuery query made) = IsResolved tables query
 IsKnownDefinition tables (OfColumn t col) = IsTableNumber tables t × (col < length (table_at tables t).columns) × (col < length (table_at tables t).fillers)
+IsKnownDefinition tables (OfCounter counter) = IsTableNumber tables counter.table × AllByRecursion (λ col. col < length (table_at tables counter.table).columns) counter.cols
 
 -- the tables have grown with the index that the query wants
 pub grown_defined : (schema : Schema) (query : Query) (wanted : Option NewIndex) → IsValid schema → IsDefined schema query wanted → HaveGrown schema.tables (with_wanted schema.tables wanted)
@@ -62,6 +66,11 @@ definition_stays tables later grown (OfTable t columns made) is = (number_stays 
 definition_stays tables later grown (OfQuery query made) is = resolved_stays tables later query grown is
 definition_stays tables later grown (OfColumn t col) is =
     (number_stays tables later grown t is.0, column_stays tables later grown t col is.0 is.1, filler_stays tables later grown t col is.0 is.2)
+definition_stays tables later grown (OfCounter counter) is = (
+  number_stays tables later grown counter.table is.0,
+  each_weaker (λ col. col < length (table_at tables counter.table).columns) (λ col. col < length (table_at later counter.table).columns)
+      (λ col inside. column_stays tables later grown counter.table col is.0 inside) counter.cols is.1,
+)
 
 -- definitions that were known, and one more
 one_more : (tables later : List Table) (definitions : List Definition) (last : Definition) → HaveGrown tables later → AllByRecursion (IsKnownDefinition tables) definitions → IsKnownDefinition later last
@@ -98,6 +107,12 @@ column_known schema def valid none known =
     let each = one_each table.columns table.fillers is_made.fillers in
     one_more schema.tables later schema.definitions (OfColumn t (length table.columns)) grown known (number, omega (arith, columns), omega (arith, fillers, each))
 
+-- the counter that was defined is known
+counter_known : (schema : Schema) (def : CounterDef) → counter_refusal schema def ≡ None → IsKnownDefinition schema.tables (OfCounter (counter_of_def schema def))
+counter_known schema def none =
+    let counting = accepted_counter schema def none in
+    ((counting.from_one, counting.there), places_inside (table_at schema.tables (counted_table schema def)).columns def.cols counting.known)
+
 pub definitions_of : (schema : Schema) → IsValid schema → AllByRecursion (IsKnownDefinition schema.tables) schema.definitions
 definitions_of _ empty = tt
 definitions_of _ (then_table schema def table valid is_def made) =
@@ -116,3 +131,7 @@ definitions_of _ (then_query schema query wanted valid defined) =
 definitions_of _ (then_column schema def next valid is) =
     let parts = column_parts schema def next is.accepted in
     subst (λ (s : Schema). AllByRecursion (IsKnownDefinition s.tables) s.definitions) parts.1 (column_known schema def valid parts.0 (definitions_of schema valid))
+definitions_of _ (then_counter schema def next valid is) =
+    let parts = counter_parts schema def next is.accepted in
+    subst (λ (s : Schema). AllByRecursion (IsKnownDefinition s.tables) s.definitions) parts.1
+    (each_append (IsKnownDefinition schema.tables) schema.definitions (OfCounter (counter_of_def schema def) ∷ []) (definitions_of schema valid) (counter_known schema def parts.0, tt))

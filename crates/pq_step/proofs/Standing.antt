@@ -16,7 +16,7 @@ use Rattle.pq_step.proofs.Catalogs.{are_catalog}
 -- the content of a model has no intent
 pub no_intent_in : (m : Model) → get (content_of m) intent_key ≡ None
 unfolding content_of
-no_intent_in m = no_intent m.schema.tables m.rows (catalog_pairs m.schema) (are_catalog m.schema)
+no_intent_in m = no_intent m.schema.tables m.rows [] (catalog_pairs m.schema) tt (are_catalog m.schema)
 
 pub settled_opens : {content : Option Content} {m : Model} → HoldsModel content m → Opens content m
 settled_opens {m = m} s = record {

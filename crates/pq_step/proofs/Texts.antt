@@ -6,8 +6,9 @@ use Rattle.std.specs.Option.{option_map_or}
 use Rattle.std.proofs.lemmas.List.{get_or_append_left, take-append-le}
 use Rattle.std.proofs.lemmas.Option.{slice_get-get_or}
 use Rattle.pq_base.specs.declared.value.Value.TheVariants.{Null}
+use Rattle.pq_schema.specs.declared.counter.Counter.{Counter}
 use Rattle.pq_schema.specs.declared.made.Definition.{Definition}
-use Rattle.pq_schema.specs.declared.made.Definition.TheVariants.{OfTable, OfQuery, OfColumn}
+use Rattle.pq_schema.specs.declared.made.Definition.TheVariants.{OfTable, OfQuery, OfColumn, OfCounter}
 use Rattle.pq_schema.specs.declared.table.Column.{Column}
 use Rattle.pq_schema.specs.declared.table.Foreign.{Foreign}
 use Rattle.pq_schema.specs.declared.table.Table.{Table}
@@ -16,7 +17,7 @@ use Rattle.pq_schema.specs.Tables.{table_at, no_table}
 use Rattle.pq_content.specs.Tables.{IsTableNumber}
 use Rattle.pq_print.specs.Lists.{each_after, separate_texts}
 use Rattle.pq_print.specs.Values.{value_text}
-use Rattle.pq_print.specs.Canonical.{absent_column, added_text, column_name, column_text, columns_text, limit_text, foreign_text, items_text, table_text, with_first_columns, numbered_text, text_of}
+use Rattle.pq_print.specs.Canonical.{absent_column, added_text, column_name, column_text, columns_text, counter_text, limit_text, foreign_text, items_text, table_text, with_first_columns, numbered_text, text_of}
 use Rattle.pq_reread.specs.ReadBack.{KeepNames}
 use Rattle.pq_reread.proofs.LaterTables.{query_same}
 use Rattle.pq_runnable.specs.Grown.{HasGrown, HaveGrown}
@@ -64,6 +65,22 @@ added_grown before now col grown inside among =
     ++ column_text (get_or_append_left before.columns grown.columns absent_column col inside i)
     ++ codes " DEFAULT " ++ value_text (unwrap_or (get_or_append_left before.fillers grown.fillers None col among i) Null) ++ codes ";")
 
+-- ---- counters
+
+-- the text of places has the names of their columns
+module _ (before now : List Column) where
+  abbrev IsNamedStill : ℕ → Type 0
+  IsNamedStill col = column_name now col ≡ column_name before col
+
+  same_names : (cols : List ℕ) → AllByRecursion IsNamedStill cols → each_after (codes ", ") (column_name now) cols ≡ each_after (codes ", ") (column_name before) cols
+  same_names [] same = refl
+  same_names (col ∷ cols) same = λ i. (codes ", " ++ same.0 i) ++ same_names cols same.1 i
+
+  same_columns : (cols : List ℕ) → AllByRecursion IsNamedStill cols → columns_text now cols ≡ columns_text before cols
+  unfolding columns_text
+  same_columns [] same = refl
+  same_columns (col ∷ cols) same = λ i. codes "(" ++ (same.0 i ++ same_names cols same.1 i) ++ codes ")"
+
 -- ---- tables that have grown
 
 module _ (tables later : List Table) (grown : HaveGrown tables later) where
@@ -86,7 +103,21 @@ module _ (tables later : List Table) (grown : HaveGrown tables later) where
         ∙ ap (λ (c : Column). c.name) (get_or_append_left (table_at tables number).columns more.columns absent_column col lt);
   }
 
+  -- the text of a counter names its table and the columns
+  counter_stays : (counter : Counter) → IsKnownDefinition tables (OfCounter counter) → counter_text later counter ≡ counter_text tables counter
+  unfolding counter_text
+  counter_stays counter is =
+      let before = (table_at tables counter.table).columns in
+      let now = (table_at later counter.table).columns in
+      let still : AllByRecursion (IsNamedStill before now) counter.cols =
+      each_weaker (λ col. col < length before) (IsNamedStill before now)
+      (λ col inside. keep_names.column counter.table col is.0.0 is.0.1 inside) counter.cols is.1 in
+      λ i.
+      codes "CREATE COUNTER " ++ counter.name ++ codes " OF " ++ keep_names.table counter.table is.0.0 is.0.1 i ++ codes " "
+      ++ same_columns before now counter.cols still i ++ codes ";"
+
   pub text_stays : (definition : Definition) → AreMade tables → IsKnownDefinition tables definition → text_of later definition ≡ text_of tables definition
   text_stays (OfTable t columns made) are is = numbered_stays t columns are is.0 is.1
   text_stays (OfQuery query made) are is = query_same tables later query is keep_names
   text_stays (OfColumn t col) are is = added_grown (table_at tables t) (table_at later t) col (grown.each t is.0.0 is.0.1) is.1 is.2
+  text_stays (OfCounter counter) are is = counter_stays counter is

@@ -3,7 +3,7 @@ use Rattle.std.specs.Prelude.{ℕ, ◌==◌, Bool, false, List, ◌∷◌, lengt
 use Rattle.std.specs.Str.{is_utf8}
 use Rattle.pq_builds.specs.declared.mark.TheConstants.{READY, BUILDING}
 use Rattle.pq_schema.specs.declared.made.Definition.{Definition}
-use Rattle.pq_schema.specs.declared.made.Definition.TheVariants.{OfTable, OfQuery, OfColumn}
+use Rattle.pq_schema.specs.declared.made.Definition.TheVariants.{OfTable, OfQuery, OfColumn, OfCounter}
 use Rattle.pq_schema.specs.Schema.{Schema, definition_at}
 use Rattle.pq_step.specs.declared.format.Mark.{Mark}
 use Rattle.pq_step.specs.declared.format.Mark.TheVariants.{Ready, Building}
@@ -13,6 +13,7 @@ abbrev pub format_of : Definition → ℕ
 format_of (OfTable table columns made) = 1
 format_of (OfQuery query made) = 1
 format_of (OfColumn table col) = 2
+format_of (OfCounter counter) = 2
 
 abbrev pub last_definition : Schema → Definition
 last_definition schema = definition_at schema (length schema.definitions)

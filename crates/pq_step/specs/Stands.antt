@@ -4,7 +4,7 @@ use Rattle.pq_key_code.specs.KeyCode.{catalog_key}
 use Rattle.pq_schema.specs.Schema.{Schema, definition_at}
 use Rattle.pq_schema.specs.Valid.{IsValid}
 use Rattle.pq_schema.specs.declared.made.Definition.{Definition}
-use Rattle.pq_schema.specs.declared.made.Definition.TheVariants.{OfTable, OfQuery, OfColumn}
+use Rattle.pq_schema.specs.declared.made.Definition.TheVariants.{OfTable, OfQuery, OfColumn, OfCounter}
 use Rattle.pq_schema.specs.declared.made.Made.{Made}
 use Rattle.pq_schema.specs.declared.table.Table.{Table}
 use Rattle.pq_print.specs.Canonical.{text_of, query_text, definition_text}
@@ -62,6 +62,7 @@ abbrev pub made_by : Definition → Option Made
 made_by (OfTable table columns made) = None
 made_by (OfQuery query made) = made
 made_by (OfColumn table col) = None
+made_by (OfCounter counter) = None
 
 abbrev pub last_made : Schema → Option Made
 last_made schema = made_by (last_definition schema)

@@ -23,6 +23,9 @@ pub(crate) const QUERY_FORMAT: u8 = 1;
 /// The format of an added column's pair.
 const COLUMN_FORMAT: u8 = 2;
 
+/// The format of a counter's pair.
+const COUNTER_FORMAT: u8 = 2;
+
 /// The format of a definition's pair, by its kind.
 fn format_of(definition: &Definition) -> u8
     ensures { result ≡ format_of definition.now }
@@ -31,6 +34,7 @@ fn format_of(definition: &Definition) -> u8
         Definition::OfTable { .. } => TABLE_FORMAT,
         Definition::OfQuery { .. } => QUERY_FORMAT,
         Definition::OfColumn { .. } => COLUMN_FORMAT,
+        Definition::OfCounter { .. } => COUNTER_FORMAT,
     }
 }
 

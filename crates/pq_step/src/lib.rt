@@ -3,6 +3,7 @@
 
 mod alter;
 mod checking;
+mod counter;
 mod define;
 mod format;
 mod planned;

@@ -40,7 +40,7 @@ use std::sync::ledger::Ledger;
 #[derive(Debug, Drop)]
 pub struct PlannedCatalog {
     pub(crate) catalog: Catalog,
-    /// One for each definition, `None` for a table's and for an added column's.
+    /// One for each definition, `None` for one that is no query's.
     pub(crate) plans: List<Option<BoundedPlan>>,
 }
 

@@ -37,7 +37,13 @@ returns-clause-told c =
               | inl i ↦ subst IsOther (sym i.2) tt
               | inr r ↦ elim r [
                 | inl i ↦ subst IsOther (sym i.3) tt
-                | inr i ↦ subst IsOther (sym i) tt
+                | inr r ↦ elim r [
+                  | inl i ↦ subst IsOther (sym i.1) tt
+                  | inr r ↦ elim r [
+                    | inl i ↦ subst IsOther (sym i.2) tt
+                    | inr i ↦ subst IsOther (sym i) tt
+                  ]
+                ]
               ]
             ]
           ]

@@ -17,6 +17,9 @@ returns-in-Create-clause-asks c = rw c.in-Create.is (subst (IsNamedStatement c.a
 pub returns-in-Alter-clause-asks : goal.returns-in-Alter-clause-asks
 returns-in-Alter-clause-asks c = rw c.in-Alter.is (subst (IsNamedStatement c.args.tokens.now) c.in-Alter.is c.requires.named, refl)
 
+pub returns-in-Counter-clause-refused : goal.returns-in-Counter-clause-refused
+returns-in-Counter-clause-refused c = rw c.in-Counter.is c.refused_counter.ensures
+
 pub returns-in_err-plan-in-Prepare-clause-refused : goal.returns-in_err-plan-in-Prepare-clause-refused
 returns-in_err-plan-in-Prepare-clause-refused c =
     let p = err_from_is_err_and c.from_residual.result c.from_residual.ensures.1 in
