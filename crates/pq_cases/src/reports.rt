@@ -21,8 +21,9 @@ fn plain_refusal(what: &str) -> Option<Refusal> {
         "syntax" => Some(Refusal::Syntax { at: 30 }),
         "foreign_shape" => Some(Refusal::ForeignShape { number: 2 }),
         "first_count" => Some(Refusal::Count { word: 0 }),
-        "seventh_count" => Some(Refusal::Count { word: 6 }),
-        "last_count" => Some(Refusal::Count { word: 14 }),
+        "third_count" => Some(Refusal::Count { word: 2 }),
+        "eighth_count" => Some(Refusal::Count { word: 7 }),
+        "last_count" => Some(Refusal::Count { word: 15 }),
         "operand_kind" => Some(Refusal::OperandKind { pred: 16 }),
         "params" => Some(Refusal::Params),
         "bound_large" => Some(Refusal::BoundLarge {
@@ -45,9 +46,11 @@ fn naming_refusal(what: &str, name: PText) -> Refusal {
         "repeated" => Refusal::Repeated { name },
         "too_many_rows" => Refusal::TooManyRows { table: name },
         "nullable_key" => Refusal::NullableKey { name },
+        "not_empty" => Refusal::NotEmpty { table: name },
         "alias" => Refusal::Alias { name },
         "no_bound" => Refusal::NoBound { alias: name },
         "no_query" => Refusal::NoQuery { name },
+        "no_counter" => Refusal::NoCounter { name },
         _ => write_refusal(what, name),
     }
 }
@@ -65,6 +68,7 @@ fn write_refusal(what: &str, table: PText) -> Refusal {
             number: 1,
             n: 100,
         },
+        "counter_full" => Refusal::CounterFull { name: table },
         _ => Refusal::RowLong {
             table,
             length: 4097,

@@ -26,7 +26,7 @@ fn may_intend(key: &[u8]) -> bool
     ensures { result ≡ may_intend key.now }
 {
     match key {
-        [space, ..] => *space == 0x02 || *space == 0x03,
+        [space, ..] => *space == 0x02 || *space == 0x03 || *space == 0x05,
         [] => false,
     }
 }
