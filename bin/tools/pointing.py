@@ -16,6 +16,7 @@ COUNTED = {
     "order": "ORDER",
     "selected": "SELECT",
     "tables": "TABLE",
+    "counters": "COUNTER",
 }
 # The numbers that have a limit: the words that may stand before one, and how far before it.
 NUMBERS = {
@@ -26,6 +27,8 @@ NUMBERS = {
 MOST = 4
 # The place of the column's name in an ALTER TABLE.
 ADDED = 5
+# The places of the table's name and of the list of columns in a CREATE COUNTER.
+COUNTED_TABLE, COUNTED_COLUMNS = 4, 5
 
 
 def after(found: Tokens, *words: str) -> int:
@@ -43,6 +46,10 @@ def is_name(token: Token, name: str) -> bool:
     return token.kind == "word" and token.text.lower() == name
 
 
+def is_counter(found: Tokens) -> bool:
+    return found[0].is_word("CREATE") and found[1].is_word("COUNTER")
+
+
 def name_of_table(found: Tokens, fields: Fields) -> Token | None:
     """The name where it is no alias of a column."""
     ends = [*found[1:], found[-1]]
@@ -50,9 +57,19 @@ def name_of_table(found: Tokens, fields: Fields) -> Token | None:
     return next((token for token, then in pairs if is_name(token, fields[0]) and not then.is_mark(".")), None)
 
 
+def name_of_unknown_table(found: Tokens, fields: Fields) -> Token | None:
+    """The same where the statement may define something of this name."""
+    return found[COUNTED_TABLE] if is_counter(found) else name_of_table(found, fields)
+
+
 def name_of_column(found: Tokens, fields: Fields) -> Token | None:
     """The name behind an alias, or where it is none."""
-    return name_of_table(found[2:], fields)
+    return name_of_table(found[COUNTED_COLUMNS if is_counter(found) else 2 :], fields)
+
+
+def written_table(found: Tokens, fields: Fields) -> Token | None:
+    """The name of the table that a write is of."""
+    return found[1 if found[0].is_word("UPDATE") else 2]
 
 
 def repeated(found: Tokens, fields: Fields) -> Token | None:
@@ -60,7 +77,7 @@ def repeated(found: Tokens, fields: Fields) -> Token | None:
     if found[0].is_word("ALTER"):
         return found[ADDED]
     lists: list[int] = [0]
-    for token in found:
+    for token in found[COUNTED_COLUMNS if is_counter(found) else 0 :]:
         if token.is_mark("("):
             lists.append(0)
         elif token.is_mark(")") and len(lists) > 1:
@@ -131,7 +148,9 @@ def misfit(found: Tokens, fields: Fields, columns: Sequence[str]) -> Token | Non
 
 
 def too_many_in_list(found: Tokens) -> Token | None:
-    """The first limit with too many columns or none that fit."""
+    """The first limit with too many columns or none that fit, or the first column too many of a counter."""
+    if is_counter(found):
+        return values(found, None)[MOST]
     places = [i for i, token in enumerate(found) if token.is_word("CARDINALITY")]
     return next((found[i] for i in places if len(values(found[i:], None)) > MOST), None)
 
@@ -154,12 +173,13 @@ def count(found: Tokens, fields: Fields) -> Token | None:
 
 FINDERS: dict[str, Callable[[Tokens, Fields], Token | None]] = {
     "E201": name_of_table,
-    "E202": name_of_table,
+    "E202": name_of_unknown_table,
     "E203": name_of_column,
     "E204": repeated,
     "E205": lambda found, fields: nth_word(found, "FOREIGN", int(fields[0])),
     "E206": count,
     "E208": name_of_column,
+    "E209": name_of_table,
     "E301": alias,
     "E302": predicate,
     "E303": lambda found, fields: next((token for token in found if token.is_mark("[")), None),
@@ -168,12 +188,14 @@ FINDERS: dict[str, Callable[[Tokens, Fields], Token | None]] = {
     "E402": parameter,
     "E403": lambda found, fields: found[-2],
     "E404": lambda found, fields: nth_word(found, "AFTER", 1),
+    "E405": lambda found, fields: found[1],
     "E502": name_of_table,
     "E503": name_of_table,
     "E504": lambda found, fields: nth_word(found, "WHERE", 1),
     "E505": name_of_table,
     "E507": name_of_table,
     "E508": name_of_table,
+    "E510": written_table,
 }
 
 

@@ -14,6 +14,8 @@ RUN = "RUN q (7, 'x') AFTER 'AQ';"
 INSERT = "INSERT INTO t VALUES (7, 'x', TRUE);"
 LISTED = "INSERT INTO t (c, a, b) VALUES (7, 'x', TRUE);"
 ALTER = "ALTER TABLE t ADD COLUMN w TEXT(1001) DEFAULT 7;"
+COUNTER = "CREATE COUNTER c OF t (a, b, a, c, d, e);"
+READ = "READ read (7, 'x');"
 UPDATE = "UPDATE t SET b = 'x', b = 'y' WHERE a = 7;"
 # A statement, its refusal, and the place of the token, as what stands before it and the token.
 CASES = [
@@ -52,6 +54,18 @@ CASES = [
     (UPDATE, "E204 b", "'x', |b"),
     (UPDATE, "E501 t a", "a = |7"),
     (UPDATE, "E504 t", "'y' |WHERE"),
+    (UPDATE, "E510 c", "UPDATE |t"),
+    (INSERT, "E510 c", "INTO |t"),
+    (COUNTER, "E201 c", "COUNTER |c"),
+    (COUNTER, "E202 t", "OF |t"),
+    (COUNTER, "E203 c", "a, |c"),
+    (COUNTER, "E204 a", "b, |a"),
+    (COUNTER, "E206 counters", "CREATE |COUNTER"),
+    (COUNTER, "E206 limit_columns", "c, |d"),
+    (COUNTER, "E209 t", "OF |t"),
+    (READ, "E402 0", "READ |read"),
+    (READ, "E402 2", "7, |'x'"),
+    (READ, "E405 read", "READ |read"),
 ]
 
 

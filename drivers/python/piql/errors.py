@@ -76,6 +76,7 @@ class NotSupportedError(DatabaseError):
 CLASSES: dict[str, type[DatabaseError]] = {
     "E206": NotSupportedError,
     "E207": OperationalError,
+    "E209": OperationalError,
     "E304": NotSupportedError,
     "E305": NotSupportedError,
     "E402": DataError,
@@ -87,6 +88,7 @@ CLASSES: dict[str, type[DatabaseError]] = {
     "E506": IntegrityError,
     "E507": IntegrityError,
     "E508": DataError,
+    "E510": IntegrityError,
 }
 
 

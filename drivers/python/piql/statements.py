@@ -18,6 +18,7 @@ class Kind(Enum):
 
     SELECT = "SELECT"
     RUN = "RUN"
+    READ = "READ"
     INSERT = "INSERT"
     UPDATE = "UPDATE"
     DELETE = "DELETE"
@@ -29,7 +30,7 @@ class Kind(Enum):
     OTHER = "OTHER"
 
     def __init__(self, word: str) -> None:
-        self.reads = word in ("RUN", "EXPLAIN", "SHOW")
+        self.reads = word in ("RUN", "READ", "EXPLAIN", "SHOW")
         self.defines = word in ("CREATE", "ALTER", "PREPARE")
         self.writes = word in ("INSERT", "UPDATE", "DELETE")
         # Its answer is rows, page by page.
