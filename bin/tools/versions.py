@@ -1,6 +1,6 @@
 """The version: the numbers of the language, of the file format and of the driver."""
 
-LANGUAGE = 3
+LANGUAGE = 4
 FILE_FORMAT = 3
 DRIVER = 1
 
