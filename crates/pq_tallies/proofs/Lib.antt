@@ -1,0 +1,9 @@
+pub mod Counting
+pub mod Defined
+pub mod Effects
+pub mod GroupPairs
+pub mod Groups
+pub mod Grown
+pub mod Keys
+pub mod Told
+pub mod Written

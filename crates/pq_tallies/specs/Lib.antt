@@ -1,0 +1,4 @@
+pub mod Counters
+pub mod Defined
+pub mod Moves
+pub mod Writes
