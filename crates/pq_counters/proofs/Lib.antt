@@ -1,0 +1,10 @@
+pub mod Counting
+pub mod Found
+pub mod Joining
+pub mod Loop
+pub mod Moving
+pub mod Own
+pub mod Showing
+pub mod Small
+pub mod Told
+pub mod Within

@@ -1,0 +1,9 @@
+use Rattle.pq_calls.specs.Calls.{seen_world}
+use Rattle.pq_calls.proofs.Shown.{no_row_explains}
+use Rattle.pq_counters.proofs.plan.stored_row.Goals as goal
+
+pub returns-in-Err-clause-cause : goal.returns-in-Err-clause-cause
+returns-in-Err-clause-cause g c =
+    no_row_explains c.args.catalog.now.tables c.args.table c.args.key.now c.requires.number c.requires.kinds
+    (seen_world g.S.Store.content g.S.Store.faults c.args.calls.now) (seen_world g.S.Store.content g.S.Store.faults c.row.new.self) c.in-Err.error
+    (rw c.table.ensures at c.in-Err.ensures.cause)

@@ -1,0 +1,27 @@
+use Rattle.std.proofs.Common.{subst}
+use Rattle.pq_tallies.specs.Defined.{counters_in}
+use Rattle.pq_counters.specs.Bounds.{all_moves}
+use Rattle.pq_counters.specs.Promises.{Counts, IsCountedWithin}
+use Rattle.pq_counters.proofs.Joining.{are_whole, full_refused, whole_made}
+use Rattle.pq_counters.proofs.whole.plan_more.Goals as goal
+
+pub returns-in-Ok-Refused-clause-answer : goal.returns-in-Ok-Refused-clause-answer
+returns-in-Ok-Refused-clause-answer g c = λ rows made others s is makes.
+    let schema = c.args.catalog.now in
+    let w = c.args.write.now in
+    full_refused schema rows others w made c.in-Ok-Refused.why is
+    (subst (Counts schema rows others w made) c.in-Ok-Refused.field-0-is (c.in-Ok-Refused.ensures.answer rows made others s is))
+
+pub returns-in-Ok-clause-plan : goal.returns-in-Ok-clause-plan
+returns-in-Ok-clause-plan g c =
+    let schema = c.args.catalog.now in
+    let w = c.args.write.now in
+    are_whole schema w c.args.changes c.in-Ok-Changes.more c.in-Ok.all c.known.ensures c.requires.write c.requires.planned
+    (subst (IsCountedWithin (all_moves (counters_in schema) w)) c.in-Ok-Changes.field-0-is c.in-Ok-Changes.ensures.plan) c.in-Ok.ensures
+
+pub returns-in-Ok-clause-answer : goal.returns-in-Ok-clause-answer
+returns-in-Ok-clause-answer g c = λ rows made others s is makes.
+    let schema = c.args.catalog.now in
+    let w = c.args.write.now in
+    whole_made schema rows others w made c.args.changes c.in-Ok-Changes.more c.in-Ok.all is makes
+    (subst (Counts schema rows others w made) c.in-Ok-Changes.field-0-is (c.in-Ok-Changes.ensures.answer rows made others s is)) c.in-Ok.ensures

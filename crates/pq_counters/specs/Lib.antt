@@ -1,0 +1,5 @@
+pub mod Bounds
+pub mod Evidence
+pub mod Promises
+pub mod Steps
+pub mod Whole

@@ -1,0 +1,54 @@
+-- What the plan of a write's counters promises.
+use Rattle.std.specs.Prelude.{◌≡◌, ℕ, ◌≤◌, ◌++◌, true, List, map, length, None, Some, All}
+use Rattle.pq_base.specs.declared.refusal.Refusal.{Refusal}
+use Rattle.pq_base.specs.Members.{In}
+use Rattle.pq_row_code.specs.declared.changes.Change.{Change as Coded}
+use Rattle.pq_row_code.specs.Changes.{IsChange}
+use Rattle.pq_schema.specs.Schema.{Schema}
+use Rattle.pq_content.specs.Pairs.{Pair, changed_content, is_of_counters}
+use Rattle.pq_content.specs.Standing.{change_of}
+use Rattle.pq_content.specs.Tables.{Rows}
+use Rattle.pq_index_keep.specs.Effects.{changes_of}
+use Rattle.pq_index_keep.specs.declared.plan.Planned.{Planned}
+use Rattle.pq_index_keep.specs.declared.plan.Planned.TheVariants as planned
+use Rattle.pq_index_keep.specs.declared.write.Write.{Write}
+use Rattle.pq_tallies.specs.Counters.{all_pairs, AreFewRows}
+use Rattle.pq_tallies.specs.Defined.{NumberedCounter, counters_in}
+use Rattle.pq_tallies.specs.Writes.{counter_changes, counter_full, full_refusal}
+
+-- a change of a counter's pair, with lengths that an intent can hold
+pub record IsCounterChange (change : Coded) : Type 0 where
+  pub of_counters : is_of_counters change.key ≡ true
+  pub coded : IsChange change
+
+-- changes of counters' pairs, at most so many
+pub record AreCounterChanges (most : ℕ) (changes : List Coded) : Type 0 where
+  pub few : length changes ≤ most
+  pub each : All IsCounterChange changes
+
+abbrev pub IsCountedWithin : ℕ → Planned → Type 0
+IsCountedWithin most (planned.Changes changes) = AreCounterChanges most changes
+IsCountedWithin most (planned.Refused why) = Unit {0}
+
+-- a write can be refused by a counter of its schema
+abbrev pub CanBeFull : Schema → Refusal → Type 0
+CanBeFull schema why = (counter : NumberedCounter) × In counter (counters_in schema) × (why ≡ counter_full counter)
+
+abbrev pub RefusesAsFull : Schema → Planned → Type 0
+RefusesAsFull schema (planned.Changes changes) = Unit {0}
+RefusesAsFull schema (planned.Refused why) = CanBeFull schema why
+
+-- behind the changes of the rows' pairs they make the content of the write's rows, and no group of these has too many
+pub record MakesCounts (schema : Schema) (rows : Rows) (others : List Pair) (write : Write) (made : Rows)
+    (changes : List Coded) : Type 0 where
+  pub changes_are : map change_of changes ≡ counter_changes schema rows write
+  pub no_full : full_refusal schema rows write ≡ None
+  pub content : changed_content (changes_of schema.tables rows write ++ map change_of changes)
+      (all_pairs schema.tables (counters_in schema) rows others)
+      ≡ all_pairs schema.tables (counters_in schema) made others
+  pub few : AreFewRows (counters_in schema) made
+
+-- over these rows, of which a write makes others
+abbrev pub Counts : Schema → Rows → List Pair → Write → Rows → Planned → Type 0
+Counts schema rows others write made (planned.Changes changes) = MakesCounts schema rows others write made changes
+Counts schema rows others write made (planned.Refused why) = full_refusal schema rows write ≡ Some why

@@ -1,0 +1,64 @@
+-- What the whole plan of a write promises: its changes of rows and entries, and behind them those of its counters.
+use Rattle.std.specs.Prelude.{◌≡◌, ◌⊎◌, ℕ, ◌+◌, ◌≤◌, List, map, length, Err, MatchResult}
+use Rattle.pq_base.specs.declared.number.Bound.{Bound}
+use Rattle.pq_base.specs.declared.refusal.Refusal.{Refusal}
+use Rattle.pq_row_code.specs.declared.changes.Change.{Change as Coded}
+use Rattle.pq_row_code.specs.Changes.{AreChanges}
+use Rattle.pq_schema.specs.Schema.{Schema}
+use Rattle.pq_content.specs.Pairs.{Pair, changed_content}
+use Rattle.pq_content.specs.Standing.{change_of, AreIntended}
+use Rattle.pq_content.specs.Tables.{Rows, Keeps}
+use Rattle.pq_index_keep.specs.Bounds.{most_changes, write_tests}
+use Rattle.pq_index_keep.specs.Refusals.{CanRefuse}
+use Rattle.pq_index_keep.specs.declared.plan.Planned.{Planned}
+use Rattle.pq_index_keep.specs.declared.plan.Planned.TheVariants as planned
+use Rattle.pq_index_keep.specs.declared.write.Write.{Write}
+use Rattle.pq_tallies.specs.Counters.{all_pairs, AreFewRows}
+use Rattle.pq_tallies.specs.Defined.{counters_in}
+use Rattle.pq_tallies.specs.Writes.{counted_effect}
+use Rattle.pq_counters.specs.Bounds.{all_moves, counter_reads}
+use Rattle.pq_counters.specs.Promises.{CanBeFull}
+
+-- the operations and entries of the tests of a write and of the reads of its counters
+abbrev pub whole_reads : Schema → Write → Bound
+whole_reads schema write = record {
+  ops = (write_tests schema.tables write).ops + counter_reads (counters_in schema) write;
+  entries = (write_tests schema.tables write).entries + counter_reads (counters_in schema) write;
+}
+
+-- the greatest number of pairs that change
+abbrev pub whole_changes : Schema → Write → ℕ
+whole_changes schema write = most_changes schema.tables write + all_moves (counters_in schema) write
+
+-- at least one change and at most so many, which an intent may hold, each of lengths that it can hold
+pub record AreWhole (most : ℕ) (changes : List Coded) : Type 0 where
+  pub some : 1 ≤ length changes
+  pub few : length changes ≤ most
+  pub coded : AreChanges changes
+  pub intended : AreIntended (map change_of changes)
+
+abbrev pub IsWholeWithin : ℕ → Planned → Type 0
+IsWholeWithin most (planned.Changes changes) = AreWhole most changes
+IsWholeWithin most (planned.Refused why) = Unit {0}
+
+-- a write can be refused so
+abbrev pub CanRefuseWhole : Schema → Write → Refusal → Type 0
+CanRefuseWhole schema write why = CanRefuse schema.tables write why ⊎ CanBeFull schema why
+
+abbrev pub RefusesWhole : Schema → Write → Planned → Type 0
+RefusesWhole schema write (planned.Changes changes) = Unit {0}
+RefusesWhole schema write (planned.Refused why) = CanRefuseWhole schema write why
+
+-- the changes make the content of the effect's rows of that of these, and these keep their tables and counters
+pub record MakesWhole (schema : Schema) (rows : Rows) (others : List Pair) (changes : List Coded) (made : Rows) :
+    Type 0 where
+  pub content : changed_content (map change_of changes) (all_pairs schema.tables (counters_in schema) rows others)
+      ≡ all_pairs schema.tables (counters_in schema) made others
+  pub keeps : Keeps schema.tables made
+  pub few : AreFewRows (counters_in schema) made
+
+-- over these rows, the changes where the write has an effect, and else its refusal
+abbrev pub PlansWhole : Schema → Rows → List Pair → Write → Planned → Type 0
+PlansWhole schema rows others write (planned.Changes changes) =
+    MatchResult (counted_effect schema rows write) (MakesWhole schema rows others changes) (λ refusal. ⊥)
+PlansWhole schema rows others write (planned.Refused refusal) = counted_effect schema rows write ≡ Err refusal

@@ -1,0 +1,16 @@
+//! Counters kept by writes: what a write changes of the counters' pairs, within which bound, and how one number is
+//! read.
+#![tactic(auto)]
+
+mod bound;
+mod groups;
+mod plan;
+mod read;
+mod steps;
+mod whole;
+
+pub use bound::{counter_bound, whole_bound};
+pub use plan::plan_counters;
+pub use pq_tallies::{MOST_COUNT, counter_key, next_count};
+pub use read::read_counter;
+pub use whole::plan_whole;

@@ -1,0 +1,121 @@
+//! The whole plan of a write: what it changes of rows and entries, and behind that what it changes of counters' pairs.
+ghost use Rattle.std.specs.Prelude.{◌≡◌, ◌++◌, List, Ok, IfOk, IfErr};
+ghost use Rattle.pq_content.specs.Pairs.{Pair};
+ghost use Rattle.pq_content.specs.Tables.{Rows};
+ghost use Rattle.pq_store.specs.Breaks.{IsUndamaged, IsAnswered};
+ghost use Rattle.pq_calls.specs.World.{world, Affords, Reads, Explains, where_told};
+ghost use Rattle.pq_index_keep.specs.Bounds.{most_changes};
+ghost use Rattle.pq_index_keep.specs.Effects.{effect};
+ghost use Rattle.pq_index_keep.specs.Promises.{ArePlanned, MakesRows};
+ghost use Rattle.pq_index_keep.specs.Sound.{IsWrite};
+ghost use Rattle.pq_tallies.specs.Counters.{counter_pairs, HoldsCounted};
+ghost use Rattle.pq_tallies.specs.Defined.{counters_in};
+ghost use Rattle.pq_counters.specs.Bounds.{counter_reads, whole_bound, whole_ops};
+ghost use Rattle.pq_counters.specs.Evidence.{ShowsCounted};
+ghost use Rattle.pq_counters.specs.Promises.{RefusesAsFull};
+ghost use Rattle.pq_counters.specs.Whole.{whole_reads, whole_changes, IsWholeWithin, RefusesWhole, PlansWhole};
+
+use crate::plan::plan_counters;
+use pq_base::{List, NoMem};
+use pq_index_keep::{Planned, Write, plan_write};
+use pq_row_code::Change;
+use pq_schema::Catalog;
+use pq_store::{Allowance, Broke, Meter, Store};
+use std::alloc::Global;
+use std::sync::ledger::Ledger;
+
+/// The second changes behind the first ones.
+fn both(changes: List<Change>, more: List<Change>) -> Result<List<Change>, NoMem>
+    ensures { IfOk result (λ all. all ≡ changes ++ more) }
+{
+    let mut all = changes.into_vec();
+    let mut rest = more.into_vec();
+    all.append(&mut rest)?;
+    Ok(List::from_vec(all))
+}
+
+/// The changes of rows and entries and behind them those of the counters, or the refusal of a counter that is full.
+fn plan_more<S: Store<L>, L: Ledger>(
+    alloc: Global,
+    catalog: &Catalog,
+    write: &Write,
+    changes: List<Change>,
+    store: &mut S,
+    allowance: &mut Allowance,
+    meter: &mut Meter<L>,
+) -> Result<Planned, Broke>
+    requires write { IsWrite catalog.now.tables write.now }
+    requires planned { ArePlanned (most_changes catalog.now.tables write.now) changes }
+    requires share { Affords allowance.old (counter_reads (counters_in catalog.now) write.now)
+        (counter_reads (counters_in catalog.now) write.now) }
+    ensures reads { Reads (world (S.content store.old) (S.faults store.old) allowance.old meter.old)
+        (world (S.content store.new) (S.faults store.new) allowance.new meter.new)
+        (counter_reads (counters_in catalog.now) write.now) (counter_reads (counters_in catalog.now) write.now) }
+    ensures cause { IfErr result (Explains (where_told (ShowsCounted catalog.now))
+        (world (S.content store.old) (S.faults store.old) allowance.old meter.old)
+        (world (S.content store.new) (S.faults store.new) allowance.new meter.new)) }
+    ensures answered { IfErr result (IsAnswered S.answers) }
+    ensures undamaged { IfErr result (λ error. (rows : Rows) (others : List Pair)
+        → HoldsCounted (S.content store.old) catalog.now rows others → IsUndamaged error) }
+    ensures plan { IfOk result (IsWholeWithin (whole_changes catalog.now write.now)) }
+    ensures can { IfOk result (RefusesAsFull catalog.now) }
+    ensures answer { IfOk result (λ planned. (rows made : Rows) (others : List Pair)
+        → HoldsCounted (S.content store.old) catalog.now rows others
+        → effect catalog.now.tables rows write.now ≡ Ok made
+        → MakesRows catalog.now.tables rows (counter_pairs (counters_in catalog.now) rows ++ others) write.now changes
+        made → PlansWhole catalog.now rows others write.now planned) }
+{
+    catalog.known();
+    match plan_counters(alloc, catalog, write, store, allowance, meter) {
+        Err(error) => Err(error),
+        Ok(Planned::Refused(why)) => Ok(Planned::Refused(why)),
+        Ok(Planned::Changes(more)) => match both(changes, more) {
+            Err(NoMem) => Err(Broke::NoMem),
+            Ok(all) => Ok(Planned::Changes(all)),
+        },
+    }
+}
+
+/// The changes of a write and of its counters, or its first refusal. It changes nothing in the store, and leaves enough
+/// of the allowance for the changes.
+pub fn plan_whole<S: Store<L>, L: Ledger>(
+    alloc: Global,
+    catalog: &Catalog,
+    write: &Write,
+    store: &mut S,
+    allowance: &mut Allowance,
+    meter: &mut Meter<L>,
+) -> Result<Planned, Broke>
+    requires write { IsWrite catalog.now.tables write.now }
+    requires share { Affords allowance.old (whole_bound catalog.now write.now).ops
+        (whole_bound catalog.now write.now).entries }
+    ensures reads { Reads (world (S.content store.old) (S.faults store.old) allowance.old meter.old)
+        (world (S.content store.new) (S.faults store.new) allowance.new meter.new)
+        (whole_reads catalog.now write.now).ops (whole_reads catalog.now write.now).entries }
+    ensures left { Affords allowance.new (whole_ops catalog.now write.now) 0 }
+    ensures cause { IfErr result (Explains (where_told (ShowsCounted catalog.now))
+        (world (S.content store.old) (S.faults store.old) allowance.old meter.old)
+        (world (S.content store.new) (S.faults store.new) allowance.new meter.new)) }
+    ensures answered { IfErr result (IsAnswered S.answers) }
+    ensures undamaged { IfErr result (λ error. (rows : Rows) (others : List Pair)
+        → HoldsCounted (S.content store.old) catalog.now rows others → IsUndamaged error) }
+    // Over every store, told or not: the changes are some that an intent can hold, and a refusal is one that the write
+    // can have.
+    ensures plan { IfOk result (IsWholeWithin (whole_changes catalog.now write.now)) }
+    ensures can { IfOk result (RefusesWhole catalog.now write.now) }
+    ensures answer { IfOk result (λ planned. (rows : Rows) (others : List Pair)
+        → HoldsCounted (S.content store.old) catalog.now rows others
+        → PlansWhole catalog.now rows others write.now planned) }
+{
+    catalog.known();
+    match plan_write(alloc, catalog, write, store, allowance, meter) {
+        Err(error) => Err(error),
+        Ok(Planned::Refused(why)) => Ok(Planned::Refused(why)),
+        Ok(Planned::Changes(changes)) => {
+            match plan_more(alloc, catalog, write, changes, store, allowance, meter) {
+                Err(error) => Err(error),
+                Ok(planned) => Ok(planned),
+            }
+        }
+    }
+}
