@@ -18,14 +18,14 @@ use std::sync::ledger::Ledger;
 const ROWS: u32 = 256;
 
 /// The first key of a table's rows.
-pub(crate) fn first_key(alloc: Global, table: u8) -> Result<Bytes, NoMem>
+pub fn first_key(alloc: Global, table: u8) -> Result<Bytes, NoMem>
     ensures { IfOk result (λ key. key ≡ first_key table) }
 {
     row_key(alloc, table, &Row::new(alloc))
 }
 
 /// The first key past a table's rows.
-pub(crate) fn past_key(alloc: Global, table: u8) -> Result<Bytes, NoMem>
+pub fn past_key(alloc: Global, table: u8) -> Result<Bytes, NoMem>
     ensures { IfOk result (λ key. key ≡ past_key table) }
 {
     past(alloc, first_key(alloc, table)?)

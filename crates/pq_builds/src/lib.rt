@@ -15,5 +15,6 @@ mod target;
 
 pub use bounds::{build_ops, left_ops};
 pub use build::{Built, build_index, complete_index};
+pub use fill::{first_key, past_key};
 pub use mark::{BUILDING, READY};
 pub use target::{NewQuery, Target};

@@ -34,7 +34,7 @@ fn misfit(number: u8, types: &[ColType], values: &[Value]) -> Option<u8>
 }
 
 /// Refuses another number of values than there are parameters, and the first value that does not fit.
-fn check_params(types: &[ColType], values: &[Value]) -> Result<(), Stopped>
+pub fn check_params(types: &[ColType], values: &[Value]) -> Result<(), Stopped>
     requires { length types.now ≤ 16 }
     ensures passes { Passes result (params_refusal types.now values.now) }
     ensures fits { IfOk result (λ _. AllFit types.now values.now) }

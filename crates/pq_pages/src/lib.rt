@@ -5,5 +5,5 @@
 mod beginning;
 mod page;
 
-pub use beginning::begin;
+pub use beginning::{begin, check_params};
 pub use page::{Page, run_page};

@@ -12,6 +12,7 @@ mod reading;
 mod relations;
 mod select;
 
+pub use conditions::param_type;
 pub use params::ParamUse;
 pub use query::read_query;
 pub use reading::read_select;

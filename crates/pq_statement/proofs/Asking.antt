@@ -1,16 +1,12 @@
 -- What was read asks for what its statement spells.
 use Rattle.std.proofs.Common.{◌≡◌, ℕ, List, Option, Some, None, Result, Ok, Err, refl, sym, ap, ◌∙◌, subst}
-use Rattle.std.specs.Prelude.{unwrap_or}
 use Rattle.pq_base.specs.Answers.{Answers, Passes, Refuses}
-use Rattle.pq_base.specs.declared.count_word.TheConstants as count_word
 use Rattle.pq_base.specs.declared.refusal.Refusal.{Refusal}
-use Rattle.pq_base.specs.declared.refusal.Refusal.TheVariants as refusal
 use Rattle.pq_base.specs.declared.refusal.Stopped.{Stopped}
 use Rattle.pq_base.specs.declared.refusal.Stopped.TheVariants.{Refused, NoMem}
-use Rattle.pq_schema.specs.Definitions.{counter_refusal, definition_refusal}
+use Rattle.pq_schema.specs.Definitions.{definition_refusal}
 use Rattle.pq_schema.specs.Names.{IsName}
 use Rattle.pq_schema.specs.Schema.{Schema}
-use Rattle.pq_schema.specs.declared.definition.CounterDef.{CounterDef}
 use Rattle.pq_schema.specs.declared.query.Query.{Query}
 use Rattle.pq_text.specs.declared.token.Token.{Token}
 use Rattle.pq_def_read.specs.declared.statement.Statement.{Statement}
@@ -18,7 +14,7 @@ use Rattle.pq_def_read.specs.declared.statement.Statement.TheVariants as stateme
 use Rattle.pq_index_keep.specs.Checking.{IsWriting, checked_write}
 use Rattle.pq_index_keep.specs.declared.write.Write.{Write}
 use Rattle.pq_query_read.specs.Trying.{◌>>=◌, passed_unless}
-use Rattle.pq_statement.specs.Actions.{Action, Explains, Prepares, Writes, asked_by, action_from, refused_counter}
+use Rattle.pq_statement.specs.Actions.{Action, Explains, Prepares, Writes, asked_by, action_from}
 use Rattle.pq_statement.specs.Planned.{IsPlanned}
 use Rattle.pq_statement.specs.Planning.{PlannedDefinition, arranged_from, as_it_is, definable, prepared_from, explained_name, explained_from}
 use Rattle.pq_statement.specs.Requests.{IsDefinable, IsPlannedAs}
@@ -47,17 +43,6 @@ writes_asked schema text tokens statement.Show is = absurd is
 pub answer_refused : (stopped : Stopped) (said : Result Write Refusal) → Answers {A = Write} (Err stopped) said → Refuses stopped said
 answer_refused (Refused why) said is = is
 answer_refused NoMem said is = tt
-
--- ---- counters
-
--- a counter that its definition refuses
-pub counter_refused : (schema : Schema) (def : CounterDef) (stopped : Stopped) → Passes {A = ℕ} (Err stopped) (counter_refusal schema def) → Refuses {A = Action} stopped (Err (refused_counter schema def))
-counter_refused schema def (Refused why) is = ap (λ (o : Option Refusal). Err (unwrap_or o (refusal.Count count_word.COUNTERS))) is
-counter_refused schema def NoMem is = tt
-
--- and one that it doesn't
-pub counter_one_more : (schema : Schema) (def : CounterDef) → counter_refusal schema def ≡ None → Refuses {A = Action} (Refused (refusal.Count count_word.COUNTERS)) (Err (refused_counter schema def))
-counter_one_more schema def is = ap (λ (o : Option Refusal). Err (unwrap_or o (refusal.Count count_word.COUNTERS))) is
 
 -- ---- queries
 

@@ -1,11 +1,10 @@
 -- What a piece of a script asks for, as far as the definitions decide it, or the first refusal that needs no
 -- call of the store.
-use Rattle.std.specs.Prelude.{ℕ, ◌-◌, nat_le, List, length, unwrap_or, Option, Some, Result, Ok, Err, if◌then◌else◌}
-use Rattle.pq_base.specs.declared.count_word.TheConstants as count_word
+use Rattle.std.specs.Prelude.{ℕ, ◌-◌, nat_le, List, length, Option, Some, Result, Ok, Err, if◌then◌else◌}
 use Rattle.pq_base.specs.declared.number.Bound.{Bound}
 use Rattle.pq_base.specs.declared.refusal.Refusal.{Refusal}
 use Rattle.pq_base.specs.declared.refusal.Refusal.TheVariants as refusal
-use Rattle.pq_schema.specs.Definitions.{altered_schema, counter_refusal, new_column, new_table}
+use Rattle.pq_schema.specs.Definitions.{altered_schema, counted_schema, new_column, new_counter, new_table}
 use Rattle.pq_schema.specs.Schema.{Schema, with_table, with_query}
 use Rattle.pq_schema.specs.declared.definition.AlterDef.{AlterDef}
 use Rattle.pq_schema.specs.declared.definition.CounterDef.{CounterDef}
@@ -19,13 +18,14 @@ use Rattle.pq_def_read.specs.Reading.{statement_of}
 use Rattle.pq_def_read.specs.declared.statement.Statement.{Statement}
 use Rattle.pq_def_read.specs.declared.statement.Statement.TheVariants as statement
 use Rattle.pq_builds.specs.Bounds.{bound, build_bound, fixed_bound as prepare_bound}
-use Rattle.pq_index_keep.specs.Bounds.{write_bound}
+use Rattle.pq_counters.specs.Bounds.{whole_bound}
 use Rattle.pq_index_keep.specs.Checking.{checked_write}
 use Rattle.pq_index_keep.specs.declared.write.Write.{Write}
 use Rattle.pq_pages.specs.Running.{Running, running_of, query_bound}
 use Rattle.pq_print.specs.Report.{is_refusal}
 use Rattle.pq_print.specs.declared.report.Report.{Report}
 use Rattle.pq_statement.specs.Planning.{PlannedDefinition, prepared_from, explained_from}
+use Rattle.pq_statement.specs.Readings.{Reading, reading_of}
 
 pub data Action : Type 0 where
   Creates : Table → Action
@@ -34,16 +34,14 @@ pub data Action : Type 0 where
   Prepares : PlannedDefinition → Action
   Explains : PlannedDefinition → Action
   Runs : Running → Action
+  Counts : CounterDef → Action
+  Reads : Reading → Action
   Shows : Action
 
 -- what was found by reading is asked for
 abbrev pub action_from : {A : Type 0} → (A → Action) → Result A Refusal → Result Action Refusal
 action_from action (Ok found) = Ok (action found)
 action_from action (Err why) = Err why
-
--- why a counter is refused: by the first refusal of its definition, and else as one too many
-abbrev pub refused_counter : Schema → CounterDef → Refusal
-refused_counter schema def = unwrap_or (counter_refusal schema def) (refusal.Count count_word.COUNTERS)
 
 -- what a statement asks for
 abbrev pub asked_by : Schema → List ℕ → List Token → Statement → Result Action Refusal
@@ -59,8 +57,8 @@ asked_by schema text tokens (statement.Prepare name from) =
     action_from Prepares (prepared_from schema name text tokens from)
 asked_by schema text tokens (statement.Explain from) = action_from Explains (explained_from schema text tokens from)
 asked_by schema text tokens (statement.Run name params after) = action_from Runs (running_of schema name params after)
-asked_by schema text tokens (statement.Counter def) = Err (refused_counter schema def)
-asked_by schema text tokens (statement.Read name values) = Err (refusal.NoCounter name)
+asked_by schema text tokens (statement.Counter def) = action_from (λ next. Counts def) (new_counter schema def)
+asked_by schema text tokens (statement.Read name values) = action_from Reads (reading_of schema name values)
 asked_by schema text tokens statement.Show = Ok Shows
 
 -- tokens that spell no statement are refused with the place where reading stopped
@@ -87,10 +85,12 @@ action_of schema piece.TooLong = Err refusal.StatementLong
 abbrev pub action_bound : Schema → Action → Option Bound
 action_bound schema (Creates table) = Some (bound 1 0)
 action_bound schema (Adds def) = Some (bound 1 0)
-action_bound schema (Writes write) = Some (write_bound schema.tables write)
+action_bound schema (Writes write) = Some (whole_bound schema write)
 action_bound schema (Prepares plan) = prepare_bound plan.chosen.wanted
 action_bound schema (Explains plan) = Some (bound 0 0)
 action_bound schema (Runs running) = Some (query_bound schema.tables running.query)
+action_bound schema (Counts def) = Some (bound 2 1)
+action_bound schema (Reads reading) = Some (bound 1 1)
 action_bound schema Shows = Some (bound 0 0)
 
 -- a refusal that needs no call of the store has none
@@ -108,6 +108,8 @@ action_schema schema (Writes write) = schema
 action_schema schema (Prepares plan) = with_query schema plan.query plan.chosen.wanted
 action_schema schema (Explains plan) = schema
 action_schema schema (Runs running) = schema
+action_schema schema (Counts def) = counted_schema schema def
+action_schema schema (Reads reading) = schema
 action_schema schema Shows = schema
 
 -- behind what was asked for, where it is not refused

@@ -2,18 +2,20 @@
 use Rattle.std.specs.Prelude.{◌≡◌, None, Ok, Result}
 use Rattle.pq_base.specs.Values.{AllFit}
 use Rattle.pq_base.specs.declared.refusal.Refusal.{Refusal}
-use Rattle.pq_schema.specs.Definitions.{new_column, new_table, definition_refusal}
-use Rattle.pq_schema.specs.Names.{IsName, IsTableDef, IsAlterDef}
+use Rattle.pq_schema.specs.Definitions.{new_column, new_counter, new_table, definition_refusal}
+use Rattle.pq_schema.specs.Names.{IsName, IsTableDef, IsAlterDef, IsCounterDef}
 use Rattle.pq_schema.specs.Schema.{Schema, query_at}
 use Rattle.pq_index_keep.specs.Sound.{IsWrite}
 use Rattle.pq_nodes.specs.Operators.{IsCursor}
 use Rattle.pq_pages.specs.Running.{IsQueryNumber, Running, running_with}
-use Rattle.pq_statement.specs.Actions.{Action, Creates, Adds, Writes, Prepares, Explains, Runs, Shows, action_from}
+use Rattle.pq_statement.specs.Actions.{Action, Creates, Adds, Writes, Prepares, Explains, Runs, Counts, Reads, Shows, action_from}
 use Rattle.pq_statement.specs.Planned.{IsComputed, IsPlanOf}
 use Rattle.pq_statement.specs.Planning.{PlannedDefinition}
+use Rattle.pq_statement.specs.Readings.{Reading, IsReading}
 use Rattle.pq_statement.specs.declared.requests.Request.{Request}
 use Rattle.pq_statement.specs.declared.requests.Request.TheVariants as request
 use Rattle.pq_statement.specs.declared.requests.RunRequest.{RunRequest}
+use Rattle.pq_statement.specs.declared.requests.ReadRequest.{ReadRequest}
 use Rattle.pq_statement.specs.declared.planning.PlannedQuery.{PlannedQuery}
 
 -- the plan is one for the action
@@ -36,7 +38,11 @@ pub record RunsAs (schema : Schema) (run : RunRequest) (found : Result Running R
   pub cursor : IsCursor schema.tables (query_at schema run.query) run.after
   pub is : found ≡ Ok (running_with run.query (query_at schema run.query) run.params run.after)
 
--- it asks for this; whether a table or a column is refused is found as it is added
+-- the read of a counter's group
+abbrev pub reading_asked : ReadRequest → Reading
+reading_asked read = record { number = read.counter; values = read.values }
+
+-- it asks for this; whether a table, a column or a counter is refused is found as it is added
 abbrev pub Asks : Schema → Request → Result Action Refusal → Type 0
 Asks schema (request.Create def) asked = IsTableDef def × (asked ≡ action_from Creates (new_table schema def))
 Asks schema (request.Alter def) asked =
@@ -46,6 +52,10 @@ Asks schema (request.Prepare computed) asked = IsDefinable schema computed × Is
 Asks schema (request.Explain computed) asked = IsComputed schema.tables computed × IsPlannedAs Explains asked computed
 Asks schema (request.Run run) asked = (found : Result Running Refusal) × RunsAs schema run found
     × (asked ≡ action_from Runs found)
+Asks schema (request.Count def) asked =
+    IsCounterDef def × (asked ≡ action_from (λ next. Counts def) (new_counter schema def))
+Asks schema (request.Read read) asked =
+    IsReading schema (reading_asked read) × (asked ≡ Ok (Reads (reading_asked read)))
 Asks schema request.Show asked = asked ≡ Ok Shows
 
 -- something is asked for

@@ -7,4 +7,4 @@ mod requests;
 
 pub use lines::{show_lines, table_lines};
 pub use planning::{PlannedQuery, plan_arranged, plan_query, planned_lines};
-pub use requests::{Request, RunRequest, asked};
+pub use requests::{ReadRequest, Request, RunRequest, asked};

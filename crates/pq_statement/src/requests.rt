@@ -1,21 +1,26 @@
 //! What a piece of a script asks for, as far as the definitions decide it.
-ghost use Rattle.std.specs.Prelude.{◌≡◌, ◌≤◌, None, Err, length, option_copied, IfOk, IfErr};
+ghost use Rattle.std.specs.Prelude.{◌≡◌, ◌≤◌, None, Ok, length, map, option_copied, IfOk, IfErr};
 ghost use Rattle.pq_base.specs.Answers.{Passes, Refuses};
 ghost use Rattle.pq_pages.specs.Running.{running_of};
+ghost use Rattle.pq_schema.specs.Counters.{IsCounterNumber};
 ghost use Rattle.pq_schema.specs.Definitions.{definition_refusal};
+ghost use Rattle.pq_schema.specs.Resolved.{param_type};
+ghost use Rattle.pq_schema.specs.Tables.{types_at};
 ghost use Rattle.pq_text.specs.Tokens.{tokens_of};
-ghost use Rattle.pq_statement.specs.Actions.{Action, action_of, asked_by, asked_text, refused_counter};
+ghost use Rattle.pq_statement.specs.Actions.{action_of, asked_by, asked_text};
 ghost use Rattle.pq_statement.specs.Names.{IsNamedStatement};
 ghost use Rattle.pq_statement.specs.Planned.{IsPlanned};
 ghost use Rattle.pq_statement.specs.Planning.{arranged_from, explained_name, prepared_from};
-ghost use Rattle.pq_statement.specs.Requests.{Asks, RunsAs};
+ghost use Rattle.pq_statement.specs.Readings.{IsReading, reading_of, reading_types};
+ghost use Rattle.pq_statement.specs.Requests.{Asks, RunsAs, reading_asked};
 
 use crate::planning::{PlannedQuery, plan_arranged};
-use pq_base::{List, NoMem, PText, Refusal, Row, Stopped, count_word};
+use pq_base::{ColType, List, NoMem, PText, Refusal, Row, Stopped, count_word};
 use pq_def_read::{Statement, read_statement};
 use pq_index_keep::{Write, check_write};
-use pq_pages::begin;
-use pq_schema::{AlterDef, Catalog, CounterDef, DEFINITIONS, TableDef};
+use pq_pages::{begin, check_params};
+use pq_query_read::param_type;
+use pq_schema::{AlterDef, Catalog, Column, CounterDef, DEFINITIONS, TableDef, type_at};
 use pq_text::{Piece, Token, tokens};
 use std::alloc::Global;
 
@@ -30,6 +35,13 @@ pub struct RunRequest {
     pub after: Option<Row>,
 }
 
+/// A counter, by the number of its definition, and the values of a group.
+#[derive(Debug, Drop)]
+pub struct ReadRequest {
+    pub counter: u16,
+    pub values: Row,
+}
+
 /// What a piece asks for.
 #[derive(Debug, Drop)]
 pub enum Request {
@@ -41,6 +53,9 @@ pub enum Request {
     Prepare(PlannedQuery),
     Explain(PlannedQuery),
     Run(RunRequest),
+    /// Whether a counter is refused is found as it is added.
+    Count(CounterDef),
+    Read(ReadRequest),
     Show,
 }
 
@@ -113,8 +128,11 @@ fn asked_by(
             let run = asked_run(alloc, catalog, name, values, after.as_ref())?;
             Ok(Request::Run(run))
         }
-        Statement::Counter(def) => Err(refused_counter(alloc, catalog, &def)),
-        Statement::Read { name, .. } => Err(Stopped::Refused(Refusal::NoCounter { name })),
+        Statement::Counter(def) => Ok(Request::Count(def)),
+        Statement::Read { name, values } => {
+            let read = asked_read(alloc, catalog, name, values)?;
+            Ok(Request::Read(read))
+        }
         Statement::Show => Ok(Request::Show),
         written @ (Statement::Insert { .. }
         | Statement::Update { .. }
@@ -122,18 +140,6 @@ fn asked_by(
             let write = check_write(alloc, catalog, &written)?;
             Ok(Request::Write(write))
         }
-    }
-}
-
-/// Why a counter is refused: its definition's first refusal, and else that it is one too many.
-fn refused_counter(alloc: Global, catalog: &Catalog, def: &CounterDef) -> Stopped
-    ensures { Refuses {A = Action} result (Err (refused_counter catalog.now def.now)) }
-{
-    match catalog.check_counter(alloc, def) {
-        Ok(_) => Stopped::Refused(Refusal::Count {
-            word: count_word::COUNTERS,
-        }),
-        Err(stopped) => stopped,
     }
 }
 
@@ -198,4 +204,46 @@ fn asked_run(
         params,
         after,
     })
+}
+
+/// The types of values that are compared with these columns.
+fn value_types(alloc: Global, columns: &[Column], cols: &[u8]) -> Result<List<ColType>, NoMem>
+    ensures { IfOk result (λ types. types ≡ map param_type (types_at columns.now cols.now)) }
+{
+    let mut types = List::new(alloc);
+    for col in cols {
+        types.push(alloc, param_type(type_at(columns, *col)))?;
+    }
+    Ok(types)
+}
+
+/// The types of the values of a counter's groups.
+fn reading_types(alloc: Global, catalog: &Catalog, number: u16) -> Result<List<ColType>, NoMem>
+    requires { IsCounterNumber catalog.now number }
+    ensures types { IfOk result (λ types. types ≡ reading_types catalog.now number) }
+    ensures few { IfOk result (λ types. length types ≤ 4) }
+{
+    catalog.known();
+    let counter = catalog.counter(number);
+    let table = catalog.table(counter.table);
+    value_types(alloc, table.columns.items(), counter.cols.items())
+}
+
+/// The read of the counter of this name, of the group of these values.
+fn asked_read(
+    alloc: Global,
+    catalog: &Catalog,
+    name: PText,
+    values: Row,
+) -> Result<ReadRequest, Stopped>
+    ensures fits { IfOk result (λ read. IsReading catalog.now (reading_asked read)) }
+    ensures reads { IfOk result (λ read. reading_of catalog.now name values ≡ Ok (reading_asked read)) }
+    ensures refused { IfErr result (λ stopped. Refuses stopped (reading_of catalog.now name values)) }
+{
+    let Some(counter) = catalog.find_counter(&name) else {
+        return Err(Stopped::Refused(Refusal::NoCounter { name }));
+    };
+    let types = reading_types(alloc, catalog, counter)?;
+    check_params(types.items(), values.items())?;
+    Ok(ReadRequest { counter, values })
 }

@@ -3,11 +3,12 @@ use Rattle.std.proofs.lemmas.Result.{err_from_is_err_and}
 use Rattle.pq_base.specs.Answers.{Refuses}
 use Rattle.pq_index_keep.specs.Checking.{IsWriting, checked_write}
 use Rattle.pq_pages.specs.Running.{Running, running_of}
-use Rattle.pq_statement.specs.Actions.{Creates, Explains, Prepares, Runs, Writes, action_from}
+use Rattle.pq_statement.specs.Actions.{Creates, Explains, Prepares, Reads, Runs, Writes, action_from}
 use Rattle.pq_statement.specs.Names.{IsNamedStatement}
 use Rattle.pq_statement.specs.Planned.{IsPlanned}
 use Rattle.pq_statement.specs.Planning.{PlannedDefinition, arranged_from, explained_name}
-use Rattle.pq_statement.specs.Requests.{RunsAs}
+use Rattle.pq_statement.specs.Readings.{reading_of}
+use Rattle.pq_statement.specs.Requests.{RunsAs, reading_asked}
 use Rattle.pq_statement.proofs.Asking.{answer_refused, asking_refused, explains, may_be_defined, prepares, stopped_explained, writes_asked}
 use Rattle.pq_statement.proofs.requests.asked_by.Goals as goal
 
@@ -17,8 +18,18 @@ returns-in-Create-clause-asks c = rw c.in-Create.is (subst (IsNamedStatement c.a
 pub returns-in-Alter-clause-asks : goal.returns-in-Alter-clause-asks
 returns-in-Alter-clause-asks c = rw c.in-Alter.is (subst (IsNamedStatement c.args.tokens.now) c.in-Alter.is c.requires.named, refl)
 
-pub returns-in-Counter-clause-refused : goal.returns-in-Counter-clause-refused
-returns-in-Counter-clause-refused c = rw c.in-Counter.is c.refused_counter.ensures
+pub returns-in-Counter-clause-asks : goal.returns-in-Counter-clause-asks
+returns-in-Counter-clause-asks c = rw c.in-Counter.is (subst (IsNamedStatement c.args.tokens.now) c.in-Counter.is c.requires.named, refl)
+
+pub returns-in_err-read-in-Read-clause-refused : goal.returns-in_err-read-in-Read-clause-refused
+returns-in_err-read-in-Read-clause-refused c =
+    let p = err_from_is_err_and c.from_residual-in_err-read-in-Read.result c.from_residual-in_err-read-in-Read.ensures.1 in
+    rw (p.1, p.2, c.in-Read.is) (asking_refused Reads _ _ c.in_err-read-in-Read.ensures.refused)
+
+pub returns-in_ok-read-in-Read-clause-asks : goal.returns-in_ok-read-in-Read-clause-asks
+returns-in_ok-read-in-Read-clause-asks c =
+    let reads : reading_of c.args.catalog.now c.in-Read.name c.in-Read.values ≡ Ok (reading_asked c.in_ok-read-in-Read.read) = c.in_ok-read-in-Read.ensures.reads in
+    rw c.in-Read.is (c.in_ok-read-in-Read.ensures.fits, ap (action_from Reads) reads)
 
 pub returns-in_err-plan-in-Prepare-clause-refused : goal.returns-in_err-plan-in-Prepare-clause-refused
 returns-in_err-plan-in-Prepare-clause-refused c =
