@@ -115,7 +115,7 @@ pub build_shown : (old : Option Content) (schema : Schema) (new : NewIndex) (que
 build_shown None schema new query broke valid number key shown = tt
 build_shown (Some content) schema new query Failed valid number key shown = tt
 build_shown (Some content) schema new query NoMem valid number key shown = tt
-build_shown (Some content) schema new query (Damaged damage) valid number key (inl present) = inr (inr (subst (λ (k : List ℕ). IsPresent k content damage) key present))
+build_shown (Some content) schema new query (Damaged damage) valid number key (inl present) = inr (inr (inr (subst (λ (k : List ℕ). IsPresent k content damage) key present)))
 build_shown (Some content) schema new query (Damaged damage) valid number key (inr among) =
     let few = (valid_small valid).tables in
     let last = number.1 in

@@ -9,6 +9,7 @@ use Rattle.std.specs.declared.cmp.Ordering.TheVariants.{Less}
 use Rattle.pq_key_code.specs.KeyCode.{catalog_key}
 use Rattle.pq_key_code.proofs.StoreKeys.{catalog_key_rises}
 use Rattle.pq_content.specs.Pairs.{AreCatalog, Pair, AreBeside}
+use Rattle.pq_tallies.specs.Counters.{AreBesideCounters}
 use Rattle.pq_store.specs.Content.{key_cmp}
 use Rattle.pq_step.specs.Stands.{catalog_from, catalog_pairs}
 use Rattle.pq_content.proofs.Keys.{catalog_beside}
@@ -22,6 +23,13 @@ are_catalog schema = catalog_after schema.tables 1 schema.definitions
 
 pub are_beside : (schema : Schema) → AreBeside (catalog_pairs schema)
 are_beside schema = catalog_beside (catalog_pairs schema) (are_catalog schema)
+
+beside_after : (tables : List Table) (number : ℕ) (definitions : List Definition) → AreBesideCounters (catalog_from tables number definitions)
+beside_after tables number [] = tt
+beside_after tables number (definition ∷ definitions) = (refl, beside_after tables (number + 1) definitions)
+
+pub are_beside_counters : (schema : Schema) → AreBesideCounters (catalog_pairs schema)
+are_beside_counters schema = beside_after schema.tables 1 schema.definitions
 
 -- the key is below those of all pairs, as the order of keys has it
 abbrev below_all : List ℕ → List Pair → Bool

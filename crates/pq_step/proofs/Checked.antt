@@ -12,14 +12,16 @@ use Rattle.pq_print.specs.declared.report.Report.{Report}
 use Rattle.pq_schema.specs.Schema.{Schema, with_query}
 use Rattle.pq_schema.specs.declared.table.NewIndex.{NewIndex}
 use Rattle.pq_text.specs.declared.piece.Piece.{Piece}
-use Rattle.pq_statement.specs.Actions.{Action, Creates, Adds, Writes, Prepares, Explains, Runs, Shows, action_of, asked_bound, asked_schema}
+use Rattle.pq_schema.specs.Definitions.{counted_schema, new_counter}
+use Rattle.pq_schema.specs.declared.definition.CounterDef.{CounterDef}
+use Rattle.pq_statement.specs.Actions.{Action, Creates, Adds, Writes, Prepares, Explains, Runs, Counts, Reads, Shows, action_from, action_of, asked_bound, asked_schema}
 use Rattle.pq_step.specs.Checks.{IsChecked, action_check, checked_as, check_step, without_rows}
 use Rattle.pq_statement.specs.Lines.{planned_lines}
 use Rattle.pq_statement.specs.Planning.{PlannedDefinition, planned_definition}
 use Rattle.pq_step.specs.Promise.{IsBound}
 use Rattle.pq_step.specs.Refusing.{CanEnd}
 use Rattle.pq_statement.specs.Requests.{IsPlannedAs}
-use Rattle.pq_step.specs.Step.{Step, crowding_refusal, prepared_over, report_of, unread_report}
+use Rattle.pq_step.specs.Step.{Step, counted_over, counter_step, crowding_refusal, prepared_over, report_of, unread_report}
 use Rattle.pq_statement.specs.declared.planning.PlannedQuery.{PlannedQuery}
 use Rattle.pq_step.proofs.Defining.{explained_lines, lines_are, plan_is}
 
@@ -41,6 +43,10 @@ module _ (schema : Schema) (number : ℕ) where
   prepared_none : (plan : PlannedDefinition) → action_check schema number (Prepares plan) ≡ prepared_over (without_rows schema) number plan None
   prepared_none plan = ap (prepared_over (without_rows schema) number plan) (crowded_none plan.chosen.wanted)
 
+  counted_none : (def : CounterDef) → action_check schema number (Counts def) ≡ counted_over (without_rows schema) number def None
+  unfolding counter_step
+  counted_none def = refl
+
   none_bound : (wanted : Option NewIndex) → IsBound (fixed_bound wanted) (prepare_bound wanted [])
   none_bound None = refl
   none_bound (Some new) = (0, refl)
@@ -55,6 +61,10 @@ module _ (schema : Schema) (number : ℕ) where
       (record { numbered = refl; bound = none_bound plan.chosen.wanted; unused = refl; unread = tt; can = tt; model = refl })
   is_check_step (Ok (Explains plan)) = record { numbered = refl; bound = refl; unused = refl; unread = tt; can = tt; model = refl }
   is_check_step (Ok (Runs running)) = record { numbered = refl; bound = refl; unused = refl; unread = tt; can = tt; model = refl }
+  is_check_step (Ok (Counts def)) =
+      subst (IsCheckStep schema number (Ok (Counts def))) (sym (counted_none def))
+      (record { numbered = refl; bound = refl; unused = refl; unread = tt; can = tt; model = refl })
+  is_check_step (Ok (Reads reading)) = record { numbered = refl; bound = refl; unused = refl; unread = tt; can = tt; model = refl }
   is_check_step (Ok Shows) = record { numbered = refl; bound = refl; unused = refl; unread = tt; can = tt; model = refl }
 
   -- the step of a piece, by what it asks for
@@ -77,6 +87,13 @@ module _ (schema : Schema) (number : ℕ) where
   explained_checked computed found is report same =
       subst (λ (a : Result Action Refusal). IsChecked schema number a schema report) (sym is.asks)
       (record { next_is = refl; report_is = same ∙ explained_lines schema.tables number computed is.plan is.plan_is computed.compiled.wanted refl })
+
+  -- a counter that was defined
+  pub counted_checked : (def : CounterDef) (next : Schema) (report : Report) → new_counter schema def ≡ Ok next → report ≡ report_of number [] Done (bound 2 1)
+      → next ≡ counted_schema schema def → IsChecked schema number (action_from (λ next. Counts def) (new_counter schema def)) next report
+  counted_checked def next report made same is =
+      subst (λ (r : Result Schema Refusal). IsChecked schema number (action_from (λ next. Counts def) r) next report) (sym made)
+      (record { next_is = is ∙ ap (λ (x : Step). x.model.schema) (sym (counted_none def)); report_is = same ∙ ap (λ (x : Step). x.report) (sym (counted_none def)) })
 
 -- a query that was planned and defined
 pub prepared_checked : (schema : Schema) (number : ℕ) (computed : PlannedQuery) (asked : Result Action Refusal) → IsPlannedAs Prepares asked computed → (wanted : Option NewIndex) → computed.compiled.wanted ≡ wanted

@@ -1,10 +1,11 @@
 -- What a definition makes of what a content stands for.
-use Rattle.std.proofs.Common.{lit≤, ◌≡◌, ℕ, ◌+◌, ◌-◌, get_or, ◌<◌, Bool, true, false, true≢false, List, [], ◌∷◌, ◌++◌, length, Option, Some, None, Result, Ok, Err, refl, sym, ap, ◌∙◌, subst, arith, inl, inr}
+use Rattle.std.proofs.Common.{lit≤, ◌≡◌, ℕ, ◌+◌, ◌-◌, get_or, ◌<◌, ◌≤◌, Bool, true, false, true≢false, List, [], ◌∷◌, ◌++◌, length, Option, Some, None, Result, Ok, Err, refl, sym, ap, ◌∙◌, subst, arith, inl, inr}
 use Rattle.std.specs.Prelude.{is_none, IfSome, IfOk, IfErr, OnOk, OnErr}
 use Rattle.std.proofs.Math.Seq.{get_or-append_seam}
 use Rattle.std.specs.FinMap.{get, insert}
 use Rattle.std.proofs.lemmas.List.{length-append}
 use Rattle.pq_base.specs.declared.number.Bound.{Bound}
+use Rattle.pq_base.specs.declared.number.Used.{Used}
 use Rattle.pq_base.specs.declared.refusal.Refusal.{Refusal}
 use Rattle.pq_schema.specs.declared.definition.AlterDef.{AlterDef}
 use Rattle.pq_schema.specs.declared.definition.TableDef.{TableDef}
@@ -41,7 +42,7 @@ use Rattle.pq_schema.specs.Tables.{table_at, no_table}
 use Rattle.pq_step.specs.Extends.{Extends}
 use Rattle.pq_intent.specs.Spending.{TakesAtMost}
 use Rattle.pq_step.specs.Promise.{OnlyReads, DoneStatement as Promised, BrokenStatement, Promises, IsBound, IsWithinFixed}
-use Rattle.pq_step.specs.Reports.{define_report}
+use Rattle.pq_step.specs.Reports.{define_report, used_numbers}
 use Rattle.pq_step.specs.Stands.{HoldsModel, Stands, content_of, value_at, last_key, last_value}
 use Rattle.pq_builds.specs.Bounds.{bound}
 use Rattle.pq_statement.specs.Actions.{Action, Creates, Adds, Prepares, action_bound, action_schema, action_from}
@@ -51,64 +52,70 @@ use Rattle.pq_statement.specs.Lines.{table_lines, query_lines, planned_lines}
 use Rattle.pq_statement.specs.Planned.{IsComputed, IsPlanOf}
 use Rattle.pq_statement.specs.declared.planning.PlannedQuery.{PlannedQuery}
 use Rattle.pq_plan.specs.Cost.{cost}
-use Rattle.pq_step.proofs.Definitions.{keeps_column, next_absent, put_column, put_table, put_query}
+use Rattle.pq_tallies.specs.Counters.{AreFewRows}
+use Rattle.pq_tallies.specs.Defined.{counters_in}
+use Rattle.pq_step.proofs.Definitions.{few_column, few_query, few_table, keeps_column, next_absent, put_column, put_table, put_query}
 use Rattle.pq_step.proofs.Standing.{settled_opens}
 use Rattle.pq_step.proofs.Made.{made_of, made_room, small_of}
 use Rattle.pq_step.proofs.Promises.{damaged_kept, shown_still, within_step}
 
--- one write makes the step, which leads to these definitions
-pub record Defines (m : Model) (next : Schema) (number : ℕ) (lines : List Line) (made : Step) : Type 0 where
+-- one write makes the step, which leads to these definitions and has this bound
+pub record Defines (most : Bound) (m : Model) (next : Schema) (number : ℕ) (lines : List Line) (made : Step) : Type 0 where
   pub known : next ≡ made.model.schema
   pub valid : IsValid made.model.schema
   pub keeps : Keeps made.model.schema.tables made.model.rows
+  pub few : AreFewRows (counters_in made.model.schema) made.model.rows
   pub absent : get (content_of m) (last_key next) ≡ None
   pub put : insert (content_of m) (last_key next) (last_value next) ≡ content_of made.model
-  pub report : made.report ≡ report_of number lines Done (bound 1 0)
+  pub report : made.report ≡ report_of number lines Done most
 
 pub one_more : (definitions : List Definition) (last : Definition) → length definitions + 1 ≡ length (definitions ++ last ∷ [])
 one_more definitions last = omega (arith, length-append definitions (last ∷ []))
 
 defines_table : {old : Option Content} (m : Model) (number : ℕ) (def : TableDef) (table : Table) → HoldsModel old m → IsTableDef def → new_table m.schema def ≡ Ok table
-    → Defines m (with_table m.schema table) number (table_lines table) (table_step m number table)
+    → Defines (bound 1 0) m (with_table m.schema table) number (table_lines table) (table_step m number table)
 defines_table m number def table s is_def made =
-    let few : length m.schema.definitions < 65535 = omega (arith, made_room m.schema def table made) in
+    let small : length m.schema.definitions < 65535 = omega (arith, made_room m.schema def table made) in
     let more : length m.schema.definitions + 1 ≡ length (with_table m.schema table).definitions = one_more m.schema.definitions (OfTable (length m.schema.tables + 1) (length table.columns) (length table.indexes)) in
     record {
       known = refl;
       valid = then_table m.schema def table s.valid is_def made;
       keeps = keeps-more m.schema.tables table m.rows s.keeps;
-      absent = subst (λ n. get (content_of m) (catalog_key n) ≡ None) more (next_absent m few);
-      put = subst (λ n. insert (content_of m) (catalog_key n) (value_at (with_table m.schema table) n) ≡ content_of (record m { schema = with_table m.schema table })) more (put_table m table s.valid (made_of m.schema s.valid) s.keeps few);
+      few = few_table m table s.few;
+      absent = subst (λ n. get (content_of m) (catalog_key n) ≡ None) more (next_absent m small);
+      put = subst (λ n. insert (content_of m) (catalog_key n) (value_at (with_table m.schema table) n) ≡ content_of (record m { schema = with_table m.schema table })) more (put_table m table s.valid (made_of m.schema s.valid) s.keeps small);
       report = refl;
     }
 
 defines_query : {old : Option Content} (m : Model) (number : ℕ) (query : Query) (best : Candidate) → HoldsModel old m → IsDefined m.schema query None
-    → Defines m (with_query m.schema query None) number (query_lines m.schema.tables (planned_definition query best None)) (prepared_over m number (planned_definition query best None) None)
+    → Defines (bound 1 0) m (with_query m.schema query None) number (query_lines m.schema.tables (planned_definition query best None)) (prepared_over m number (planned_definition query best None) None)
 defines_query m number query best s defined =
-    let few : length m.schema.definitions < 65535 = omega (arith, small_of m.schema s.valid) in
+    let small : length m.schema.definitions < 65535 = omega (arith, small_of m.schema s.valid) in
     let more : length m.schema.definitions + 1 ≡ length (with_query m.schema query None).definitions = one_more m.schema.definitions (OfQuery query None) in
     record {
       known = refl;
       valid = then_query m.schema query None s.valid defined;
       keeps = s.keeps;
-      absent = subst (λ n. get (content_of m) (catalog_key n) ≡ None) more (next_absent m few);
-      put = subst (λ n. insert (content_of m) (catalog_key n) (value_at (with_query m.schema query None) n) ≡ content_of (record m { schema = with_query m.schema query None })) more (put_query m query few);
+      few = few_query m query None s.few;
+      absent = subst (λ n. get (content_of m) (catalog_key n) ≡ None) more (next_absent m small);
+      put = subst (λ n. insert (content_of m) (catalog_key n) (value_at (with_query m.schema query None) n) ≡ content_of (record m { schema = with_query m.schema query None })) more (put_query m query small);
       report = refl;
     }
 
 -- the column, and its default in each row of its table
-defines_column : {old : Option Content} (m : Model) (number : ℕ) (def : AlterDef) → HoldsModel old m → IsAddition m.schema def (altered_schema m.schema def) → Defines m (altered_schema m.schema def) number [] (alter_step m number def)
+defines_column : {old : Option Content} (m : Model) (number : ℕ) (def : AlterDef) → HoldsModel old m → IsAddition m.schema def (altered_schema m.schema def) → Defines (bound 1 0) m (altered_schema m.schema def) number [] (alter_step m number def)
 defines_column m number def s is =
     let next = altered_schema m.schema def in
     let none = (column_parts m.schema def next is.accepted).0 in
-    let few : length m.schema.definitions < 65535 = omega (arith, small_of m.schema s.valid) in
+    let small : length m.schema.definitions < 65535 = omega (arith, small_of m.schema s.valid) in
     let more : length m.schema.definitions + 1 ≡ length next.definitions = one_more m.schema.definitions (OfColumn (altered_table m.schema def) (length (table_at m.schema.tables (altered_table m.schema def)).columns)) in
     record {
       known = refl;
       valid = then_column m.schema def next s.valid is;
       keeps = keeps_column m def s.valid none is.fits s.keeps;
-      absent = subst (λ n. get (content_of m) (catalog_key n) ≡ None) more (next_absent m few);
-      put = subst (λ n. insert (content_of m) (catalog_key n) (value_at next n) ≡ content_of (alter_step m number def).model) more (put_column m def s.valid none s.keeps few);
+      few = few_column m def s.valid s.keeps s.few;
+      absent = subst (λ n. get (content_of m) (catalog_key n) ≡ None) more (next_absent m small);
+      put = subst (λ n. insert (content_of m) (catalog_key n) (value_at next n) ≡ content_of (alter_step m number def).model) more (put_column m def s.valid none s.keeps small);
       report = refl;
     }
 
@@ -126,28 +133,32 @@ present_shown : (old : Option Content) (schema : Schema) (broke : Broke) → IfS
 present_shown None schema broke shows = tt
 present_shown (Some content) schema broke.Failed shows = tt
 present_shown (Some content) schema broke.NoMem shows = tt
-present_shown (Some content) schema (broke.Damaged damage) shows = inr (inr shows)
+present_shown (Some content) schema (broke.Damaged damage) shows = inr (inr (inr shows))
 
-module _ (number : ℕ) (lines : List Line) (action : Action) (old now : Option Content) (schema next : Schema)
-    (defines : (m : Model) → Stands old schema m → Defines m next number lines (action_step m number action))
-    (one : action_bound schema action ≡ Some (bound 1 0)) (writes : OnlyReads (Ok action) → ⊥) (behind : next ≡ action_schema schema action) where
+module _ (most : Bound) (number : ℕ) (lines : List Line) (action : Action) (old now : Option Content) (schema next : Schema)
+    (defines : (m : Model) → Stands old schema m → Defines most m next number lines (action_step m number action))
+    (one : action_bound schema action ≡ Some most) (writes : OnlyReads (Ok action) → ⊥) (behind : next ≡ action_schema schema action) where
   added : (m : Model) → Stands old schema m → now ≡ Some (insert (content_of m) (last_key next) (last_value next)) → HoldsModel now (action_step m number action).model
   added m s is =
       let d = defines m s in
-      record { valid = d.valid; keeps = d.keeps; told = is ∙ ap Some d.put }
+      record { valid = d.valid; keeps = d.keeps; few = d.few; told = is ∙ ap Some d.put }
 
-  pub define_done : (before : Counts) → PutsNew true (last_key next) (last_value next) old now
-      → Promised number (Ok action) old now schema next before (charged_counts before 0) (define_report number lines)
-  define_done before puts = record {
-    matches = λ m s. subst (λ (r : Report). Matches r (define_report number lines)) (sym (defines m s).report) (record { same = refl; ops = lit≤ tt; entries = lit≤ tt });
+  abbrev report_with : Used → Report
+  report_with spent = record (report_of number lines Done most) { used = spent }
+
+  pub define_done : (spent : Used) (before after : Counts) → spent.ops ≤ most.ops → spent.entries ≤ most.entries
+      → after.ops ≡ before.ops + spent.ops → after.entries ≡ before.entries + spent.entries → PutsNew true (last_key next) (last_value next) old now
+      → Promised number (Ok action) old now schema next before after (report_with spent)
+  define_done spent before after few_ops few_entries ops entries puts = record {
+    matches = λ m s. subst (λ (r : Report). Matches r (report_with spent)) (sym (defines m s).report) (record { same = refl; ops = few_ops; entries = few_entries });
     made = λ m s.
         let p = subst (λ o. PutsNew true (last_key next) (last_value next) o now) s.settled.told puts in
         record { settled = added m s p.1; known = (defines m s).known };
-    ops = refl;
-    entries = refl;
-    few_ops = lit≤ tt;
-    few_entries = lit≤ tt;
-    bound = subst (λ (o : Option Bound). IsBound o (bound 1 0)) (sym one) refl;
+    ops = ops;
+    entries = entries;
+    few_ops = few_ops;
+    few_entries = few_entries;
+    bound = subst (λ (o : Option Bound). IsBound o most) (sym one) refl;
     refused = λ refusal. absurd refusal;
     accepted = λ _. behind;
     numbered = refl;
@@ -158,17 +169,17 @@ module _ (number : ℕ) (lines : List Line) (action : Action) (old now : Option 
 
   -- the key is absent, so that no damage is found
   pub define_broken : (before after : Counts) (broke : Broke) → MayPut (last_key next) (last_value next) old now
-      → IfSome old (λ pairs. get pairs (last_key next) ≡ None → IsUndamaged broke) → TakesAtMost (bound 1 0) before after
+      → IfSome old (λ pairs. get pairs (last_key next) ≡ None → IsUndamaged broke) → TakesAtMost most before after
       → length schema.definitions + 1 ≡ length next.definitions → IfSome old (λ pairs. IfDamaged (IsPresent (last_key next) pairs) broke)
       → IfDamagedSame old now broke → BrokenStatement number (Ok action) old now schema before after broke
   define_broken before after broke may sound within more shows same = record {
     stopped = λ m s. elim (subst (λ o. MayPut (last_key next) (last_value next) o now) s.settled.told may) [
-      | inl same ↦ inl (settled_opens (record { valid = s.settled.valid; keeps = s.settled.keeps; told = same }))
+      | inl same ↦ inl (settled_opens (record { valid = s.settled.valid; keeps = s.settled.keeps; few = s.settled.few; told = same }))
       | inr put ↦ inr (settled_opens (added m s put.1))
     ];
     sound = λ m s. subst (λ o. IfSome o (λ pairs. get pairs (last_key next) ≡ None → IsUndamaged broke)) s.settled.told sound (defines m s).absent;
     within = subst (λ (b : Option Bound). IsWithinFixed b before after) (sym one) within;
-    within_own = λ m s. within_step number action old schema (bound 1 0) before after one within m s;
+    within_own = λ m s. within_step number action old schema most before after one within m s;
     kept = damaged_kept schema (Ok action) old now broke same;
     reads = λ reads. absurd (writes reads);
     shown = here more shows;
@@ -181,10 +192,10 @@ module _ (number : ℕ) (lines : List Line) (action : Action) (old now : Option 
 -- ---- tables
 
 table_defines : (old : Option Content) (schema : Schema) (number : ℕ) (def : TableDef) (table : Table) → IsTableDef def → new_table schema def ≡ Ok table
-    → (m : Model) → Stands old schema m → Defines m (with_table schema table) number (table_lines table) (table_step m number table)
+    → (m : Model) → Stands old schema m → Defines (bound 1 0) m (with_table schema table) number (table_lines table) (table_step m number table)
 table_defines old schema number def table is_def made m s =
     let here : new_table m.schema def ≡ Ok table = ap (λ (x : Schema). new_table x def) (sym s.known) ∙ made in
-    subst (λ (x : Schema). Defines m (with_table x table) number (table_lines table) (table_step m number table)) (sym s.known)
+    subst (λ (x : Schema). Defines (bound 1 0) m (with_table x table) number (table_lines table) (table_step m number table)) (sym s.known)
     (defines_table m number def table s.settled is_def here)
 
 -- the last table has the number behind the others
@@ -206,12 +217,13 @@ IsWritten old now next number lines before after result =
     × IfErr result (IfDamagedSame old now)
 
 written_as : (action : Action) (old now : Option Content) (schema next : Schema) (number : ℕ) (lines : List Line) (before after : Counts) (result : Result (Schema × Report) Broke)
-    → ((m : Model) → Stands old schema m → Defines m next number lines (action_step m number action)) → action_bound schema action ≡ Some (bound 1 0) → (OnlyReads (Ok action) → ⊥) → next ≡ action_schema schema action
+    → ((m : Model) → Stands old schema m → Defines (bound 1 0) m next number lines (action_step m number action)) → action_bound schema action ≡ Some (bound 1 0) → (OnlyReads (Ok action) → ⊥) → next ≡ action_schema schema action
     → length schema.definitions + 1 ≡ length next.definitions → IsWritten old now next number lines before after result → Promises number (Ok action) old now schema before after result
 written_as action old now schema next number lines before after (Ok made) defines one writes behind more h =
-    rw (h.0.0, h.0.1, h.4) (define_done number lines action old now schema next defines one writes behind before h.1)
+    rw (h.0.0, h.0.1, h.4)
+    (define_done (bound 1 0) number lines action old now schema next defines one writes behind (used_numbers 1 0) before (charged_counts before 0) (lit≤ tt) (lit≤ tt) refl refl h.1)
 written_as action old now schema next number lines before after (Err broke) defines one writes behind more h =
-    define_broken number lines action old now schema next defines one writes behind before after broke h.2 h.3 h.5 more h.6 h.7
+    define_broken (bound 1 0) number lines action old now schema next defines one writes behind before after broke h.2 h.3 h.5 more h.6 h.7
 
 pub table_written : (old now : Option Content) (schema planned : Schema) (number : ℕ) (def : TableDef) → IsTableDef def → (t : ℕ) (before after : Counts) (result : Result (Schema × Report) Broke)
     → Extends schema def planned (Ok t) → IsWritten old now planned number (table_lines (table_at planned.tables t)) before after result
@@ -228,10 +240,10 @@ table_written old now schema planned number def is_def t before after result e a
 -- ---- columns
 
 column_defines : (old : Option Content) (schema : Schema) (number : ℕ) (def : AlterDef) → IsAddition schema def (altered_schema schema def)
-    → (m : Model) → Stands old schema m → Defines m (altered_schema schema def) number [] (alter_step m number def)
+    → (m : Model) → Stands old schema m → Defines (bound 1 0) m (altered_schema schema def) number [] (alter_step m number def)
 column_defines old schema number def is m s =
     let here : IsAddition m.schema def (altered_schema m.schema def) = subst (λ (x : Schema). IsAddition x def (altered_schema x def)) s.known is in
-    subst (λ (x : Schema). Defines m (altered_schema x def) number [] (alter_step m number def)) (sym s.known)
+    subst (λ (x : Schema). Defines (bound 1 0) m (altered_schema x def) number [] (alter_step m number def)) (sym s.known)
     (defines_column m number def s.settled here)
 
 pub column_written : (old now : Option Content) (schema planned : Schema) (number : ℕ) (def : AlterDef) → IsAlterDef def → (n : ℕ) (before after : Counts) (result : Result (Schema × Report) Broke)
@@ -254,10 +266,10 @@ module _ (schema : Schema) (number : ℕ) (query : Query) (best : Candidate) whe
   plain = planned_definition query best None
 
   query_defines : (old : Option Content) → IsDefined schema query None → (m : Model) → Stands old schema m
-      → Defines m (with_query schema query None) number (query_lines schema.tables plain) (prepared_over m number plain None)
+      → Defines (bound 1 0) m (with_query schema query None) number (query_lines schema.tables plain) (prepared_over m number plain None)
   query_defines old is m s =
       let here : IsDefined m.schema query None = subst (λ (x : Schema). IsDefined x query None) s.known is in
-      subst (λ (x : Schema). Defines m (with_query x query None) number (query_lines x.tables plain) (prepared_over m number plain None)) (sym s.known)
+      subst (λ (x : Schema). Defines (bound 1 0) m (with_query x query None) number (query_lines x.tables plain) (prepared_over m number plain None)) (sym s.known)
       (defines_query m number query best s.settled here)
 
   pub query_written : (old now : Option Content) (before after : Counts) (result : Result (Schema × Report) Broke) (lines : List Line) → IsDefined schema query None → lines ≡ query_lines schema.tables plain

@@ -1,5 +1,5 @@
 -- What one more definition makes of what a content stands for.
-use Rattle.std.proofs.Common.{◌≡◌, ℕ, ◌+◌, ◌<◌, length, List, [], ◌∷◌, ◌++◌, Option, None, refl, sym, ap, ◌∙◌, arith}
+use Rattle.std.proofs.Common.{◌≡◌, ℕ, ◌+◌, ◌<◌, length, List, [], ◌∷◌, ◌++◌, Option, None, refl, sym, ap, ◌∙◌, subst, append_assoc, arith}
 use Rattle.std.specs.Prelude.{option_map}
 use Rattle.std.specs.FinMap.{find, get, insert}
 use Rattle.pq_schema.specs.declared.definition.AlterDef.{AlterDef}
@@ -8,7 +8,7 @@ use Rattle.pq_schema.specs.declared.table.Table.{Table}
 use Rattle.pq_schema.specs.declared.query.Query.{Query}
 use Rattle.pq_schema.specs.declared.made.Definition.{Definition}
 use Rattle.pq_schema.specs.declared.made.Definition.TheVariants.{OfTable, OfQuery, OfColumn, OfCounter}
-use Rattle.pq_schema.specs.Definitions.{altered_schema, altered_table, column_of, column_refusal, counted_schema, counter_of_def}
+use Rattle.pq_schema.specs.Definitions.{altered_schema, altered_table, column_of, column_refusal, counted_schema, counted_table, counter_of_def}
 use Rattle.pq_schema.specs.Schema.{Schema, made_of, with_table, with_wanted, with_query}
 use Rattle.pq_schema.specs.Tables.{table_at}
 use Rattle.pq_schema.specs.Valid.{IsValid, IsDefined}
@@ -21,12 +21,17 @@ use Rattle.pq_base.specs.Values.{FitsType}
 use Rattle.pq_key_code.specs.KeyCode.{catalog_key}
 use Rattle.pq_content.specs.Pairs.{Pair, content_pairs}
 use Rattle.pq_store.specs.Content.{key_cmp}
-use Rattle.pq_content.specs.Tables.{Keeps}
+use Rattle.pq_content.specs.Tables.{Keeps, rows_of}
 use Rattle.pq_content.proofs.MoreTables.{pairs-more}
 use Rattle.pq_content.proofs.Others.{get_other, insert_other}
 use Rattle.pq_schema.specs.Sound.{AreMade}
+use Rattle.pq_tallies.specs.Counters.{AreFewRows, counter_pairs}
+use Rattle.pq_tallies.specs.Defined.{NumberedCounter, counters_in, with_number}
+use Rattle.pq_tallies.proofs.Defined.{one_more_column, one_more_counter, one_more_query, one_more_table, schema_counters}
+use Rattle.pq_tallies.proofs.Grown.{few_grown, new_counter, new_few, pairs_grown}
 use Rattle.pq_step.specs.Model.{Model}
-use Rattle.pq_step.specs.Stands.{content_of, value_at, catalog_pairs}
+use Rattle.pq_step.specs.Stands.{content_of, value_at, catalog_pairs, others_of, pairs_counted}
+use Rattle.pq_step.proofs.Counted.{absent_beside}
 use Rattle.pq_step.proofs.Next.{absent_above, ending_pairs, pairs_stay}
 use Rattle.pq_step.proofs.Known.{definitions_of, grown_defined}
 
@@ -37,13 +42,23 @@ next_key_absent m few = absent_above m.schema.tables 1 (length m.schema.definiti
 
 -- the pair is put behind the others of the catalog
 put_next : (m : Model) (value : List ℕ) → length m.schema.definitions < 65535
-    → insert (content_of m) (catalog_key (length m.schema.definitions + 1)) value ≡ content_pairs m.schema.tables m.rows (catalog_pairs m.schema ++ (catalog_key (length m.schema.definitions + 1), value) ∷ [])
+    → insert (content_of m) (catalog_key (length m.schema.definitions + 1)) value
+    ≡ content_pairs m.schema.tables m.rows (pairs_counted m ++ (catalog_pairs m.schema ++ (catalog_key (length m.schema.definitions + 1), value) ∷ []))
 unfolding content_of
-put_next m value few = insert_other m.schema.tables m.rows (catalog_pairs m.schema) (catalog_key (length m.schema.definitions + 1)) value refl (next_key_absent m few)
+put_next m value few =
+    let key = catalog_key (length m.schema.definitions + 1) in
+    insert_other m.schema.tables m.rows (others_of m) key value refl (absent_beside m key refl (next_key_absent m few))
+    ∙ ap (content_pairs m.schema.tables m.rows) (append_assoc (pairs_counted m) (catalog_pairs m.schema) ((key, value) ∷ []))
+
+-- where the pairs of the catalog and then those of the counters are others
+moved : (m : Model) (rows_now : List Pair) (pairs now : List Pair) → now ≡ pairs → rows_now ≡ pairs_counted m → content_pairs m.schema.tables m.rows (pairs_counted m ++ pairs) ≡ content_pairs m.schema.tables m.rows (rows_now ++ now)
+moved m rows_now pairs now same counted = λ i. content_pairs m.schema.tables m.rows (sym counted i ++ sym same i)
 
 pub next_absent : (m : Model) → length m.schema.definitions < 65535 → get (content_of m) (catalog_key (length m.schema.definitions + 1)) ≡ None
 unfolding content_of
-next_absent m few = get_other m.schema.tables m.rows (catalog_pairs m.schema) (catalog_key (length m.schema.definitions + 1)) refl ∙ next_key_absent m few
+next_absent m few =
+    let key = catalog_key (length m.schema.definitions + 1) in
+    get_other m.schema.tables m.rows (others_of m) key refl ∙ absent_beside m key refl (next_key_absent m few)
 
 -- the pairs of a schema with one more table: those of the others, and the last
 pub table_pairs : (schema : Schema) (table : Table) → IsValid schema → AreMade schema.tables
@@ -88,17 +103,32 @@ pub put_table : (m : Model) (table : Table) → IsValid m.schema → AreMade m.s
     → insert (content_of m) (catalog_key (length m.schema.definitions + 1)) (value_at (with_table m.schema table) (length m.schema.definitions + 1)) ≡ content_of (record m { schema = with_table m.schema table })
 unfolding content_of
 put_table m table valid made keeps few =
-    let tables = m.schema.tables in
-    put_next m (value_at (with_table m.schema table) (length m.schema.definitions + 1)) few
-    ∙ ap (content_pairs tables m.rows) (sym (table_pairs m.schema table valid made))
-    ∙ sym (pairs-more tables table m.rows (catalog_pairs (with_table m.schema table)) keeps.known)
+    let next = with_table m.schema table in
+    let counted : counter_pairs (counters_in next) m.rows ≡ pairs_counted m = ap (λ (cs : List NumberedCounter). counter_pairs cs m.rows) (one_more_table m.schema table) in
+    put_next m (value_at next (length m.schema.definitions + 1)) few
+    ∙ moved m (counter_pairs (counters_in next) m.rows) _ (catalog_pairs next) (table_pairs m.schema table valid made) counted
+    ∙ sym (pairs-more m.schema.tables table m.rows (others_of (record m { schema = next })) keeps.known)
 
 pub put_query : (m : Model) (query : Query) → length m.schema.definitions < 65535
     → insert (content_of m) (catalog_key (length m.schema.definitions + 1)) (value_at (with_query m.schema query None) (length m.schema.definitions + 1)) ≡ content_of (record m { schema = with_query m.schema query None })
 unfolding content_of
 put_query m query few =
-    put_next m (value_at (with_query m.schema query None) (length m.schema.definitions + 1)) few
-    ∙ ap (content_pairs m.schema.tables m.rows) (sym (ending_pairs m.schema.tables m.schema.definitions (OfQuery query None)))
+    let next = with_query m.schema query None in
+    let counted : counter_pairs (counters_in next) m.rows ≡ pairs_counted m = ap (λ (cs : List NumberedCounter). counter_pairs cs m.rows) (one_more_query m.schema query None) in
+    put_next m (value_at next (length m.schema.definitions + 1)) few
+    ∙ moved m (counter_pairs (counters_in next) m.rows) _ (catalog_pairs next) (ending_pairs m.schema.tables m.schema.definitions (OfQuery query None)) counted
+
+-- a counter of a table without rows has no pair
+pub put_counter : (m : Model) (def : CounterDef) → rows_of (counted_table m.schema def) m.rows ≡ [] → length m.schema.definitions < 65535
+    → insert (content_of m) (catalog_key (length m.schema.definitions + 1)) (value_at (counted_schema m.schema def) (length m.schema.definitions + 1)) ≡ content_of (record m { schema = counted_schema m.schema def })
+unfolding content_of
+put_counter m def none few =
+    let next = counted_schema m.schema def in
+    let counter = with_number (length m.schema.definitions + 1) (counter_of_def m.schema def) in
+    let counted : counter_pairs (counters_in next) m.rows ≡ pairs_counted m =
+    ap (λ (cs : List NumberedCounter). counter_pairs cs m.rows) (one_more_counter m.schema (counter_of_def m.schema def)) ∙ new_counter (counters_in m.schema) counter m.rows none in
+    put_next m (value_at next (length m.schema.definitions + 1)) few
+    ∙ moved m (counter_pairs (counters_in next) m.rows) _ (catalog_pairs next) (counted_pairs m.schema def) counted
 
 -- the rows with the column's default keep the tables with the column
 pub keeps_column : (m : Model) (def : AlterDef) → IsValid m.schema → column_refusal m.schema def ≡ None → FitsType (column_of def.column).ty def.filler → Keeps m.schema.tables m.rows
@@ -116,6 +146,31 @@ put_column m def valid none keeps few =
     let next = altered_schema m.schema def in
     let takes = column_takes m.schema def none in
     let room = takes.room in
+    let t = altered_table m.schema def in
+    let rows = grown_rows t def.filler m.rows in
+    let counted : counter_pairs (counters_in next) rows ≡ pairs_counted m =
+    ap (λ (cs : List NumberedCounter). counter_pairs cs rows) (one_more_column m.schema t (column_of def.column) def.filler)
+    ∙ pairs_grown m.schema.tables t def.filler m.rows keeps (counters_in m.schema) (schema_counters m.schema valid) in
     put_next m (value_at next (length m.schema.definitions + 1)) few
-    ∙ ap (content_pairs m.schema.tables m.rows) (sym (column_pairs m.schema def valid none))
-    ∙ sym (pairs-grown m.schema.tables (altered_table m.schema def) (column_of def.column) def.filler (valid_made valid) (takes.from_one, takes.there) (omega (arith, room)) m.rows (catalog_pairs next) keeps)
+    ∙ moved m (counter_pairs (counters_in next) rows) _ (catalog_pairs next) (column_pairs m.schema def valid none) counted
+    ∙ sym (pairs-grown m.schema.tables t (column_of def.column) def.filler (valid_made valid) (takes.from_one, takes.there) (omega (arith, room)) m.rows (others_of (record { schema = next; rows = rows })) keeps)
+
+-- ---- groups of few rows
+
+pub few_table : (m : Model) (table : Table) → AreFewRows (counters_in m.schema) m.rows → AreFewRows (counters_in (with_table m.schema table)) m.rows
+few_table m table few = subst (λ (cs : List NumberedCounter). AreFewRows cs m.rows) (sym (one_more_table m.schema table)) few
+
+pub few_query : (m : Model) (query : Query) (wanted : Option NewIndex) → AreFewRows (counters_in m.schema) m.rows → AreFewRows (counters_in (with_query m.schema query wanted)) m.rows
+few_query m query wanted few = subst (λ (cs : List NumberedCounter). AreFewRows cs m.rows) (sym (one_more_query m.schema query wanted)) few
+
+pub few_column : (m : Model) (def : AlterDef) → IsValid m.schema → Keeps m.schema.tables m.rows → AreFewRows (counters_in m.schema) m.rows
+    → AreFewRows (counters_in (altered_schema m.schema def)) (grown_rows (altered_table m.schema def) def.filler m.rows)
+few_column m def valid keeps few =
+    let t = altered_table m.schema def in
+    subst (λ (cs : List NumberedCounter). AreFewRows cs (grown_rows t def.filler m.rows)) (sym (one_more_column m.schema t (column_of def.column) def.filler))
+    (few_grown m.schema.tables t def.filler m.rows keeps (counters_in m.schema) (schema_counters m.schema valid) few)
+
+pub few_counter : (m : Model) (def : CounterDef) → rows_of (counted_table m.schema def) m.rows ≡ [] → AreFewRows (counters_in m.schema) m.rows → AreFewRows (counters_in (counted_schema m.schema def)) m.rows
+few_counter m def none few =
+    subst (λ (cs : List NumberedCounter). AreFewRows cs m.rows) (sym (one_more_counter m.schema (counter_of_def m.schema def)))
+    (new_few (counters_in m.schema) (with_number (length m.schema.definitions + 1) (counter_of_def m.schema def)) m.rows none few)

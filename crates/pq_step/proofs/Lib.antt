@@ -2,6 +2,8 @@ pub mod Building
 pub mod Built
 pub mod Catalogs
 pub mod Checked
+pub mod Counted
+pub mod Counting
 pub mod Defining
 pub mod Definitions
 pub mod Kept
@@ -12,6 +14,7 @@ pub mod Prepared
 pub mod Promises
 pub mod Runs
 pub mod Standing
+pub mod Tallied
 pub mod Texts
 pub mod Writing
 pub mod Written

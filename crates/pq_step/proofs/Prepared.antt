@@ -151,7 +151,7 @@ module _ (number : ℕ) (query : Query) (new : NewIndex) (best : Candidate) wher
         let here : (origin : Origin) → HoldsOrigin origin (target_for m new) (new_query_of m.schema query) old → Clause origin (target_for m new) (new_query_of m.schema query) =
         subst (λ (x : Schema). (origin : Origin) → HoldsOrigin origin (target_of new.table new.number (table_at x.tables new.table) new.index) (new_query_of x query) old → Clause origin (target_of new.table new.number (table_at x.tables new.table) new.index) (new_query_of x query)) s.known clause in
         subst (λ (q : NewQuery). (origin : Origin) → HoldsOrigin origin (target_for m new) q old → Clause origin (target_for m new) q) (new_query_is m.schema query new defined_here) here
-        (origin_of m new) (holds_origin m query new s.settled.valid s.settled.keeps defined_here s.settled.told)
+        (origin_of m new) (holds_origin m query new s.settled.valid s.settled.keeps s.settled.few defined_here s.settled.told)
 
     pub build_done : (old now : Option Content) (before after : Counts) (count : ℕ) (lines : List Line) → count ≤ 1000000 → lines ≡ query_lines schema.tables plan
         → ((origin : Origin) → HoldsOrigin origin target written old → Makes origin target written (Filled count) now)
@@ -173,7 +173,7 @@ module _ (number : ℕ) (query : Query) (new : NewIndex) (best : Candidate) wher
               let made = made_at m s in
               subst (λ (x : Step). Stands now (with_query schema query (Some new)) x.model) (sym (few_step m made.1))
               (record {
-                settled = makes_next m query new s.settled.valid s.settled.keeps (defined_in old m s) count made;
+                settled = makes_next m query new s.settled.valid s.settled.keeps s.settled.few (defined_in old m s) count made;
                 known = ap (λ (x : Schema). with_query x query (Some new)) s.known;
               });
           ops = takes.ops_are;
@@ -238,14 +238,15 @@ module _ (number : ℕ) (query : Query) (new : NewIndex) (best : Candidate) wher
         let defined_here = defined_in old m s in
         let valid = s.settled.valid in
         let keeps = s.settled.keeps in
+        let few = s.settled.few in
         let origin = origin_of m new in
         let next = next_schema m.schema query new in
-        let held = holds_origin m query new valid keeps defined_here s.settled.told in
-        let opens = leaves_opens m query new valid keeps defined_here (at_model (λ o t q. Leaves o t q now) old m s leaves) in
-        let rows : length (row_pairs_in new.table (before_build origin)) ≡ rows_at m = counted_before origin (target_for m new) (last_query next) (new_in m query new valid keeps defined_here) (target_is m query new valid keeps defined_here) in
+        let held = holds_origin m query new valid keeps few defined_here s.settled.told in
+        let opens = leaves_opens m query new valid keeps few defined_here (at_model (λ o t q. Leaves o t q now) old m s leaves) in
+        let rows : length (row_pairs_in new.table (before_build origin)) ≡ rows_at m = counted_before origin (target_for m new) (last_query next) (new_in m query new valid keeps few defined_here) (target_is m query new valid keeps few defined_here) in
         let stops : StopsBuilding target written (before_build origin) now = subst (λ (o : Option Content). IfSome o (λ c. StopsBuilding target written c now)) held.holds.is ended in
         elim stops [
-          | inl same ↦ inl (settled_opens (before_holds m query new valid keeps defined_here same))
+          | inl same ↦ inl (settled_opens (before_holds m query new valid keeps few defined_here same))
           | inr begun ↦ elim opens [
             | inl o ↦ inl o
             | inr o ↦ inr (subst (λ (x : Step). Opens now x.model) (sym (few_step m (omega (arith, rows, begun.few)))) o)
@@ -280,7 +281,7 @@ module _ (number : ℕ) (query : Query) (new : NewIndex) (best : Candidate) wher
     build_lost old now before after count few makes takes = record {
       stopped = λ m s.
           let made = at_model (λ o t q. Makes o t q (Filled count) now) old m s makes in
-          inr (subst (λ (x : Step). Opens now x.model) (sym (few_step m made.1)) (settled_opens (makes_next m query new s.settled.valid s.settled.keeps (defined_in old m s) count made)));
+          inr (subst (λ (x : Step). Opens now x.model) (sym (few_step m made.1)) (settled_opens (makes_next m query new s.settled.valid s.settled.keeps s.settled.few (defined_in old m s) count made)));
       sound = λ m s. tt;
       within = record { count = count; few = few; ops = omega (arith, takes.ops_are); entries = omega (arith, takes.entries_are) };
       within_own = λ m s.

@@ -12,8 +12,9 @@ use Rattle.pq_schema.specs.Schema.{Schema}
 use Rattle.pq_schema.specs.declared.query.Query.{Query}
 use Rattle.pq_schema.specs.declared.table.NewIndex.{NewIndex}
 use Rattle.pq_content.specs.Tables.{Rows}
-use Rattle.pq_index_keep.specs.Bounds.{write_bound}
-use Rattle.pq_index_keep.specs.Effects.{effect}
+use Rattle.pq_tallies.specs.Writes.{counted_effect}
+use Rattle.pq_counters.specs.Bounds.{whole_bound}
+use Rattle.pq_schema.specs.declared.definition.CounterDef.{CounterDef}
 use Rattle.pq_index_keep.specs.declared.write.Write.{Write}
 use Rattle.pq_print.specs.Report.{is_refused}
 use Rattle.pq_print.specs.declared.report.End.{End}
@@ -23,12 +24,14 @@ use Rattle.pq_store.specs.Content.{Content}
 use Rattle.pq_store.specs.declared.damage.Broke.{Broke}
 use Rattle.pq_store.specs.declared.damage.Broke.TheVariants as broke
 use Rattle.pq_intent.specs.Changing.{IfDamagedSame}
+use Rattle.pq_statement.specs.Actions as action
 use Rattle.pq_statement.specs.Actions.{Action, Creates, Adds, Writes, Prepares, Explains, Runs, Shows, action_bound, action_schema, action_of, asked_bound, asked_schema, schema_after, statement_bound}
 use Rattle.pq_step.specs.Evidence.{TellsEvidence}
 use Rattle.pq_step.specs.Model.{Model}
 use Rattle.pq_step.specs.Stands.{HoldsModel, Stands, Opens}
 use Rattle.pq_statement.specs.Planning.{PlannedDefinition}
-use Rattle.pq_step.specs.Step.{Step, action_step, acted_as, step, refusal_report, report_of, report_step, explanation, unread_report, crowding_refusal, effected_as, prepared_over, write_step}
+use Rattle.pq_step.specs.Step.{Step, action_step, acted_as, step, refusal_report, report_of, report_step, explanation, unread_report, crowded_refusal, crowding_refusal, counted_over, counter_step, effected_as, prepared_over, read_step, write_step}
+use Rattle.pq_statement.specs.Readings.{Reading}
 use Rattle.pq_text.specs.declared.piece.Piece.{Piece}
 use Rattle.pq_statement.specs.Lines.{show_lines}
 use Rattle.pq_store.specs.Breaks.{IsUndamaged}
@@ -83,6 +86,8 @@ action_same schema (Writes write) content now same = same
 action_same schema (Prepares plan) content now same = index_same schema plan.query plan.chosen.wanted content now same
 action_same schema (Explains plan) content now same = same
 action_same schema (Runs running) content now same = same
+action_same schema (action.Counts def) content now same = same
+action_same schema (action.Reads reading) content now same = same
 action_same schema Shows content now same = same
 
 asked_same : (schema : Schema) (asked : Result Action Refusal) (content : Content) (now : Option Content) → now ≡ Some content → StopsAsked schema asked content now
@@ -122,9 +127,21 @@ effected_bound : (m : Model) (number : ℕ) (most : Bound) (made : Result Rows R
 effected_bound m number most (Ok rows) = refl
 effected_bound m number most (Err why) = refl
 
-written_bound : (m : Model) (number : ℕ) (write : Write) → (write_step m number write).report.bound ≡ write_bound m.schema.tables write
+written_bound : (m : Model) (number : ℕ) (write : Write) → (write_step m number write).report.bound ≡ whole_bound m.schema write
 unfolding write_step
-written_bound m number write = effected_bound m number (write_bound m.schema.tables write) (effect m.schema.tables m.rows write)
+written_bound m number write = effected_bound m number (whole_bound m.schema write) (counted_effect m.schema m.rows write)
+
+over_bound : (m : Model) (number : ℕ) (def : CounterDef) (why : Option Refusal) → (counted_over m number def why).report.bound ≡ bound 2 1
+over_bound m number def None = refl
+over_bound m number def (Some why) = refl
+
+counter_bound : (m : Model) (number : ℕ) (def : CounterDef) → (counter_step m number def).report.bound ≡ bound 2 1
+unfolding counter_step
+counter_bound m number def = over_bound m number def (crowded_refusal m def)
+
+read_bound : (m : Model) (number : ℕ) (reading : Reading) → (read_step m number reading).report.bound ≡ bound 1 1
+unfolding read_step
+read_bound m number reading = refl
 
 step_bound : (m : Model) (number : ℕ) (action : Action) (most : Bound) → action_bound m.schema action ≡ Some most → (action_step m number action).report.bound ≡ most
 step_bound m number (Creates table) most is = same_Some _ _ is
@@ -133,6 +150,8 @@ step_bound m number (Writes write) most is = written_bound m number write ∙ sa
 step_bound m number (Prepares plan) most is = prepared_bound m number plan (crowding_refusal m plan.chosen.wanted) ∙ index_bound plan.chosen.wanted m.rows most is
 step_bound m number (Explains plan) most is = same_Some _ _ is
 step_bound m number (Runs running) most is = same_Some _ _ is
+step_bound m number (action.Counts def) most is = counter_bound m number def ∙ same_Some _ _ is
+step_bound m number (action.Reads reading) most is = read_bound m number reading ∙ same_Some _ _ is
 step_bound m number Shows most is = same_Some _ _ is
 
 -- so what is within the one is within the other

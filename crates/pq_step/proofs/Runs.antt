@@ -25,7 +25,7 @@ use Rattle.pq_step.specs.Model.{Model}
 use Rattle.pq_intent.specs.Spending.{TakesAtMost}
 use Rattle.pq_step.specs.Promise.{BrokenStatement, DoneStatement}
 use Rattle.pq_step.specs.Reports.{page_report}
-use Rattle.pq_step.specs.Stands.{Stands, catalog_pairs}
+use Rattle.pq_step.specs.Stands.{Stands, others_of}
 use Rattle.pq_statement.specs.Actions.{Runs}
 use Rattle.pq_step.specs.Step.{page_of}
 use Rattle.pq_step.proofs.Promises.{broken_kept, within_step}
@@ -72,7 +72,7 @@ module _ (number : ℕ) (run : Running) (schema : Schema) where
       let few_ops : page.used.ops ≤ page.bound.ops = omega (arith, used.ops, rises.few_ops, most_ops) in
       let few_entries : page.used.entries ≤ page.bound.entries = omega (arith, used.entries, rises.few_entries, most_entries) in
       record {
-        matches = λ m s. page_matches m page s.known (is m.rows (catalog_pairs schema) (settled_rows old schema m s)) bound few_ops few_entries;
+        matches = λ m s. page_matches m page s.known (is m.rows (others_of m) (settled_rows old schema m s)) bound few_ops few_entries;
         made = λ m s. subst (λ (o : Option Content). Stands o schema m) (sym same) s;
         ops = used.ops;
         entries = used.entries;
@@ -99,5 +99,5 @@ module _ (number : ℕ) (run : Running) (schema : Schema) where
       → RisesWithin most before later → now ≡ old → BrokenStatement number (Ok (Runs run)) old now schema before later error
   page_broke old now before later error sound shows rises same =
       broken_kept number (Ok (Runs run)) old now schema before later error same
-      (λ m s. sound m.rows (catalog_pairs schema) (settled_rows old schema m s))
+      (λ m s. sound m.rows (others_of m) (settled_rows old schema m s))
       (within_run before later rises) (within_step number (Runs run) old schema most before later refl (within_run before later rises)) (read_shown old error shows)

@@ -1,18 +1,14 @@
 -- What a write makes of what a content stands for.
-use Rattle.std.proofs.Common.{◌≡◌, ℕ, List, [], map, Option, Some, None, Result, Ok, Err, refl, sym, ap, ◌∙◌, subst, arith, inl, inr, ◌⊎◌}
+use Rattle.std.proofs.Common.{lit≤, ◌≡◌, ℕ, ◌+◌, ◌≤◌, ◌==◌, Bool, true, false, cond, List, [], map, Option, Some, None, Result, Ok, Err, refl, sym, ap, ◌∙◌, subst, arith, inl, inr, ◌⊎◌}
 use Rattle.std.specs.Prelude.{MatchResult, IfSome}
+use Rattle.std.proofs.lemmas.Bool.{eq-eqb, eqb-true, false≢true}
 use Rattle.pq_base.specs.declared.number.Bound.{Bound}
 use Rattle.pq_base.specs.declared.refusal.Refusal.{Refusal}
-use Rattle.pq_base.specs.declared.refusal.Stopped.{Stopped}
-use Rattle.pq_base.specs.declared.refusal.Stopped.TheVariants.{Refused}
-use Rattle.pq_base.specs.Answers.{Answers}
 use Rattle.pq_row_code.specs.declared.changes.Change.{Change}
 use Rattle.pq_schema.specs.Schema.{Schema}
-use Rattle.pq_schema.specs.declared.table.Table.{Table}
-use Rattle.pq_schema.proofs.Valid.{valid_small}
 use Rattle.pq_print.specs.declared.report.End.TheVariants as end
-use Rattle.pq_content.specs.Pairs.{Pair, changed_content}
-use Rattle.pq_content.specs.Standing.{change_of}
+use Rattle.pq_content.specs.Pairs.{Pair, HoldsRows, changed_content, content_pairs}
+use Rattle.pq_content.specs.Standing.{change_of, write_ops}
 use Rattle.pq_content.specs.Tables.{Rows, Keeps}
 use Rattle.pq_store.specs.Content.{Content}
 use Rattle.pq_store.specs.Counts.{Counts, AllowedCounts, granted_counts, used_of}
@@ -23,55 +19,53 @@ use Rattle.pq_intent.specs.Changing.{IfDamagedSame}
 use Rattle.pq_step.specs.Evidence.{TellsEvidence}
 use Rattle.pq_intent.specs.Settling.{IsSettled, Settles}
 use Rattle.pq_intent.specs.Spending.{TakesAtMost, Spends}
-use Rattle.pq_text.specs.declared.token.Token.{Token}
 use Rattle.pq_print.specs.declared.report.Report.{Report}
-use Rattle.pq_def_read.specs.declared.statement.Statement.{Statement}
-use Rattle.pq_def_read.specs.declared.statement.Statement.TheVariants as statement
 use Rattle.pq_index_keep.specs.declared.plan.Planned.{Planned}
 use Rattle.pq_index_keep.specs.declared.plan.Planned.TheVariants as planned
 use Rattle.pq_index_keep.specs.declared.write.Write.{Write}
-use Rattle.pq_index_keep.specs.Bounds.{write_tests, write_bound}
-use Rattle.pq_index_keep.specs.Checking.{checked_write, IsWriting}
-use Rattle.pq_index_keep.specs.Effects.{effect}
-use Rattle.pq_index_keep.specs.Promises as keep
-use Rattle.pq_index_keep.specs.Refusals.{CanRefuse, RefusesAs}
-use Rattle.pq_index_keep.specs.Promises.{Plans, MakesRows}
-use Rattle.pq_calls.specs.Evidence.{IsNoRow}
+use Rattle.pq_tallies.specs.Counters.{AreFewRows, HoldsCounted}
+use Rattle.pq_tallies.specs.Defined.{counters_in}
+use Rattle.pq_tallies.specs.Writes.{counted_effect}
+use Rattle.pq_counters.specs.Bounds.{whole_bound}
+use Rattle.pq_counters.specs.Evidence.{ShowsCounted}
+use Rattle.pq_counters.specs.Whole.{CanRefuseWhole, MakesWhole, PlansWhole, RefusesWhole, whole_reads}
 use Rattle.pq_calls.specs.World.{world, Reads, Explains, where_told}
-use Rattle.pq_calls.proofs.Steps.{explained_undamaged}
-use Rattle.pq_index_keep.proofs.Deleting.{undamaged}
 use Rattle.pq_key_code.specs.KeyCode.{intent_key}
-use Rattle.pq_index_keep.specs.Sound as writable
-use Rattle.pq_index_keep.specs.Sound.{IsWrite}
-use Rattle.pq_index_keep.proofs.Few.{IsFew, few_of}
-use Rattle.pq_index_keep.proofs.Narrow.{valid_writable}
 use Rattle.pq_nodes.specs.Operators.{no_row}
 use Rattle.pq_schema.specs.Valid.{IsValid}
 use Rattle.pq_step.specs.Matches.{Matches}
 use Rattle.pq_step.specs.Model.{Model}
 use Rattle.pq_statement.specs.Actions.{Writes}
 use Rattle.pq_step.specs.Promise.{DoneStatement, BrokenStatement, KeepsDamaged}
-use Rattle.pq_step.specs.Stands.{HoldsModel, Stands, Opens, content_of, catalog_pairs}
+use Rattle.pq_step.specs.Stands.{HoldsModel, Stands, Opens, content_of, catalog_pairs, others_of}
 use Rattle.pq_step.specs.Step.{Step, report_of, refusal_report, refused_step, write_step, effected_as}
-use Rattle.pq_step.proofs.Catalogs.{are_beside}
+use Rattle.pq_step.proofs.Counted.{others_beside, settled_counted}
 use Rattle.pq_step.proofs.Standing.{no_intent_in, settled_opens}
 use Rattle.pq_step.proofs.Promises.{damaged_kept, same_kept, shown_still, within_step}
 
--- rows of the tables of a valid schema can be written
-pub writable_tables : (schema : Schema) → IsValid schema → writable.AreWritable schema.tables
-writable_tables schema built = valid_writable built
+-- ---- the operations of a commit
 
-pub bound_few : (schema : Schema) (write : Write) → IsValid schema → IsWrite schema.tables write → IsFew (write_bound schema.tables write)
-bound_few schema write built is = few_of schema.tables write (writable_tables schema built) (valid_small built).tables is
+-- fewer changes have no more operations
+pub commits_within : (n most : ℕ) → 1 ≤ n → n ≤ most → write_ops n ≤ write_ops most
+commits_within n most some few = by (n == 1) (most == 1) refl refl
+  where
+    by : (b c : Bool) → (n == 1) ≡ b → (most == 1) ≡ c → cond b 1 (n + 2) ≤ cond c 1 (most + 2)
+    by true true one also = lit≤ tt
+    by true false one more = omega arith
+    by false true more one =
+        let most_is : most ≡ 1 = eqb-true most 1 one in
+        let same : n ≡ 1 = omega (arith, some, few, most_is) in
+        absurd (false≢true (sym more ∙ eq-eqb n 1 same))
+    by false false more also = omega (arith, few)
 
 -- ---- what the plan and the commit are told of the content
 
-pub settled_rows : (old : Option Content) (schema : Schema) (m : Model) → Stands old schema m → keep.HoldsRows old schema.tables m.rows (catalog_pairs schema)
+pub settled_rows : (old : Option Content) (schema : Schema) (m : Model) → Stands old schema m → HoldsRows old schema.tables m.rows (others_of m)
 unfolding content_of
 settled_rows old schema m s = record {
   keeps = subst (λ (x : Schema). Keeps x.tables m.rows) (sym s.known) s.settled.keeps;
-  beside = are_beside schema;
-  is = s.settled.told ∙ ap (λ (x : Schema). Some (content_of (record { schema = x; rows = m.rows }))) (sym s.known);
+  beside = others_beside m;
+  is = s.settled.told ∙ ap (λ (x : Schema). Some (content_pairs x.tables m.rows (others_of m))) (sym s.known);
 }
 
 pub settled_for : (old mid : Option Content) (schema : Schema) (m : Model) → mid ≡ old → Stands old schema m → IsSettled mid (content_of m)
@@ -79,24 +73,24 @@ settled_for old mid schema m same s = record { told = same ∙ s.settled.told; n
 
 -- ---- refused
 
-step_refused : (m : Model) (number : ℕ) (write : Write) (why : Refusal) (schema : Schema) → schema ≡ m.schema → effect schema.tables m.rows write ≡ Err why
-    → write_step m number write ≡ refused_step m number why (write_bound schema.tables write)
+step_refused : (m : Model) (number : ℕ) (write : Write) (why : Refusal) (schema : Schema) → schema ≡ m.schema → counted_effect schema m.rows write ≡ Err why
+    → write_step m number write ≡ refused_step m number why (whole_bound schema write)
 unfolding write_step
 step_refused m number write why schema known is =
-    subst (λ (x : Schema). effect x.tables m.rows write ≡ Err why → write_step m number write ≡ refused_step m number why (write_bound x.tables write)) (sym known)
-    (λ same. ap (effected_as m number (write_bound m.schema.tables write)) same) is
+    subst (λ (x : Schema). counted_effect x m.rows write ≡ Err why → write_step m number write ≡ refused_step m number why (whole_bound x write)) (sym known)
+    (λ same. ap (effected_as m number (whole_bound m.schema write)) same) is
 
 refused_by : (number : ℕ) (write : Write) (why : Refusal) (old now : Option Content) (schema : Schema) (f0 f1 : ℕ) (allowed : AllowedCounts) (before after : Counts)
-    → Reads (world old f0 (granted_counts (write_bound schema.tables write).ops (write_bound schema.tables write).entries) before) (world now f1 allowed after) (write_tests schema.tables write).ops (write_tests schema.tables write).entries
-    → ((rows : Rows) (others : List Pair) → keep.HoldsRows old schema.tables rows others → effect schema.tables rows write ≡ Err why)
-    → CanRefuse schema.tables write why
-    → DoneStatement number (Ok (Writes write)) old now schema schema before after (record (refusal_report number why (write_bound schema.tables write)) { used = used_of allowed })
+    → Reads (world old f0 (granted_counts (whole_bound schema write).ops (whole_bound schema write).entries) before) (world now f1 allowed after) (whole_reads schema write).ops (whole_reads schema write).entries
+    → ((rows : Rows) (others : List Pair) → HoldsCounted old schema rows others → counted_effect schema rows write ≡ Err why)
+    → CanRefuseWhole schema write why
+    → DoneStatement number (Ok (Writes write)) old now schema schema before after (record (refusal_report number why (whole_bound schema write)) { used = used_of allowed })
 refused_by number write why old now schema f0 f1 allowed before after reads answer can = record {
-  matches = λ m s. subst (λ (x : Step). Matches x.report (record (refusal_report number why (write_bound schema.tables write)) { used = used_of allowed }))
-      (sym (step_refused m number write why schema s.known (answer m.rows (catalog_pairs schema) (settled_rows old schema m s))))
+  matches = λ m s. subst (λ (x : Step). Matches x.report (record (refusal_report number why (whole_bound schema write)) { used = used_of allowed }))
+      (sym (step_refused m number write why schema s.known (answer m.rows (catalog_pairs schema) (settled_counted old schema m s))))
       (record { same = refl; ops = omega (arith, ap (λ (c : Counts). c.ops) reads.granted); entries = omega (arith, ap (λ (c : Counts). c.entries) reads.granted) });
   made = λ m s. subst (λ (x : Step). Stands now schema x.model)
-      (sym (step_refused m number write why schema s.known (answer m.rows (catalog_pairs schema) (settled_rows old schema m s))))
+      (sym (step_refused m number write why schema s.known (answer m.rows (catalog_pairs schema) (settled_counted old schema m s))))
       (subst (λ (o : Option Content). Stands o schema m) (sym reads.same) s);
   ops = omega (arith, ap (λ (c : Counts). c.ops) reads.granted, reads.spent_ops, reads.rise_ops);
   entries = omega (arith, ap (λ (c : Counts). c.entries) reads.granted, reads.spent_entries, reads.rise_entries);
@@ -112,62 +106,62 @@ refused_by number write why old now schema f0 f1 allowed before after reads answ
 }
 
 pub refused_done : (number : ℕ) (write : Write) (why : Refusal) (old now : Option Content) (schema : Schema) (most : Bound) (f0 f1 : ℕ) (given allowed : AllowedCounts) (before after : Counts) (q : Planned)
-    → most ≡ write_bound schema.tables write → given ≡ granted_counts most.ops most.entries → q ≡ planned.Refused why
-    → Reads (world old f0 given before) (world now f1 allowed after) (write_tests schema.tables write).ops (write_tests schema.tables write).entries
-    → ((rows : Rows) (others : List Pair) → keep.HoldsRows old schema.tables rows others → Plans schema.tables rows others write q)
-    → RefusesAs schema.tables write q
+    → most ≡ whole_bound schema write → given ≡ granted_counts most.ops most.entries → q ≡ planned.Refused why
+    → Reads (world old f0 given before) (world now f1 allowed after) (whole_reads schema write).ops (whole_reads schema write).entries
+    → ((rows : Rows) (others : List Pair) → HoldsCounted old schema rows others → PlansWhole schema rows others write q)
+    → RefusesWhole schema write q
     → DoneStatement number (Ok (Writes write)) old now schema schema before after (record (refusal_report number why most) { used = used_of allowed })
 refused_done number write why old now schema most f0 f1 given allowed before after q is_most is_given is reads answer can =
     subst (λ (x : Bound). DoneStatement number (Ok (Writes write)) old now schema schema before after (record (refusal_report number why x) { used = used_of allowed })) (sym is_most)
     (refused_by number write why old now schema f0 f1 allowed before after
-    (subst (λ (a : AllowedCounts). Reads (world old f0 a before) (world now f1 allowed after) (write_tests schema.tables write).ops (write_tests schema.tables write).entries) (is_given ∙ ap (λ (b : Bound). granted_counts b.ops b.entries) is_most) reads)
-    (subst (λ (x : Planned). (rows : Rows) (others : List Pair) → keep.HoldsRows old schema.tables rows others → Plans schema.tables rows others write x) is answer)
-    (subst (RefusesAs schema.tables write) is can))
+    (subst (λ (a : AllowedCounts). Reads (world old f0 a before) (world now f1 allowed after) (whole_reads schema write).ops (whole_reads schema write).entries) (is_given ∙ ap (λ (b : Bound). granted_counts b.ops b.entries) is_most) reads)
+    (subst (λ (x : Planned). (rows : Rows) (others : List Pair) → HoldsCounted old schema rows others → PlansWhole schema rows others write x) is answer)
+    (subst (RefusesWhole schema write) is can))
 
 -- ---- made
 
 planned_as : (old : Option Content) (schema : Schema) (write : Write) (q : Planned) (changes : List Change) → q ≡ planned.Changes changes
-    → ((rows : Rows) (others : List Pair) → keep.HoldsRows old schema.tables rows others → Plans schema.tables rows others write q)
-    → (rows : Rows) (others : List Pair) → keep.HoldsRows old schema.tables rows others → Plans schema.tables rows others write (planned.Changes changes)
-planned_as old schema write q changes is answer = subst (λ (x : Planned). (rows : Rows) (others : List Pair) → keep.HoldsRows old schema.tables rows others → Plans schema.tables rows others write x) is answer
+    → ((rows : Rows) (others : List Pair) → HoldsCounted old schema rows others → PlansWhole schema rows others write q)
+    → (rows : Rows) (others : List Pair) → HoldsCounted old schema rows others → PlansWhole schema rows others write (planned.Changes changes)
+planned_as old schema write q changes is answer = subst (λ (x : Planned). (rows : Rows) (others : List Pair) → HoldsCounted old schema rows others → PlansWhole schema rows others write x) is answer
 
-record Made (tables : List Table) (rows : Rows) (others : List Pair) (write : Write) (changes : List Change) : Type 0 where
+record Made (schema : Schema) (rows : Rows) (others : List Pair) (write : Write) (changes : List Change) : Type 0 where
   rows_made : Rows
-  is : effect tables rows write ≡ Ok rows_made
-  makes : MakesRows tables rows others write changes rows_made
+  is : counted_effect schema rows write ≡ Ok rows_made
+  makes : MakesWhole schema rows others changes rows_made
 
-made_by : (tables : List Table) (rows : Rows) (others : List Pair) (write : Write) (changes : List Change) (r : Result Rows Refusal) → r ≡ effect tables rows write
-    → MatchResult r (MakesRows tables rows others write changes) (λ refusal. ⊥) → Made tables rows others write changes
-made_by tables rows others write changes (Ok made) is makes = record { rows_made = made; is = sym is; makes = makes }
-made_by tables rows others write changes (Err why) is makes = absurd makes
+made_by : (schema : Schema) (rows : Rows) (others : List Pair) (write : Write) (changes : List Change) (r : Result Rows Refusal) → r ≡ counted_effect schema rows write
+    → MatchResult r (MakesWhole schema rows others changes) (λ refusal. ⊥) → Made schema rows others write changes
+made_by schema rows others write changes (Ok made) is makes = record { rows_made = made; is = sym is; makes = makes }
+made_by schema rows others write changes (Err why) is makes = absurd makes
 
 made_of : (schema : Schema) (m : Model) (old : Option Content) (write : Write) (changes : List Change) → Stands old schema m
-    → ((rows : Rows) (others : List Pair) → keep.HoldsRows old schema.tables rows others → Plans schema.tables rows others write (planned.Changes changes))
-    → Made m.schema.tables m.rows (catalog_pairs m.schema) write changes
+    → ((rows : Rows) (others : List Pair) → HoldsCounted old schema rows others → PlansWhole schema rows others write (planned.Changes changes))
+    → Made m.schema m.rows (catalog_pairs m.schema) write changes
 made_of schema m old write changes s answer =
-    subst (λ (x : Schema). Made x.tables m.rows (catalog_pairs x) write changes) s.known
-    (made_by schema.tables m.rows (catalog_pairs schema) write changes (effect schema.tables m.rows write) refl (answer m.rows (catalog_pairs schema) (settled_rows old schema m s)))
+    subst (λ (x : Schema). Made x m.rows (catalog_pairs x) write changes) s.known
+    (made_by schema m.rows (catalog_pairs schema) write changes (counted_effect schema m.rows write) refl (answer m.rows (catalog_pairs schema) (settled_counted old schema m s)))
 
 -- the model with these rows
 abbrev with_rows : Model → Rows → Model
 with_rows m rows = record m { rows = rows }
 
-step_made : (m : Model) (number : ℕ) (write : Write) (rows : Rows) → effect m.schema.tables m.rows write ≡ Ok rows
-    → write_step m number write ≡ record { model = with_rows m rows; report = report_of number [] end.Done (write_bound m.schema.tables write) }
+step_made : (m : Model) (number : ℕ) (write : Write) (rows : Rows) → counted_effect m.schema m.rows write ≡ Ok rows
+    → write_step m number write ≡ record { model = with_rows m rows; report = report_of number [] end.Done (whole_bound m.schema write) }
 unfolding write_step
-step_made m number write rows is = ap (effected_as m number (write_bound m.schema.tables write)) is
+step_made m number write rows is = ap (effected_as m number (whole_bound m.schema write)) is
 
-content_made : (m : Model) (write : Write) (changes : List Change) (p : Made m.schema.tables m.rows (catalog_pairs m.schema) write changes)
+content_made : (m : Model) (write : Write) (changes : List Change) (p : Made m.schema m.rows (catalog_pairs m.schema) write changes)
     → changed_content (map change_of changes) (content_of m) ≡ content_of (with_rows m p.rows_made)
 unfolding content_of
 content_made m write changes p = p.makes.content
 
 changed_by : (number : ℕ) (write : Write) (changes : List Change) (old mid now : Option Content) (schema : Schema) (f0 f1 : ℕ) (left allowed : AllowedCounts) (before between after : Counts)
-    → Reads (world old f0 (granted_counts (write_bound schema.tables write).ops (write_bound schema.tables write).entries) before) (world mid f1 left between) (write_tests schema.tables write).ops (write_tests schema.tables write).entries
-    → ((rows : Rows) (others : List Pair) → keep.HoldsRows old schema.tables rows others → Plans schema.tables rows others write (planned.Changes changes))
+    → Reads (world old f0 (granted_counts (whole_bound schema write).ops (whole_bound schema write).entries) before) (world mid f1 left between) (whole_reads schema write).ops (whole_reads schema write).entries
+    → ((rows : Rows) (others : List Pair) → HoldsCounted old schema rows others → PlansWhole schema rows others write (planned.Changes changes))
     → ((pairs : Content) → IsSettled mid pairs → now ≡ Some (changed_content (map change_of changes) pairs))
     → (most : ℕ) → Spends most left allowed between after
-    → DoneStatement number (Ok (Writes write)) old now schema schema before after (record (report_of number [] end.Done (write_bound schema.tables write)) { used = used_of allowed })
+    → DoneStatement number (Ok (Writes write)) old now schema schema before after (record (report_of number [] end.Done (whole_bound schema write)) { used = used_of allowed })
 changed_by number write changes old mid now schema f0 f1 left allowed before between after reads answer commits most spends =
     let granted_ops = ap (λ (c : Counts). c.ops) reads.granted in
     let granted_entries = ap (λ (c : Counts). c.entries) reads.granted in
@@ -176,8 +170,8 @@ changed_by number write changes old mid now schema f0 f1 left allowed before bet
     record {
       matches = λ m s.
           let p = made_of schema m old write changes s answer in
-          subst (λ (x : Step). Matches x.report (record (report_of number [] end.Done (write_bound schema.tables write)) { used = used_of allowed })) (sym (step_made m number write p.rows_made p.is))
-          (subst (λ (x : Schema). Matches (report_of number [] end.Done (write_bound x.tables write)) (record (report_of number [] end.Done (write_bound schema.tables write)) { used = used_of allowed })) s.known
+          subst (λ (x : Step). Matches x.report (record (report_of number [] end.Done (whole_bound schema write)) { used = used_of allowed })) (sym (step_made m number write p.rows_made p.is))
+          (subst (λ (x : Schema). Matches (report_of number [] end.Done (whole_bound x write)) (record (report_of number [] end.Done (whole_bound schema write)) { used = used_of allowed })) s.known
           (record { same = refl; ops = omega (arith, granted_ops, same_ops); entries = omega (arith, granted_entries, same_entries) }));
       made = λ m s.
           let p = made_of schema m old write changes s answer in
@@ -186,6 +180,7 @@ changed_by number write changes old mid now schema f0 f1 left allowed before bet
             settled = record {
               valid = s.settled.valid;
               keeps = p.makes.keeps;
+              few = p.makes.few;
               told = commits (content_of m) (settled_for old mid schema m reads.same s) ∙ ap Some (content_made m write changes p);
             };
             known = s.known;
@@ -204,16 +199,16 @@ changed_by number write changes old mid now schema f0 f1 left allowed before bet
     }
 
 pub changed_done : (number : ℕ) (write : Write) (changes : List Change) (old mid now : Option Content) (schema : Schema) (most : Bound) (f0 f1 : ℕ) (given left allowed : AllowedCounts) (before between after : Counts) (q : Planned)
-    → most ≡ write_bound schema.tables write → given ≡ granted_counts most.ops most.entries → q ≡ planned.Changes changes
-    → Reads (world old f0 given before) (world mid f1 left between) (write_tests schema.tables write).ops (write_tests schema.tables write).entries
-    → ((rows : Rows) (others : List Pair) → keep.HoldsRows old schema.tables rows others → Plans schema.tables rows others write q)
+    → most ≡ whole_bound schema write → given ≡ granted_counts most.ops most.entries → q ≡ planned.Changes changes
+    → Reads (world old f0 given before) (world mid f1 left between) (whole_reads schema write).ops (whole_reads schema write).entries
+    → ((rows : Rows) (others : List Pair) → HoldsCounted old schema rows others → PlansWhole schema rows others write q)
     → ((pairs : Content) → IsSettled mid pairs → now ≡ Some (changed_content (map change_of changes) pairs))
     → (limit : ℕ) → Spends limit left allowed between after
     → DoneStatement number (Ok (Writes write)) old now schema schema before after (record (report_of number [] end.Done most) { used = used_of allowed })
 changed_done number write changes old mid now schema most f0 f1 given left allowed before between after q is_most is_given is reads answer commits limit spends =
     subst (λ (x : Bound). DoneStatement number (Ok (Writes write)) old now schema schema before after (record (report_of number [] end.Done x) { used = used_of allowed })) (sym is_most)
     (changed_by number write changes old mid now schema f0 f1 left allowed before between after
-    (subst (λ (a : AllowedCounts). Reads (world old f0 a before) (world mid f1 left between) (write_tests schema.tables write).ops (write_tests schema.tables write).entries) (is_given ∙ ap (λ (b : Bound). granted_counts b.ops b.entries) is_most) reads)
+    (subst (λ (a : AllowedCounts). Reads (world old f0 a before) (world mid f1 left between) (whole_reads schema write).ops (whole_reads schema write).entries) (is_given ∙ ap (λ (b : Bound). granted_counts b.ops b.entries) is_most) reads)
     (planned_as old schema write q changes is answer)
     commits limit spends)
 
@@ -235,39 +230,35 @@ committed_within most old mid f0 f1 given left allowed before between after ops 
 }
 
 -- the same of the bound of the write's step
-within_effected : (write : Write) (schema : Schema) (most : Bound) (before after : Counts) → most ≡ write_bound schema.tables write → TakesAtMost most before after → TakesAtMost (write_bound schema.tables write) before after
+within_effected : (write : Write) (schema : Schema) (most : Bound) (before after : Counts) → most ≡ whole_bound schema write → TakesAtMost most before after → TakesAtMost (whole_bound schema write) before after
 within_effected write schema most before after is within = subst (λ (b : Bound). TakesAtMost b before after) is within
 
--- what explains damage shows it, and over what stands for a model there is none
+-- what explains damage shows it
 pub explained_shown : (old : Option Content) (schema : Schema) (error : Broke) (f0 f1 : ℕ) (given left : AllowedCounts) (before after : Counts) (now : Option Content)
-    → Explains (where_told (IsNoRow schema.tables)) (world old f0 given before) (world now f1 left after) error → IfSome old (λ content. TellsEvidence schema content error)
+    → Explains (where_told (ShowsCounted schema)) (world old f0 given before) (world now f1 left after) error → IfSome old (λ content. TellsEvidence schema content error)
 explained_shown None schema error f0 f1 given left before after now explains = tt
 explained_shown (Some content) schema broke.Failed f0 f1 given left before after now explains = tt
 explained_shown (Some content) schema broke.NoMem f0 f1 given left before after now explains = tt
-explained_shown (Some content) schema (broke.Damaged damage) f0 f1 given left before after now explains = inl (no_row explains)
-
-pub explained_sound : (old : Option Content) (schema : Schema) (error : Broke) (f0 f1 : ℕ) (given left : AllowedCounts) (before after : Counts) (now : Option Content) (m : Model) → Stands old schema m
-    → Explains (where_told (IsNoRow schema.tables)) (world old f0 given before) (world now f1 left after) error → IsUndamaged error
-explained_sound old schema error f0 f1 given left before after now m s explains =
-    explained_undamaged (where_told (IsNoRow schema.tables)) (world old f0 given before) (world now f1 left after) error
-    (undamaged schema.tables m.rows (catalog_pairs schema) old (settled_rows old schema m s)) explains
+explained_shown (Some content) schema (broke.Damaged damage) f0 f1 given left before after now (inl none) = inl (no_row none)
+explained_shown (Some content) schema (broke.Damaged damage) f0 f1 given left before after now (inr counted) = inr (inl counted)
 
 -- so does an intent that is there
 intent_shown : (old : Option Content) (schema : Schema) (error : Broke) → IfSome old (λ content. IfDamaged (IsPresent intent_key content) error) → IfSome old (λ content. TellsEvidence schema content error)
 intent_shown None schema error shows = tt
 intent_shown (Some content) schema broke.Failed shows = tt
 intent_shown (Some content) schema broke.NoMem shows = tt
-intent_shown (Some content) schema (broke.Damaged damage) shows = inr (inl shows)
+intent_shown (Some content) schema (broke.Damaged damage) shows = inr (inr (inl shows))
 
 pub planning_broke : (number : ℕ) (write : Write) (error : Broke) (old now : Option Content) (schema : Schema) (most : Bound) (f0 f1 : ℕ) (given left : AllowedCounts) (before after : Counts) (ops entries : ℕ)
-    → most ≡ write_bound schema.tables write → given ≡ granted_counts most.ops most.entries → Reads (world old f0 given before) (world now f1 left after) ops entries
-    → Explains (where_told (IsNoRow schema.tables)) (world old f0 given before) (world now f1 left after) error
+    → most ≡ whole_bound schema write → given ≡ granted_counts most.ops most.entries → Reads (world old f0 given before) (world now f1 left after) ops entries
+    → Explains (where_told (ShowsCounted schema)) (world old f0 given before) (world now f1 left after) error
+    → ((rows : Rows) (others : List Pair) → HoldsCounted old schema rows others → IsUndamaged error)
     → BrokenStatement number (Ok (Writes write)) old now schema before after error
-planning_broke number write error old now schema most f0 f1 given left before after ops entries is_most is_given reads explains = record {
+planning_broke number write error old now schema most f0 f1 given left before after ops entries is_most is_given reads explains undamaged = record {
   stopped = λ m s. inl (settled_opens (subst (λ o. HoldsModel o m) (sym reads.same) s.settled));
-  sound = λ m s. explained_sound old schema error f0 f1 given left before after now m s explains;
+  sound = λ m s. undamaged m.rows (catalog_pairs schema) (settled_counted old schema m s);
   within = within_effected write schema most before after is_most (planned_within most old now f0 f1 given left before after ops entries is_given reads);
-  within_own = λ m s. within_step number (Writes write) old schema (write_bound schema.tables write) before after refl
+  within_own = λ m s. within_step number (Writes write) old schema (whole_bound schema write) before after refl
       (within_effected write schema most before after is_most (planned_within most old now f0 f1 given left before after ops entries is_given reads)) m s;
   kept = same_kept schema (Ok (Writes write)) old now error reads.same;
   reads = λ none. absurd none;
@@ -275,26 +266,26 @@ planning_broke number write error old now schema most f0 f1 given left before af
   lasting = subst (λ (o : Option Content). IfSome o (λ content. TellsEvidence schema content error)) (sym reads.same) (explained_shown old schema error f0 f1 given left before after now explains);
 }
 
-stopped_at : (m : Model) (number : ℕ) (write : Write) (changes : List Change) (now : Option Content) → IsValid m.schema → Keeps m.schema.tables m.rows
-    → Made m.schema.tables m.rows (catalog_pairs m.schema) write changes
+stopped_at : (m : Model) (number : ℕ) (write : Write) (changes : List Change) (now : Option Content) → IsValid m.schema → Keeps m.schema.tables m.rows → AreFewRows (counters_in m.schema) m.rows
+    → Made m.schema m.rows (catalog_pairs m.schema) write changes
     → Settles now (content_of m) ⊎ Settles now (changed_content (map change_of changes) (content_of m)) → Opens now m ⊎ Opens now (write_step m number write).model
-stopped_at m number write changes now valid keeps p (inl settles) = inl (record { valid = valid; keeps = keeps; pairs = content_of m; settles = settles; holds = inl refl })
-stopped_at m number write changes now valid keeps p (inr settles) =
+stopped_at m number write changes now valid keeps few p (inl settles) = inl (record { valid = valid; keeps = keeps; few = few; pairs = content_of m; settles = settles; holds = inl refl })
+stopped_at m number write changes now valid keeps few p (inr settles) =
     inr (subst (λ (x : Step). Opens now x.model) (sym (step_made m number write p.rows_made p.is))
-    (record { valid = valid; keeps = p.makes.keeps; pairs = changed_content (map change_of changes) (content_of m); settles = settles; holds = inl (content_made m write changes p) }))
+    (record { valid = valid; keeps = p.makes.keeps; few = p.makes.few; pairs = changed_content (map change_of changes) (content_of m); settles = settles; holds = inl (content_made m write changes p) }))
 
 pub commit_broke : (number : ℕ) (write : Write) (changes : List Change) (error : Broke) (old mid now : Option Content) (schema : Schema) (most : Bound) (f0 f1 : ℕ) (given left allowed : AllowedCounts) (before between after : Counts) (ops entries limit : ℕ) (q : Planned)
-    → most ≡ write_bound schema.tables write → given ≡ granted_counts most.ops most.entries → q ≡ planned.Changes changes
+    → most ≡ whole_bound schema write → given ≡ granted_counts most.ops most.entries → q ≡ planned.Changes changes
     → Reads (world old f0 given before) (world mid f1 left between) ops entries → Spends limit left allowed between after
-    → ((rows : Rows) (others : List Pair) → keep.HoldsRows old schema.tables rows others → Plans schema.tables rows others write q)
+    → ((rows : Rows) (others : List Pair) → HoldsCounted old schema rows others → PlansWhole schema rows others write q)
     → ((pairs : Content) → IsSettled mid pairs → Settles now pairs ⊎ Settles now (changed_content (map change_of changes) pairs))
     → ((pairs : Content) → IsSettled mid pairs → IsUndamaged error) → IfSome mid (λ pairs. IfDamaged (IsPresent intent_key pairs) error)
     → IfDamagedSame mid now error → BrokenStatement number (Ok (Writes write)) old now schema before after error
 commit_broke number write changes error old mid now schema most f0 f1 given left allowed before between after ops entries limit q is_most is_given is reads spends answer stops sound shows same = record {
-  stopped = λ m s. stopped_at m number write changes now s.settled.valid s.settled.keeps (made_of schema m old write changes s (planned_as old schema write q changes is answer)) (stops (content_of m) (settled_for old mid schema m reads.same s));
+  stopped = λ m s. stopped_at m number write changes now s.settled.valid s.settled.keeps s.settled.few (made_of schema m old write changes s (planned_as old schema write q changes is answer)) (stops (content_of m) (settled_for old mid schema m reads.same s));
   sound = λ m s. sound (content_of m) (settled_for old mid schema m reads.same s);
   within = within_effected write schema most before after is_most (committed_within most old mid f0 f1 given left allowed before between after ops entries limit is_given reads spends);
-  within_own = λ m s. within_step number (Writes write) old schema (write_bound schema.tables write) before after refl
+  within_own = λ m s. within_step number (Writes write) old schema (whole_bound schema write) before after refl
       (within_effected write schema most before after is_most (committed_within most old mid f0 f1 given left allowed before between after ops entries limit is_given reads spends)) m s;
   kept = subst (λ (o : Option Content). KeepsDamaged schema (Ok (Writes write)) o now error) reads.same (damaged_kept schema (Ok (Writes write)) mid now error same);
   reads = λ none. absurd none;

@@ -32,6 +32,7 @@ use Rattle.pq_print.specs.declared.report.Report.{Report}
 use Rattle.pq_runnable.proofs.Staying.{err_not_ok}
 use Rattle.pq_arrange.specs.Arrange.{arranged_query}
 use Rattle.pq_arrange.proofs.Answers.{same_answers}
+use Rattle.pq_statement.specs.Actions as action
 use Rattle.pq_statement.specs.Actions.{Action, Creates, Adds, Writes, Prepares, Explains, Runs, Shows, action_from, action_of, asked_schema, asked_text, schema_after}
 use Rattle.pq_step.specs.Checks.{IsChecked, checked_as}
 use Rattle.pq_step.specs.Model.{Model}
@@ -65,6 +66,8 @@ module _ (schema : Schema) (written : Query) where
   PlansAs (Ok (Writes write)) = ⊥
   PlansAs (Ok (Explains plan)) = ⊥
   PlansAs (Ok (Runs running)) = ⊥
+  PlansAs (Ok (action.Counts def)) = ⊥
+  PlansAs (Ok (action.Reads reading)) = ⊥
   PlansAs (Ok Shows) = ⊥
   PlansAs (Err why) = Unit {0}
 
@@ -115,6 +118,8 @@ module _ (schema : Schema) (written : Query) where
   by_asked (Ok (Writes write)) next resolved as_taken ok is = absurd as_taken
   by_asked (Ok (Explains plan)) next resolved as_taken ok is = absurd as_taken
   by_asked (Ok (Runs running)) next resolved as_taken ok is = absurd as_taken
+  by_asked (Ok (action.Counts def)) next resolved as_taken ok is = absurd as_taken
+  by_asked (Ok (action.Reads reading)) next resolved as_taken ok is = absurd as_taken
   by_asked (Ok Shows) next resolved as_taken ok is = absurd as_taken
   by_asked (Err why) next resolved as_taken ok is = absurd ok
 

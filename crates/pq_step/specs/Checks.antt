@@ -6,9 +6,10 @@ use Rattle.pq_schema.specs.Schema.{Schema}
 use Rattle.pq_text.specs.declared.piece.Piece.{Piece}
 use Rattle.pq_print.specs.declared.report.End.TheVariants.{Done}
 use Rattle.pq_print.specs.declared.report.Report.{Report}
-use Rattle.pq_index_keep.specs.Bounds.{write_bound}
+use Rattle.pq_builds.specs.Bounds.{bound}
+use Rattle.pq_counters.specs.Bounds.{whole_bound}
 use Rattle.pq_pages.specs.Running.{query_bound}
-use Rattle.pq_statement.specs.Actions.{Action, Creates, Adds, Writes, Prepares, Explains, Runs, Shows, action_of}
+use Rattle.pq_statement.specs.Actions.{Action, Creates, Adds, Writes, Prepares, Explains, Runs, Counts, Reads, Shows, action_of}
 use Rattle.pq_step.specs.Model.{Model}
 use Rattle.pq_step.specs.Step.{Step, action_step, refused_unread, report_of, report_step}
 
@@ -20,14 +21,16 @@ without_rows schema = record { schema = schema; rows = [] }
 abbrev pub bound_told : Schema → ℕ → Bound → Step
 bound_told schema number most = report_step (without_rows schema) (report_of number [] Done most)
 
--- a write has no effect and a query no rows; all else is as over tables without rows
+-- a write has no effect, a query no rows and a READ no number; all else is as over tables without rows
 abbrev pub action_check : Schema → ℕ → Action → Step
 action_check schema number (Creates table) = action_step (without_rows schema) number (Creates table)
 action_check schema number (Adds def) = action_step (without_rows schema) number (Adds def)
-action_check schema number (Writes write) = bound_told schema number (write_bound schema.tables write)
+action_check schema number (Writes write) = bound_told schema number (whole_bound schema write)
 action_check schema number (Prepares plan) = action_step (without_rows schema) number (Prepares plan)
 action_check schema number (Explains plan) = action_step (without_rows schema) number (Explains plan)
 action_check schema number (Runs running) = bound_told schema number (query_bound schema.tables running.query)
+action_check schema number (Counts def) = action_step (without_rows schema) number (Counts def)
+action_check schema number (Reads reading) = bound_told schema number (bound 1 1)
 action_check schema number Shows = action_step (without_rows schema) number Shows
 
 abbrev pub checked_as : Schema → ℕ → Result Action Refusal → Step

@@ -16,7 +16,8 @@ use Rattle.pq_print.specs.declared.report.Report.{Report}
 use Rattle.pq_store.specs.Counts.{Counts}
 use Rattle.pq_store.specs.Content.{Content}
 use Rattle.pq_store.specs.declared.damage.Broke.{Broke}
-use Rattle.pq_statement.specs.Actions.{Action, Creates, Adds, Writes, Prepares, Explains, Runs, Shows, asked_bound, asked_schema}
+use Rattle.pq_statement.specs.Actions as action
+use Rattle.pq_statement.specs.Actions.{Action, Creates, Adds, Writes, Prepares, Explains, Runs, Reads, Shows, asked_bound, asked_schema}
 use Rattle.pq_step.specs.Evidence.{TellsEvidence}
 use Rattle.pq_step.specs.Model.{Model}
 use Rattle.pq_step.specs.Refusing.{CanEnd}
@@ -40,7 +41,7 @@ IsRefusal end.Done = ⊥
 IsRefusal (end.Rows count next) = ⊥
 IsRefusal (end.Refused why) = Unit {0}
 
--- a statement that writes nothing: a RUN, an EXPLAIN, a SHOW, or what is refused before any call
+-- a statement that writes nothing: a RUN, a READ, an EXPLAIN, a SHOW, or what is refused before any call
 abbrev pub OnlyReads : Result Action Refusal → Type 0
 OnlyReads (Ok (Creates table)) = ⊥
 OnlyReads (Ok (Adds def)) = ⊥
@@ -48,6 +49,8 @@ OnlyReads (Ok (Writes write)) = ⊥
 OnlyReads (Ok (Prepares plan)) = ⊥
 OnlyReads (Ok (Explains plan)) = Unit {0}
 OnlyReads (Ok (Runs running)) = Unit {0}
+OnlyReads (Ok (action.Counts def)) = ⊥
+OnlyReads (Ok (Reads reading)) = Unit {0}
 OnlyReads (Ok Shows) = Unit {0}
 OnlyReads (Err why) = Unit {0}
 
@@ -65,6 +68,8 @@ StopsAction schema (Writes write) content now = now ≡ Some content
 StopsAction schema (Prepares plan) content now = StopsIndex schema plan.query plan.chosen.wanted content now
 StopsAction schema (Explains plan) content now = now ≡ Some content
 StopsAction schema (Runs running) content now = now ≡ Some content
+StopsAction schema (action.Counts def) content now = now ≡ Some content
+StopsAction schema (Reads reading) content now = now ≡ Some content
 StopsAction schema Shows content now = now ≡ Some content
 
 -- where damage is found, the content is as it was, but for an index that was being made

@@ -8,22 +8,24 @@ use Rattle.pq_schema.specs.declared.table.NewIndex.{NewIndex}
 use Rattle.pq_schema.specs.declared.table.Table.{Table}
 use Rattle.pq_print.specs.declared.report.End.{End}
 use Rattle.pq_print.specs.declared.report.End.TheVariants as end
-use Rattle.pq_index_keep.specs.Refusals.{CanRefuse}
-use Rattle.pq_statement.specs.Actions.{Action, Creates, Adds, Writes, Prepares, Explains, Runs, Shows}
+use Rattle.pq_counters.specs.Whole.{CanRefuseWhole}
+use Rattle.pq_statement.specs.Actions.{Action, Creates, Adds, Writes, Prepares, Explains, Runs, Counts, Reads, Shows}
 
 -- an index can be over too many rows
 abbrev pub CanRefuseIndex : List Table → Option NewIndex → Refusal → Type 0
 CanRefuseIndex tables None why = ⊥
 CanRefuseIndex tables (Some new) why = why ≡ refusal.TooManyRows (table_at tables new.table).name
 
--- calls of the store can refuse a write and an index, and nothing else
+-- calls of the store can refuse a write, an index and a counter, and nothing else
 abbrev pub CanRefuseAction : Schema → Action → Refusal → Type 0
 CanRefuseAction schema (Creates table) why = ⊥
 CanRefuseAction schema (Adds def) why = ⊥
-CanRefuseAction schema (Writes write) why = CanRefuse schema.tables write why
+CanRefuseAction schema (Writes write) why = CanRefuseWhole schema write why
 CanRefuseAction schema (Prepares plan) why = CanRefuseIndex schema.tables plan.chosen.wanted why
 CanRefuseAction schema (Explains plan) why = ⊥
 CanRefuseAction schema (Runs running) why = ⊥
+CanRefuseAction schema (Counts def) why = why ≡ refusal.NotEmpty def.table
+CanRefuseAction schema (Reads reading) why = ⊥
 CanRefuseAction schema Shows why = ⊥
 
 -- what is refused before any call is refused for that

@@ -1,5 +1,5 @@
 -- Reports with what was used.
-use Rattle.std.specs.Prelude.{ℕ, ◌*◌, List, map, length}
+use Rattle.std.specs.Prelude.{ℕ, ◌*◌, List, [], ◌∷◌, map, length, None}
 use Rattle.pq_base.specs.declared.number.Used.{Used}
 use Rattle.pq_print.specs.declared.report.Line.{Line}
 use Rattle.pq_print.specs.declared.report.Line.TheVariants.{Row}
@@ -9,7 +9,7 @@ use Rattle.pq_pages.specs.declared.page.Page.{Page}
 use Rattle.pq_base.specs.declared.refusal.Refusal.{Refusal}
 use Rattle.pq_builds.specs.Stages.{build_ops}
 use Rattle.pq_builds.specs.Bounds.{bound}
-use Rattle.pq_step.specs.Step.{refusal_report, report_of}
+use Rattle.pq_step.specs.Step.{count_line, refusal_report, report_of}
 
 abbrev pub used_numbers : ℕ → ℕ → Used
 used_numbers ops entries = record { ops = ops; entries = entries }
@@ -37,3 +37,15 @@ build_report number lines count =
 -- rows that were counted, and are too many
 abbrev pub too_many_report : ℕ → Refusal → Report
 too_many_report number why = record (refusal_report number why (bound 1 1000001)) { used = used_numbers 1 1000001 }
+
+-- a counter: no row was counted, and its definition was written
+abbrev pub counter_report : ℕ → Report
+counter_report number = record (report_of number [] Done (bound 2 1)) { used = used_numbers 2 0 }
+
+-- and one over a table of which a row was counted
+abbrev pub crowded_report : ℕ → Refusal → Report
+crowded_report number why = record (refusal_report number why (bound 2 1)) { used = used_numbers 1 1 }
+
+-- a number of rows
+abbrev pub count_report : ℕ → ℕ → Used → Report
+count_report number n used = record (report_of number (count_line n ∷ []) (Rows 1 None) (bound 1 1)) { used = used }

@@ -1,5 +1,5 @@
 -- What a content stands for.
-use Rattle.std.specs.Prelude.{◌≡◌, ◌⊎◌, ℕ, ◌+◌, ◌-◌, length, take, List, [], ◌∷◌, Option, Some, None}
+use Rattle.std.specs.Prelude.{◌≡◌, ◌⊎◌, ℕ, ◌+◌, ◌-◌, length, take, List, [], ◌∷◌, ◌++◌, Option, Some, None}
 use Rattle.pq_key_code.specs.KeyCode.{catalog_key}
 use Rattle.pq_schema.specs.Schema.{Schema, definition_at}
 use Rattle.pq_schema.specs.Valid.{IsValid}
@@ -12,6 +12,8 @@ use Rattle.pq_schema.specs.declared.query.Query.{Query}
 use Rattle.pq_content.specs.Pairs.{Pair, content_pairs}
 use Rattle.pq_store.specs.Content.{Content}
 use Rattle.pq_content.specs.Tables.{Keeps}
+use Rattle.pq_tallies.specs.Counters.{counter_pairs, AreFewRows}
+use Rattle.pq_tallies.specs.Defined.{counters_in}
 use Rattle.pq_builds.specs.Standing.{IsFilling}
 use Rattle.pq_builds.specs.declared.mark.TheConstants.{READY}
 use Rattle.pq_builds.specs.declared.target.NewQuery.{NewQuery}
@@ -51,9 +53,17 @@ last_value schema = value_at schema (length schema.definitions)
 abbrev pub next_key : Schema → List ℕ
 next_key schema = catalog_key (length schema.definitions + 1)
 
--- just the pairs of the rows, of their entries and of the definitions
+-- the pairs of the counters
+abbrev pub pairs_counted : Model → List Pair
+pairs_counted m = counter_pairs (counters_in m.schema) m.rows
+
+-- and behind them those of the definitions
+abbrev pub others_of : Model → List Pair
+others_of m = pairs_counted m ++ catalog_pairs m.schema
+
+-- just the pairs of the rows, of their entries, of the counters and of the definitions
 unfoldable pub content_of : Model → Content
-content_of m = content_pairs m.schema.tables m.rows (catalog_pairs m.schema)
+content_of m = content_pairs m.schema.tables m.rows (others_of m)
 
 -- ---- while the index of the last definition is being filled
 
@@ -71,6 +81,10 @@ last_made schema = made_by (last_definition schema)
 abbrev pub earlier_pairs : Schema → List Pair
 earlier_pairs schema = take (length schema.definitions - 1) (catalog_pairs schema)
 
+-- and before them those of the counters
+abbrev pub earlier_others : Model → List Pair
+earlier_others m = pairs_counted m ++ earlier_pairs m.schema
+
 -- the last definition's pair in parts
 abbrev pub last_query : Schema → NewQuery
 last_query schema = record {
@@ -83,7 +97,7 @@ last_query schema = record {
 pub record IsFillingLast (m : Model) (content : Content) : Type 0 where
   pub made : Made
   pub last : last_made m.schema ≡ Some made
-  pub filling : IsFilling m.schema.tables m.rows (earlier_pairs m.schema) made (last_query m.schema) content
+  pub filling : IsFilling m.schema.tables m.rows (earlier_others m) made (last_query m.schema) content
 
 -- just the pairs of the model; or the index of its last definition is being filled
 abbrev pub Holds : Model → Content → Type 0
@@ -91,10 +105,11 @@ Holds m content = (content ≡ content_of m) ⊎ IsFillingLast m content
 
 -- ---- what stands
 
--- the rows keep valid definitions, and the content is told and is that of the model
+-- the rows keep valid definitions, no group of a counter has too many, and the content is told and is that of the model
 pub record HoldsModel (content : Option Content) (m : Model) : Type 0 where
   pub valid : IsValid m.schema
   pub keeps : Keeps m.schema.tables m.rows
+  pub few : AreFewRows (counters_in m.schema) m.rows
   pub told : content ≡ Some (content_of m)
 
 -- the same, and the definitions are known
@@ -102,11 +117,12 @@ pub record Stands (content : Option Content) (schema : Schema) (m : Model) : Typ
   pub settled : HoldsModel content m
   pub known : schema ≡ m.schema
 
--- the rows keep valid definitions, and the content is told and settles to one that holds the model: it is that
--- content, or an intent stands in it whose changes make it that content
+-- the rows keep valid definitions, no group of a counter has too many, and the content is told and settles to one that
+-- holds the model: it is that content, or an intent stands in it whose changes make it that content
 pub record Opens (content : Option Content) (m : Model) : Type 0 where
   pub valid : IsValid m.schema
   pub keeps : Keeps m.schema.tables m.rows
+  pub few : AreFewRows (counters_in m.schema) m.rows
   pub pairs : Content
   pub settles : Settles content pairs
   pub holds : Holds m pairs

@@ -1,12 +1,14 @@
 -- The step that each statement makes of the model, and its report but for what it used.
-use Rattle.std.specs.Prelude.{ℕ, not, nat_le, List, [], map, length, Option, Some, None, Result, Ok, Err}
+use Rattle.std.specs.Prelude.{ℕ, pos, ◌==◌, not, nat_le, List, [], ◌∷◌, map, length, Option, Some, None, Result, Ok, Err}
 use Rattle.pq_base.specs.declared.value.Value.{Value}
+use Rattle.pq_base.specs.declared.value.Value.TheVariants as value
 use Rattle.pq_base.specs.declared.number.Bound.{Bound}
 use Rattle.pq_base.specs.declared.refusal.Refusal.{Refusal}
 use Rattle.pq_base.specs.declared.refusal.Refusal.TheVariants as refusal
 use Rattle.pq_schema.specs.declared.definition.AlterDef.{AlterDef}
+use Rattle.pq_schema.specs.declared.definition.CounterDef.{CounterDef}
 use Rattle.pq_schema.specs.declared.table.Table.{Table}
-use Rattle.pq_schema.specs.Definitions.{refused_if, altered_table, altered_schema}
+use Rattle.pq_schema.specs.Definitions.{refused_if, altered_table, altered_schema, counted_schema, counted_table}
 use Rattle.pq_schema.specs.Schema.{with_table, with_query}
 use Rattle.pq_print.specs.declared.report.Line.{Line}
 use Rattle.pq_print.specs.declared.report.Line.TheVariants as line
@@ -20,13 +22,16 @@ use Rattle.pq_schema.specs.Tables.{table_at}
 use Rattle.pq_schema.specs.declared.table.NewIndex.{NewIndex}
 use Rattle.pq_plan.specs.Answer.{selected_values}
 use Rattle.pq_text.specs.declared.piece.Piece.{Piece}
-use Rattle.pq_statement.specs.Actions.{Action, Creates, Adds, Writes, Prepares, Explains, Runs, Shows, action_of}
+use Rattle.pq_statement.specs.Actions.{Action, Creates, Adds, Writes, Prepares, Explains, Runs, Counts, Reads, Shows, action_of}
 use Rattle.pq_statement.specs.Lines.{table_lines, show_lines, query_lines}
 use Rattle.pq_statement.specs.Planning.{PlannedDefinition}
+use Rattle.pq_statement.specs.Readings.{Reading}
 use Rattle.pq_pages.specs.Running.{Running, query_bound, page_combos, page_size, next_of}
 use Rattle.pq_index_keep.specs.declared.write.Write.{Write}
-use Rattle.pq_index_keep.specs.Bounds.{write_bound}
-use Rattle.pq_index_keep.specs.Effects.{effect}
+use Rattle.pq_counters.specs.Bounds.{whole_bound}
+use Rattle.pq_tallies.specs.Counters.{tally}
+use Rattle.pq_tallies.specs.Defined.{counter_numbered}
+use Rattle.pq_tallies.specs.Writes.{counted_effect}
 use Rattle.pq_step.specs.Model.{Model}
 
 pub record Step : Type 0 where
@@ -89,10 +94,39 @@ effected_as m number most (Ok rows) =
     record { model = record m { rows = rows }; report = report_of number [] end.Done most }
 effected_as m number most (Err why) = refused_step m number why most
 
--- the write's effect, or its first refusal; both have its bound
+-- the write's effect, or its first refusal, which is last that of a counter; both have its bound
 unfoldable pub write_step : Model → ℕ → Write → Step
-write_step m number write = effected_as m number (write_bound m.schema.tables write)
-    (effect m.schema.tables m.rows write)
+write_step m number write = effected_as m number (whole_bound m.schema write)
+    (counted_effect m.schema m.rows write)
+
+-- ---- CREATE COUNTER and READ
+
+-- a counter is over a table without rows
+abbrev pub crowded_refusal : Model → CounterDef → Option Refusal
+crowded_refusal m def = refused_if (not (length (rows_of (counted_table m.schema def) m.rows) == 0))
+    (refusal.NotEmpty def.table)
+
+abbrev pub counted_over : Model → ℕ → CounterDef → Option Refusal → Step
+counted_over m number def None = record {
+  model = record m { schema = counted_schema m.schema def };
+  report = report_of number [] end.Done (bound 2 1);
+}
+counted_over m number def (Some why) = refused_step m number why (bound 2 1)
+
+unfoldable pub counter_step : Model → ℕ → CounterDef → Step
+counter_step m number def = counted_over m number def (crowded_refusal m def)
+
+-- how many rows the group has
+abbrev pub count_read : Model → Reading → ℕ
+count_read m reading = tally m.rows (counter_numbered m.schema reading.number) reading.values
+
+-- one row, of one number
+abbrev pub count_line : ℕ → Line
+count_line n = line.Row (value.Int (pos n) ∷ [])
+
+unfoldable pub read_step : Model → ℕ → Reading → Step
+read_step m number reading = report_step m
+    (report_of number (count_line (count_read m reading) ∷ []) (end.Rows 1 None) (bound 1 1))
 
 -- ---- PREPARE
 
@@ -142,6 +176,8 @@ action_step m number (Writes write) = write_step m number write
 action_step m number (Prepares plan) = prepared_over m number plan (crowding_refusal m plan.chosen.wanted)
 action_step m number (Explains plan) = report_step m (explanation m.schema.tables number plan)
 action_step m number (Runs running) = report_step m (page_of m number running)
+action_step m number (Counts def) = counter_step m number def
+action_step m number (Reads reading) = read_step m number reading
 action_step m number Shows = report_step m (report_of number (show_lines m.schema) end.Done (bound 0 0))
 
 abbrev pub acted_as : Model → ℕ → Result Action Refusal → Step

@@ -2,9 +2,9 @@
 ghost use Rattle.std.specs.Prelude.{◌≡◌, [], false, Result, IfOk};
 ghost use Rattle.pq_base.specs.declared.refusal.Refusal.{Refusal};
 ghost use Rattle.pq_builds.specs.Bounds.{prepare_bound};
-ghost use Rattle.pq_schema.specs.Definitions.{new_table, new_column};
-ghost use Rattle.pq_schema.specs.Names.{IsTableDef, IsAlterDef};
-ghost use Rattle.pq_statement.specs.Actions.{Action, Creates, Adds, Prepares, action_from};
+ghost use Rattle.pq_schema.specs.Definitions.{new_table, new_column, new_counter};
+ghost use Rattle.pq_schema.specs.Names.{IsTableDef, IsAlterDef, IsCounterDef};
+ghost use Rattle.pq_statement.specs.Actions.{Action, Creates, Adds, Counts, Prepares, action_from};
 ghost use Rattle.pq_step.specs.Checks.{IsChecked, check_step, without_rows};
 ghost use Rattle.pq_statement.specs.Requests.{Asks, IsDefinable, IsPlannedAs, IsRequest};
 ghost use Rattle.pq_step.specs.Written.{IsPrepareOf, IsDefinedAs};
@@ -12,12 +12,13 @@ ghost use Rattle.pq_print.specs.Report.{is_refusal};
 ghost use Rattle.pq_schema.specs.declared.query.Query.{Query};
 
 use crate::planned::PlannedCatalog;
-use crate::reports::{NOTHING_USED, done_report, unpaid_report, unread_report};
+use crate::read::READ_BOUND;
+use crate::reports::{COUNTER_BOUND, NOTHING_USED, done_report, unpaid_report, unread_report};
 use pq_base::{Bound, List, NoMem, Stopped};
 use pq_compile::Compiled;
-use pq_index_keep::write_bound;
+use pq_counters::whole_bound;
 use pq_print::Report;
-use pq_schema::{AlterDef, NewIndex, TableDef};
+use pq_schema::{AlterDef, CounterDef, NewIndex, TableDef};
 use pq_statement::{PlannedQuery, Request, planned_lines};
 use pq_text::Piece;
 use std::alloc::Global;
@@ -70,7 +71,7 @@ impl PlannedCatalog {
             Request::Create(def) => self.check_table(alloc, number, def),
             Request::Alter(def) => self.check_column(alloc, number, def),
             Request::Write(write) => {
-                let bound = write_bound(&self.catalog, &write);
+                let bound = whole_bound(&self.catalog, &write);
                 Ok((self, done_report(alloc, number, bound, NOTHING_USED)))
             }
             Request::Prepare(plan) => self.check_query(alloc, number, plan),
@@ -82,6 +83,8 @@ impl PlannedCatalog {
                 let bound = self.kept_plan(run.query).bound();
                 Ok((self, done_report(alloc, number, bound, NOTHING_USED)))
             }
+            Request::Count(def) => self.check_counter(alloc, number, def),
+            Request::Read(_) => Ok((self, done_report(alloc, number, READ_BOUND, NOTHING_USED))),
             Request::Show => self.show(alloc, number),
         }
     }
@@ -125,6 +128,27 @@ impl PlannedCatalog {
                 let bound = Bound { ops: 1, entries: 0 };
                 Ok((planned, unpaid_report(number, List::new(alloc), bound)))
             }
+        }
+    }
+
+    /// Defines a counter, where nothing refuses it: over no store its table has no rows.
+    fn check_counter(
+        self,
+        alloc: Global,
+        number: u32,
+        def: CounterDef,
+    ) -> Result<(PlannedCatalog, Report), NoMem>
+        requires { IsCounterDef def }
+        ensures { IfOk result (λ p. IsChecked self number
+            (action_from (λ next. Counts def) (new_counter self def)) p.0 p.1) }
+    {
+        let (planned, made) = self.with_counter_of(alloc, def)?;
+        match made {
+            Err(why) => Ok((planned, unread_report(alloc, number, why))),
+            Ok(_) => Ok((
+                planned,
+                unpaid_report(number, List::new(alloc), COUNTER_BOUND),
+            )),
         }
     }
 

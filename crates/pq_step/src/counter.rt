@@ -1,13 +1,60 @@
-//! A counter's definition, which comes behind the others.
-ghost use Rattle.std.specs.Prelude.{IfOk};
+//! CREATE COUNTER: a counter is over a table without rows, and its definition comes behind the others.
+ghost use Rattle.std.specs.Prelude.{◌≡◌, ◌≤◌, ◌+◌, Ok, length, min, IfErr, IfOk, IfSome, OnErr};
+ghost use Rattle.pq_base.specs.Answers.{Passes};
+ghost use Rattle.pq_base.specs.declared.refusal.Refusal.TheVariants as Refusal;
+ghost use Rattle.pq_builds.specs.Filling.{row_pairs_in};
+ghost use Rattle.pq_builds.specs.Stages.{Takes};
+ghost use Rattle.pq_schema.specs.Definitions.{counted_schema, counted_table, counter_refusal, new_counter};
 ghost use Rattle.pq_schema.specs.Names.{IsCounterDef};
+ghost use Rattle.pq_store.specs.Breaks.{IsAnswered, IsUndamaged};
+ghost use Rattle.pq_store.specs.Content.{HasBrokeCause};
+ghost use Rattle.pq_statement.specs.Actions.{Counts, action_from};
 ghost use Rattle.pq_step.specs.Extends.{ExtendsCounting};
+ghost use Rattle.pq_step.specs.Promise.{Promises};
 
 use crate::define::Defined;
 use crate::planned::PlannedCatalog;
-use pq_base::{NoMem, Stopped};
+use crate::reports::{counter_report, crowded_report, unread_report};
+use pq_base::{NoMem, Refusal, Stopped};
+use pq_builds::{first_key, past_key};
+use pq_print::Report;
 use pq_schema::CounterDef;
+use pq_store::{Broke, Meter, Store};
 use std::alloc::Global;
+use std::sync::ledger::Ledger;
+
+/// How many rows a table has, of which one is counted at most.
+fn count_one<S: Store<L>, L: Ledger>(
+    alloc: Global,
+    table: u8,
+    store: &mut S,
+    meter: &mut Meter<L>,
+) -> Result<u32, Broke>
+    ensures counted { IfOk result (λ n. IfSome (S.content store.old) (λ c. n ≡ min 1 (length (row_pairs_in table c)))) }
+    ensures few { IfOk result (λ n. n ≤ 1) }
+    ensures same { S.content store.new ≡ S.content store.old }
+    ensures sound { IfErr result IsUndamaged }
+    ensures takes { IfOk result (λ n. Takes 1 n meter.old meter.new) }
+    ensures few_ops { meter.new.ops ≤ meter.old.ops + 1 }
+    ensures none { OnErr result (meter.new.entries ≡ meter.old.entries) }
+    ensures cause { HasBrokeCause (S.faults store.old) (S.faults store.new) result }
+    ensures answered { IfErr result (IsAnswered S.answers) }
+{
+    let low = first_key(alloc, table)?;
+    let high = past_key(alloc, table)?;
+    match store.count(alloc, low.items(), high.items(), 1, meter) {
+        Ok(n) => Ok(n),
+        Err(error) => Err(Broke::from(error)),
+    }
+}
+
+/// The refusal of a counter over a table with rows.
+fn not_empty(def: CounterDef) -> Refusal
+    ensures { result ≡ Refusal.NotEmpty def.table }
+{
+    let CounterDef { table, .. } = def;
+    Refusal::NotEmpty { table }
+}
 
 impl PlannedCatalog {
     /// The catalog with the counter that is defined, and the number of its definition; or as it was, where
@@ -31,5 +78,74 @@ impl PlannedCatalog {
             Err(Stopped::Refused(why)) => Ok((PlannedCatalog { catalog, plans }, Err(why))),
             Err(Stopped::NoMem) => Err(NoMem),
         }
+    }
+
+    /// The catalog with a counter that nothing refuses.
+    fn with_counted(self, alloc: Global, def: CounterDef) -> Result<PlannedCatalog, NoMem>
+        requires names { IsCounterDef def }
+        requires accepted { new_counter self def ≡ Ok (counted_schema self def) }
+        ensures { IfOk result (λ next. next ≡ counted_schema self def) }
+    {
+        match self.with_counter_of(alloc, def)? {
+            (planned, Ok(_)) => Ok(planned),
+            (_, Err(_)) => unreachable!(),
+        }
+    }
+
+    /// The number of the table whose rows are counted, where nothing refuses the counter.
+    fn counted_table(&self, alloc: Global, def: &CounterDef) -> Result<u8, Stopped>
+        ensures passes { Passes result (counter_refusal self.now def.now) }
+        ensures table { IfOk result (λ table. counted_table self.now def.now ≡ table) }
+    {
+        self.catalog.check_counter(alloc, def)
+    }
+
+    /// Defines a counter, where nothing refuses it.
+    pub(crate) fn create_counter<S: Store<L>, L: Ledger>(
+        self,
+        alloc: Global,
+        number: u32,
+        def: CounterDef,
+        store: &mut S,
+        meter: &mut Meter<L>,
+    ) -> Result<(PlannedCatalog, Report), Broke>
+        requires { IsCounterDef def }
+        ensures step { Promises number (action_from (λ next. Counts def) (new_counter self def))
+            (S.content store.old) (S.content store.new) self meter.old meter.new result }
+        ensures cause { HasBrokeCause (S.faults store.old) (S.faults store.new) result }
+        ensures answered { IfErr result (IsAnswered S.answers) }
+    {
+        match self.counted_table(alloc, &def) {
+            Err(Stopped::NoMem) => Err(Broke::NoMem),
+            Err(Stopped::Refused(why)) => Ok((self, unread_report(alloc, number, why))),
+            Ok(table) => self.count_over(alloc, number, table, def, store, meter),
+        }
+    }
+
+    /// Defines a counter that only its table's rows can refuse.
+    fn count_over<S: Store<L>, L: Ledger>(
+        self,
+        alloc: Global,
+        number: u32,
+        table: u8,
+        def: CounterDef,
+        store: &mut S,
+        meter: &mut Meter<L>,
+    ) -> Result<(PlannedCatalog, Report), Broke>
+        requires names { IsCounterDef def }
+        requires accepted { new_counter self def ≡ Ok (counted_schema self def) }
+        requires table { counted_table self def ≡ table }
+        ensures step { Promises number (Ok (Counts def)) (S.content store.old) (S.content store.new) self
+            meter.old meter.new result }
+        ensures cause { HasBrokeCause (S.faults store.old) (S.faults store.new) result }
+        ensures answered { IfErr result (IsAnswered S.answers) }
+    {
+        let count = count_one(alloc, table, store, meter)?;
+        if count > 0 {
+            return Ok((self, crowded_report(alloc, number, not_empty(def))));
+        }
+        let planned = self.with_counted(alloc, def)?;
+        planned.put_last(alloc, store, meter)?;
+        Ok((planned, counter_report(alloc, number)))
     }
 }

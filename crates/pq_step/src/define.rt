@@ -175,6 +175,32 @@ impl PlannedCatalog {
         table_lines(alloc, self.catalog.table(table))
     }
 
+    /// Writes the pair of the last definition, whose key has to be absent.
+    pub(crate) fn put_last<S: Store<L>, L: Ledger>(
+        &self,
+        alloc: Global,
+        store: &mut S,
+        meter: &mut Meter<L>,
+    ) -> Result<(), Broke>
+        requires { 1 ≤ length self.now.definitions }
+        ensures put { OnOk result (PutsNew true (last_key self.now) (last_value self.now) (S.content store.old)
+            (S.content store.new)) }
+        ensures stopped { OnErr result (MayPut (last_key self.now) (last_value self.now) (S.content store.old)
+            (S.content store.new)) }
+        ensures damage { IfErr result (λ broke. IfSome (S.content store.old)
+            (λ pairs. value_at_key pairs (last_key self.now) ≡ None → IsUndamaged broke)) }
+        ensures meter { OnOk result (meter.new ≡ charged_counts meter.old 0) }
+        ensures within { TakesAtMost (bound 1 0) meter.old meter.new }
+        ensures shown { IfErr result (λ broke. IfSome (S.content store.old)
+            (λ pairs. IfDamaged (IsPresent (last_key self.now) pairs) broke)) }
+        ensures kept { IfErr result (IfDamagedSame (S.content store.old) (S.content store.new)) }
+        ensures cause { HasBrokeCause (S.faults store.old) (S.faults store.new) result }
+        ensures answered { IfErr result (IsAnswered S.answers) }
+    {
+        let pair = last_pair(alloc, &self.catalog)?;
+        put_absent(alloc, pair, store, meter)
+    }
+
     /// Writes the pair of the last definition, and reports it with these lines.
     pub(crate) fn write_last<S: Store<L>, L: Ledger>(
         self,
@@ -200,8 +226,7 @@ impl PlannedCatalog {
         ensures cause { HasBrokeCause (S.faults store.old) (S.faults store.new) result }
         ensures answered { IfErr result (IsAnswered S.answers) }
     {
-        let pair = last_pair(alloc, &self.catalog)?;
-        put_absent(alloc, pair, store, meter)?;
+        self.put_last(alloc, store, meter)?;
         Ok((self, define_report(number, lines)))
     }
 

@@ -7,6 +7,7 @@ mod counter;
 mod define;
 mod format;
 mod planned;
+mod read;
 mod reports;
 mod run;
 mod write;

@@ -119,7 +119,7 @@ impl PlannedCatalog {
         ensures few_entries { IfOk result (λ p. p.1.used.entries ≤ p.1.bound.entries) }
         ensures refused { IfOk result (λ p. IsRefusal p.1.end
             → (S.content store.new ≡ S.content store.old) × (p.0 ≡ self)) }
-        // A RUN, an EXPLAIN, a SHOW and what is refused before any call write nothing, whatever comes.
+        // A RUN, a READ, an EXPLAIN, a SHOW and what is refused before any call write nothing, whatever comes.
         ensures reads { OnlyReads (action_of self piece.now) → S.content store.new ≡ S.content store.old }
         // A refusal is one that what the piece asks for can have.
         ensures can { IfOk result (λ p. CanEnd self (action_of self piece.now) p.1.end) }
@@ -216,6 +216,8 @@ impl PlannedCatalog {
                     meter,
                 )
             }
+            Request::Count(def) => self.create_counter(alloc, number, def, store, meter),
+            Request::Read(read) => self.read_count(alloc, number, &read, store, meter),
             Request::Show => Ok(self.show(alloc, number)?),
         }
     }

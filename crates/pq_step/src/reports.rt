@@ -1,6 +1,6 @@
 //! Reports that several statements make.
 ghost use Rattle.std.specs.Prelude.{◌≡◌, ◌≤◌, []};
-ghost use Rattle.pq_step.specs.Reports.{build_report, define_report, too_many_report};
+ghost use Rattle.pq_step.specs.Reports.{build_report, counter_report, crowded_report, define_report, too_many_report};
 ghost use Rattle.pq_builds.specs.Bounds.{bound};
 ghost use Rattle.pq_step.specs.Step.{report_of, refusal_report};
 
@@ -108,4 +108,22 @@ pub fn too_many_report(alloc: Global, number: u32, why: Refusal) -> Report
         entries: 1_000_001,
     };
     refusal_report(alloc, number, why, bound, used)
+}
+
+/// The bound of a counter's definition: the count of its table's rows, of which one is enough, and one write.
+pub const COUNTER_BOUND: Bound = Bound { ops: 2, entries: 1 };
+
+/// The report of a counter's definition: its table has no rows.
+pub fn counter_report(alloc: Global, number: u32) -> Report
+    ensures { result ≡ counter_report number }
+{
+    done_report(alloc, number, COUNTER_BOUND, Used { ops: 2, entries: 0 })
+}
+
+/// The report of a counter over a table that has rows: one was counted.
+pub fn crowded_report(alloc: Global, number: u32, why: Refusal) -> Report
+    ensures { result ≡ crowded_report number why }
+{
+    let used = Used { ops: 1, entries: 1 };
+    refusal_report(alloc, number, why, COUNTER_BOUND, used)
 }

@@ -8,7 +8,8 @@ ghost use Rattle.pq_step.specs.Promise.{Promises};
 
 use crate::planned::PlannedCatalog;
 use crate::reports::{done_report, refusal_report};
-use pq_index_keep::{Planned, Write, plan_write, write_bound};
+use pq_counters::{plan_whole, whole_bound};
+use pq_index_keep::{Planned, Write};
 use pq_intent::commit;
 use pq_print::Report;
 use pq_store::{Allowance, Broke, Meter, Store};
@@ -16,7 +17,7 @@ use std::alloc::Global;
 use std::sync::ledger::Ledger;
 
 impl PlannedCatalog {
-    /// Makes a write, within its bound.
+    /// Makes a write and keeps the counters, within its bound.
     pub(crate) fn make_write<S: Store<L>, L: Ledger>(
         self,
         alloc: Global,
@@ -31,9 +32,9 @@ impl PlannedCatalog {
         ensures cause { HasBrokeCause (S.faults store.old) (S.faults store.new) result }
         ensures answered { IfErr result (IsAnswered S.answers) }
     {
-        let bound = write_bound(&self.catalog, write);
+        let bound = whole_bound(&self.catalog, write);
         let mut allowance = Allowance::grant(bound);
-        match plan_write(alloc, &self.catalog, write, store, &mut allowance, meter)? {
+        match plan_whole(alloc, &self.catalog, write, store, &mut allowance, meter)? {
             Planned::Refused(why) => {
                 let report = refusal_report(alloc, number, why, bound, allowance.used());
                 Ok((self, report))

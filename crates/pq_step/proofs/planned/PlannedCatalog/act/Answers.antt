@@ -33,6 +33,12 @@ run_query-requires-clause-fits g c = (subst (λ (r : Request). Asks c.args.self 
 pub run_query-requires-clause-cursor : goal.run_query-requires-clause-cursor
 run_query-requires-clause-cursor g c = rw c.as_ref.ensures.value ((subst (λ (r : Request). Asks c.args.self r c.requires.0) c.in-Run.is c.requires.1).1.cursor)
 
+pub create_counter-requires : goal.create_counter-requires
+create_counter-requires g c = (subst (λ (r : Request). Asks c.args.self r c.requires.0) c.in-Count.is c.requires.1).0
+
+pub read_count-requires : goal.read_count-requires
+read_count-requires g c = (subst (λ (r : Request). Asks c.args.self r c.requires.0) c.in-Read.is c.requires.1).0
+
 pub returns-in-Create-clause-step : goal.returns-in-Create-clause-step
 returns-in-Create-clause-step g c asked asks =
     let a = subst (λ (r : Request). Asks c.args.self r asked) c.in-Create.is asks in
@@ -68,6 +74,16 @@ pub returns-in-Run-clause-step : goal.returns-in-Run-clause-step
 returns-in-Run-clause-step g c asked asks =
     let a = subst (λ (r : Request). Asks c.args.self r asked) c.in-Run.is asks in
     rw (a.2 ∙ ap (action_from Runs) a.1.is, ← c.as_ref.ensures.value) c.run_query.ensures.step
+
+pub returns-in-Count-clause-step : goal.returns-in-Count-clause-step
+returns-in-Count-clause-step g c asked asks =
+    let a = subst (λ (r : Request). Asks c.args.self r asked) c.in-Count.is asks in
+    rw a.1 c.create_counter.ensures.step
+
+pub returns-in-Read-clause-step : goal.returns-in-Read-clause-step
+returns-in-Read-clause-step g c asked asks =
+    let a = subst (λ (r : Request). Asks c.args.self r asked) c.in-Read.is asks in
+    rw a.1 c.read_count.ensures.step
 
 pub returns-in_err-show-in-Show-clause-step : goal.returns-in_err-show-in-Show-clause-step
 returns-in_err-show-in-Show-clause-step g c asked asks =

@@ -6,7 +6,7 @@ use Rattle.pq_statement.specs.declared.requests.Request.{Request}
 use Rattle.pq_step.proofs.Checked.{explained_checked}
 use Rattle.pq_step.proofs.planned.PlannedCatalog.check_request.Goals as goal
 
-pub returns-in_ok-report-in-Explain : goal.returns-in_ok-report-in-Explain
-returns-in_ok-report-in-Explain c asked asks =
+pub returns-in-Explain : goal.returns-in-Explain
+returns-in-Explain c asked asks =
     let a = subst (λ (r : Request). Asks c.args.self r asked) c.in-Explain.is asks in
     explained_checked c.args.self c.args.number c.in-Explain.plan asked a.1 _ c.in_ok-report-in-Explain.ensures
