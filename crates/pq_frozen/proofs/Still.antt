@@ -13,14 +13,14 @@ use Rattle.pq_store.specs.Breaks.{IsUndamaged}
 use Rattle.pq_store.specs.declared.damage.Broke.{Broke}
 use Rattle.pq_store.specs.declared.damage.Broke.TheVariants.{Failed, NoMem, Damaged}
 use Rattle.pq_session.specs.declared.session.Started.{Started}
-use Rattle.pq_statement.specs.Actions.{Action, Creates, Adds, Writes, Prepares, Explains, Runs, Shows, action_of}
+use Rattle.pq_statement.specs.Actions.{Action, Creates, Adds, Writes, Prepares, Explains, Runs, Counts, Reads, Shows, action_of}
 use Rattle.pq_step.specs.Matches.{Matches}
 use Rattle.pq_step.specs.Model.{Model}
 use Rattle.pq_opening.specs.Opening.{IsOpening}
 use Rattle.pq_session.specs.Opening.{opening_of}
 use Rattle.pq_step.specs.Promise.{OnlyReads}
 use Rattle.pq_step.specs.Stands.{HoldsModel, Opens, Stands}
-use Rattle.pq_step.specs.Step.{acted_as, step}
+use Rattle.pq_step.specs.Step.{acted_as, read_step, step}
 use Rattle.pq_step.proofs.Standing.{settled_opens}
 use Rattle.pq_frozen.specs.Frozen.{Stilled}
 use Rattle.pq_frozen.specs.Reading.{AllRead, AreAnswers, model_behind}
@@ -28,12 +28,15 @@ use Rattle.pq_frozen.specs.Reading.{AllRead, AreAnswers, model_behind}
 -- ---- the model
 
 stays : (m : Model) (number : ℕ) (asked : Result Action Refusal) → OnlyReads asked → (acted_as m number asked).model ≡ m
+unfolding read_step
 stays m number (Ok (Creates table)) reads = absurd reads
 stays m number (Ok (Adds def)) reads = absurd reads
 stays m number (Ok (Writes write)) reads = absurd reads
 stays m number (Ok (Prepares plan)) reads = absurd reads
 stays m number (Ok (Explains plan)) reads = refl
 stays m number (Ok (Runs running)) reads = refl
+stays m number (Ok (Counts def)) reads = absurd reads
+stays m number (Ok (Reads reading)) reads = refl
 stays m number (Ok Shows) reads = refl
 stays m number (Err why) reads = refl
 

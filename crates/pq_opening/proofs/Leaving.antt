@@ -9,6 +9,8 @@ use Rattle.pq_schema.specs.Valid.{IsValid}
 use Rattle.pq_content.specs.Tables.{Keeps}
 use Rattle.pq_content.specs.Standing.{SettlesTo}
 use Rattle.pq_content.proofs.Settling.{settles_to_itself, settles_once}
+use Rattle.pq_tallies.specs.Counters.{AreFewRows}
+use Rattle.pq_tallies.specs.Defined.{counters_in}
 use Rattle.pq_builds.specs.Filling.{row_pairs_in}
 use Rattle.pq_builds.specs.Stages.{IsReady, StopsFilling}
 use Rattle.pq_builds.specs.declared.target.NewQuery.{NewQuery}
@@ -118,16 +120,16 @@ held_quiet content m s = subst IsQuiet (sym (same_Some content (content_of m) s.
   no_build = λ schema tells. not_ready (ap mark_in (sym (catalog_tells m s.valid) ∙ tells));
 })
 
-own_held : (content : Content) (m : Model) → IsQuiet content → IsValid m.schema → Keeps m.schema.tables m.rows → Holds m content → HoldsModel (Some content) m
-own_held content m q valid keeps (inl same) = record { valid = valid; keeps = keeps; told = ap (λ (c : Content). Some c) same }
-own_held content m q valid keeps (inr f) = absurd (q.no_build m.schema (held_tells m content valid (inr f)))
+own_held : (content : Content) (m : Model) → IsQuiet content → IsValid m.schema → Keeps m.schema.tables m.rows → AreFewRows (counters_in m.schema) m.rows → Holds m content → HoldsModel (Some content) m
+own_held content m q valid keeps few (inl same) = record { valid = valid; keeps = keeps; few = few; told = ap (λ (c : Content). Some c) same }
+own_held content m q valid keeps few (inr f) = absurd (q.no_build m.schema (held_tells m content valid (inr f)))
 
 -- and a quiet one that opens to a model is its own
 pub quiet_own : (content : Content) (m : Model) → Opens (Some content) m → IsQuiet content → HoldsModel (Some content) m
 quiet_own content m opens q =
     let there : opens.settles.pairs ≡ content = same_Some opens.settles.pairs content (sym opens.settles.told) in
     let one : opens.pairs ≡ content = settles_once content opens.pairs content (subst (λ (c : Content). SettlesTo c opens.pairs) there opens.settles.settles) (settles_to_itself content q.no_intent) in
-    own_held content m q opens.valid opens.keeps (subst (Holds m) one opens.holds)
+    own_held content m q opens.valid opens.keeps opens.few (subst (Holds m) one opens.holds)
 
 -- ---- whatever is answered
 

@@ -29,6 +29,9 @@ use Rattle.pq_store.specs.Content.{key_cmp, Content}
 use Rattle.pq_store.specs.declared.damage.Broke.{Broke}
 use Rattle.pq_content.specs.Pairs.{Pair, AreCatalog}
 use Rattle.pq_content.specs.Tables.{Rows, IsTableNumber, Keeps}
+use Rattle.pq_tallies.specs.Counters.{AreFewRows, counter_pairs}
+use Rattle.pq_tallies.specs.Defined.{NumberedCounter, counters_in}
+use Rattle.pq_tallies.proofs.Defined.{one_more_query}
 use Rattle.pq_content.proofs.Settling.{settles_to_itself}
 use Rattle.pq_content.proofs.Shapes.{SameShapes, keeps-shape}
 use Rattle.pq_builds.specs.declared.build.Built.TheVariants.{Rows as Filled}
@@ -41,9 +44,10 @@ use Rattle.pq_builds.specs.Targets.{target_of}
 use Rattle.pq_builds.proofs.Filled.{catalog_filling, intent_filling}
 use Rattle.pq_step.specs.Model.{Model}
 use Rattle.pq_opening.specs.Opening.{catalog_in, target_left, IsLeft, IsFillingIn, rows_of_made, rows_left}
-use Rattle.pq_step.specs.Stands.{HoldsModel, Opens, IsFillingLast, catalog_pairs, made_by, last_made, last_key, last_query, earlier_pairs}
+use Rattle.pq_step.specs.Stands.{HoldsModel, Opens, IsFillingLast, catalog_pairs, pairs_counted, others_of, made_by, last_made, last_key, last_query, earlier_pairs, earlier_others}
 use Rattle.pq_step.proofs.Building.{next_schema, origin_of, target_for, at_end, there, pairs_next, earlier_next, last_made_next, target_is, new_in, marked_opens, whole_holds}
 use Rattle.pq_step.proofs.Catalogs.{are_catalog, catalog_rises, pairs_length, sorted_alike}
+use Rattle.pq_step.proofs.Counted.{counted_space}
 use Rattle.pq_step.proofs.Made.{small_of}
 use Rattle.pq_statement.proofs.Shown.{wanted_next}
 
@@ -114,16 +118,17 @@ module _ (m : Model) (content : Content) (valid : IsValid m.schema) (f : IsFilli
       sorted_alike earlier query.key (building_value query) (ready_value query) ∙ ap (is_sorted key_cmp) (sym pairs) ∙ catalog_rises m.schema few in
       let long : length building ≡ length m.schema.definitions =
       length-append earlier ((query.key, building_value query) ∷ []) ∙ sym (length-append earlier ((query.key, ready_value query) ∷ [])) ∙ ap (λ (ps : List Pair). length ps) (sym pairs) ∙ pairs_length m.schema in
-      ap (take 257) (catalog_filling m.schema.tables m.rows [] earlier f.made query content tt (earlier_catalog m.schema valid f.made f.last) refl rises f.filling)
+      ap (take 257) (catalog_filling m.schema.tables m.rows (pairs_counted m) earlier f.made query content (counted_space m) (earlier_catalog m.schema valid f.made f.last) refl rises f.filling)
       ∙ take_all 257 building (omega (arith, long, few))
 
   pub no_intent_filling : get content intent_key ≡ None
-  no_intent_filling = intent_filling m.schema.tables m.rows [] (earlier_pairs m.schema) f.made (last_query m.schema) content tt (earlier_catalog m.schema valid f.made f.last) refl f.filling
+  no_intent_filling = intent_filling m.schema.tables m.rows (pairs_counted m) (earlier_pairs m.schema) f.made (last_query m.schema) content (counted_space m) (earlier_catalog m.schema valid f.made f.last) refl f.filling
 
 pub filling_in_opens : (content : Option Content) (m : Model) → IsFillingIn content m → Opens content m
 filling_in_opens content m f = record {
   valid = f.valid;
   keeps = f.keeps;
+  few = f.few;
   pairs = f.pairs;
   settles = record { pairs = f.pairs; told = f.told; settles = settles_to_itself f.pairs (no_intent_filling m f.pairs f.valid f.filling) };
   holds = inr f.filling;
@@ -199,6 +204,13 @@ module _ (schema : Schema) (query : Query) (new : NewIndex) (rows : Rows) (valid
   keeps : Keeps schema.tables rows
   keeps = keeps-shape next.tables schema.tables (shapes_before schema.tables new (there schema query new valid defined)) rows f.keeps
 
+  few : AreFewRows (counters_in schema) rows
+  few = subst (λ (counters : List NumberedCounter). AreFewRows counters rows) (one_more_query schema query (Some new)) f.few
+
+  -- the counters are those before, and so are their pairs
+  others_before : earlier_others (model_of next rows) ≡ others_of (model_of schema rows)
+  others_before = λ i. counter_pairs (one_more_query schema query (Some new) i) rows ++ earlier_next schema query new valid defined i
+
   target_now : target ≡ own_target
   target_now =
       left.target_is
@@ -208,14 +220,14 @@ module _ (schema : Schema) (query : Query) (new : NewIndex) (rows : Rows) (valid
   filling_back : FillsIndex origin own_target (last_query next) f.pairs
   filling_back =
       let same : f.filling.made ≡ made_of new = same_Some f.filling.made (made_of new) (sym f.filling.last ∙ last_made_next schema query new valid defined) in
-      subst (λ (ps : List Pair). IsFilling next.tables rows ps (made_of new) (last_query next) f.pairs) (earlier_next schema query new valid defined)
-      (subst (λ (k : Made). IsFilling next.tables rows (earlier_pairs next) k (last_query next) f.pairs) same f.filling.filling)
+      subst (λ (ps : List Pair). IsFilling next.tables rows ps (made_of new) (last_query next) f.pairs) others_before
+      (subst (λ (k : Made). IsFilling next.tables rows (earlier_others (model_of next rows)) k (last_query next) f.pairs) same f.filling.filling)
 
   holds_filling : HoldsFilling origin target made old
   holds_filling =
       let own : HoldsFilling origin own_target (last_query next) old = record {
-        new = new_in (model_of schema rows) query new valid keeps defined;
-        target_is = target_is (model_of schema rows) query new valid keeps defined;
+        new = new_in (model_of schema rows) query new valid keeps few defined;
+        target_is = target_is (model_of schema rows) query new valid keeps few defined;
         content = f.pairs;
         is = f.told;
         filling = filling_back;
@@ -225,11 +237,11 @@ module _ (schema : Schema) (query : Query) (new : NewIndex) (rows : Rows) (valid
   next_made : (now : Option Content) (count : ℕ) → ((origin : Origin) → HoldsFilling origin target made old → Makes origin target made (Filled count) now) → HoldsModel now (model_of next rows) × (count ≡ rows_left (model_of next rows))
   next_made now count all =
       let r = subst (λ (t : Target). Makes origin t (last_query next) (Filled count) now) target_now (subst (λ (q : NewQuery). Makes origin target q (Filled count) now) left.query_is (all origin holds_filling)) in
-      (whole_holds (model_of schema rows) query new valid keeps defined r.2, sym r.0 ∙ ap (λ (o : Option Made). rows_of_made o rows) (sym (last_made_next schema query new valid defined)))
+      (whole_holds (model_of schema rows) query new valid keeps few defined r.2, sym r.0 ∙ ap (λ (o : Option Made). rows_of_made o rows) (sym (last_made_next schema query new valid defined)))
 
   next_stopped : (now : Option Content) → ((origin : Origin) → HoldsFilling origin target made old → IsMarkedOrReady origin target made now) → Opens now (model_of next rows)
   next_stopped now all =
-      marked_opens (model_of schema rows) query new valid keeps defined
+      marked_opens (model_of schema rows) query new valid keeps few defined
       (subst (λ (t : Target). IsMarkedOrReady origin t (last_query next) now) target_now (subst (λ (q : NewQuery). IsMarkedOrReady origin target q now) left.query_is (all origin holds_filling)))
 
   next_within : (before after : Counts) → ((origin : Origin) → HoldsFilling origin target made old → TakesAtMost (left_bound (rows_in origin target)) before after) → TakesAtMost (left_bound (rows_left (model_of next rows))) before after

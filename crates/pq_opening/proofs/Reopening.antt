@@ -24,8 +24,9 @@ use Rattle.pq_builds.specs.declared.target.NewQuery.{NewQuery}
 use Rattle.pq_step.specs.declared.format.Mark.{Mark}
 use Rattle.pq_step.specs.declared.format.Mark.TheVariants.{Ready, Building}
 use Rattle.pq_opening.specs.Opening.{SchemaAndMark, none_added, has_last_text, if_formatted, text_adds, pair_adds, opened_by, added_from, catalog_in}
-use Rattle.pq_step.specs.Stands.{Holds, content_of, value_at, catalog_pairs, last_made, last_query, earlier_pairs}
+use Rattle.pq_step.specs.Stands.{Holds, content_of, value_at, catalog_pairs, pairs_counted, last_made, last_query, earlier_pairs}
 use Rattle.pq_step.proofs.Catalogs.{are_catalog, catalog_rises, pairs_length}
+use Rattle.pq_step.proofs.Counted.{counted_space}
 use Rattle.pq_step.proofs.Definitions.{table_pairs, query_pairs, column_pairs, counted_pairs}
 use Rattle.pq_opening.proofs.Lefts.{catalog_of_filling, last_pairs}
 use Rattle.pq_step.proofs.Made.{made_of, small_of}
@@ -141,7 +142,7 @@ pub catalog_of : (m : Model) → IsValid m.schema → catalog_in (content_of m) 
 unfolding content_of
 catalog_of m valid =
     let few : length m.schema.definitions ≤ 256 = small_of m.schema valid in
-    ap (take 257) (rising_catalog_range m.schema.tables m.rows [] (catalog_pairs m.schema) tt (are_catalog m.schema) (catalog_rises m.schema few))
+    ap (take 257) (rising_catalog_range m.schema.tables m.rows (pairs_counted m) (catalog_pairs m.schema) (counted_space m) (are_catalog m.schema) (catalog_rises m.schema few))
     ∙ take_all 257 (catalog_pairs m.schema) (omega (arith, pairs_length m.schema, few))
 
 pub catalog_tells : (m : Model) → IsValid m.schema → added_from none_added (catalog_in (content_of m)) ≡ Ok (m.schema, Ready)

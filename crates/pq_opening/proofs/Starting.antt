@@ -10,6 +10,8 @@ use Rattle.pq_schema.specs.Valid.{IsValid}
 use Rattle.pq_content.specs.Pairs.{Pair}
 use Rattle.pq_content.specs.Standing.{SettlesTo}
 use Rattle.pq_content.specs.Tables.{Keeps}
+use Rattle.pq_tallies.specs.Counters.{AreFewRows}
+use Rattle.pq_tallies.specs.Defined.{counters_in}
 use Rattle.pq_store.specs.Content.{Content}
 use Rattle.pq_key_code.specs.KeyCode.{intent_key}
 use Rattle.pq_builds.specs.Bounds.{bound}
@@ -36,42 +38,43 @@ use Rattle.pq_step.proofs.Standing.{settled_opens}
 
 -- ---- a content at rest
 
--- the rows keep valid definitions, and the content is told and holds the model
+-- the rows keep valid definitions, no group of a counter has too many, and the content is told and holds the model
 pub record Rests (content : Option Content) (m : Model) : Type 0 where
   pub valid : IsValid m.schema
   pub keeps : Keeps m.schema.tables m.rows
+  pub few : AreFewRows (counters_in m.schema) m.rows
   pub pairs : Content
   pub told : content ≡ Some pairs
   pub holds : Holds m pairs
 
 pub opens_kept : (old new : Option Content) → ((settled : Content) → Settles old settled → Settles new settled) → (m : Model) → Opens old m → Opens new m
-opens_kept old new kept m opens = record { valid = opens.valid; keeps = opens.keeps; pairs = opens.pairs; settles = kept opens.pairs opens.settles; holds = opens.holds }
+opens_kept old new kept m opens = record { valid = opens.valid; keeps = opens.keeps; few = opens.few; pairs = opens.pairs; settles = kept opens.pairs opens.settles; holds = opens.holds }
 
 -- after a settling it is settled
 pub opens_rests : (old mid : Option Content) → ((settled : Content) → Settles old settled → IsSettled mid settled) → (m : Model) → Opens old m → Rests mid m
-opens_rests old mid made m opens = record { valid = opens.valid; keeps = opens.keeps; pairs = opens.pairs; told = (made opens.pairs opens.settles).told; holds = opens.holds }
+opens_rests old mid made m opens = record { valid = opens.valid; keeps = opens.keeps; few = opens.few; pairs = opens.pairs; told = (made opens.pairs opens.settles).told; holds = opens.holds }
 
-rests_by : (content : Option Content) (m : Model) (pairs : Content) → IsValid m.schema → Keeps m.schema.tables m.rows → content ≡ Some pairs → Holds m pairs → Opens content m
-rests_by content m pairs valid keeps is (inl same) = settled_opens (record { valid = valid; keeps = keeps; told = is ∙ ap (λ (c : Content). Some c) same })
-rests_by content m pairs valid keeps is (inr f) = filling_in_opens content m (record { valid = valid; keeps = keeps; pairs = pairs; told = is; filling = f })
+rests_by : (content : Option Content) (m : Model) (pairs : Content) → IsValid m.schema → Keeps m.schema.tables m.rows → AreFewRows (counters_in m.schema) m.rows → content ≡ Some pairs → Holds m pairs → Opens content m
+rests_by content m pairs valid keeps few is (inl same) = settled_opens (record { valid = valid; keeps = keeps; few = few; told = is ∙ ap (λ (c : Content). Some c) same })
+rests_by content m pairs valid keeps few is (inr f) = filling_in_opens content m (record { valid = valid; keeps = keeps; few = few; pairs = pairs; told = is; filling = f })
 
 pub rests_opens : (content : Option Content) (m : Model) → Rests content m → Opens content m
-rests_opens content m r = rests_by content m r.pairs r.valid r.keeps r.told r.holds
+rests_opens content m r = rests_by content m r.pairs r.valid r.keeps r.few r.told r.holds
 
 -- what its catalog tells is the model's schema, and the mark how its content stands
 module _ (content : Option Content) (m : Model) where
-  by_holds : (pairs : Content) (a : SchemaAndMark) → IsValid m.schema → Keeps m.schema.tables m.rows → content ≡ Some pairs → Holds m pairs → added_from none_added (catalog_in pairs) ≡ Ok a → (a.0 ≡ m.schema) × IsAsMarked a.1 content m
-  by_holds pairs a valid keeps is (inl same) at =
+  by_holds : (pairs : Content) (a : SchemaAndMark) → IsValid m.schema → Keeps m.schema.tables m.rows → AreFewRows (counters_in m.schema) m.rows → content ≡ Some pairs → Holds m pairs → added_from none_added (catalog_in pairs) ≡ Ok a → (a.0 ≡ m.schema) × IsAsMarked a.1 content m
+  by_holds pairs a valid keeps few is (inl same) at =
       let e = sym at ∙ held_tells m pairs valid (inl same) in
       let mark_is : a.1 ≡ Ready = ap mark_in e in
-      (ap schema_in e, subst (λ (k : Mark). IsAsMarked k content m) (sym mark_is) (record { valid = valid; keeps = keeps; told = is ∙ ap (λ (c : Content). Some c) same }))
-  by_holds pairs a valid keeps is (inr f) at =
+      (ap schema_in e, subst (λ (k : Mark). IsAsMarked k content m) (sym mark_is) (record { valid = valid; keeps = keeps; few = few; told = is ∙ ap (λ (c : Content). Some c) same }))
+  by_holds pairs a valid keeps few is (inr f) at =
       let e = sym at ∙ held_tells m pairs valid (inr f) in
       let mark_is : a.1 ≡ Building = ap mark_in e in
-      (ap schema_in e, subst (λ (k : Mark). IsAsMarked k content m) (sym mark_is) (record { valid = valid; keeps = keeps; pairs = pairs; told = is; filling = f }))
+      (ap schema_in e, subst (λ (k : Mark). IsAsMarked k content m) (sym mark_is) (record { valid = valid; keeps = keeps; few = few; pairs = pairs; told = is; filling = f }))
 
   pub rests_as : (a : SchemaAndMark) → Rests content m → IfSome content (λ pairs. added_from none_added (catalog_in pairs) ≡ Ok a) → (a.0 ≡ m.schema) × IsAsMarked a.1 content m
-  rests_as a r at = by_holds r.pairs a r.valid r.keeps r.told r.holds (subst (λ (o : Option Content). IfSome o (λ pairs. added_from none_added (catalog_in pairs) ≡ Ok a)) r.told at)
+  rests_as a r at = by_holds r.pairs a r.valid r.keeps r.few r.told r.holds (subst (λ (o : Option Content). IfSome o (λ pairs. added_from none_added (catalog_in pairs) ≡ Ok a)) r.told at)
 
   not_both : (p : Pair) (a : SchemaAndMark) → ◌≡◌ {A = Result SchemaAndMark Pair} (Err p) (Ok a) → ⊥
   not_both p a e = absurd (cc)

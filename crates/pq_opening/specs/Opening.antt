@@ -27,6 +27,8 @@ use Rattle.pq_store.specs.declared.damage.Broke.TheVariants.{Failed, NoMem, Dama
 use Rattle.pq_content.specs.Standing.{SettlesTo}
 use Rattle.pq_content.specs.Pairs.{Pair}
 use Rattle.pq_content.specs.Tables.{Rows, rows_of, Keeps}
+use Rattle.pq_tallies.specs.Counters.{AreFewRows as AreFewInGroups}
+use Rattle.pq_tallies.specs.Defined.{counters_in}
 use Rattle.pq_print.specs.Canonical.{definition_text}
 use Rattle.pq_print.specs.declared.report.Opened.{Opened}
 use Rattle.pq_intent.specs.Counting.{HasChanges}
@@ -204,10 +206,12 @@ pub record IsLeft (schema : Schema) (target : Target) (query : NewQuery) : Type 
   pub target_is : target ≡ target_left schema made
   pub query_is : query ≡ last_query schema
 
--- the rows keep valid definitions, and the content is told; the last definition's index is being filled
+-- the rows keep valid definitions, no group of a counter has too many, and the content is told; the last definition's
+-- index is being filled
 pub record IsFillingIn (content : Option Content) (m : Model) : Type 0 where
   pub valid : IsValid m.schema
   pub keeps : Keeps m.schema.tables m.rows
+  pub few : AreFewInGroups (counters_in m.schema) m.rows
   pub pairs : Content
   pub told : content ≡ Some pairs
   pub filling : IsFillingLast m pairs

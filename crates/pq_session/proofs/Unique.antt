@@ -8,34 +8,39 @@ use Rattle.pq_builds.proofs.Filled.{rows_filling, one_set}
 use Rattle.pq_content.specs.Pairs.{Pair, content_pairs}
 use Rattle.pq_content.specs.Standing.{SettlesTo}
 use Rattle.pq_content.specs.Tables.{IsTableNumber, Keeps, rows_of}
-use Rattle.pq_content.proofs.Keys.{catalog_beside}
+use Rattle.pq_content.proofs.Keys.{both_beside, catalog_beside, counters_beside}
 use Rattle.pq_content.proofs.Settling.{settles_once}
 use Rattle.pq_content.proofs.Unique.{one_table}
 use Rattle.pq_store.specs.Content.{Content}
 use Rattle.pq_step.specs.Model.{Model}
 use Rattle.pq_opening.specs.Opening.{SchemaAndMark}
-use Rattle.pq_step.specs.Stands.{Holds, Opens, IsFillingLast, content_of, catalog_pairs, earlier_pairs, last_query}
-use Rattle.pq_step.proofs.Catalogs.{are_beside}
+use Rattle.pq_step.specs.Stands.{Holds, Opens, IsFillingLast, content_of, others_of, pairs_counted, earlier_pairs, earlier_others, last_query}
+use Rattle.pq_step.proofs.Counted.{counted_space, others_beside}
 use Rattle.pq_opening.proofs.Lefts.{earlier_catalog}
 use Rattle.pq_step.proofs.Made.{types_at}
 use Rattle.pq_opening.proofs.Reopening.{schema_in, mark_in, mark_held, held_tells}
 
+-- the rows of a model over a schema
+abbrev over : Schema → Model → Model
+over schema n = record { schema = schema; rows = n.rows }
+
 pairs_same : (m n : Model) → m.schema ≡ n.schema → content_of m ≡ content_of n
-    → content_pairs m.schema.tables m.rows (catalog_pairs m.schema) ≡ content_pairs m.schema.tables n.rows (catalog_pairs m.schema)
+    → content_pairs m.schema.tables m.rows (others_of m) ≡ content_pairs m.schema.tables n.rows (others_of (over m.schema n))
 unfolding content_of
-pairs_same m n is same = same ∙ ap (λ (s : Schema). content_pairs s.tables n.rows (catalog_pairs s)) (sym is)
+pairs_same m n is same = same ∙ ap (λ (s : Schema). content_pairs s.tables n.rows (others_of (over s n))) (sym is)
 
 one_settled_set : (m n : Model) → IsValid m.schema → Keeps m.schema.tables m.rows → Keeps n.schema.tables n.rows → m.schema ≡ n.schema → content_of m ≡ content_of n
     → (t : ℕ) → IsTableNumber m.schema.tables t → IsPermutation (rows_of t m.rows) (rows_of t n.rows)
 one_settled_set m n valid keeps keeps' is same t number =
-    one_table m.schema.tables m.rows n.rows (catalog_pairs m.schema) (catalog_pairs m.schema) t (types_at m.schema t valid number) keeps
-    (subst (λ (s : Schema). Keeps s.tables n.rows) (sym is) keeps') (are_beside m.schema) (are_beside m.schema) (pairs_same m n is same)
+    one_table m.schema.tables m.rows n.rows (others_of m) (others_of (over m.schema n)) t (types_at m.schema t valid number) keeps
+    (subst (λ (s : Schema). Keeps s.tables n.rows) (sym is) keeps') (others_beside m) (others_beside (over m.schema n)) (pairs_same m n is same)
 
 -- while an index is being filled
 rows_left_in : (m : Model) (content : Content) (t : ℕ) → IsValid m.schema → Keeps m.schema.tables m.rows → IsFillingLast m content → row_pairs_in t content ≡ row_pairs_in t (content_pairs m.schema.tables m.rows [])
 rows_left_in m content t valid keeps f =
-    rows_filling m.schema.tables m.rows (earlier_pairs m.schema) f.made (last_query m.schema) content t keeps
-    (catalog_beside (earlier_pairs m.schema) (earlier_catalog m.schema valid f.made f.last)) refl f.filling
+    rows_filling m.schema.tables m.rows (earlier_others m) f.made (last_query m.schema) content t keeps
+    (both_beside (pairs_counted m) (earlier_pairs m.schema) (counters_beside (pairs_counted m) (counted_space m))
+    (catalog_beside (earlier_pairs m.schema) (earlier_catalog m.schema valid f.made f.last))) refl f.filling
 
 one_left_set : (m n : Model) (content : Content) → IsValid m.schema → IsValid n.schema → Keeps m.schema.tables m.rows → Keeps n.schema.tables n.rows → m.schema ≡ n.schema → IsFillingLast m content → IsFillingLast n content
     → (t : ℕ) → IsTableNumber m.schema.tables t → IsPermutation (rows_of t m.rows) (rows_of t n.rows)
