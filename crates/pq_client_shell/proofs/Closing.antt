@@ -26,7 +26,7 @@ use Rattle.pq_clients.specs.declared.outcome.Outcome.TheVariants as outcome
 use Rattle.pq_clients.specs.declared.outcome.Told.{Told}
 use Rattle.pq_clients.specs.declared.outcome.Wrote.{Wrote}
 use Rattle.pq_step.specs.Model.{Model}
-use Rattle.pq_step.specs.Stands.{Opens, Stands, catalog_pairs}
+use Rattle.pq_step.specs.Stands.{Opens, Stands}
 use Rattle.pq_step.proofs.Standing.{settled_opens}
 use Rattle.pq_shell.specs.Fold.{Moment, MadeReports, ServedItems, StoppedItem, after}
 use Rattle.pq_shell.specs.Items.{cut_items}

@@ -6,6 +6,8 @@ pub mod Outcomes
 pub mod Served
 pub mod Sorting
 pub mod Pieces
+pub mod Elsewhere
+pub mod Counted
 pub mod Stepping
 pub mod Gathering
 pub mod Closing

@@ -1,5 +1,5 @@
 -- How a run of clients ends: what stands at each status.
-use Rattle.std.specs.Prelude.{◌≡◌, ℕ, ◌+◌, ◌≤◌, ◌⊎◌, Bool, true, false, ◌||◌, Option, Some, None, List, [], ◌++◌, length}
+use Rattle.std.specs.Prelude.{◌≡◌, ℕ, ◌+◌, ◌≤◌, ◌⊎◌, Bool, true, false, ◌||◌, Option, Some, None, IfSome, List, [], ◌++◌, length, All}
 use Rattle.std.specs.List.{AllByRecursion, list_any}
 use Rattle.std.specs.Io.KnownBytes.{append_known}
 use Rattle.pq_base.specs.Members.{In}
@@ -13,7 +13,11 @@ use Rattle.pq_text.specs.Pieces.{pieces_of}
 use Rattle.pq_print.specs.Report.{damage_line, is_refusal}
 use Rattle.pq_print.specs.declared.report.Report.{Report}
 use Rattle.pq_index_keep.specs.declared.write.Write.{Write}
+use Rattle.pq_tallies.specs.Counters.{AreFewRows}
+use Rattle.pq_tallies.specs.Defined.{counters_in}
 use Rattle.pq_clients.specs.Clients.{View}
+use Rattle.pq_clients.specs.Present.{present_rows}
+use Rattle.pq_clients.specs.Promises.{IsResting}
 use Rattle.pq_clients.specs.Goes.{spot}
 use Rattle.pq_clients.specs.Promised.{RunsAsPromised, by_turns, calls_of_client}
 use Rattle.pq_clients.specs.Running.{Turns, moment as clients_moment}
@@ -21,7 +25,7 @@ use Rattle.pq_clients.specs.declared.outcome.Outcome.TheVariants as outcome
 use Rattle.pq_clients.specs.declared.outcome.Told.{Told}
 use Rattle.pq_clients.specs.declared.outcome.Wrote.{Wrote}
 use Rattle.pq_step.specs.Model.{Model}
-use Rattle.pq_step.specs.Stands.{Opens, Stands, catalog_pairs}
+use Rattle.pq_step.specs.Stands.{Opens, Stands, content_of, others_of}
 use Rattle.pq_shell.specs.Fold.{Moment, MadeReports, StoppedItem}
 use Rattle.pq_shell.specs.Items.{cut_items}
 use Rattle.pq_shell.specs.Making.{moment}
@@ -67,8 +71,15 @@ pub record IsRead (left left_now : Option (List ℕ)) (script : Script) : Type 0
   pub pieces_is : script.pieces ≡ pieces_of bytes
   pub unfinished_is : script.unfinished ≡ leaves_rest script.ending bytes
 
+-- the content has just the pairs of the rows that are present in it, of their entries, of the counters and of the
+-- definitions; and no group of a counter has too many of these rows
+pub record HoldsPresent (schema : Schema) (content : Content) : Type 0 where
+  pub few : AreFewRows (counters_in schema) (present_rows schema.tables content)
+  pub is : content ≡ content_of (record { schema = schema; rows = present_rows schema.tables content })
+
 -- the writes were dealt to k clients, which stepped in turn until none of them may make a call more; and from a store
--- that stands for a model all that is promised of such steps holds throughout
+-- that stands for a model all that is promised of such steps holds throughout, and where no write is in flight and no
+-- client ended by a fault, the store holds just its present rows again
 pub record RanClients (k : ℕ) (schema : Schema) (writes : List Write) (old now : Option Content)
     (before after : Counts) (told : List Told) : Type 0 where
   pub rounds : ℕ
@@ -81,7 +92,8 @@ pub record RanClients (k : ℕ) (schema : Schema) (writes : List Write) (old now
       (clients_moment (spot old faults before) (dealt k writes) [] [])
       (clients_moment (spot now faults_now after) left told puts)
   pub promised : (m : Model) → Stands old schema m
-      → RunsAsPromised schema.tables m.rows (catalog_pairs schema) (dealt k writes) (by_turns k rounds) now left told puts
+      → RunsAsPromised schema.tables m.rows (others_of m) (dealt k writes) (by_turns k rounds) now left told puts
+  pub rests : (m : Model) → Stands old schema m → All IsResting left → IfSome now (HoldsPresent schema)
 
 -- Failed is told only where the count of faults has risen
 abbrev pub TellsCause : ℕ → ℕ → List Told → Type 0

@@ -1,5 +1,5 @@
 -- The writes of a script: where they begin, and which of them clients make.
-use Rattle.std.specs.Prelude.{ℕ, ◌+◌, Bool, not, nat_le, length, List, [], ◌∷◌, ◌++◌, take, drop, Option, Some, None, is_some, Result, Ok, Err, if◌then◌else◌}
+use Rattle.std.specs.Prelude.{◌≡◌, ℕ, ◌+◌, Bool, false, not, nat_le, nat_lt, length, List, [], ◌∷◌, ◌++◌, take, drop, Option, Some, None, is_some, option_and_then, Result, Ok, Err, if◌then◌else◌}
 use Rattle.std.specs.Result.{result_ok}
 use Rattle.pq_text.specs.Tokens.{tokens_of}
 use Rattle.pq_text.specs.declared.piece.Piece.{Piece}
@@ -7,9 +7,10 @@ use Rattle.pq_text.specs.declared.piece.Piece.TheVariants as piece
 use Rattle.pq_def_read.specs.Reading.{statement_of}
 use Rattle.pq_def_read.specs.declared.statement.Statement.{Statement}
 use Rattle.pq_def_read.specs.declared.statement.Statement.TheVariants as statement
-use Rattle.pq_schema.specs.Schema.{Schema}
+use Rattle.pq_schema.specs.Schema.{Schema, counters_of}
 use Rattle.pq_index_keep.specs.Checking.{checked_write}
 use Rattle.pq_index_keep.specs.declared.write.Write.{Write}
+use Rattle.pq_tallies.specs.Writes.{written_table}
 
 -- an INSERT, UPDATE or DELETE
 abbrev pub as_writing : Statement → Option Statement
@@ -53,9 +54,21 @@ gathered_of pieces = drop (front_count pieces) pieces
 
 -- ---- the writes that these definitions accept
 
+-- a table has counters
+abbrev pub has_counters : Schema → ℕ → Bool
+has_counters schema table = nat_lt 0 (length (counters_of schema table))
+
+-- a write of a table without counters
+abbrev pub IsUncounted : Schema → Write → Type 0
+IsUncounted schema write = has_counters schema (written_table write) ≡ false
+
+abbrev pub if_uncounted : Schema → Write → Option Write
+if_uncounted schema write = if has_counters schema (written_table write) then None else Some write
+
+-- clients make no write of a table that has counters
 abbrev pub accepted : Schema → Option Statement → Option Write
 accepted schema None = None
-accepted schema (Some statement) = result_ok (checked_write schema statement)
+accepted schema (Some statement) = option_and_then (if_uncounted schema) (result_ok (checked_write schema statement))
 
 abbrev pub write_of : Schema → Piece → Option Write
 write_of schema p = accepted schema (writing_of p)
@@ -68,6 +81,6 @@ unfoldable pub writes_of : Schema → List Piece → List Write
 writes_of schema [] = []
 writes_of schema (p ∷ ps) = one_write (write_of schema p) ++ writes_of schema ps
 
--- a piece that is gathered and spells no accepted write is skipped
+-- a piece that is gathered and spells no accepted write of a table without counters is skipped
 abbrev pub is_skipped : Schema → Piece → Bool
 is_skipped schema p = not (is_some (write_of schema p))

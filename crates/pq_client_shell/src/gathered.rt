@@ -7,7 +7,7 @@ ghost use Rattle.pq_shell.specs.Serving.{rest_text};
 ghost use Rattle.pq_shell.specs.Stops.{Causes};
 ghost use Rattle.pq_client_shell.specs.Lines.{between_text, skipped_text, unless_found};
 ghost use Rattle.pq_client_shell.specs.Runs.{RanClients, TellsCause, TellsAll, TellsPart, MadeGathered, HaltsGathered};
-ghost use Rattle.pq_client_shell.specs.Writes.{front_count, gathered_of, is_skipped, one_write, writes_of};
+ghost use Rattle.pq_client_shell.specs.Writes.{IsUncounted, front_count, gathered_of, is_skipped, one_write, writes_of};
 
 use crate::dealing::{deal, seat};
 use crate::lines::{put_rest, put_skipped};
@@ -57,6 +57,7 @@ fn sort_out(alloc: Global, catalog: &Catalog, first: u32, pieces: &[Piece]) -> R
     requires { first + length pieces.now < 2 ^ 32 }
     ensures writes { IfOk result (λ sorted. sorted.writes ≡ writes_of catalog.now pieces.now) }
     ensures made { IfOk result (λ sorted. AllByRecursion (IsWrite catalog.now.tables) sorted.writes) }
+    ensures uncounted { IfOk result (λ sorted. AllByRecursion (IsUncounted catalog.now) sorted.writes) }
     ensures few { IfOk result (λ sorted. length sorted.writes ≤ length pieces.now) }
     ensures lines { IfOk result (λ sorted. string_bytes sorted.lines ≡ skipped_text catalog.now first pieces.now) }
     ensures skipped { IfOk result (λ sorted. sorted.skipped ≡ list_any (is_skipped catalog.now) pieces.now) }
@@ -97,6 +98,7 @@ fn run_dealt<S: Store<L>, L: Ledger>(
     requires some { 1 ≤ k }
     requires seats { k ≤ 16 }
     requires made { AllByRecursion (IsWrite catalog.now.tables) writes }
+    requires uncounted { AllByRecursion (IsUncounted catalog.now) writes }
     requires few { length writes ≤ 2 ^ 24 }
     ensures ran { IfOk result (λ ran. RanClients k catalog.now writes (S.content store.old) (S.content store.new)
         meter.old meter.new ran.told) }
@@ -144,6 +146,7 @@ fn prepare(alloc: Global, catalog: &Catalog, script: &Script, count: usize) -> R
     requires few { length script.now.pieces ≤ 2 ^ 24 }
     ensures writes { IfOk result (λ deal. deal.writes ≡ writes_of catalog.now (gathered_of script.now.pieces)) }
     ensures made { IfOk result (λ deal. AllByRecursion (IsWrite catalog.now.tables) deal.writes) }
+    ensures uncounted { IfOk result (λ deal. AllByRecursion (IsUncounted catalog.now) deal.writes) }
     ensures few { IfOk result (λ deal. length deal.writes ≤ 2 ^ 24) }
     ensures text { IfOk result (λ deal. deal.text
         ≡ between_text catalog.now script.now.pieces script.now.unfinished) }
@@ -176,6 +179,7 @@ fn step_clients<S: Store<L>, O: Sink, L: Ledger>(
     requires some { 1 ≤ k }
     requires seats { k ≤ 16 }
     requires made { AllByRecursion (IsWrite catalog.now.tables) writes }
+    requires uncounted { AllByRecursion (IsUncounted catalog.now) writes }
     requires few { length writes ≤ 2 ^ 24 }
     ensures ok { IfOk result (λ undone. TellsAll k catalog.now writes undone
         (moment (S.content store.old) (O.held sink.old) meter.old)

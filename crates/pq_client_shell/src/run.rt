@@ -112,10 +112,10 @@ fn run_script<S: Store<L>, I: Source, O: Sink, L: Ledger>(
 /// Runs a script of the source whose writes clients make beside one another, and writes what they were told.
 ///
 /// The words are `clients` and a number from 1 to 16. The store is opened without a line. The pieces before the first
-/// INSERT, UPDATE or DELETE are made and reported as by a run. From there on each piece that is an accepted write is
-/// dealt to the clients in turn, and each other piece is skipped. Then the clients step in turn, one call of the store
-/// each, until all are over, and what each was told of each of its writes is written. Where a client ended in a fault,
-/// the first such fault ends the run.
+/// INSERT, UPDATE or DELETE are made and reported as by a run. From there on each piece that is an accepted write of a
+/// table without counters is dealt to the clients in turn, and each other piece is skipped. Then the clients step in
+/// turn, one call of the store each, until all are over, and what each was told of each of its writes is written. Where
+/// a client ended in a fault, the first such fault ends the run.
 pub fn run_piql_clients<S: Store<L>, I: Source, O: Sink, L: Ledger>(
     alloc: Global,
     words: &[PText],

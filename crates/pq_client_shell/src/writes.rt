@@ -2,7 +2,8 @@
 ghost use Rattle.std.specs.Prelude.{◌≡◌, ◌≤◌, IfOk, IfSome, is_some, length};
 ghost use Rattle.pq_index_keep.specs.Checking.{IsWriting};
 ghost use Rattle.pq_index_keep.specs.Sound.{IsWrite};
-ghost use Rattle.pq_client_shell.specs.Writes.{as_writing, writing_of, write_of, front_count, text_writing};
+ghost use Rattle.pq_tallies.specs.Writes.{written_table};
+ghost use Rattle.pq_client_shell.specs.Writes.{IsUncounted, as_writing, front_count, has_counters, if_uncounted, text_writing, write_of, writing_of};
 
 use pq_base::{NoMem, PText, Stopped};
 use pq_def_read::{Statement, read_statement};
@@ -55,16 +56,49 @@ fn writing_of(alloc: Global, piece: &Piece) -> Result<Option<Statement>, NoMem>
     }
 }
 
-/// The write of a piece, where it spells one that is accepted.
+/// The number of the table of a write.
+fn written_table(write: &Write) -> u8
+    ensures { result ≡ written_table write.now }
+{
+    match write {
+        Write::Insert { table, .. } | Write::Update { table, .. } | Write::Delete { table, .. } =>
+            *table,
+    }
+}
+
+/// Whether a table has counters.
+fn has_counters(alloc: Global, catalog: &Catalog, table: u8) -> Result<bool, NoMem>
+    ensures { IfOk result (λ has. has ≡ has_counters catalog.now table) }
+{
+    let counters = catalog.counters_of(alloc, table)?;
+    Ok(0 < counters.items().len())
+}
+
+/// The write, where its table has no counters.
+fn if_uncounted(alloc: Global, catalog: &Catalog, write: Write) -> Result<Option<Write>, NoMem>
+    requires { IsWrite catalog.now.tables write }
+    ensures is { IfOk result (λ found. found ≡ if_uncounted catalog.now write) }
+    ensures write { IfOk result (λ found. IfSome found (IsWrite catalog.now.tables)) }
+    ensures uncounted { IfOk result (λ found. IfSome found (IsUncounted catalog.now)) }
+{
+    let counted = has_counters(alloc, catalog, written_table(&write))?;
+    if counted {
+        return Ok(None);
+    }
+    Ok(Some(write))
+}
+
+/// The write of a piece, where it spells one that is accepted, of a table without counters.
 pub fn write_of(alloc: Global, catalog: &Catalog, piece: &Piece) -> Result<Option<Write>, NoMem>
     ensures is { IfOk result (λ found. found ≡ write_of catalog.now piece.now) }
     ensures write { IfOk result (λ found. IfSome found (IsWrite catalog.now.tables)) }
+    ensures uncounted { IfOk result (λ found. IfSome found (IsUncounted catalog.now)) }
 {
     let Some(written) = writing_of(alloc, piece)? else {
         return Ok(None);
     };
     match check_write(alloc, catalog, &written) {
-        Ok(write) => Ok(Some(write)),
+        Ok(write) => if_uncounted(alloc, catalog, write),
         Err(Stopped::NoMem) => Err(NoMem),
         Err(Stopped::Refused(_)) => Ok(None),
     }

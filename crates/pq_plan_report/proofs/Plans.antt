@@ -19,7 +19,7 @@ use Rattle.pq_text.specs.declared.token.Token.{Token}
 use Rattle.pq_def_read.specs.declared.statement.Statement.{Statement}
 use Rattle.pq_def_read.specs.declared.statement.Statement.TheVariants as statement
 use Rattle.pq_query_read.specs.Trying.{◌>>=◌, passed_unless}
-use Rattle.pq_statement.specs.Actions.{Action, Creates, Adds, Writes, Prepares, Explains, Runs, Shows, action_from, action_of, asked_by}
+use Rattle.pq_statement.specs.Actions.{Action, Creates, Adds, Writes, Prepares, Explains, Runs, Counts, Reads, Shows, action_from, action_of, asked_by}
 use Rattle.pq_step.specs.Checks.{check_step, checked_as}
 use Rattle.pq_statement.specs.Planning.{PlannedDefinition, arranged_from, as_it_is, definable, explained_from, explained_name, prepared_from}
 use Rattle.pq_print.specs.Report.{is_refusal, printed_report}
@@ -97,8 +97,8 @@ module _ (schema : Schema) where
   by_other text tokens (statement.Delete table key) is = none_told Writes _ (λ _. refl)
   by_other text tokens (statement.Explain from) is = absurd is
   by_other text tokens (statement.Run name params after) is = none_told Runs _ (λ _. refl)
-  by_other text tokens (statement.Counter def) is = tt
-  by_other text tokens (statement.Read name values) is = tt
+  by_other text tokens (statement.Counter def) is = none_told (λ (next : Schema). Counts def) _ (λ _. refl)
+  by_other text tokens (statement.Read name values) is = none_told Reads _ (λ _. refl)
   by_other text tokens statement.Show is = refl
 
   pub other_told : (text : List ℕ) (tokens : List Token) (read : Statement) (told : List ℕ) → IsOther read → told ≡ [] → TellsAsked schema (asked_by schema text tokens read) told
@@ -121,6 +121,8 @@ module _ (schema : Schema) where
   summed_of (Ok (Prepares plan)) told tells = tells.sums
   summed_of (Ok (Explains plan)) told tells = tells.sums
   summed_of (Ok (Runs running)) told tells = tt
+  summed_of (Ok (Counts def)) told tells = tt
+  summed_of (Ok (Reads reading)) told tells = tt
   summed_of (Ok Shows) told tells = tt
   summed_of (Err why) told tells = tt
 
@@ -131,6 +133,8 @@ module _ (schema : Schema) where
   plan_of (Prepares plan) told tells = tells.text_is
   plan_of (Explains plan) told tells = tells.text_is
   plan_of (Runs running) told tells = tells
+  plan_of (Counts def) told tells = tells
+  plan_of (Reads reading) told tells = tells
   plan_of Shows told tells = tells
 
   module _ (number : ℕ) where

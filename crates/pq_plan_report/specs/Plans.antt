@@ -7,7 +7,7 @@ use Rattle.pq_plan.specs.Nodes.{plan_nodes}
 use Rattle.pq_plan_lines.specs.Lines.{plan_lines, sum_of}
 use Rattle.pq_plan_lines.specs.Texts.{line_text}
 use Rattle.pq_plan_lines.specs.declared.node_line.NodeLine.{NodeLine}
-use Rattle.pq_statement.specs.Actions.{Action, Creates, Adds, Writes, Prepares, Explains, Runs, Shows}
+use Rattle.pq_statement.specs.Actions.{Action, Creates, Adds, Writes, Prepares, Explains, Runs, Counts, Reads, Shows}
 use Rattle.pq_statement.specs.Planning.{PlannedDefinition}
 
 -- the nodes of the plan, from the innermost on, with what each costs and gives
@@ -25,6 +25,8 @@ asked_plan schema (Ok (Writes write)) = []
 asked_plan schema (Ok (Prepares plan)) = plan_text schema.tables plan
 asked_plan schema (Ok (Explains plan)) = plan_text schema.tables plan
 asked_plan schema (Ok (Runs running)) = []
+asked_plan schema (Ok (Counts def)) = []
+asked_plan schema (Ok (Reads reading)) = []
 asked_plan schema (Ok Shows) = []
 asked_plan schema (Err why) = []
 
@@ -42,6 +44,8 @@ IsSummed schema (Ok (Writes write)) = Unit {0}
 IsSummed schema (Ok (Prepares plan)) = SumsToBound schema.tables plan
 IsSummed schema (Ok (Explains plan)) = SumsToBound schema.tables plan
 IsSummed schema (Ok (Runs running)) = Unit {0}
+IsSummed schema (Ok (Counts def)) = Unit {0}
+IsSummed schema (Ok (Reads reading)) = Unit {0}
 IsSummed schema (Ok Shows) = Unit {0}
 IsSummed schema (Err why) = Unit {0}
 
@@ -65,5 +69,7 @@ TellsAsked schema (Ok (Writes write)) text = text ≡ []
 TellsAsked schema (Ok (Prepares plan)) text = TellsPlan schema.tables plan text
 TellsAsked schema (Ok (Explains plan)) text = TellsPlan schema.tables plan text
 TellsAsked schema (Ok (Runs running)) text = text ≡ []
+TellsAsked schema (Ok (Counts def)) text = text ≡ []
+TellsAsked schema (Ok (Reads reading)) text = text ≡ []
 TellsAsked schema (Ok Shows) text = text ≡ []
 TellsAsked schema (Err why) text = Unit {0}

@@ -30,9 +30,9 @@ run_clients-requires-clause-places g c =
 
 pub returns-clause-ran : goal.returns-clause-ran
 returns-clause-ran g c =
-    ran_clients c.args.k c.args.writes _ c.in_ok-hands.ensures c.in_ok-clients.clients c.in_ok-clients.ensures c.args.catalog.now c.items.result.now c.rounds_of-rounds.result _ _ _ _ _ _ _ _ _
-    c.known.ensures c.requires.seats c.requires.few c.requires.made (c.items.ensures ∙ c.in_ok-order.ensures) (subst (AllByRecursion (HasCalls c.args.catalog.now.tables c.rounds_of-rounds.result)) c.as_slice.ensures.value c.rounds_of-rounds.ensures)
-    c.in_ok-ran.ensures.turns c.in_ok-ran.ensures.promises
+    ran_clients c.args.k c.args.writes _ c.in_ok-hands.ensures c.in_ok-clients.clients c.in_ok-clients.ensures c.args.catalog.now c.items.result.now c.rounds_of-rounds.result _ _ _ _ _
+    c.known.ensures c.requires.seats c.requires.few c.requires.made (c.items.ensures ∙ c.in_ok-order.ensures) c.in_ok-ran.ensures.promises
+    _ _ _ _ c.requires.uncounted (subst (AllByRecursion (HasCalls c.args.catalog.now.tables c.rounds_of-rounds.result)) c.as_slice.ensures.value c.rounds_of-rounds.ensures) c.in_ok-ran.ensures.turns
 
 pub returns-clause-causes : goal.returns-clause-causes
 returns-clause-causes g c = tells_cause _ _ _ refl c.in_ok-ran.ensures.calls

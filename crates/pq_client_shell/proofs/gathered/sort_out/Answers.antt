@@ -1,5 +1,6 @@
 use Rattle.std.proofs.Common.{rules, refl}
 use Rattle.pq_index_keep.specs.Sound.{IsWrite}
+use Rattle.pq_client_shell.specs.Writes.{IsUncounted}
 use Rattle.pq_client_shell.proofs.Sorting.{writes_more, lines_more, skips_more, writes_end, lines_end, skips_end, made_more, few_more}
 use Rattle.pq_client_shell.proofs.gathered.sort_out.Goals as goal
 
@@ -15,6 +16,7 @@ loop-piece-preserved c =
       number = search rules;
       writes = writes_more s ps i c.piece-item.result c.loop-piece-test.true c.piece-item.is _ _ _ found so_far.writes is c.in_ok-add.ensures.writes;
       made = made_more (IsWrite s.tables) _ _ found so_far.made c.in_ok-found.ensures.write c.in_ok-add.ensures.writes;
+      uncounted = made_more (IsUncounted s) _ _ found so_far.uncounted c.in_ok-found.ensures.uncounted c.in_ok-add.ensures.writes;
       few = few_more _ _ found i so_far.few c.in_ok-add.ensures.writes;
       lines = lines_more s ps i c.piece-item.result c.loop-piece-test.true c.piece-item.is c.loop-piece.number _ _ _ found so_far.lines is c.in_ok-add.ensures.lines;
       skipped = skips_more s ps i c.piece-item.result c.loop-piece-test.true c.piece-item.is _ _ found so_far.skipped is c.in_ok-add.ensures.skipped;
