@@ -6,7 +6,7 @@ use std::alloc::{AllocError, Global};
 use std::sync::ledger::Ledger;
 
 /// Scripts in a row over one store: each with its text.
-pub const RUNS: [(&[u8], &[u8]); 5] = [
+pub const RUNS: [(&[u8], &[u8]); 7] = [
     (b"", b"open defs 0 bound 2 257\n"),
     (
         b"CREATE TABLE m (id INT, v INT, PRIMARY KEY (id));
@@ -80,6 +80,46 @@ row 1, 7, 5
 row 2, 8, 5
 row 3, 9, 5
 2 ok rows 3 bound 1 9
+",
+    ),
+    (
+        b"CREATE TABLE f (a INT, b TEXT(4) NULL, PRIMARY KEY (a));
+CREATE COUNTER k OF f (b);
+CREATE COUNTER l OF m (v);
+INSERT INTO f VALUES (1, 'x');
+INSERT INTO f VALUES (2, 'x');
+INSERT INTO f VALUES (3, NULL);
+READ k ('x');
+UPDATE f SET b = 'y' WHERE a = 1;
+DELETE FROM f WHERE a = 2;
+",
+        b"open defs 5 bound 2 257
+1 ok bound 1 0
+2 ok bound 2 1
+3 refused E209 m bound 2 1
+4 ok bound 6 2
+5 ok bound 6 2
+6 ok bound 6 2
+row 2
+7 ok rows 1 bound 1 1
+8 ok bound 9 4
+9 ok bound 7 3
+",
+    ),
+    (
+        b"READ k ('x');
+READ k ('y');
+INSERT INTO f VALUES (2, 'y');
+READ k ('y');
+",
+        b"open defs 7 bound 2 257
+row 0
+1 ok rows 1 bound 1 1
+row 1
+2 ok rows 1 bound 1 1
+3 ok bound 6 2
+row 2
+4 ok rows 1 bound 1 1
 ",
     ),
 ];

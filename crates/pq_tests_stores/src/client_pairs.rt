@@ -24,6 +24,13 @@ pub(crate) const DEFINED_H: KeyValue = (
     b"\x01\0CREATE TABLE h (id INT, t INT, PRIMARY KEY (id), CARDINALITY LIMIT 5 (t));",
 );
 
+pub(crate) const DEFINED_T: KeyValue = (
+    b"\x01\0\x02",
+    b"\x01\0CREATE TABLE t (id INT, v INT, PRIMARY KEY (id));",
+);
+
+pub(crate) const DEFINED_K: KeyValue = (b"\x01\0\x03", b"\x02\0CREATE COUNTER k OF t (v);");
+
 pub(crate) const DEFINED_ONE: KeyValue = (
     b"\x01\0\x02",
     b"\x01\0PREPARE one AS SELECT m.v FROM m AS m WHERE m.id = [1];",

@@ -2,7 +2,8 @@
 //!
 //! The opening takes two calls of the store and a CREATE TABLE one. Then the clients take one each in turn.
 use crate::client_pairs::{
-    DEFINED_G, DEFINED_M, HELD_1, HELD_1_7, HELD_2, ROW_1_7, ROW_2_2, ROW_2_7, Texts,
+    DEFINED_G, DEFINED_K, DEFINED_M, DEFINED_T, HELD_1, HELD_1_7, HELD_2, ROW_1_7, ROW_2_2,
+    ROW_2_7, Texts,
 };
 use pq_shell::Status;
 
@@ -281,5 +282,39 @@ told 2 1 done
     ],
 };
 
+// A write on a table with a counter is skipped, and so are a counter and a READ behind it. The client's calls are 7 to
+// 10: the read, the take, the put and the free.
+const COUNTED: Runs = Runs {
+    words: "clients 2",
+    before: &[],
+    script: b"CREATE TABLE m (id INT, v INT, PRIMARY KEY (id));
+CREATE TABLE t (id INT, v INT, PRIMARY KEY (id));
+CREATE COUNTER k OF t (v);
+INSERT INTO t VALUES (1, 7);
+INSERT INTO m VALUES (1, 7);
+DELETE FROM t WHERE id = 1;
+CREATE COUNTER l OF m (v);
+READ k (7);
+",
+    ends: &[
+        (
+            &[Trouble::Fails(11)],
+            Status::SomeRefused,
+            b"1 ok bound 1 0 used 1 0\n2 ok bound 1 0 used 1 0\n3 ok bound 2 1 used 2 0
+4 skipped\n6 skipped\n7 skipped\n8 skipped\ntold 1 1 done\n",
+            &[DEFINED_M, DEFINED_T, DEFINED_K, ROW_1_7],
+        ),
+        (
+            &[Trouble::Fails(10)],
+            Status::StoreFault,
+            b"1 ok bound 1 0 used 1 0\n2 ok bound 1 0 used 1 0\n3 ok bound 2 1 used 2 0
+4 skipped\n6 skipped\n7 skipped\n8 skipped\n",
+            &[DEFINED_M, DEFINED_T, DEFINED_K, HELD_1_7],
+        ),
+    ],
+};
+
 /// Runs over a new store.
-pub(crate) const RUNS: [Runs; 6] = [ONE_KEY, SKIPPED, IN_TURN, FULL, FULL_ALONE, REFUSED];
+pub(crate) const RUNS: [Runs; 7] = [
+    ONE_KEY, SKIPPED, IN_TURN, FULL, FULL_ALONE, REFUSED, COUNTED,
+];
