@@ -15,7 +15,8 @@ usage:
   bin/{NAME} --help      tells more
 The store is a new one in memory. The statements before the first write are made and reported as by bin/piql. The writes
 from there on are dealt to the clients in turn, which make one call of the store each, over and over. Every other
-statement behind the first write is skipped. Then what each client was told of each of its writes is written.
+statement behind the first write is skipped, and so is a write on a table with a counter. Then what each client was told
+of each of its writes is written.
 {BRIEFLY}"""
 
 

@@ -1,7 +1,8 @@
 """A store's file as scripts that make it again: all definitions in their order, and then the rows of each table.
 
 A table refers to earlier ones alone, so each row's parents come before it. The definitions keep their numbers, and so
-do the indexes, which the rows then fill: the new file has the same pairs, and cursors are good for both.
+do the indexes, which the rows then fill, and the counters, which then count them: the new file has the same pairs, and
+cursors are good for both.
 """
 
 import argparse
@@ -21,9 +22,14 @@ from tools.statuses import USAGE
 NAME = "dump"
 REFUSED = 1
 INTENT = 4
-# The format of a definition's pair, by the first word of its text.
-FORMATS = {b"CREATE": 1, b"PREPARE": 1, b"ALTER": 2}
+# The format of a definition's pair, by what its text begins with.
+FORMATS = {b"CREATE TABLE ": 1, b"CREATE COUNTER ": 2, b"PREPARE ": 1, b"ALTER TABLE ": 2}
 READY = 0
+
+
+def format_of(text: bytes) -> int | None:
+    """The format of a definition of this text."""
+    return next((number for head, number in FORMATS.items() if text.startswith(head)), None)
 
 
 def check_whole(file: sqlite3.Connection) -> None:
@@ -31,7 +37,7 @@ def check_whole(file: sqlite3.Connection) -> None:
     if next(pairs(file, INTENT), None):
         raise OperationalError("a write of it was cut off; a run over it, also of nothing, makes the write whole")
     for key, value in pairs(file, DEFINITIONS):
-        if value[0] != FORMATS.get(value[2:].partition(b" ")[0]):
+        if value[0] != format_of(value[2:]):
             raise OperationalError(f"definition {int.from_bytes(key[1:], 'big')} was written by a later version")
         if value[1] != READY:
             raise OperationalError("an index of it isn't filled to its end; a run over it, also of nothing, fills it")

@@ -1,4 +1,4 @@
-"""What is known of tables and queries from the statements that were made: the columns of each."""
+"""What is known of tables, queries and counters from the statements that were made: the columns of each."""
 
 from piql.reports import DefinitionLine
 from piql.schema import Table, read_added, read_table
@@ -25,7 +25,7 @@ def between(found: list[Token], first: str, lasts: tuple[str, ...]) -> list[Toke
 
 
 class Shapes:
-    """The columns of the tables and queries that a script has defined, by their names."""
+    """The columns of the tables, queries and counters that a script has defined, by their names."""
 
     def __init__(self) -> None:
         self.tables: dict[str, Table] = {}
@@ -43,7 +43,9 @@ class Shapes:
         """Learns from a statement that was made, and from the definitions that a SHOW lists."""
         for each in [text, *(line.text for line in definitions)]:
             found = tokens(each)
-            if found[0].is_word("CREATE"):
+            if found[0].is_word("CREATE") and found[1].is_word("COUNTER"):
+                self.queries[found[2].text.lower()] = ["rows"]
+            elif found[0].is_word("CREATE"):
                 table = read_table(" ".join(map(normal, found)))
                 self.tables[table.name] = table
             elif found[0].is_word("ALTER"):

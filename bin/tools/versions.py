@@ -1,7 +1,7 @@
 """The version: the numbers of the language, of the file format and of the driver."""
 
-LANGUAGE = 4
-FILE_FORMAT = 3
+LANGUAGE = 5
+FILE_FORMAT = 4
 DRIVER = 1
 
 NUMBER = f"{LANGUAGE}.{FILE_FORMAT}.{DRIVER}"

@@ -72,6 +72,14 @@ CASES = (
         "8 refused E102 bound 0 0 used 0 0\ntold 2 1 refused E504 m\ntold 1 1 done\n",
         1,
     ),
+    Case(
+        "a write on a table with a counter is skipped",
+        2,
+        NUMBERS + "CREATE COUNTER c OF m (v); CREATE TABLE k (id INT, PRIMARY KEY (id)); INSERT INTO m VALUES (1, 7);"
+        "INSERT INTO k VALUES (1); UPDATE m SET v = 8 WHERE id = 1; READ c (7);",
+        MADE + "2 ok bound 2 1 used 2 0\n3 ok bound 1 0 used 1 0\n4 skipped\n6 skipped\n7 skipped\ntold 1 1 done\n",
+        1,
+    ),
 )
 
 

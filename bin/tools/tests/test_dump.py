@@ -41,6 +41,12 @@ GROWN = PAIRS | {
     b"\x01\x00\x05": b"\x02\x00" + ADDED[1],
     b"\x02\x01\x10\x80" + b"\x00" * 6 + b"\x08": b"\x04" + b"\x00" * 7 + b"\x08\x00" + b"\x00" * 7 + b"\x05\x00\x00",
 }
+# A counter over a column of the second table: of its two rows one has no NULL there.
+COUNTER = b"CREATE COUNTER c OF b (a);"
+COUNTED = {
+    b"\x01\x00\x04": b"\x02\x00" + COUNTER,
+    b"\x05\x00\x04\x10\x7f" + b"\xff" * 7: b"\x00" * 7 + b"\x01",
+}
 GROWN_ROWS = """\
 INSERT INTO a VALUES (-1, TRUE, 5, NULL);
 INSERT INTO a VALUES (7, FALSE, 5, NULL);
@@ -135,6 +141,18 @@ class BytesTest(unittest.TestCase):
             self.path.unlink(missing_ok=True)
             self.write(GROWN | {bytes([1, 0, number]): wrong})
             self.assertIn(f"definition {number} was written by a later version", self.refused())
+
+    def test_counters_are_made_again_before_the_rows(self) -> None:
+        self.write(PAIRS | COUNTED)
+        definitions = b"".join(line + b"\n" for line in (TABLES[0], QUERY, TABLES[1], COUNTER)).decode()
+        run = run_dump(self.path)
+        self.assertEqual((run.stderr, run.returncode), (b"", 0))
+        self.assertTrue(run.stdout.decode().startswith(definitions + "INSERT INTO a VALUES (-1, TRUE);\n"))
+        self.assertNotIn("\x05", run.stdout.decode())
+
+    def test_a_counter_of_another_format_is_told(self) -> None:
+        self.write(PAIRS | COUNTED | {b"\x01\x00\x04": READY + COUNTER})
+        self.assertIn("definition 4 was written by a later version", self.refused())
 
     def test_a_row_of_another_shape_is_told(self) -> None:
         for code in (b"\x03" + b"\xff" * 8 + b"\x01", b"\x02" + b"\xff" * 8 + b"\x01\x00"):

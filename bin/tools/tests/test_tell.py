@@ -20,6 +20,7 @@ PREPARE q AS SELECT t.a, t.b, t.c FROM t ORDER BY t.a LIMIT 9;
 PREPARE all AS SELECT * FROM t LIMIT 2; RUN q (); RUN all;
 alter table T add column W int default 5; PREPARE more AS SELECT * FROM t LIMIT 2; RUN more;
 INSERT INTO t VALUES (1, 'x', TRUE, 'y');
+CREATE COUNTER C OF t (b); read c ('x');
 SELECT b FROM t
 """
 REPORT = """\
@@ -42,7 +43,10 @@ query more stop 1 bound 1 2
 row 7, 'it''s so', true, 5
 9 ok rows 1 bound 1 2 used 1 1
 10 refused E501 t w bound 0 0 used 0 0
-11 refused E102 bound 0 0 used 0 0
+11 ok bound 2 1 used 2 0
+row 3
+12 ok rows 1 bound 1 1 used 1 1
+13 refused E102 bound 0 0 used 0 0
 """
 TOLD = """\
 NAME:4: statement 2 is refused: E501 t c
@@ -83,14 +87,20 @@ NAME:8: statement 10 is refused: E501 t w
     letters.
   way out: cut or refuse it in the site. A column can't be made nullable later.
 
-NAME:9: statement 11 is refused: E102
-     9 | SELECT b FROM t
+NAME:9: read c ('x');
+  rows
+  ----
+     3
+  1 row; bound 1 1, used 1 1
+
+NAME:10: statement 13 is refused: E102
+    10 | SELECT b FROM t
        |                ^
   the script ends within a statement. There is something after the last ;. Mostly the ; is missing,
     or a text isn't closed and goes on to the end.
   way out: end it.
 
-11 statements, 3 refused
+13 statements, 3 refused
 """
 HEAD = re.compile(
     r"^\S+:(\d+): statement \d+ is refused: (E\d\d\d)[^\n]*\n *\d+ \| ([^\n]*)\n {7}\| ( *)\^\n", re.MULTILINE

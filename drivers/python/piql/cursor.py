@@ -25,6 +25,7 @@ class ColumnDescription(NamedTuple):
 
 
 SHOWN = (ColumnDescription("number", "INT", null_ok=False), ColumnDescription("definition", "TEXT", null_ok=False))
+COUNTED = (ColumnDescription("rows", "INT", null_ok=False),)
 EXPLAINED = (
     ColumnDescription("way", "TEXT", null_ok=False),
     ColumnDescription("operations", "INT", null_ok=False),
@@ -92,7 +93,7 @@ class Cursor:
         report = self._report = connection.answer(statement, parameters, after)
         self._statement = statement
         kind = statement.kind
-        if kind.has_pages:
+        if kind.has_rows:
             self._rows = report.rows
         elif kind.writes:
             self._made = 1
@@ -107,7 +108,7 @@ class Cursor:
         connection = self._open()
         self._forget()
         statement = read_statement(operation)
-        if statement.kind.has_pages or statement.kind in (Kind.SHOW, Kind.EXPLAIN):
+        if statement.kind.has_rows or statement.kind in (Kind.SHOW, Kind.EXPLAIN):
             raise ProgrammingError("executemany is for statements without an answer")
         self._made = 0
         for parameters in seq_of_parameters:
@@ -137,7 +138,7 @@ class Cursor:
 
     def _describe(self, statement: Statement) -> Sequence[ColumnDescription] | None:
         if not statement.kind.has_pages:
-            return {Kind.SHOW: SHOWN, Kind.EXPLAIN: EXPLAINED}.get(statement.kind)
+            return {Kind.SHOW: SHOWN, Kind.EXPLAIN: EXPLAINED, Kind.READ: COUNTED}.get(statement.kind)
         schema, query = self._open().find_query(statement.name)
         return tuple(
             ColumnDescription(name, it.type, it.size, it.size, null_ok=it.nullable)

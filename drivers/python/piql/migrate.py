@@ -11,6 +11,7 @@ from .engine import find_program
 from .errors import Error, InterfaceError, ProgrammingError
 from .links import FileLink, Link, MemoryLink
 from .reports import Report
+from .schema import Added, Counter, Definition, Table
 from .scripts import first_token, pieces, place_at
 from .statements import Sent, read_statement
 
@@ -27,12 +28,14 @@ class SchemaDiffers(ProgrammingError):
     """A definition of the store has the name of one of the schema, and another text."""
 
 
-def told_lines(name: str, report: Report) -> tuple[str, ...]:
+KINDS = {Table: "table", Added: "column", Counter: "counter"}
+
+
+def told_lines(definition: Definition, report: Report) -> tuple[str, ...]:
     """A definition's report for a reader."""
     queries = [f"query {it.name} {it.way} bound {it.bound}" for it in report.queries()]
     indexes = [f"index {it.table} ({', '.join(it.columns)})" for it in report.indexes()]
-    kind = "column" if "." in name else "table"
-    return (*(queries or [f"{kind} {name}"]), *indexes)
+    return (*(queries or [f"{KINDS[type(definition)]} {definition.name}"]), *indexes)
 
 
 def define_each(scratch: Connection, script: str, source: str) -> list[Report]:
@@ -43,7 +46,7 @@ def define_each(scratch: Connection, script: str, source: str) -> list[Report]:
         try:
             statement = read_statement(text.decode())
             if not statement.kind.defines:
-                raise ProgrammingError("a schema has CREATE TABLE, ALTER TABLE and PREPARE alone")
+                raise ProgrammingError("a schema has CREATE TABLE, CREATE COUNTER, ALTER TABLE and PREPARE alone")
             reports.append(scratch.report(Sent(statement, "", ())))
         except Error as error:
             begins = piece.start + first_token(text)
@@ -66,7 +69,7 @@ def read_wanted(path: str | os.PathLike[str], program: str | os.PathLike[str] | 
         with Connection(scratch_link(folder, program)) as scratch:
             reports = define_each(scratch, Path(path).read_text(), os.fspath(path))
             definitions = scratch.refresh().definitions
-    return [Wanted(it.name, it.text, told_lines(it.name, report)) for it, report in zip(definitions, reports)]
+    return [Wanted(it.name, it.text, told_lines(it, report)) for it, report in zip(definitions, reports)]
 
 
 def missing_of(connection: Connection, wanted: list[Wanted]) -> list[Wanted]:
@@ -91,6 +94,11 @@ def migrate(
     missing = missing_of(connection, read_wanted(path, program))
     for line in [line for it in missing for line in it.told]:
         print(line, file=out or sys.stdout)
-    for it in missing:
-        connection.execute(it.text)
+    for place, it in enumerate(missing):
+        try:
+            connection.execute(it.text)
+        except Error as error:
+            made = ", ".join(it.name for it in missing[:place]) or "nothing"
+            error.add_note(f"in {os.fspath(path)}, at {it.name}; made before it: {made}")
+            raise
     return [it.name for it in missing]

@@ -46,7 +46,7 @@ def sources_of(old: Table, new: Table, values: Values) -> list[Source]:
 
 
 def tell_losses(old: Schema, new: Schema, tell: TextIO) -> None:
-    """Tells which tables and columns are left out."""
+    """Tells which tables, columns and counters are left out."""
     kept = new.tables()
     for name, table in old.tables().items():
         if name not in kept:
@@ -55,6 +55,9 @@ def tell_losses(old: Schema, new: Schema, tell: TextIO) -> None:
         for column in table.columns:
             if column.name not in {it.name for it in kept[name].columns}:
                 print(f"column {name}.{column.name} is left out", file=tell)
+    for name in old.counters():
+        if name not in new.counters():
+            print(f"counter {name} is left out", file=tell)
 
 
 class Copying:

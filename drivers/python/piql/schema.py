@@ -1,4 +1,4 @@
-"""Tables, queries and added columns, read from the canonical texts that SHOW prints."""
+"""Tables, queries, added columns and counters, read from the canonical texts that SHOW prints."""
 
 from collections.abc import Callable
 from typing import NamedTuple
@@ -64,10 +64,22 @@ class Query(NamedTuple):
         return self.text[len(f"PREPARE {self.name} AS ") :]
 
 
+class Counter(NamedTuple):
+    """A counter: its table and the columns whose values are a group."""
+
+    name: str
+    table: str
+    columns: tuple[str, ...]
+    text: str
+
+
+Definition = Table | Query | Added | Counter
+
+
 class Schema(NamedTuple):
     """All definitions of a store, in order."""
 
-    definitions: tuple[Table | Query | Added, ...]
+    definitions: tuple[Definition, ...]
 
     def tables(self) -> dict[str, Table]:
         """The tables by their names, with the columns that were added. A table's text is that of its CREATE TABLE."""
@@ -82,6 +94,10 @@ class Schema(NamedTuple):
     def queries(self) -> dict[str, Query]:
         """The queries by their names."""
         return {it.name: it for it in self.definitions if isinstance(it, Query)}
+
+    def counters(self) -> dict[str, Counter]:
+        """The counters by their names."""
+        return {it.name: it for it in self.definitions if isinstance(it, Counter)}
 
     def columns_of(self, query: Query) -> list[tuple[str, Column]]:
         """The selected columns with their names, which have the alias where two columns share theirs."""
@@ -130,6 +146,13 @@ def read_added(text: str) -> Added:
     return Added(found[2].text, column._replace(is_added=True, default=default), text)
 
 
+def read_counter(text: str) -> Counter:
+    """A counter of its canonical text."""
+    found = tokens(text)
+    columns, _ = names_behind(found, 6)
+    return Counter(found[2].text, found[4].text, columns, text)
+
+
 def place_of(found: list[Token], *words: str) -> int:
     """The place of the first of these keywords, or the end."""
     return next((i for i, token in enumerate(found) if token.is_word(*words)), len(found))
@@ -149,13 +172,20 @@ def read_query(text: str) -> Query:
     return Query(found[1].text, selected, relations, max(params, default=0), pages, text)
 
 
-READERS: dict[str, Callable[[str], Table | Query | Added]] = {
-    "CREATE": read_table,
-    "PREPARE": read_query,
-    "ALTER": read_added,
+# By what a canonical text begins with.
+READERS: dict[str, Callable[[str], Definition]] = {
+    "CREATE TABLE ": read_table,
+    "CREATE COUNTER ": read_counter,
+    "PREPARE ": read_query,
+    "ALTER TABLE ": read_added,
 }
+
+
+def read_definition(text: str) -> Definition:
+    """A definition of its canonical text."""
+    return next(read for head, read in READERS.items() if text.startswith(head))(text)
 
 
 def read_schema(definitions: list[DefinitionLine]) -> Schema:
     """The schema that SHOW lists."""
-    return Schema(tuple(READERS[line.text.partition(" ")[0]](line.text) for line in definitions))
+    return Schema(tuple(read_definition(line.text) for line in definitions))

@@ -19,7 +19,7 @@ from .cursor import Cursor
 from .engine import find_program
 from .errors import Error
 from .reports import Work
-from .schema import Query
+from .schema import Added, Table
 from .scripts import Place, pieces
 from .statements import read_statement
 from .tables import table
@@ -28,7 +28,8 @@ HISTORY = "~/.piql_history"
 HELP = """\
 A statement ends with ; and may go over several lines.
 .tables     the tables         .queries    the prepared queries
-.bounds     each query's bound .next       the next page of the last answer
+.counters   the counters       .bounds     each query's bound
+.next       the next page of the last answer
 .help       this               .quit       the end, as Ctrl-D"""
 
 
@@ -103,7 +104,9 @@ class Shell:
             return self.next_page()
         if word == ".tables":
             definitions = self.connection.refresh().definitions
-            return "\n".join(it.text for it in definitions if not isinstance(it, Query))
+            return "\n".join(it.text for it in definitions if isinstance(it, (Table, Added)))
+        if word == ".counters":
+            return "\n".join(it.text for it in self.connection.refresh().counters().values())
         if word == ".queries":
             return "\n".join(it.text for it in self.connection.refresh().queries().values())
         if word == ".bounds":

@@ -33,7 +33,8 @@ class Kind(Enum):
         self.reads = word in ("RUN", "READ", "EXPLAIN", "SHOW")
         self.defines = word in ("CREATE", "ALTER", "PREPARE")
         self.writes = word in ("INSERT", "UPDATE", "DELETE")
-        # Its answer is rows, page by page.
+        # Its answer is rows, and those of a query come page by page.
+        self.has_rows = word in ("SELECT", "RUN", "READ")
         self.has_pages = word in ("SELECT", "RUN")
         self.is_prepared = word == "SELECT"
         # A `?` in it is a numbered parameter, and takes no value.

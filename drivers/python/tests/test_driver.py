@@ -105,6 +105,31 @@ class DriverTest(StoreCase):
         with self.assertRaises(piql.ProgrammingError):
             self.connection.execute("INSERT INTO n VALUES (9)", after="AQ")
 
+    def test_counters(self) -> None:
+        self.connection.execute("CREATE TABLE likes (fan TEXT(9), post INT NULL, PRIMARY KEY (fan))")
+        self.connection.execute("CREATE COUNTER liked OF likes (post)")
+        self.assertEqual(self.connection.schema().counters()["liked"].columns, ("post",))
+        rows = [("ann", 7), ("bob", 7), ("cid", None), ("dan", 8)]
+        self.connection.cursor().executemany("INSERT INTO likes VALUES (?, ?)", rows)
+        cursor = self.connection.execute("READ liked (?)", (7,))
+        self.assertEqual((cursor.rowcount, cursor.fetchone(), cursor.fetchone()), (1, (2,), None))
+        self.assertEqual((cursor.bound, cursor.used, cursor.next_page), ((1, 1), (1, 1), None))
+        described = [(it.name, it.type_code, it.null_ok) for it in cursor.description or ()]
+        self.assertEqual(described, [("rows", "INT", False)])
+        self.assertEqual(self.connection.execute("READ liked (?)", (9,)).fetchall(), [(0,)])
+        for text, values, kind, number in (
+            ("READ liked (?)", (None,), piql.DataError, "E402"),
+            ("READ likes (?)", (7,), piql.ProgrammingError, "E405"),
+            ("CREATE COUNTER of_fan OF likes (fan)", (), piql.OperationalError, "E209"),
+        ):
+            with self.subTest(text), self.assertRaises(kind) as caught:
+                self.connection.execute(text, values)
+            self.assertEqual(caught.exception.number, number)
+        with self.assertRaises(piql.ProgrammingError):
+            self.connection.execute("READ liked (7)", after="AQ")
+        with self.assertRaises(piql.ProgrammingError):
+            self.connection.cursor().executemany("READ liked (?)", [(7,)])
+
     def test_executemany_stops_at_a_refusal(self) -> None:
         cursor = self.connection.cursor()
         rows = [("m1", "x"), ("m2", "x"), ("m1", "x"), ("m3", "x")]

@@ -15,7 +15,7 @@ from piql.__main__ import main
 from piql.load import Loaded, load
 from piql.rebuild import Rebuilt, rebuild
 from piql.reports import DefinitionLine
-from piql.schema import Added, Column, read_added, read_query, read_schema, read_table
+from piql.schema import Added, Column, Counter, read_added, read_counter, read_query, read_schema, read_table
 from piql.stored import opened, read_row, read_stored_schema, stored_rows
 
 FIRST = """-- users and what they write
@@ -51,6 +51,7 @@ STRANGE_CODES = [
     "06 FFFFFFFFFFFFFFFE 0002 6869 01 0000000000000005 0000 00",
 ]
 ADDED = "ALTER TABLE users ADD COLUMN karma INT DEFAULT 7;\n"
+COUNTED = "CREATE COUNTER of_town OF users (town);\n"
 
 
 class ReadingTest(unittest.TestCase):
@@ -90,6 +91,22 @@ class ReadingTest(unittest.TestCase):
         self.assertEqual(schema.tables()["t"].columns, GROWN)
         self.assertEqual(list(schema.tables()), ["t", "u"])
         self.assertEqual(schema.columns_of(schema.queries()["q"]), [("d", GROWN[3])])
+
+    def test_counter(self) -> None:
+        text = "CREATE COUNTER of OF read (counter, of);"
+        self.assertEqual(read_counter(text), Counter("of", "read", ("counter", "of"), text))
+
+    def test_a_schema_with_counters(self) -> None:
+        texts = [
+            "CREATE TABLE counter (a INT, PRIMARY KEY (a));",
+            "CREATE COUNTER c OF counter (a);",
+            "PREPARE q AS SELECT counter.a FROM counter AS counter WHERE counter.a = [1];",
+            "CREATE COUNTER d OF counter (a);",
+        ]
+        schema = read_schema([DefinitionLine(number, text) for number, text in enumerate(texts, 1)])
+        self.assertEqual([it.name for it in schema.definitions], ["counter", "c", "q", "d"])
+        found = (list(schema.tables()), list(schema.counters()), list(schema.queries()))
+        self.assertEqual(found, (["counter"], ["c", "d"], ["q"]))
 
     def test_query(self) -> None:
         text = (
@@ -184,6 +201,31 @@ class SchemaTest(unittest.TestCase):
             piql.migrate(connection, self.schema, out=out)
         self.assertIn("users.karma", str(caught.exception))
 
+    def test_migrate_makes_counters(self) -> None:
+        connection, out = self.open(), io.StringIO()
+        self.schema.write_text(FIRST + COUNTED)
+        self.assertEqual(piql.migrate(connection, self.schema, out=out), ["users", "town", "of_town"])
+        self.assertIn("counter of_town\n", out.getvalue())
+        self.assertEqual(piql.migrate(connection, self.schema, out=out), [])
+        connection.execute("INSERT INTO users VALUES ('ann', 'rome')")
+        self.assertEqual(connection.execute("READ of_town ('rome')").fetchall(), [(1,)])
+        self.schema.write_text(FIRST + COUNTED.replace("(town)", "(name)"))
+        with self.assertRaises(piql.ProgrammingError) as caught:
+            piql.migrate(connection, self.schema, out=out)
+        self.assertIn("of_town", str(caught.exception))
+
+    def test_migrate_refuses_a_counter_over_rows(self) -> None:
+        connection, out = self.open(), io.StringIO()
+        piql.migrate(connection, self.schema, out=out)
+        connection.execute("INSERT INTO users VALUES ('ann', 'rome')")
+        self.schema.write_text(SECOND + COUNTED)
+        with self.assertRaises(piql.OperationalError) as caught:
+            piql.migrate(connection, self.schema, out=out)
+        self.assertEqual((caught.exception.number, caught.exception.fields), ("E209", {"table": "users"}))
+        self.assertIn("rebuild OLD NEW SCHEMA", caught.exception.way_out)
+        self.assertEqual(caught.exception.__notes__, [f"in {self.schema}, at of_town; made before it: notes, latest"])
+        self.assertEqual(connection.schema().counters(), {})
+
     def test_migrate_refuses_what_differs(self) -> None:
         connection, out = self.open(), io.StringIO()
         piql.migrate(connection, self.schema, out=out)
@@ -249,6 +291,15 @@ class SchemaTest(unittest.TestCase):
         self.assertEqual(load(connection, "users", io.StringIO(rows), mark, tell), Loaded(1, 0))
         found = connection.execute("SELECT * FROM users ORDER BY name LIMIT 9").fetchall()
         self.assertEqual(found, [("ann", "rome", 7), ("bob", None, 9)])
+
+    def test_load_counts(self) -> None:
+        connection, tell, mark = self.open(), io.StringIO(), self.folder / "mark"
+        self.schema.write_text(FIRST + COUNTED)
+        piql.migrate(connection, self.schema, out=io.StringIO())
+        rows = "name,town\nann,rome\nbob,rome\nann,rome\ncid,\ndan,oslo\n"
+        self.assertEqual(load(connection, "users", io.StringIO(rows), mark, tell), Loaded(5, 1))
+        found = [connection.execute("READ of_town (?)", (town,)).fetchall() for town in ("rome", "oslo", "")]
+        self.assertEqual(found, [[(2,)], [(1,)], [(0,)]])
 
     def test_load_goes_on_where_it_stopped(self) -> None:
         connection, tell, mark = self.open(), io.StringIO(), self.folder / "mark"
@@ -342,6 +393,21 @@ class SchemaTest(unittest.TestCase):
         self.assertEqual(done, Rebuilt(3, 0))
         rows = self.open(newer).execute("SELECT * FROM users ORDER BY name LIMIT 9").fetchall()
         self.assertEqual(rows, [(*row[:3], False) for row in wanted])
+
+    def test_rebuild_makes_counters_before_the_rows(self) -> None:
+        self.rows_of_old()
+        with self.open() as connection:
+            connection.execute("INSERT INTO users VALUES ('dan', 'rome')")
+        new, newer = self.folder / "new.db", self.folder / "newer.db"
+        self.schema.write_text(FIRST + COUNTED)
+        self.assertEqual(rebuild(str(self.path), str(new), self.schema, io.StringIO(), {}), Rebuilt(4, 0))
+        with self.open(new) as connection:
+            found = [connection.execute("READ of_town (?)", (town,)).fetchall() for town in ("rome", "it's", "oslo")]
+        self.assertEqual(found, [[(2,)], [(1,)], [(0,)]])
+        self.schema.write_text(FIRST)
+        tell = io.StringIO()
+        self.assertEqual(rebuild(str(new), str(newer), self.schema, tell, {}), Rebuilt(4, 0))
+        self.assertIn("counter of_town is left out\n", tell.getvalue())
 
     def test_rebuild_leaves_out(self) -> None:
         self.rows_of_old()

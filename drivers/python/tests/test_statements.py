@@ -62,6 +62,14 @@ class StatementTest(unittest.TestCase):
         self.assertFalse(statement.kind.reads or statement.kind.writes or statement.kind.has_pages)
         self.assertEqual(Sent(statement, "", ("'x'",)).data(), b"alter table t add column c text(9) default 'x';")
 
+    def test_a_read_has_rows_and_no_pages(self) -> None:
+        statement = read_statement("read followers (?, 'it''s')")
+        self.assertEqual((statement.kind, statement.params), (Kind.READ, 1))
+        self.assertTrue(statement.kind.reads and statement.kind.has_rows)
+        self.assertFalse(statement.kind.defines or statement.kind.writes or statement.kind.has_pages)
+        self.assertEqual(Sent(statement, "", ("'x'",)).data(), b"read followers ('x', 'it''s');")
+        self.assertTrue(read_statement("CREATE COUNTER c OF t (a)").kind.defines)
+
     def test_refused_before_it_is_sent(self) -> None:
         for text in NO_STATEMENT:
             with self.subTest(text), self.assertRaises(piql.ProgrammingError):
