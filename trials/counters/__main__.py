@@ -1,4 +1,3 @@
-#!/usr/bin/env python3
 """Stops random writes on tables with counters, each at some call, and compares every counter with the rows.
 
     python3 trials/counters                       1,000 writes, over crates/piql_host/out/piql_host

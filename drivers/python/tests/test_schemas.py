@@ -185,6 +185,12 @@ class SchemaTest(unittest.TestCase):
         self.assertIn("query latest stop 1 bound 1 5\n", out.getvalue())
         self.assertEqual(len(connection.schema().definitions), 4)
 
+    def told_difference(self, connection: piql.Connection) -> str:
+        """What is told of a schema's file that says something else than the store."""
+        with self.assertRaises(piql.ProgrammingError) as caught:
+            piql.migrate(connection, self.schema, out=io.StringIO())
+        return str(caught.exception)
+
     def test_migrate_adds_a_column(self) -> None:
         connection, out = self.open(), io.StringIO()
         piql.migrate(connection, self.schema, out=out)
@@ -197,9 +203,7 @@ class SchemaTest(unittest.TestCase):
         rows = connection.execute("SELECT * FROM users WHERE name = 'ann'").fetchall()
         self.assertEqual(rows, [("ann", "rome", 7)])
         self.schema.write_text(SECOND + ADDED.replace("7", "8"))
-        with self.assertRaises(piql.ProgrammingError) as caught:
-            piql.migrate(connection, self.schema, out=out)
-        self.assertIn("users.karma", str(caught.exception))
+        self.assertIn("users.karma", self.told_difference(connection))
 
     def test_migrate_makes_counters(self) -> None:
         connection, out = self.open(), io.StringIO()
@@ -210,9 +214,7 @@ class SchemaTest(unittest.TestCase):
         connection.execute("INSERT INTO users VALUES ('ann', 'rome')")
         self.assertEqual(connection.execute("READ of_town ('rome')").fetchall(), [(1,)])
         self.schema.write_text(FIRST + COUNTED.replace("(town)", "(name)"))
-        with self.assertRaises(piql.ProgrammingError) as caught:
-            piql.migrate(connection, self.schema, out=out)
-        self.assertIn("of_town", str(caught.exception))
+        self.assertIn("of_town", self.told_difference(connection))
 
     def test_migrate_refuses_a_counter_over_rows(self) -> None:
         connection, out = self.open(), io.StringIO()
@@ -230,10 +232,9 @@ class SchemaTest(unittest.TestCase):
         connection, out = self.open(), io.StringIO()
         piql.migrate(connection, self.schema, out=out)
         self.schema.write_text(SECOND.replace("TEXT(30)", "TEXT(31)"))
-        with self.assertRaises(piql.ProgrammingError) as caught:
-            piql.migrate(connection, self.schema, out=out)
-        self.assertIn("TEXT(31)", str(caught.exception))
-        self.assertIn("TEXT(30)", str(caught.exception))
+        told = self.told_difference(connection)
+        self.assertIn("TEXT(31)", told)
+        self.assertIn("TEXT(30)", told)
         self.assertEqual(len(connection.schema().definitions), 2)
 
     def test_migrate_names_the_line(self) -> None:
