@@ -1,0 +1,78 @@
+"""Proves a program in a copy of the checkout that has its crates alone, and takes the build from there."""
+
+import os
+import pathlib
+import shutil
+import subprocess
+import sys
+import tempfile
+import time
+
+from tools.repository import TOP, Repository
+from tools.statuses import NO_PROGRAM, USAGE
+
+# What a crate's folder has beside its sources: what was made of them, and the wrong bodies, which have no part in a build.
+LEFT_OUT = {"out", "must-fail"}
+
+
+def tell(line: str) -> None:
+    print(f"prove: {line}", file=sys.stderr, flush=True)
+
+
+def copy_crates(repository: Repository, program: str, room: pathlib.Path) -> None:
+    """Copies a program's crate and those that it stands on."""
+    crates = [name for name in repository.uses if name in {program, *repository.below(program)}]
+    for name in crates:
+        for part in repository.folder(name).iterdir():
+            to = room / "crates" / name / part.name
+            to.parent.mkdir(parents=True, exist_ok=True)
+            if part.is_file():
+                shutil.copyfile(part, to)
+            elif part.name not in LEFT_OUT:
+                shutil.copytree(part, to)
+    lines = [f"{name}: {' '.join(repository.uses[name])}".rstrip() + "\n" for name in crates]
+    (room / "crates.txt").write_text("".join(lines))
+    shutil.copyfile(repository.top / "HANDLES", room / "HANDLES")
+
+
+def keep_build(made: pathlib.Path, program: pathlib.Path, begun: float) -> None:
+    """Puts a build in its place, as old as the copy: a source that was changed since is newer."""
+    beside = program.with_name(f"{program.name}.new")
+    shutil.copyfile(made, beside)
+    beside.chmod(0o755)
+    os.utime(beside, (begun, begun))
+    beside.replace(program)
+
+
+def build(repository: Repository, program: str) -> bool:
+    """Proves a program and what it stands on, and keeps its build. False where it isn't proved."""
+    out = repository.folder(program) / "out"
+    out.mkdir(exist_ok=True)
+    with tempfile.TemporaryDirectory(prefix="prove-") as name, (out / f"{program}.log").open("wb") as log:
+        begun, room = time.time(), pathlib.Path(name)
+        copy_crates(repository, program, room)
+        how = {"stdin": subprocess.DEVNULL, "stdout": log, "stderr": subprocess.STDOUT}
+        status = subprocess.run(["rt", "ci"], cwd=room, **how).returncode
+        made = room / "crates" / program / "out" / program
+        if status or not os.access(made, os.X_OK):
+            return False
+        keep_build(made, out / program, begun)
+    return True
+
+
+def main(words: list[str]) -> int:
+    repository = Repository(TOP)
+    program = words[0] if words else "piql"
+    if len(words) > 1 or program not in repository.uses or not (repository.folder(program) / "src/main.rt").exists():
+        tell(f"`{program}` is no program; bin/prove --help")
+        return USAGE
+    if shutil.which("rt") is None:
+        tell("the toolchain's command rt isn't on the PATH")
+        return NO_PROGRAM
+    log = f"crates/{program}/out/{program}.log"
+    tell(f"proving {program}; {log} has how far it is")
+    if not build(repository, program):
+        tell(f"the build failed, see {log}")
+        return NO_PROGRAM
+    tell(f"{program} is proved and built: crates/{program}/out/{program}")
+    return 0
