@@ -12,6 +12,16 @@ from helpers import engine_of, needs_file, needs_memory, needs_speed, new_folder
 COUNT = "SELECT a FROM t ORDER BY a LIMIT 1000"
 
 
+def all_rows(connection: piql.Connection, query: str) -> list[piql.Row]:
+    """The rows of all pages of a query."""
+    cursor = connection.execute(query)
+    found = cursor.fetchall()
+    while after := cursor.next_page:
+        cursor = connection.execute(query, after=after)
+        found += cursor.fetchall()
+    return found
+
+
 @needs_file
 @needs_speed
 class LastingTest(unittest.TestCase):
@@ -53,13 +63,7 @@ class LastingTest(unittest.TestCase):
         rows = [(number, f"row {number}") for number in range(10_000)]
         cursor = connection.cursor().executemany("INSERT INTO t VALUES (?, ?)", rows)
         self.assertEqual(cursor.rowcount, 10_000)
-        found: list[piql.Row] = []
-        after = None
-        while not found or after:
-            cursor = connection.execute("SELECT a, b FROM t ORDER BY a PAGINATE 1000", after=after)
-            found += cursor.fetchall()
-            after = cursor.next_page
-        self.assertEqual(found, rows)
+        self.assertEqual(all_rows(connection, "SELECT a, b FROM t ORDER BY a PAGINATE 1000"), rows)
 
     def test_definitions_run_out(self) -> None:
         connection = self.open()
@@ -97,9 +101,11 @@ class LastingTest(unittest.TestCase):
                     made.append(number)
             killer.join()
             self.assertEqual(caught.exception.status, -signal.SIGKILL)
-            rows = [row[0] for row in connection.execute("SELECT a FROM t ORDER BY a LIMIT 1000").fetchall()]
-            self.assertIn(rows, (made, [*made, len(made)]))
-            made = list(rows)
+            rows: list[object] = [row[0] for row in all_rows(connection, "SELECT a FROM t ORDER BY a PAGINATE 1000")]
+            # The write that was under way was made or not.
+            self.assertEqual(rows, list(range(len(rows))))
+            self.assertIn(len(rows), (len(made), len(made) + 1))
+            made = rows
 
 
 @needs_file
