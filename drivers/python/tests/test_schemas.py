@@ -282,10 +282,15 @@ class SchemaTest(unittest.TestCase):
         self.assertEqual(connection.execute("RUN town ('two\nlines')").fetchall(), [("oslo",)])
         self.assertFalse(mark.exists())
 
-    def test_load_leaves_out_an_added_column(self) -> None:
-        connection, tell, mark = self.open(), io.StringIO(), self.folder / "mark"
-        self.schema.write_text(FIRST + ADDED)
+    def migrated(self, schema: str) -> tuple[piql.Connection, io.StringIO, Path]:
+        """A connection over a schema, a place for what a load tells, and that of its mark."""
+        connection = self.open()
+        self.schema.write_text(schema)
         piql.migrate(connection, self.schema, out=io.StringIO())
+        return connection, io.StringIO(), self.folder / "mark"
+
+    def test_load_leaves_out_an_added_column(self) -> None:
+        connection, tell, mark = self.migrated(FIRST + ADDED)
         rows = "name,town\nann,rome\n"
         self.assertEqual(load(connection, "users", io.StringIO(rows), mark, tell), Loaded(1, 0))
         rows = "karma,name\n9,bob\n"
@@ -294,9 +299,7 @@ class SchemaTest(unittest.TestCase):
         self.assertEqual(found, [("ann", "rome", 7), ("bob", None, 9)])
 
     def test_load_counts(self) -> None:
-        connection, tell, mark = self.open(), io.StringIO(), self.folder / "mark"
-        self.schema.write_text(FIRST + COUNTED)
-        piql.migrate(connection, self.schema, out=io.StringIO())
+        connection, tell, mark = self.migrated(FIRST + COUNTED)
         rows = "name,town\nann,rome\nbob,rome\nann,rome\ncid,\ndan,oslo\n"
         self.assertEqual(load(connection, "users", io.StringIO(rows), mark, tell), Loaded(5, 1))
         found = [connection.execute("READ of_town (?)", (town,)).fetchall() for town in ("rome", "oslo", "")]
