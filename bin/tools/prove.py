@@ -19,9 +19,36 @@ def tell(line: str) -> None:
     print(f"prove: {line}", file=sys.stderr, flush=True)
 
 
+# A crate that so large a part of the others stand on, and that has so many bytes of sources, is proved before them.
+AWAITED, LARGE = 2 / 3, 100_000
+
+
+def closure(repository: Repository, program: str) -> list[str]:
+    """A program's crate and those that it stands on, lowest first."""
+    return [name for name in repository.uses if name in {program, *repository.below(program)}]
+
+
+def bytes_of(repository: Repository, crate: str) -> int:
+    """How many bytes the sources of a crate have, with its definitions and proofs."""
+    folders = [repository.folder(crate) / part for part in ("src", "specs", "proofs")]
+    return sum(file.stat().st_size for folder in folders for file in folder.rglob("*") if file.is_file())
+
+
+def alone(repository: Repository, program: str) -> list[str]:
+    """The crates that are proved one by one, by all processors. Side by side with others a proof gets one processor, and
+    a large one then takes longer than all that could be proved beside it, while most of the crates wait for it."""
+    crates = closure(repository, program)
+    awaited = {name: sum(name in repository.below(other) for other in crates) for name in crates}
+    return [
+        name
+        for name in crates
+        if awaited[name] >= AWAITED * (len(crates) - 1) and bytes_of(repository, name) >= LARGE
+    ]
+
+
 def copy_crates(repository: Repository, program: str, room: pathlib.Path) -> None:
     """Copies a program's crate and those that it stands on."""
-    crates = [name for name in repository.uses if name in {program, *repository.below(program)}]
+    crates = closure(repository, program)
     for name in crates:
         for part in repository.folder(name).iterdir():
             to = room / "crates" / name / part.name
@@ -52,9 +79,10 @@ def build(repository: Repository, program: str) -> bool:
         begun, room = time.time(), pathlib.Path(name)
         copy_crates(repository, program, room)
         how = {"stdin": subprocess.DEVNULL, "stdout": log, "stderr": subprocess.STDOUT}
-        status = subprocess.run(["rt", "ci"], cwd=room, **how).returncode
+        stages = [[name] for name in alone(repository, program)] + [[]]
+        proved = all(subprocess.run(["rt", "ci", *names], cwd=room, **how).returncode == 0 for names in stages)
         made = room / "crates" / program / "out" / program
-        if status or not os.access(made, os.X_OK):
+        if not proved or not os.access(made, os.X_OK):
             return False
         keep_build(made, out / program, begun)
     return True

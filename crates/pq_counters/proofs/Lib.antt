@@ -1,3 +1,4 @@
+pub mod Keyed
 pub mod Counting
 pub mod Found
 pub mod Joining

@@ -32,10 +32,9 @@ use Rattle.pq_index_keep.specs.Tested.{touches, scope_of, with_sets}
 use Rattle.pq_index_keep.specs.declared.write.SetCol.{SetCol}
 use Rattle.pq_index_keep.specs.declared.write.Write.{Write}
 use Rattle.pq_index_keep.specs.declared.write.Write.TheVariants as write
-use Rattle.pq_tallies.specs.declared.moves.GroupMove.{GroupMove}
 use Rattle.pq_tallies.specs.Counters.{counter_key, HoldsCounted}
 use Rattle.pq_tallies.specs.Defined.{NumberedCounter, IsCounter, counters_in, counter_numbered, group_types}
-use Rattle.pq_tallies.specs.Moves.{no_move, group_in, moved, move_in, move_changes, moves_changes, is_full_group, lacks_count, first_full}
+use Rattle.pq_tallies.specs.Moves.{GroupMove, no_move, group_in, moved, move_in, move_changes, moves_changes, is_full_group, lacks_count, first_full}
 use Rattle.pq_tallies.specs.Writes.{written_table, old_row, new_row}
 use Rattle.pq_counters.specs.Bounds.{most_moves, all_moves}
 use Rattle.pq_counters.specs.Steps.{some_count, move_count, moves_of, IsSmallGroup, IsSmallMove, MovesLittle, TellsGroup, TellsMove, AreOfTable}

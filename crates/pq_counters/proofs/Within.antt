@@ -20,8 +20,9 @@ use Rattle.pq_index_keep.specs.declared.plan.Planned.{Planned}
 use Rattle.pq_index_keep.specs.declared.plan.Planned.TheVariants.{Changes, Refused}
 use Rattle.pq_index_keep.specs.declared.write.Write.{Write}
 use Rattle.pq_tallies.specs.Counters.{HoldsCounted}
-use Rattle.pq_tallies.specs.Defined.{counters_in}
+use Rattle.pq_tallies.specs.Defined.{NumberedCounter, counters_in}
 use Rattle.pq_tallies.specs.Writes.{written_table, old_row, new_row}
+use Rattle.pq_counters.specs.Bounds.{all_moves, counter_reads}
 use Rattle.pq_counters.specs.Evidence.{ShowsCounted}
 use Rattle.pq_counters.specs.Promises.{Counts, IsCountedWithin}
 use Rattle.pq_counters.specs.Steps.{AreOfTable, PlansMoves, SpoilsMoves}
@@ -38,6 +39,10 @@ uses_more content faults a b n m le u = record {
   same_meter = u.same_meter;
   reads = reads_within (seen_world content faults a) (seen_world content faults b) n n m m u.reads le le;
 }
+
+-- the reads of counters are at least as many as the pairs that may change
+pub moves_read : (counters : List NumberedCounter) (w : Write) → all_moves counters w ≤ counter_reads counters w
+moves_read counters w = omega arith
 
 one_more : (n m : ℕ) → n ≤ m → (planned : Planned) → IsCountedWithin n planned → IsCountedWithin m planned
 one_more n m le (Changes changes) h = let few = h.few in record { few = omega arith; each = h.each }

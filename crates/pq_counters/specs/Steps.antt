@@ -21,10 +21,9 @@ use Rattle.pq_index_keep.specs.declared.plan.Planned.{Planned}
 use Rattle.pq_index_keep.specs.declared.plan.Planned.TheVariants as planned
 use Rattle.pq_index_keep.specs.declared.write.Write.{Write}
 use Rattle.pq_index_keep.specs.declared.write.Write.TheVariants as write
-use Rattle.pq_tallies.specs.declared.moves.GroupMove.{GroupMove}
 use Rattle.pq_tallies.specs.Counters.{most_count, tally, counter_key, stored_count}
 use Rattle.pq_tallies.specs.Defined.{NumberedCounter, counter_numbered}
-use Rattle.pq_tallies.specs.Moves.{move_in, joined_changes, move_changes, moves_changes, is_full_group, first_full}
+use Rattle.pq_tallies.specs.Moves.{GroupMove, group_key, move_in, joined_changes, move_changes, moves_changes, is_full_group, first_full}
 use Rattle.pq_tallies.specs.Writes.{counter_full}
 use Rattle.pq_counters.specs.Evidence.{IsNoCountAt, IsAbsentAt}
 
@@ -49,6 +48,10 @@ abbrev pub some_count : Option (List Value) → ℕ
 some_count None = 0
 some_count (Some values) = 1
 
+abbrev pub key_count : Option (List ℕ) → ℕ
+key_count None = 0
+key_count (Some key) = 1
+
 abbrev pub move_count : GroupMove → ℕ
 move_count move = some_count move.from + some_count move.to
 
@@ -61,9 +64,12 @@ moves_at schema t old new number = moves_of t old new (counter_numbered schema n
 
 -- ---- lengths
 
+abbrev pub IsSmallKey : Option (List ℕ) → Type 0
+IsSmallKey None = Unit {0}
+IsSmallKey (Some key) = length key < 2 ^ 32
+
 abbrev pub IsSmallGroup : ℕ → Option (List Value) → Type 0
-IsSmallGroup number None = Unit {0}
-IsSmallGroup number (Some values) = length (counter_key number values) < 2 ^ 32
+IsSmallGroup number group = IsSmallKey (group_key number group)
 
 pub record IsSmallMove (number : ℕ) (move : GroupMove) : Type 0 where
   pub from : IsSmallGroup number move.from
@@ -130,13 +136,21 @@ pub record AreOfTable (tables : List Table) (t : ℕ) (old new : Option (List Va
 abbrev pub SpoilsLeft : List ℕ → Option Content → Damage → Type 0
 SpoilsLeft key told damage = IsNoCountAt key told damage ⊎ IsAbsentAt key told damage
 
+-- the same where a row leaves one
+abbrev pub SpoilsFromKey : Option (List ℕ) → Option Content → Damage → Type 0
+SpoilsFromKey None told damage = ⊥
+SpoilsFromKey (Some key) told damage = SpoilsLeft key told damage
+
+-- at the key of a group that a row comes into: no number
+abbrev pub SpoilsToKey : Option (List ℕ) → Option Content → Damage → Type 0
+SpoilsToKey None told damage = ⊥
+SpoilsToKey (Some key) told damage = IsNoCountAt key told damage
+
 abbrev pub SpoilsFrom : ℕ → Option (List Value) → Option Content → Damage → Type 0
-SpoilsFrom number None told damage = ⊥
-SpoilsFrom number (Some values) told damage = SpoilsLeft (counter_key number values) told damage
+SpoilsFrom number group told damage = SpoilsFromKey (group_key number group) told damage
 
 abbrev pub SpoilsTo : ℕ → Option (List Value) → Option Content → Damage → Type 0
-SpoilsTo number None told damage = ⊥
-SpoilsTo number (Some values) told damage = IsNoCountAt (counter_key number values) told damage
+SpoilsTo number group told damage = SpoilsToKey (group_key number group) told damage
 
 abbrev pub SpoilsMove : ℕ → GroupMove → Option Content → Damage → Type 0
 SpoilsMove number move told damage = SpoilsFrom number move.from told damage ⊎ SpoilsTo number move.to told damage

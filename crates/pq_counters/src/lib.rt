@@ -6,11 +6,12 @@ mod bound;
 mod groups;
 mod plan;
 mod read;
+mod reading;
 mod steps;
 mod whole;
 
 pub use bound::{counter_bound, whole_bound};
-pub use plan::plan_counters;
 pub use pq_tallies::{MOST_COUNT, counter_key, next_count};
 pub use read::read_counter;
+pub use reading::plan_counters;
 pub use whole::plan_whole;

@@ -9,21 +9,22 @@ ghost use Rattle.pq_content.specs.Pairs.{Pair};
 ghost use Rattle.pq_content.specs.Tables.{Rows, AllOfKinds, IsTableNumber, key_types, types_of, shape_of, row_at};
 ghost use Rattle.pq_store.specs.Breaks.{IsUndamaged, IsAnswered};
 ghost use Rattle.pq_calls.specs.Calls.{Uses, Fails};
-ghost use Rattle.pq_calls.specs.Evidence.{IsRead, IsNoRow};
 ghost use Rattle.pq_calls.specs.World.{world, Affords, Reads, Explains, where_told};
 ghost use Rattle.pq_index_keep.specs.Effects.{effect};
+ghost use Rattle.pq_index_keep.specs.Promises.{IsReadFor, FitsItsTable, IsNewFor};
+ghost use Rattle.pq_index_keep.specs.Tested.{with_sets};
 ghost use Rattle.pq_index_keep.specs.Sound.{IsWrite, IsInsert, IsUpdate, IsDelete};
 ghost use Rattle.pq_tallies.specs.Counters.{HoldsCounted};
 ghost use Rattle.pq_tallies.specs.Defined.{counters_in};
-ghost use Rattle.pq_counters.specs.Bounds.{rereading, all_moves, counter_reads};
+ghost use Rattle.pq_counters.specs.Bounds.{all_moves, counter_reads};
 ghost use Rattle.pq_counters.specs.Evidence.{IsStoredAt, ShowsCounted};
 ghost use Rattle.pq_counters.specs.Promises.{Counts, IsCountedWithin, RefusesAsFull};
 
 use crate::bound::all_moves;
 use crate::steps::plan_moves;
 use pq_base::{List, Row};
-use pq_calls::{Calls, StoredRow};
-use pq_index_keep::{Planned, SetCol, Write, with_sets};
+use pq_calls::Calls;
+use pq_index_keep::{Planned, SetCol, Write};
 use pq_schema::Catalog;
 use pq_store::{Allowance, Broke, Meter, Store};
 use std::alloc::Global;
@@ -57,33 +58,6 @@ fn plan_insert<S: Store<L>, L: Ledger>(
         → Counts catalog.now rows others (Write.Insert table row.now) made planned) }
 {
     plan_moves(alloc, catalog, table, None, Some(row), calls)
-}
-
-/// The row of the table with this key.
-fn stored_row<S: Store<L>, L: Ledger>(
-    alloc: Global,
-    catalog: &Catalog,
-    table: u8,
-    key: &Row,
-    calls: &mut Calls<S, L>,
-) -> Result<Option<StoredRow>, Broke>
-    requires number { IsTableNumber catalog.now.tables table }
-    requires kinds { AllOfKinds (key_types (table_at catalog.now.tables table)) key.now }
-    requires share { Affords calls.old.allowance.now 1 1 }
-    ensures uses { Uses S.content S.faults calls.old calls.new 1 1 }
-    ensures cause { IfErr result (Fails (where_told (IsNoRow catalog.now.tables)) S.content S.faults calls.old
-        calls.new) }
-    ensures answered { IfErr result (IsAnswered S.answers) }
-    ensures read { IfOk result (λ found. IfSome (S.content calls.old.store.now)
-        (λ c. IsRead (shape_of (table_at catalog.now.tables table)) (value_at c (row_key table key.now))
-        (option_map (λ stored. stored.row) found))) }
-    ensures fits { IfOk result (λ found. IfSome found
-        (λ stored. AllFit (types_of (table_at catalog.now.tables table)) stored.row)) }
-{
-    match calls.row(alloc, table, catalog.table(table), key) {
-        Err(error) => Err(error),
-        Ok(found) => Ok(found),
-    }
 }
 
 /// The changes for a row that goes.
@@ -121,22 +95,25 @@ fn plan_removal<S: Store<L>, L: Ledger>(
     plan_moves(alloc, catalog, table, Some(old), None, calls)
 }
 
-/// The changes of a DELETE. A row that isn't there any more is in no group.
+/// The changes of a DELETE. A row that isn't there is in no group.
 fn plan_delete<S: Store<L>, L: Ledger>(
     alloc: Global,
     catalog: &Catalog,
     table: u8,
     key: &Row,
+    old: &Option<Row>,
     calls: &mut Calls<S, L>,
 ) -> Result<Planned, Broke>
     requires valid { IsValid catalog.now }
     requires delete { IsDelete catalog.now.tables table key.now }
+    requires read { IfSome (S.content calls.old.store.now) (λ c. IsReadFor catalog.now.tables (Write.Delete table key.now) c old.now) }
+    requires fits { FitsItsTable catalog.now.tables (Write.Delete table key.now) old.now }
     requires share { Affords calls.old.allowance.now
-        (1 + all_moves (counters_in catalog.now) (Write.Delete table key.now))
-        (1 + all_moves (counters_in catalog.now) (Write.Delete table key.now)) }
+        (all_moves (counters_in catalog.now) (Write.Delete table key.now))
+        (all_moves (counters_in catalog.now) (Write.Delete table key.now)) }
     ensures uses { Uses S.content S.faults calls.old calls.new
-        (1 + all_moves (counters_in catalog.now) (Write.Delete table key.now))
-        (1 + all_moves (counters_in catalog.now) (Write.Delete table key.now)) }
+        (all_moves (counters_in catalog.now) (Write.Delete table key.now))
+        (all_moves (counters_in catalog.now) (Write.Delete table key.now)) }
     ensures cause { IfErr result (Fails (where_told (ShowsCounted catalog.now)) S.content
         S.faults calls.old calls.new) }
     ensures answered { IfErr result (IsAnswered S.answers) }
@@ -148,16 +125,10 @@ fn plan_delete<S: Store<L>, L: Ledger>(
         → effect catalog.now.tables rows (Write.Delete table key.now) ≡ Ok made
         → Counts catalog.now rows others (Write.Delete table key.now) made planned) }
 {
-    match stored_row(alloc, catalog, table, key, calls) {
-        Err(error) => Err(error),
-        Ok(None) => Ok(Planned::Changes(List::new(alloc))),
-        Ok(Some(found)) => {
-            match plan_removal(alloc, catalog, table, key, &found.row, calls) {
-                Err(error) => Err(error),
-                Ok(planned) => Ok(planned),
-            }
-        }
-    }
+    let Some(old) = old else {
+        return Ok(Planned::Changes(List::new(alloc)));
+    };
+    plan_removal(alloc, catalog, table, key, old, calls)
 }
 
 /// The changes for a row that takes the place of another.
@@ -168,11 +139,13 @@ fn plan_change<S: Store<L>, L: Ledger>(
     key: &Row,
     sets: &List<SetCol>,
     old: &Row,
+    new: &Row,
     calls: &mut Calls<S, L>,
 ) -> Result<Planned, Broke>
     requires valid { IsValid catalog.now }
     requires update { IsUpdate catalog.now.tables table key.now sets.now }
     requires fits { AllFit (types_of (table_at catalog.now.tables table)) old.now }
+    requires new { new.now ≡ with_sets sets.now old.now }
     requires stored { IfSome (S.content calls.old.store.now)
         (IsStoredAt (table_at catalog.now.tables table) table key.now old.now) }
     requires share { Affords calls.old.allowance.now
@@ -193,27 +166,31 @@ fn plan_change<S: Store<L>, L: Ledger>(
         → effect catalog.now.tables rows (Write.Update table key.now sets.now) ≡ Ok made
         → Counts catalog.now rows others (Write.Update table key.now sets.now) made planned) }
 {
-    let new = with_sets(alloc, old, sets.items())?;
-    plan_moves(alloc, catalog, table, Some(old), Some(&new), calls)
+    plan_moves(alloc, catalog, table, Some(old), Some(new), calls)
 }
 
-/// The changes of an UPDATE. A row that isn't there any more is in no group.
+/// The changes of an UPDATE. A row that isn't there is in no group.
 fn plan_update<S: Store<L>, L: Ledger>(
     alloc: Global,
     catalog: &Catalog,
     table: u8,
     key: &Row,
     sets: &List<SetCol>,
+    old: &Option<Row>,
+    new: &Option<Row>,
     calls: &mut Calls<S, L>,
 ) -> Result<Planned, Broke>
     requires valid { IsValid catalog.now }
     requires update { IsUpdate catalog.now.tables table key.now sets.now }
+    requires read { IfSome (S.content calls.old.store.now) (λ c. IsReadFor catalog.now.tables (Write.Update table key.now sets.now) c old.now) }
+    requires fits { FitsItsTable catalog.now.tables (Write.Update table key.now sets.now) old.now }
+    requires new { IsNewFor (Write.Update table key.now sets.now) old.now new.now }
     requires share { Affords calls.old.allowance.now
-        (1 + all_moves (counters_in catalog.now) (Write.Update table key.now sets.now))
-        (1 + all_moves (counters_in catalog.now) (Write.Update table key.now sets.now)) }
+        (all_moves (counters_in catalog.now) (Write.Update table key.now sets.now))
+        (all_moves (counters_in catalog.now) (Write.Update table key.now sets.now)) }
     ensures uses { Uses S.content S.faults calls.old calls.new
-        (1 + all_moves (counters_in catalog.now) (Write.Update table key.now sets.now))
-        (1 + all_moves (counters_in catalog.now) (Write.Update table key.now sets.now)) }
+        (all_moves (counters_in catalog.now) (Write.Update table key.now sets.now))
+        (all_moves (counters_in catalog.now) (Write.Update table key.now sets.now)) }
     ensures cause { IfErr result (Fails (where_told (ShowsCounted catalog.now)) S.content
         S.faults calls.old calls.new) }
     ensures answered { IfErr result (IsAnswered S.answers) }
@@ -225,33 +202,35 @@ fn plan_update<S: Store<L>, L: Ledger>(
         → effect catalog.now.tables rows (Write.Update table key.now sets.now) ≡ Ok made
         → Counts catalog.now rows others (Write.Update table key.now sets.now) made planned) }
 {
-    match stored_row(alloc, catalog, table, key, calls) {
-        Err(error) => Err(error),
-        Ok(None) => Ok(Planned::Changes(List::new(alloc))),
-        Ok(Some(found)) => {
-            match plan_change(alloc, catalog, table, key, sets, &found.row, calls) {
-                Err(error) => Err(error),
-                Ok(planned) => Ok(planned),
-            }
-        }
-    }
+    let Some(old) = old else {
+        return Ok(Planned::Changes(List::new(alloc)));
+    };
+    let Some(new) = new else {
+        return Ok(Planned::Changes(List::new(alloc)));
+    };
+    plan_change(alloc, catalog, table, key, sets, old, new, calls)
 }
 
 /// The changes of any write that may move a row of a counter.
-fn plan_by<S: Store<L>, L: Ledger>(
+pub(crate) fn plan_by<S: Store<L>, L: Ledger>(
     alloc: Global,
     catalog: &Catalog,
     write: &Write,
+    old: &Option<Row>,
+    new: &Option<Row>,
     calls: &mut Calls<S, L>,
 ) -> Result<Planned, Broke>
     requires valid { IsValid catalog.now }
     requires write { IsWrite catalog.now.tables write.now }
+    requires read { IfSome (S.content calls.old.store.now) (λ c. IsReadFor catalog.now.tables write.now c old.now) }
+    requires fits { FitsItsTable catalog.now.tables write.now old.now }
+    requires new { IsNewFor write.now old.now new.now }
     requires share { Affords calls.old.allowance.now
-        (rereading write.now + all_moves (counters_in catalog.now) write.now)
-        (rereading write.now + all_moves (counters_in catalog.now) write.now) }
+        (all_moves (counters_in catalog.now) write.now)
+        (all_moves (counters_in catalog.now) write.now) }
     ensures uses { Uses S.content S.faults calls.old calls.new
-        (rereading write.now + all_moves (counters_in catalog.now) write.now)
-        (rereading write.now + all_moves (counters_in catalog.now) write.now) }
+        (all_moves (counters_in catalog.now) write.now)
+        (all_moves (counters_in catalog.now) write.now) }
     ensures cause { IfErr result (Fails (where_told (ShowsCounted catalog.now)) S.content
         S.faults calls.old calls.new) }
     ensures answered { IfErr result (IsAnswered S.answers) }
@@ -270,13 +249,13 @@ fn plan_by<S: Store<L>, L: Ledger>(
             }
         }
         Write::Update { table, key, sets } => {
-            match plan_update(alloc, catalog, *table, key, sets, calls) {
+            match plan_update(alloc, catalog, *table, key, sets, old, new, calls) {
                 Err(error) => Err(error),
                 Ok(planned) => Ok(planned),
             }
         }
         Write::Delete { table, key } => {
-            match plan_delete(alloc, catalog, *table, key, calls) {
+            match plan_delete(alloc, catalog, *table, key, old, calls) {
                 Err(error) => Err(error),
                 Ok(planned) => Ok(planned),
             }
@@ -289,10 +268,15 @@ fn plan_any<S: Store<L>, L: Ledger>(
     alloc: Global,
     catalog: &Catalog,
     write: &Write,
+    old: &Option<Row>,
+    new: &Option<Row>,
     calls: &mut Calls<S, L>,
 ) -> Result<Planned, Broke>
     requires valid { IsValid catalog.now }
     requires write { IsWrite catalog.now.tables write.now }
+    requires read { IfSome (S.content calls.old.store.now) (λ c. IsReadFor catalog.now.tables write.now c old.now) }
+    requires fits { FitsItsTable catalog.now.tables write.now old.now }
+    requires new { IsNewFor write.now old.now new.now }
     requires share { Affords calls.old.allowance.now (counter_reads (counters_in catalog.now) write.now)
         (counter_reads (counters_in catalog.now) write.now) }
     ensures uses { Uses S.content S.faults calls.old calls.new (counter_reads (counters_in catalog.now) write.now)
@@ -310,21 +294,25 @@ fn plan_any<S: Store<L>, L: Ledger>(
     if all_moves(catalog, write) == 0 {
         return Ok(Planned::Changes(List::new(alloc)));
     }
-    plan_by(alloc, catalog, write, calls)
+    plan_by(alloc, catalog, write, old, new, calls)
 }
 
-/// The changes that keep the counters' pairs with a write, for which `plan_write` answered changes, or the refusal of
-/// the first counter of which a group would have too many rows. It reads the old row again where it needs it, and
-/// changes nothing in the store.
-pub fn plan_counters<S: Store<L>, L: Ledger>(
+/// The changes that keep the counters' pairs with a write for which changes are planned, by its old and its new row, or
+/// the refusal of the first counter of which a group would have too many rows. It changes nothing in the store.
+pub(crate) fn plan_by_rows<S: Store<L>, L: Ledger>(
     alloc: Global,
     catalog: &Catalog,
     write: &Write,
+    old: &Option<Row>,
+    new: &Option<Row>,
     store: &mut S,
     allowance: &mut Allowance,
     meter: &mut Meter<L>,
 ) -> Result<Planned, Broke>
     requires write { IsWrite catalog.now.tables write.now }
+    requires read { IfSome (S.content store.old) (λ c. IsReadFor catalog.now.tables write.now c old.now) }
+    requires fits { FitsItsTable catalog.now.tables write.now old.now }
+    requires new { IsNewFor write.now old.now new.now }
     requires share { Affords allowance.old (counter_reads (counters_in catalog.now) write.now)
         (counter_reads (counters_in catalog.now) write.now) }
     ensures reads { Reads (world (S.content store.old) (S.faults store.old) allowance.old meter.old)
@@ -350,5 +338,5 @@ pub fn plan_counters<S: Store<L>, L: Ledger>(
         allowance,
         meter,
     };
-    plan_any(alloc, catalog, write, &mut calls)
+    plan_any(alloc, catalog, write, old, new, &mut calls)
 }

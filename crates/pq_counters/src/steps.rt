@@ -1,57 +1,56 @@
 //! What a row that goes and a row that comes change of the counters' pairs.
-ghost use Rattle.std.specs.Prelude.{◌≡◌, ◌≤◌, ◌+◌, ◌++◌, ℕ, List, All, length, map, IfOk, IfErr, IfSome, OnOk};
+ghost use Rattle.std.specs.Prelude.{◌≡◌, ◌≤◌, ◌+◌, ◌++◌, true, ℕ, List, Option, All, length, map, IfOk, IfErr, IfSome, OnOk};
 ghost use Rattle.std.specs.List.{sum_by};
 ghost use Rattle.std.specs.Option.{option_copied};
-ghost use Rattle.pq_schema.specs.declared.counter.Counter.{Counter as Defined};
+ghost use Rattle.pq_base.specs.declared.value.Value.{Value};
 ghost use Rattle.pq_schema.specs.Counters.{IsCounterNumber};
-ghost use Rattle.pq_content.specs.Pairs.{Pair};
+ghost use Rattle.pq_content.specs.Pairs.{Pair, is_of_counters};
 ghost use Rattle.pq_content.specs.Standing.{change_of};
 ghost use Rattle.pq_content.specs.Tables.{Rows, IsTableNumber};
 ghost use Rattle.pq_store.specs.Breaks.{IsAnswered};
 ghost use Rattle.pq_calls.specs.Calls.{Uses, Fails};
 ghost use Rattle.pq_calls.specs.World.{Affords};
 ghost use Rattle.pq_tallies.specs.Counters.{HoldsCounted};
-ghost use Rattle.pq_tallies.specs.Defined.{counters_in, counter_numbered, with_number};
-ghost use Rattle.pq_tallies.specs.Moves.{move_in, left_changes};
+ghost use Rattle.pq_tallies.specs.Defined.{NumberedCounter, counters_in, counter_numbered, with_number};
+ghost use Rattle.pq_tallies.specs.Moves.{group_key, move_in, left_changes};
 ghost use Rattle.pq_tallies.specs.Writes.{counter_full};
 ghost use Rattle.pq_counters.specs.Promises.{IsCounterChange, IsCountedWithin, RefusesAsFull};
-ghost use Rattle.pq_counters.specs.Steps.{some_count, moves_of, moves_at, IsSmallGroup, IsSmallMove, MovesLittle, TellsGroup, TellsMove, JoinsGroup, MovesRow, MovesCounter, PlansMoves, AreOfTable, SpoilsFrom, SpoilsTo, SpoilsMove, SpoilsMoves};
+ghost use Rattle.pq_counters.specs.Steps.{key_count, moves_of, moves_at, IsSmallKey, IsSmallMove, MovesLittle, TellsGroup, TellsMove, JoinsGroup, MovesRow, MovesCounter, PlansMoves, AreOfTable, SpoilsFromKey, SpoilsToKey, SpoilsMove, SpoilsMoves};
 
 use crate::groups::{joined, left};
-use pq_base::{List, NoMem, Refusal, Row};
+use pq_base::{Bytes, List, NoMem, Refusal, Row};
 use pq_calls::Calls;
 use pq_index_keep::Planned;
 use pq_row_code::Change;
 use pq_schema::{Catalog, Counter};
 use pq_store::{Broke, Store};
-use pq_tallies::{counter_key, move_in};
+use pq_tallies::move_in;
 use std::alloc::Global;
 use std::sync::ledger::Ledger;
 
 /// Puts the change of the group that a row leaves behind the others.
 fn leave<S: Store<L>, L: Ledger>(
     alloc: Global,
-    number: u16,
-    from: &Option<Row>,
+    at: Option<Bytes>,
     changes: &mut List<Change>,
     calls: &mut Calls<S, L>,
 ) -> Result<(), Broke>
-    requires small { IsSmallGroup number from.now }
-    requires share { Affords calls.old.allowance.now (some_count from.now) (some_count from.now) }
-    ensures uses { Uses S.content S.faults calls.old calls.new (some_count from.now) (some_count from.now) }
-    ensures cause { IfErr result (Fails (SpoilsFrom number from.now) S.content S.faults calls.old calls.new) }
+    requires small { IsSmallKey at }
+    requires share { Affords calls.old.allowance.now (key_count at) (key_count at) }
+    ensures uses { Uses S.content S.faults calls.old calls.new (key_count at) (key_count at) }
+    ensures cause { IfErr result (Fails (SpoilsFromKey at) S.content S.faults calls.old calls.new) }
     ensures answered { IfErr result (IsAnswered S.answers) }
-    ensures few { OnOk result (length changes.new ≡ length changes.old + some_count from.now) }
-    ensures each { All IsCounterChange changes.old → OnOk result (All IsCounterChange changes.new) }
-    ensures answer { (rows : Rows) (counter : Defined)
-        → TellsGroup (S.content calls.old.store.now) (with_number number counter) from.now rows
+    ensures few { OnOk result (length changes.new ≡ length changes.old + key_count at) }
+    ensures each { All IsCounterChange changes.old → IfSome at (λ key. is_of_counters key ≡ true)
+        → OnOk result (All IsCounterChange changes.new) }
+    ensures answer { (rows : Rows) (counter : NumberedCounter) (from : Option (List Value))
+        → at ≡ group_key counter.number from → TellsGroup (S.content calls.old.store.now) counter from rows
         → OnOk result (map change_of changes.new
-        ≡ map change_of changes.old ++ left_changes rows (with_number number counter) from.now) }
+        ≡ map change_of changes.old ++ left_changes rows counter from) }
 {
-    let Some(values) = from else {
+    let Some(at) = at else {
         return Ok(());
     };
-    let at = counter_key(alloc, number, values)?;
     let change = left(alloc, at, calls)?;
     changes.push(alloc, change)?;
     Ok(())
@@ -60,27 +59,25 @@ fn leave<S: Store<L>, L: Ledger>(
 /// Puts the change of the group that a row comes into behind the others, and says whether the group has room.
 fn join<S: Store<L>, L: Ledger>(
     alloc: Global,
-    number: u16,
-    to: &Option<Row>,
+    at: Option<Bytes>,
     changes: &mut List<Change>,
     calls: &mut Calls<S, L>,
 ) -> Result<bool, Broke>
-    requires small { IsSmallGroup number to.now }
-    requires share { Affords calls.old.allowance.now (some_count to.now) (some_count to.now) }
-    ensures uses { Uses S.content S.faults calls.old calls.new (some_count to.now) (some_count to.now) }
-    ensures cause { IfErr result (Fails (SpoilsTo number to.now) S.content S.faults calls.old calls.new) }
+    requires small { IsSmallKey at }
+    requires share { Affords calls.old.allowance.now (key_count at) (key_count at) }
+    ensures uses { Uses S.content S.faults calls.old calls.new (key_count at) (key_count at) }
+    ensures cause { IfErr result (Fails (SpoilsToKey at) S.content S.faults calls.old calls.new) }
     ensures answered { IfErr result (IsAnswered S.answers) }
-    ensures few { IfOk result (λ room. length changes.new ≤ length changes.old + some_count to.now) }
-    ensures each { All IsCounterChange changes.old → IfOk result (λ room. All IsCounterChange changes.new) }
-    ensures answer { (rows : Rows) (counter : Defined)
-        → TellsGroup (S.content calls.old.store.now) (with_number number counter) to.now rows
-        → IfOk result (JoinsGroup rows (with_number number counter) to.now (map change_of changes.old)
-        (map change_of changes.new)) }
+    ensures few { IfOk result (λ room. length changes.new ≤ length changes.old + key_count at) }
+    ensures each { All IsCounterChange changes.old → IfSome at (λ key. is_of_counters key ≡ true)
+        → IfOk result (λ room. All IsCounterChange changes.new) }
+    ensures answer { (rows : Rows) (counter : NumberedCounter) (to : Option (List Value))
+        → at ≡ group_key counter.number to → TellsGroup (S.content calls.old.store.now) counter to rows
+        → IfOk result (JoinsGroup rows counter to (map change_of changes.old) (map change_of changes.new)) }
 {
-    let Some(values) = to else {
+    let Some(at) = at else {
         return Ok(true);
     };
-    let at = counter_key(alloc, number, values)?;
     let Some(change) = joined(alloc, at, calls)? else {
         return Ok(false);
     };
@@ -120,9 +117,9 @@ fn plan_counter<S: Store<L>, L: Ledger>(
         (move_in table (option_copied old.entry) (option_copied new.entry) (with_number number counter.now))
         (map change_of changes.old) (map change_of changes.new)) }
 {
-    let groups = move_in(alloc, table, old, new, counter)?;
-    leave(alloc, number, &groups.from, changes, calls)?;
-    join(alloc, number, &groups.to, changes, calls)
+    let keys = move_in(alloc, table, old, new, number, counter)?;
+    leave(alloc, keys.from, changes, calls)?;
+    join(alloc, keys.to, changes, calls)
 }
 
 /// The refusal of a write by a counter that is full.

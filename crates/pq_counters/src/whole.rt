@@ -1,12 +1,12 @@
 //! The whole plan of a write: what it changes of rows and entries, and behind that what it changes of counters' pairs.
-ghost use Rattle.std.specs.Prelude.{◌≡◌, ◌++◌, List, Ok, IfOk, IfErr};
+ghost use Rattle.std.specs.Prelude.{◌≡◌, ◌++◌, List, Ok, IfOk, IfErr, IfSome};
 ghost use Rattle.pq_content.specs.Pairs.{Pair};
 ghost use Rattle.pq_content.specs.Tables.{Rows};
 ghost use Rattle.pq_store.specs.Breaks.{IsUndamaged, IsAnswered};
 ghost use Rattle.pq_calls.specs.World.{world, Affords, Reads, Explains, where_told};
 ghost use Rattle.pq_index_keep.specs.Bounds.{most_changes};
 ghost use Rattle.pq_index_keep.specs.Effects.{effect};
-ghost use Rattle.pq_index_keep.specs.Promises.{ArePlanned, MakesRows};
+ghost use Rattle.pq_index_keep.specs.Promises.{ArePlanned, MakesRows, IsReadFor, FitsItsTable, IsNewFor};
 ghost use Rattle.pq_index_keep.specs.Sound.{IsWrite};
 ghost use Rattle.pq_tallies.specs.Counters.{counter_pairs, HoldsCounted};
 ghost use Rattle.pq_tallies.specs.Defined.{counters_in};
@@ -15,9 +15,9 @@ ghost use Rattle.pq_counters.specs.Evidence.{ShowsCounted};
 ghost use Rattle.pq_counters.specs.Promises.{RefusesAsFull};
 ghost use Rattle.pq_counters.specs.Whole.{whole_reads, whole_changes, IsWholeWithin, RefusesWhole, PlansWhole};
 
-use crate::plan::plan_counters;
-use pq_base::{List, NoMem};
-use pq_index_keep::{Planned, Write, plan_write};
+use crate::plan::plan_by_rows;
+use pq_base::{List, NoMem, Row};
+use pq_index_keep::{Planned, PlannedWrite, Write, plan_with_rows};
 use pq_row_code::Change;
 use pq_schema::Catalog;
 use pq_store::{Allowance, Broke, Meter, Store};
@@ -39,6 +39,8 @@ fn plan_more<S: Store<L>, L: Ledger>(
     alloc: Global,
     catalog: &Catalog,
     write: &Write,
+    old: &Option<Row>,
+    new: &Option<Row>,
     changes: List<Change>,
     store: &mut S,
     allowance: &mut Allowance,
@@ -46,6 +48,9 @@ fn plan_more<S: Store<L>, L: Ledger>(
 ) -> Result<Planned, Broke>
     requires write { IsWrite catalog.now.tables write.now }
     requires planned { ArePlanned (most_changes catalog.now.tables write.now) changes }
+    requires read { IfSome (S.content store.old) (λ c. IsReadFor catalog.now.tables write.now c old.now) }
+    requires fits { FitsItsTable catalog.now.tables write.now old.now }
+    requires new { IsNewFor write.now old.now new.now }
     requires share { Affords allowance.old (counter_reads (counters_in catalog.now) write.now)
         (counter_reads (counters_in catalog.now) write.now) }
     ensures reads { Reads (world (S.content store.old) (S.faults store.old) allowance.old meter.old)
@@ -66,7 +71,7 @@ fn plan_more<S: Store<L>, L: Ledger>(
         made → PlansWhole catalog.now rows others write.now planned) }
 {
     catalog.known();
-    match plan_counters(alloc, catalog, write, store, allowance, meter) {
+    match plan_by_rows(alloc, catalog, write, old, new, store, allowance, meter) {
         Err(error) => Err(error),
         Ok(Planned::Refused(why)) => Ok(Planned::Refused(why)),
         Ok(Planned::Changes(more)) => match both(changes, more) {
@@ -108,14 +113,18 @@ pub fn plan_whole<S: Store<L>, L: Ledger>(
         → PlansWhole catalog.now rows others write.now planned) }
 {
     catalog.known();
-    match plan_write(alloc, catalog, write, store, allowance, meter) {
+    match plan_with_rows(alloc, catalog, write, store, allowance, meter) {
         Err(error) => Err(error),
-        Ok(Planned::Refused(why)) => Ok(Planned::Refused(why)),
-        Ok(Planned::Changes(changes)) => {
-            match plan_more(alloc, catalog, write, changes, store, allowance, meter) {
-                Err(error) => Err(error),
-                Ok(planned) => Ok(planned),
+        Ok(PlannedWrite { planned, old, new }) => match planned {
+            Planned::Refused(why) => Ok(Planned::Refused(why)),
+            Planned::Changes(changes) => {
+                match plan_more(
+                    alloc, catalog, write, &old, &new, changes, store, allowance, meter,
+                ) {
+                    Err(error) => Err(error),
+                    Ok(planned) => Ok(planned),
+                }
             }
-        }
+        },
     }
 }

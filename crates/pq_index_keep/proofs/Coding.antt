@@ -14,7 +14,7 @@ use Rattle.pq_base.specs.declared.value.ColType.TheVariants as type
 use Rattle.pq_base.specs.declared.value.Dir.TheVariants.{Asc}
 use Rattle.pq_base.specs.declared.value.Value.{Value}
 use Rattle.pq_base.specs.declared.value.Value.TheVariants as value
-use Rattle.pq_base.specs.Values.{AllFit, FitsType, room_of}
+use Rattle.pq_base.specs.Values.{AllFit, FitsType}
 use Rattle.pq_base.proofs.TypeFits.{length_from_fits}
 use Rattle.pq_key_code.specs.KeyCode.{row_key}
 use Rattle.pq_row_code.specs.declared.changes.Change.{Change as Coded}

@@ -7,9 +7,8 @@ use Rattle.std.proofs.lemmas.Bool.{eq-eqb}
 use Rattle.pq_base.specs.Answers.{or_else}
 use Rattle.pq_base.specs.declared.refusal.Refusal.{Refusal}
 use Rattle.pq_base.specs.declared.value.ColType.{ColType}
-use Rattle.pq_base.specs.declared.value.ColType.TheVariants as type
 use Rattle.pq_base.specs.declared.value.Value.{Value}
-use Rattle.pq_base.specs.Values.{IsType, AllFit}
+use Rattle.pq_base.specs.Values.{IsType}
 use Rattle.pq_key_code.specs.KeyCode.{row_key}
 use Rattle.pq_row_code.specs.declared.changes.Change.{Change as Coded}
 use Rattle.pq_row_code.specs.StoredRow.{IsNoRowCode}

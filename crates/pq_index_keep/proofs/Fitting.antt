@@ -1,10 +1,8 @@
 -- What the checks of a statement say of its write.
 use Rattle.std.proofs.Common.{◌≡◌, ℕ, zero, suc, ◌+◌, ◌≤◌, ◌<◌, Bool, true, false, cond, not, ◌||◌, ◌&&◌, List, [], ◌∷◌, ◌++◌, length, map, Option, Some, None, Ok, Err, refl, sym, ap, subst, ◌∙◌, arith}
-use Rattle.std.specs.Prelude.{All, IfSome, slice_index_or, ◌==◌, find, option_map, is_some, unwrap_or, nat_lt, position}
+use Rattle.std.specs.Prelude.{All, IfSome, slice_index_or, ◌==◌, find, option_map, is_some, unwrap_or, nat_lt}
 use Rattle.std.specs.List.{AllByRecursion, list_all, list_any, range_with_len}
 use Rattle.std.proofs.lemmas.Bool.{cond_both, eqb-true, ltb-false, false≢true}
-use Rattle.std.proofs.lemmas.Option.{same_Some, none-some}
-use Rattle.pq_schema.specs.Tables.{no_table}
 use Rattle.pq_schema.proofs.Counts.{place_within}
 use Rattle.pq_base.specs.declared.refusal.Refusal.{Refusal}
 use Rattle.pq_base.specs.declared.refusal.Refusal.TheVariants as refusal
@@ -14,14 +12,13 @@ use Rattle.pq_base.specs.declared.value.Value.{Value}
 use Rattle.pq_base.specs.Values.{IsValue, FitsType, AllFit, fits_type}
 use Rattle.pq_schema.specs.declared.table.Column.{Column}
 use Rattle.pq_schema.specs.declared.table.Table.{Table}
-use Rattle.pq_content.specs.Tables.{types_of, type_at, types_at, key_types, IsTableNumber}
+use Rattle.pq_content.specs.Tables.{types_of, type_at, types_at, key_types}
 use Rattle.pq_index_keep.specs.Checking.{misfit_refusal, are_among, all_columns, default_at, has_value, inserted_value, insert_row, insert_names, insert_places, insert_names_refusal, insert_values_refusal, insert_checked, delete_checked, is_insert_wrong, assign_name, names_in, values_in, assigned_misfit, keyed_refusal, set_of_assign, key_given}
 use Rattle.pq_index_keep.specs.Sound.{is_among, IsSet}
 use Rattle.pq_schema.specs.ColumnNames.{is_unknown, place_of, places_of, no_column, unknown_refusal}
 use Rattle.pq_schema.specs.Definitions.{refused_if, or_ok}
 use Rattle.pq_schema.specs.Rows.{no_value}
 use Rattle.pq_schema.specs.Sound.{AreDefaults}
-use Rattle.pq_schema.specs.Schema.{Schema, find_table, is_table, number_of}
 use Rattle.pq_base.specs.Answers.{Answers, Passes, or_else}
 use Rattle.pq_index_keep.specs.declared.write.Write.{Write}
 use Rattle.pq_index_keep.specs.declared.write.Write.TheVariants.{Insert, Delete}
@@ -29,7 +26,6 @@ use Rattle.pq_base.specs.declared.refusal.Stopped.{Stopped}
 use Rattle.pq_base.specs.declared.refusal.Stopped.TheVariants.{Refused, NoMem}
 use Rattle.pq_base.proofs.TypeFits.{fits_exact}
 use Rattle.pq_def_read.specs.declared.statement.Assign.{Assign}
-use Rattle.std.proofs.lemmas.List.Quantifiers.{position-Some}
 use Rattle.pq_index_keep.proofs.Inserting.{each_by}
 use Rattle.pq_schema.specs.Keys.{given_value}
 use Rattle.std.proofs.lemmas.List.{length-map}

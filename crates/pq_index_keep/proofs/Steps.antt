@@ -1,14 +1,11 @@
 -- What holds in the next turn of a loop, and over a later call.
-use Rattle.std.proofs.Common.{◌≡◌, ◌≤◌, ◌<◌, ◌+◌, ℕ, zero, suc, Bool, true, List, [], ◌∷◌, length, take, get_or, Some, None, sym, ap, subst, ◌∙◌, arith}
+use Rattle.std.proofs.Common.{◌≡◌, ◌<◌, ℕ, zero, suc, Bool, true, List, [], ◌∷◌, length, take, get_or, Some, None, sym, subst, ◌∙◌, arith}
 use Rattle.std.specs.Prelude.{All}
-use Rattle.std.specs.List.{position, sum_by}
+use Rattle.std.specs.List.{position}
 use Rattle.std.proofs.lemmas.Grind.{common_steps}
-use Rattle.std.proofs.lemmas.List.Sums.{sum_by_more, sum_by-take-le}
 use Rattle.pq_schema.specs.declared.table.Table.{Table}
 use Rattle.pq_content.specs.Pairs.{Pair}
 use Rattle.pq_content.specs.Tables.{Rows}
-use Rattle.pq_store.specs.declared.damage.Broke.{Broke}
-use Rattle.pq_store.specs.declared.damage.Broke.TheVariants.{Failed, NoMem, Damaged}
 use Rattle.pq_calls.specs.World.{World, Reads}
 use Rattle.pq_index_keep.specs.Promises.{HoldsRows}
 

@@ -1,7 +1,6 @@
 -- What the calls of a plan promise, whatever the store tells.
-use Rattle.std.specs.Prelude.{◌≡◌, All, ℕ, ◌≤◌, List, ◌∷◌, map, length, Option, Some, None, Err, MatchResult}
+use Rattle.std.specs.Prelude.{◌≡◌, All, ℕ, ◌≤◌, List, ◌∷◌, map, length, Option, Some, None, Err, MatchResult, IfSome, option_map}
 use Rattle.std.specs.FinMap.{get}
-use Rattle.pq_base.specs.declared.value.ColType.{ColType}
 use Rattle.pq_base.specs.declared.value.Value.{Value}
 use Rattle.pq_base.specs.Values.{AllFit}
 use Rattle.pq_key_code.specs.KeyCode.{row_key}
@@ -12,13 +11,11 @@ use Rattle.pq_schema.specs.Tables.{table_at}
 use Rattle.pq_content.specs.Pairs.{Pair, changed_content, content_pairs, pairs_of_row, puts}
 pub use Rattle.pq_content.specs.Pairs.{HoldsRows}
 use Rattle.pq_content.specs.Standing.{change_of, AreOfRows}
-use Rattle.pq_content.specs.Tables.{Rows, AllOfKinds, IsTableNumber, types_of, key_types, cells, Keeps}
-use Rattle.pq_store.specs.Content.{Content, HasRisen}
-use Rattle.pq_store.specs.Counts.{Counts, AllowedCounts}
-use Rattle.pq_store.specs.declared.damage.Broke.{Broke}
-use Rattle.pq_store.specs.declared.damage.Broke.TheVariants as broke
-use Rattle.pq_store.specs.declared.damage.Damage.{Damage}
+use Rattle.pq_content.specs.Tables.{Rows, AllOfKinds, types_of, shape_of, key_types, cells, Keeps}
+use Rattle.pq_store.specs.Content.{Content}
+use Rattle.pq_calls.specs.Evidence.{IsRead}
 use Rattle.pq_index_keep.specs.Effects.{effect, changes_of}
+use Rattle.pq_index_keep.specs.Tested.{with_sets}
 use Rattle.pq_index_keep.specs.declared.plan.Planned.{Planned}
 use Rattle.pq_index_keep.specs.declared.plan.Planned.TheVariants as planned
 use Rattle.pq_index_keep.specs.declared.write.Write.{Write}
@@ -69,3 +66,23 @@ HasOwn tables (write.Delete t key) changes =
 abbrev pub ChangesOwn : List Table → Write → Planned → Type 0
 ChangesOwn tables write (planned.Changes changes) = HasOwn tables write (map change_of changes)
 ChangesOwn tables write (planned.Refused refusal) = Unit {0}
+
+-- what was read of the old row, where the store tells: none for an INSERT
+abbrev pub IsReadFor : List Table → Write → Content → Option (List Value) → Type 0
+IsReadFor tables (write.Insert t row) content old = old ≡ None
+IsReadFor tables (write.Update t key sets) content old =
+    IsRead (shape_of (table_at tables t)) (get content (row_key t key)) old
+IsReadFor tables (write.Delete t key) content old =
+    IsRead (shape_of (table_at tables t)) (get content (row_key t key)) old
+
+-- the old row fits its table's columns
+abbrev pub FitsItsTable : List Table → Write → Option (List Value) → Type 0
+FitsItsTable tables (write.Insert t row) old = old ≡ None
+FitsItsTable tables (write.Update t key sets) old = IfSome old (AllFit (types_of (table_at tables t)))
+FitsItsTable tables (write.Delete t key) old = IfSome old (AllFit (types_of (table_at tables t)))
+
+-- the row that comes in its place, of an UPDATE alone
+abbrev pub IsNewFor : Write → Option (List Value) → Option (List Value) → Type 0
+IsNewFor (write.Insert t row) old new = new ≡ None
+IsNewFor (write.Update t key sets) old new = new ≡ option_map (with_sets sets) old
+IsNewFor (write.Delete t key) old new = new ≡ None

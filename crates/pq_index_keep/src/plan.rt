@@ -1,5 +1,6 @@
 //! What a write changes in the store, or why it is refused.
 ghost use Rattle.std.specs.Prelude.{◌≡◌, ◌≤◌, ◌+◌, List, All, length, option_map, IfOk, IfErr, IfSome, IsSome};
+ghost use Rattle.std.specs.FinMap.{get as value_at};
 ghost use Rattle.pq_base.specs.Columns.{set_of};
 ghost use Rattle.pq_base.specs.Values.{AllFit};
 ghost use Rattle.pq_key_code.specs.KeyCode.{row_key};
@@ -7,13 +8,13 @@ ghost use Rattle.pq_schema.specs.Sequences.{group_access};
 ghost use Rattle.pq_schema.specs.Sound.{IsTable, AreColumns, AreParts};
 ghost use Rattle.pq_schema.specs.Tables.{table_at};
 ghost use Rattle.pq_content.specs.Pairs.{Pair};
-ghost use Rattle.pq_content.specs.Tables.{Rows, AllOfKinds, IsTableNumber, key_types, types_of, key_of, row_at};
+ghost use Rattle.pq_content.specs.Tables.{Rows, AllOfKinds, IsTableNumber, key_types, types_of, shape_of, key_of, row_at};
 ghost use Rattle.pq_index_keep.specs.Bounds.{referring_count, tests};
 ghost use Rattle.pq_store.specs.Breaks.{IsAnswered};
 ghost use Rattle.pq_calls.specs.Calls.{Uses, Fails};
-ghost use Rattle.pq_calls.specs.Evidence.{IsNoRow};
+ghost use Rattle.pq_calls.specs.Evidence.{IsRead, IsNoRow};
 ghost use Rattle.pq_calls.specs.World.{Affords, no_damage, where_told};
-ghost use Rattle.pq_index_keep.specs.Promises.{HoldsRows, Plans, IsPlannedWithin, ChangesOwn};
+ghost use Rattle.pq_index_keep.specs.Promises.{HoldsRows, Plans, IsPlannedWithin, ChangesOwn, IsReadFor, FitsItsTable, IsNewFor};
 ghost use Rattle.pq_index_keep.specs.Refusals.{RefusesAs};
 ghost use Rattle.pq_index_keep.specs.Sound.{AreWritable, IsInsert, IsDelete};
 
@@ -35,6 +36,15 @@ use std::sync::ledger::Ledger;
 pub enum Planned {
     Changes(List<Change>),
     Refused(Refusal),
+}
+
+/// The plan of a write, the row that was read for it, which is the old one of an UPDATE or DELETE, and the row that an
+/// UPDATE puts in its place.
+#[derive(Debug, Drop)]
+pub struct PlannedWrite {
+    pub planned: Planned,
+    pub old: Option<Row>,
+    pub new: Option<Row>,
 }
 
 /// The table of a write.
@@ -122,6 +132,9 @@ pub(crate) fn find_row<S: Store<L>, L: Ledger>(
     ensures answer { IfOk result (λ found. (rows : Rows) (others : List Pair)
         → HoldsRows (S.content calls.old.store.now) catalog.now.tables rows others
         → option_map (λ stored. stored.row) found ≡ row_at catalog.now.tables rows number key.now) }
+    ensures read { IfOk result (λ found. IfSome (S.content calls.old.store.now)
+        (λ c. IsRead (shape_of (table_at catalog.now.tables number)) (value_at c (row_key number key.now))
+        (option_map (λ stored. stored.row) found))) }
     ensures at { IfOk result (λ found. IfSome found (λ stored. stored.at ≡ row_key number key.now)) }
     ensures fits { IfOk result (λ found. IfSome found
         (λ stored. AllFit (types_of (table_at catalog.now.tables number)) stored.row)) }
@@ -138,13 +151,14 @@ fn plan_removal<S: Store<L>, L: Ledger>(
     catalog: &Catalog,
     number: u8,
     key: &Row,
-    found: StoredRow,
+    at: Bytes,
+    row: &Row,
     calls: &mut Calls<S, L>,
 ) -> Result<Planned, Broke>
     requires sound { AreWritable catalog.now.tables }
     requires delete { IsDelete catalog.now.tables number key.now }
-    requires at { found.at ≡ row_key number key.now }
-    requires fits { AllFit (types_of (table_at catalog.now.tables number)) found.row }
+    requires at { at ≡ row_key number key.now }
+    requires fits { AllFit (types_of (table_at catalog.now.tables number)) row.now }
     requires share { Affords calls.old.allowance.now (referring_count catalog.now.tables number)
         (referring_count catalog.now.tables number) }
     ensures uses { Uses S.content S.faults calls.old calls.new (referring_count catalog.now.tables number)
@@ -156,7 +170,7 @@ fn plan_removal<S: Store<L>, L: Ledger>(
     ensures can { IfOk result (RefusesAs catalog.now.tables (Write.Delete number key.now)) }
     ensures answer { IfOk result (λ planned. (rows : Rows) (others : List Pair)
         → HoldsRows (S.content calls.old.store.now) catalog.now.tables rows others →
-        Some found.row ≡ row_at catalog.now.tables rows number key.now
+        Some row.now ≡ row_at catalog.now.tables rows number key.now
         → Plans catalog.now.tables rows others (Write.Delete number key.now) planned) }
 {
     let table = table_of(catalog, number);
@@ -165,7 +179,7 @@ fn plan_removal<S: Store<L>, L: Ledger>(
     match refusal {
         Some(refusal) => Ok(Planned::Refused(refusal)),
         None => {
-            let changes = removals(alloc, found.at, number, table, &found.row)?;
+            let changes = removals(alloc, at, number, table, row)?;
             Ok(Planned::Changes(changes))
         }
     }
@@ -177,7 +191,7 @@ pub(crate) fn plan_delete<S: Store<L>, L: Ledger>(
     number: u8,
     key: &Row,
     calls: &mut Calls<S, L>,
-) -> Result<Planned, Broke>
+) -> Result<PlannedWrite, Broke>
     requires sound { AreWritable catalog.now.tables }
     requires delete { IsDelete catalog.now.tables number key.now }
     requires share { Affords calls.old.allowance.now (1 + referring_count catalog.now.tables number)
@@ -187,23 +201,37 @@ pub(crate) fn plan_delete<S: Store<L>, L: Ledger>(
     ensures cause { IfErr result (Fails (where_told (IsNoRow catalog.now.tables)) S.content S.faults calls.old
         calls.new) }
     ensures answered { IfErr result (IsAnswered S.answers) }
-    ensures plan { IfOk result (IsPlannedWithin (1 + length (table_at catalog.now.tables number).indexes)) }
-    ensures own { IfOk result (ChangesOwn catalog.now.tables (Write.Delete number key.now)) }
-    ensures can { IfOk result (RefusesAs catalog.now.tables (Write.Delete number key.now)) }
-    ensures answer { IfOk result (λ planned. (rows : Rows) (others : List Pair)
+    ensures plan { IfOk result (λ seen.
+        IsPlannedWithin (1 + length (table_at catalog.now.tables number).indexes) seen.planned) }
+    ensures own { IfOk result (λ seen. ChangesOwn catalog.now.tables (Write.Delete number key.now) seen.planned) }
+    ensures can { IfOk result (λ seen. RefusesAs catalog.now.tables (Write.Delete number key.now) seen.planned) }
+    ensures answer { IfOk result (λ seen. (rows : Rows) (others : List Pair)
         → HoldsRows (S.content calls.old.store.now) catalog.now.tables rows others
-        → Plans catalog.now.tables rows others (Write.Delete number key.now) planned) }
+        → Plans catalog.now.tables rows others (Write.Delete number key.now) seen.planned) }
+    ensures read { IfOk result (λ seen. IfSome (S.content calls.old.store.now)
+        (λ c. IsReadFor catalog.now.tables (Write.Delete number key.now) c seen.old)) }
+    ensures fits { IfOk result (λ seen. FitsItsTable catalog.now.tables (Write.Delete number key.now) seen.old) }
+    ensures new { IfOk result (λ seen. IsNewFor (Write.Delete number key.now) seen.old seen.new) }
 {
     match find_row(alloc, catalog, number, key, calls) {
         Err(error) => Err(error),
         Ok(None) => match no_row(alloc, table_of(catalog, number)) {
             Err(NoMem) => Err(Broke::NoMem),
-            Ok(refused) => Ok(refused),
+            Ok(planned) => Ok(PlannedWrite {
+                planned,
+                old: None,
+                new: None,
+            }),
         },
         Ok(Some(found)) => {
-            match plan_removal(alloc, catalog, number, key, found, calls) {
+            let StoredRow { at, row } = found;
+            match plan_removal(alloc, catalog, number, key, at, &row, calls) {
                 Err(error) => Err(error),
-                Ok(planned) => Ok(planned),
+                Ok(planned) => Ok(PlannedWrite {
+                    planned,
+                    old: Some(row),
+                    new: None,
+                }),
             }
         }
     }

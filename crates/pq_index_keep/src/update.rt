@@ -19,16 +19,16 @@ ghost use Rattle.pq_store.specs.Breaks.{IsAnswered};
 ghost use Rattle.pq_calls.specs.Calls.{Uses, Fails};
 ghost use Rattle.pq_calls.specs.Evidence.{IsNoRow};
 ghost use Rattle.pq_calls.specs.World.{Affords, no_damage, where_told};
-ghost use Rattle.pq_index_keep.specs.Promises.{HoldsRows, IsTested, Plans, IsPlannedWithin, ChangesOwn};
+ghost use Rattle.pq_index_keep.specs.Promises.{HoldsRows, IsTested, Plans, IsPlannedWithin, ChangesOwn, IsReadFor, FitsItsTable, IsNewFor};
 ghost use Rattle.pq_index_keep.specs.Refusals.{IsUpdateRefusal, RefusesAs};
 ghost use Rattle.pq_index_keep.specs.Sound.{AreWritable, IsUpdate};
 ghost use Rattle.pq_index_keep.specs.Tested.{touches_index, scope_of, with_sets};
 
 use crate::changes::updates;
-use crate::plan::{Planned, find_row, no_row, table_of};
+use crate::plan::{Planned, PlannedWrite, find_row, no_row, table_of};
 use crate::refusals::tested_refusal;
 use crate::write::{Scope, SetCol, Write};
-use pq_base::{List, NoMem, Refusal, Row, Value};
+use pq_base::{Bytes, List, NoMem, Refusal, Row, Value};
 use pq_calls::{Calls, StoredRow};
 use pq_row_code::stored_code_len;
 use pq_schema::{Catalog, Table};
@@ -136,13 +136,16 @@ fn plan_change<S: Store<L>, L: Ledger>(
     number: u8,
     key: &Row,
     sets: &List<SetCol>,
-    found: StoredRow,
+    at: Bytes,
+    row: &Row,
+    new: &Row,
     calls: &mut Calls<S, L>,
 ) -> Result<Planned, Broke>
     requires sound { AreWritable catalog.now.tables }
     requires update { IsUpdate catalog.now.tables number key.now sets.now }
-    requires at { found.at ≡ row_key number key.now }
-    requires fits { AllFit (types_of (table_at catalog.now.tables number)) found.row }
+    requires at { at ≡ row_key number key.now }
+    requires fits { AllFit (types_of (table_at catalog.now.tables number)) row.now }
+    requires new { new.now ≡ with_sets sets.now row.now }
     requires share { Affords calls.old.allowance.now
         (tested_foreign (scope_of sets.now) (table_at catalog.now.tables number).foreign
         + tested_limits (scope_of sets.now) (table_at catalog.now.tables number).limits)
@@ -162,19 +165,18 @@ fn plan_change<S: Store<L>, L: Ledger>(
     ensures can { IfOk result (RefusesAs catalog.now.tables (Write.Update number key.now sets.now)) }
     ensures answer { IfOk result (λ planned. (rows : Rows) (others : List Pair)
         → HoldsRows (S.content calls.old.store.now) catalog.now.tables rows others →
-        Some found.row ≡ row_at catalog.now.tables rows number key.now
+        Some row.now ≡ row_at catalog.now.tables rows number key.now
         → Plans catalog.now.tables rows others (Write.Update number key.now sets.now) planned) }
 {
     let table = table_of(catalog, number);
     let scope = scope_of(sets);
-    let new = new_row(alloc, &found.row, sets)?;
-    let copy = found.row.copy(alloc)?;
+    let copy = row.copy(alloc)?;
     let before = Some(copy);
-    let refusal = update_refusal(alloc, &scope, &before, number, table, &new, calls)?;
+    let refusal = update_refusal(alloc, &scope, &before, number, table, new, calls)?;
     match refusal {
         Some(refusal) => Ok(Planned::Refused(refusal)),
         None => {
-            let changes = updates(alloc, found.at, number, table, &found.row, &new)?;
+            let changes = updates(alloc, at, number, table, row, new)?;
             Ok(Planned::Changes(changes))
         }
     }
@@ -188,7 +190,7 @@ pub(crate) fn plan_update<S: Store<L>, L: Ledger>(
     key: &Row,
     sets: &List<SetCol>,
     calls: &mut Calls<S, L>,
-) -> Result<Planned, Broke>
+) -> Result<PlannedWrite, Broke>
     requires sound { AreWritable catalog.now.tables }
     requires update { IsUpdate catalog.now.tables number key.now sets.now }
     requires share { Affords calls.old.allowance.now
@@ -200,25 +202,42 @@ pub(crate) fn plan_update<S: Store<L>, L: Ledger>(
     ensures cause { IfErr result (Fails (where_told (IsNoRow catalog.now.tables)) S.content S.faults calls.old
         calls.new) }
     ensures answered { IfErr result (IsAnswered S.answers) }
-    ensures plan { IfOk result (IsPlannedWithin
+    ensures plan { IfOk result (λ seen. IsPlannedWithin
         (1 + 2 * count_by (touches_index (scope_of sets.now) (table_at catalog.now.tables number))
-        (table_at catalog.now.tables number).indexes)) }
-    ensures own { IfOk result (ChangesOwn catalog.now.tables (Write.Update number key.now sets.now)) }
-    ensures can { IfOk result (RefusesAs catalog.now.tables (Write.Update number key.now sets.now)) }
-    ensures answer { IfOk result (λ planned. (rows : Rows) (others : List Pair)
+        (table_at catalog.now.tables number).indexes) seen.planned) }
+    ensures own { IfOk result (λ seen.
+        ChangesOwn catalog.now.tables (Write.Update number key.now sets.now) seen.planned) }
+    ensures can { IfOk result (λ seen.
+        RefusesAs catalog.now.tables (Write.Update number key.now sets.now) seen.planned) }
+    ensures answer { IfOk result (λ seen. (rows : Rows) (others : List Pair)
         → HoldsRows (S.content calls.old.store.now) catalog.now.tables rows others
-        → Plans catalog.now.tables rows others (Write.Update number key.now sets.now) planned) }
+        → Plans catalog.now.tables rows others (Write.Update number key.now sets.now) seen.planned) }
+    ensures read { IfOk result (λ seen. IfSome (S.content calls.old.store.now)
+        (λ c. IsReadFor catalog.now.tables (Write.Update number key.now sets.now) c seen.old)) }
+    ensures fits { IfOk result (λ seen.
+        FitsItsTable catalog.now.tables (Write.Update number key.now sets.now) seen.old) }
+    ensures new { IfOk result (λ seen. IsNewFor (Write.Update number key.now sets.now) seen.old seen.new) }
 {
     match find_row(alloc, catalog, number, key, calls) {
         Err(error) => Err(error),
         Ok(None) => match no_row(alloc, table_of(catalog, number)) {
             Err(NoMem) => Err(Broke::NoMem),
-            Ok(refused) => Ok(refused),
+            Ok(planned) => Ok(PlannedWrite {
+                planned,
+                old: None,
+                new: None,
+            }),
         },
         Ok(Some(found)) => {
-            match plan_change(alloc, catalog, number, key, sets, found, calls) {
+            let StoredRow { at, row } = found;
+            let new = new_row(alloc, &row, sets)?;
+            match plan_change(alloc, catalog, number, key, sets, at, &row, &new, calls) {
                 Err(error) => Err(error),
-                Ok(planned) => Ok(planned),
+                Ok(planned) => Ok(PlannedWrite {
+                    planned,
+                    old: Some(row),
+                    new: Some(new),
+                }),
             }
         }
     }

@@ -1,5 +1,5 @@
 //! The plan of any write.
-ghost use Rattle.std.specs.Prelude.{List, IfOk, IfErr};
+ghost use Rattle.std.specs.Prelude.{List, IfOk, IfErr, IfSome};
 ghost use Rattle.pq_content.specs.Pairs.{Pair};
 ghost use Rattle.pq_content.specs.Standing.{write_ops};
 ghost use Rattle.pq_content.specs.Tables.{Rows};
@@ -8,11 +8,11 @@ ghost use Rattle.pq_store.specs.Breaks.{IsUndamaged, IsAnswered};
 ghost use Rattle.pq_calls.specs.Calls.{Uses, Fails};
 ghost use Rattle.pq_calls.specs.Evidence.{IsNoRow};
 ghost use Rattle.pq_calls.specs.World.{world, Affords, Reads, Explains, where_told};
-ghost use Rattle.pq_index_keep.specs.Promises.{HoldsRows, Plans, IsPlannedWithin, ChangesOwn};
+ghost use Rattle.pq_index_keep.specs.Promises.{HoldsRows, Plans, IsPlannedWithin, ChangesOwn, IsReadFor, FitsItsTable, IsNewFor};
 ghost use Rattle.pq_index_keep.specs.Refusals.{RefusesAs};
 ghost use Rattle.pq_index_keep.specs.Sound.{AreWritable, IsWrite};
 
-use crate::plan::{Planned, plan_delete, plan_insert};
+use crate::plan::{Planned, PlannedWrite, plan_delete, plan_insert};
 use crate::update::plan_update;
 use crate::write::Write;
 use pq_calls::Calls;
@@ -27,7 +27,7 @@ fn plan_by<S: Store<L>, L: Ledger>(
     catalog: &Catalog,
     write: &Write,
     calls: &mut Calls<S, L>,
-) -> Result<Planned, Broke>
+) -> Result<PlannedWrite, Broke>
     requires sound { AreWritable catalog.now.tables }
     requires write { IsWrite catalog.now.tables write.now }
     requires share { Affords calls.old.allowance.now (write_tests catalog.now.tables write.now).ops
@@ -37,37 +37,89 @@ fn plan_by<S: Store<L>, L: Ledger>(
     ensures cause { IfErr result (Fails (where_told (IsNoRow catalog.now.tables)) S.content S.faults calls.old
         calls.new) }
     ensures answered { IfErr result (IsAnswered S.answers) }
-    ensures plan { IfOk result (IsPlannedWithin (most_changes catalog.now.tables write.now)) }
-    ensures own { IfOk result (ChangesOwn catalog.now.tables write.now) }
-    ensures can { IfOk result (RefusesAs catalog.now.tables write.now) }
-    ensures answer { IfOk result (λ planned. (rows : Rows) (others : List Pair) →
+    ensures plan { IfOk result (λ seen. IsPlannedWithin (most_changes catalog.now.tables write.now) seen.planned) }
+    ensures own { IfOk result (λ seen. ChangesOwn catalog.now.tables write.now seen.planned) }
+    ensures can { IfOk result (λ seen. RefusesAs catalog.now.tables write.now seen.planned) }
+    ensures answer { IfOk result (λ seen. (rows : Rows) (others : List Pair) →
         HoldsRows (S.content calls.old.store.now) catalog.now.tables rows others
-        → Plans catalog.now.tables rows others write.now planned) }
+        → Plans catalog.now.tables rows others write.now seen.planned) }
+    ensures read { IfOk result (λ seen. IfSome (S.content calls.old.store.now)
+        (λ c. IsReadFor catalog.now.tables write.now c seen.old)) }
+    ensures fits { IfOk result (λ seen. FitsItsTable catalog.now.tables write.now seen.old) }
+    ensures new { IfOk result (λ seen. IsNewFor write.now seen.old seen.new) }
 {
     match write {
         Write::Insert { table, row } => {
             match plan_insert(alloc, catalog, *table, row, calls) {
                 Err(error) => Err(error),
-                Ok(planned) => Ok(planned),
+                Ok(planned) => Ok(PlannedWrite {
+                    planned,
+                    old: None,
+                    new: None,
+                }),
             }
         }
         Write::Update { table, key, sets } => {
             match plan_update(alloc, catalog, *table, key, sets, calls) {
                 Err(error) => Err(error),
-                Ok(planned) => Ok(planned),
+                Ok(seen) => Ok(seen),
             }
         }
         Write::Delete { table, key } => {
             match plan_delete(alloc, catalog, *table, key, calls) {
                 Err(error) => Err(error),
-                Ok(planned) => Ok(planned),
+                Ok(seen) => Ok(seen),
             }
         }
     }
 }
 
-/// The changes that the write makes, or its first refusal. It changes nothing in the store, and
-/// leaves enough of the allowance for the changes.
+/// The changes that the write makes, or its first refusal, and the rows that it was planned by. It changes nothing in
+/// the store, and leaves enough of the allowance for the changes.
+pub fn plan_with_rows<S: Store<L>, L: Ledger>(
+    alloc: Global,
+    catalog: &Catalog,
+    write: &Write,
+    store: &mut S,
+    allowance: &mut Allowance,
+    meter: &mut Meter<L>,
+) -> Result<PlannedWrite, Broke>
+    requires write { IsWrite catalog.now.tables write.now }
+    requires share { Affords allowance.old (write_bound catalog.now.tables write.now).ops
+        (write_bound catalog.now.tables write.now).entries }
+    ensures reads { Reads (world (S.content store.old) (S.faults store.old) allowance.old meter.old)
+        (world (S.content store.new) (S.faults store.new) allowance.new meter.new)
+        (write_tests catalog.now.tables write.now).ops (write_tests catalog.now.tables write.now).entries }
+    ensures left { Affords allowance.new (write_ops (most_changes catalog.now.tables write.now)) 0 }
+    ensures cause { IfErr result (Explains (where_told (IsNoRow catalog.now.tables))
+        (world (S.content store.old) (S.faults store.old) allowance.old meter.old)
+        (world (S.content store.new) (S.faults store.new) allowance.new meter.new)) }
+    ensures answered { IfErr result (IsAnswered S.answers) }
+    ensures undamaged { IfErr result (λ error. (rows : Rows) (others : List Pair)
+        → HoldsRows (S.content store.old) catalog.now.tables rows others → IsUndamaged error) }
+    ensures plan { IfOk result (λ seen. IsPlannedWithin (most_changes catalog.now.tables write.now) seen.planned) }
+    // Over every store, told or not: the row's own pair is among the changes, and a refusal is one that the write can
+    // have.
+    ensures own { IfOk result (λ seen. ChangesOwn catalog.now.tables write.now seen.planned) }
+    ensures can { IfOk result (λ seen. RefusesAs catalog.now.tables write.now seen.planned) }
+    ensures answer { IfOk result (λ seen. (rows : Rows) (others : List Pair)
+        → HoldsRows (S.content store.old) catalog.now.tables rows others
+        → Plans catalog.now.tables rows others write.now seen.planned) }
+    ensures read { IfOk result (λ seen. IfSome (S.content store.old)
+        (λ c. IsReadFor catalog.now.tables write.now c seen.old)) }
+    ensures fits { IfOk result (λ seen. FitsItsTable catalog.now.tables write.now seen.old) }
+    ensures new { IfOk result (λ seen. IsNewFor write.now seen.old seen.new) }
+{
+    catalog.known();
+    let mut calls = Calls {
+        store,
+        allowance,
+        meter,
+    };
+    plan_by(alloc, catalog, write, &mut calls)
+}
+
+/// The same without the rows.
 pub fn plan_write<S: Store<L>, L: Ledger>(
     alloc: Global,
     catalog: &Catalog,
@@ -98,11 +150,8 @@ pub fn plan_write<S: Store<L>, L: Ledger>(
         → HoldsRows (S.content store.old) catalog.now.tables rows others
         → Plans catalog.now.tables rows others write.now planned) }
 {
-    catalog.known();
-    let mut calls = Calls {
-        store,
-        allowance,
-        meter,
-    };
-    plan_by(alloc, catalog, write, &mut calls)
+    match plan_with_rows(alloc, catalog, write, store, allowance, meter) {
+        Err(error) => Err(error),
+        Ok(seen) => Ok(seen.planned),
+    }
 }

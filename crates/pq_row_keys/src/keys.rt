@@ -1,7 +1,8 @@
 //! Keys of rows and of entries, coded straight from the values.
-ghost use Rattle.std.specs.Prelude.{◌≡◌, ◌++◌, [], take, count_ones, IfOk, OnOk};
+ghost use Rattle.std.specs.Prelude.{◌≡◌, ◌++◌, [], length, replicate, take, count_ones, IfOk, OnOk};
 ghost use Rattle.pq_base.specs.Columns.{set_of};
-ghost use Rattle.pq_key_code.specs.KeyCode.{component, row_key};
+ghost use Rattle.pq_base.specs.declared.value.Dir.TheVariants.{Asc};
+ghost use Rattle.pq_key_code.specs.KeyCode.{code_of, component, row_key};
 ghost use Rattle.pq_schema.specs.Sound.{AreColumns, AreParts};
 ghost use Rattle.pq_schema.specs.Sequences.{then_key, index_sequence};
 ghost use Rattle.pq_content.specs.Pairs.{entry_pair};
@@ -47,14 +48,22 @@ fn put_given(
     }
 }
 
+/// Puts the ascending code of the row's values at the columns.
+pub fn put_cells(alloc: Global, out: &mut Bytes, cols: &[u8], row: &[Value]) -> Result<(), NoMem>
+    ensures { OnOk result (out.new ≡ out.old ++ code_of (replicate (length cols.now) Asc) (cells cols.now row.now)) }
+{
+    for col in cols {
+        put_cell(alloc, out, Dir::Asc, row, *col)?;
+    }
+    Ok(())
+}
+
 /// The key of the row whose key is the values of this row at the columns.
 pub fn key_at(alloc: Global, number: u8, cols: &[u8], row: &[Value]) -> Result<Bytes, NoMem>
     ensures { IfOk result (λ key. key ≡ row_key number (cells cols.now row.now)) }
 {
     let mut key = row_front(alloc, number)?;
-    for col in cols {
-        put_cell(alloc, &mut key, Dir::Asc, row, *col)?;
-    }
+    put_cells(alloc, &mut key, cols, row)?;
     Ok(key)
 }
 

@@ -7,5 +7,5 @@ mod keys;
 mod rows;
 
 pub use groups::group_key;
-pub use keys::{entry_of, key_at};
+pub use keys::{entry_of, key_at, put_cells};
 pub use rows::{all_given, given, null_at, same_cells, same_entry, values_at};

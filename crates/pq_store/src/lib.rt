@@ -9,6 +9,7 @@ mod allowance;
 mod damage;
 mod failing;
 mod held;
+mod last_found;
 mod mem;
 mod meter;
 mod part_check;

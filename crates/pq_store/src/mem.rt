@@ -1,5 +1,5 @@
 //! A store in memory: an ordered set of pairs, each in one piece of memory, seen as its content.
-ghost use Rattle.std.specs.Prelude.{◌≡◌, IsTrue, IfOk, IfErr, IsOk, OnOk, OnErr, map, take, length, min, if◌then◌else◌};
+ghost use Rattle.std.specs.Prelude.{◌≡◌, [], IsTrue, IfOk, IfErr, IsOk, OnOk, OnErr, map, take, length, min, if◌then◌else◌};
 ghost use Rattle.std.specs.Option.{option_map, option_copied};
 ghost use Rattle.std.specs.FinMap.{empty, entries, get as value_at, insert, remove};
 ghost use Rattle.std.specs.Ordering.{eq_by_cmp, is_lt};
@@ -7,6 +7,7 @@ ghost use Rattle.pq_store.specs.Content.{is_rising, entry, pairs_within, key_cmp
 ghost use Rattle.pq_store.specs.NotPairs.{GivesBack};
 
 use crate::held::HeldPair;
+use crate::last_found::LastFound;
 use crate::meter::Meter;
 use crate::part_check::rise;
 use crate::store::{Guard, Pair, Store, StoreErr};
@@ -14,6 +15,7 @@ use pq_base::{Bytes, List, NoMem};
 use std::alloc::Global;
 use std::collections::{BTreeSet, btree_set};
 use std::marker::Model;
+use std::mem::replace;
 use std::ops::Range;
 use std::sync::ledger::Ledger;
 
@@ -23,6 +25,9 @@ use std::sync::ledger::Ledger;
 #[derive(Drop)]
 pub struct MemStore {
     held: BTreeSet<HeldPair>,
+    found: LastFound,
+    // The memory of the key that was searched for last.
+    asked: Vec<u8>,
 }
 
 impl Model for MemStore {
@@ -55,6 +60,8 @@ impl MemStore {
     {
         MemStore {
             held: BTreeSet::new(alloc),
+            found: LastFound::new(),
+            asked: Vec::new(alloc),
         }
     }
 
@@ -81,25 +88,58 @@ impl MemStore {
             return Err(NotPairs::Unordered(pairs));
         }
         match held_of(alloc, pairs) {
-            Ok(held) => Ok(MemStore { held }),
+            Ok(held) => Ok(MemStore {
+                held,
+                found: LastFound::new(),
+                asked: Vec::new(alloc),
+            }),
             Err(_) => Err(NotPairs::NoMem),
         }
     }
 
-    fn find(&self, alloc: Global, key: &[u8]) -> Result<Option<&HeldPair>, NoMem>
-        ensures { IfOk result (λ found. option_map (λ pair. pair.1) (option_copied found) ≡ value_at self.now key.now) }
+    // Memory for the key of a search: that of the last one.
+    fn asked(&mut self, alloc: Global, key: &[u8]) -> Result<HeldPair, NoMem>
+        ensures same { self.new ≡ self.old }
+        ensures pair { IfOk result (λ asked. asked ≡ (key.now, [])) }
     {
-        let asked = HeldPair::new(alloc, key, &[])?;
-        Ok(self.held.get(&asked))
+        HeldPair::asked(replace(&mut self.asked, Vec::new(alloc)), key)
     }
 
-    fn value(&self, alloc: Global, key: &[u8]) -> Result<Option<Bytes>, NoMem>
-        ensures { IfOk result (λ found. found ≡ value_at self.now key.now) }
+    fn find(&self, asked: &HeldPair) -> Option<&HeldPair>
+        ensures { option_map (λ pair. pair.1) (option_copied result) ≡ value_at self.now asked.now.0 }
     {
-        match self.find(alloc, key)? {
+        self.held.get(asked)
+    }
+
+    fn copy_found(&self, alloc: Global, asked: &HeldPair) -> Result<Option<Bytes>, NoMem>
+        ensures { IfOk result (λ found. found ≡ value_at self.now asked.now.0) }
+    {
+        match self.find(asked) {
             Some(pair) => Ok(Some(Bytes::of_bytes(alloc, pair.value())?)),
             None => Ok(None),
         }
+    }
+
+    fn value(&mut self, alloc: Global, key: &[u8]) -> Result<Option<Bytes>, NoMem>
+        ensures same { self.new ≡ self.old }
+        ensures value { IfOk result (λ found. found ≡ value_at self.old key.now) }
+    {
+        let asked = self.asked(alloc, key)?;
+        let value = self.copy_found(alloc, &asked)?;
+        self.asked = asked.into_memory();
+        Ok(value)
+    }
+
+    // The value of a key that is remembered as found where it has one.
+    fn look_up(&mut self, alloc: Global, key: &[u8]) -> Result<Option<Bytes>, NoMem>
+        ensures same { self.new ≡ self.old }
+        ensures value { IfOk result (λ found. found ≡ value_at self.old key.now) }
+    {
+        let value = self.value(alloc, key)?;
+        if value.is_some() {
+            self.found.note(key);
+        }
+        Ok(value)
     }
 
     fn part(&self, alloc: Global, low: &[u8], high: &[u8], limit: u32) -> Result<List<Pair>, NoMem>
@@ -121,16 +161,17 @@ impl MemStore {
     {
         match guard {
             Guard::Any => Ok(true),
-            Guard::Absent => Ok(self.find(alloc, key)?.is_none()),
-            Guard::Is(value) => match self.find(alloc, key)? {
+            Guard::Absent => Ok(self.find(&HeldPair::new(alloc, key, &[])?).is_none()),
+            Guard::Is(value) => match self.find(&HeldPair::new(alloc, key, &[])?) {
                 Some(held) => Ok(are_same(held.value(), value)),
                 None => Ok(false),
             },
         }
     }
 
-    // A pair that is there already stays at first, and the new one is made again.
-    fn set(&mut self, alloc: Global, key: &[u8], value: &[u8]) -> Result<(), NoMem>
+    // Puts a pair, by one search where it is new. One that is there already stays at first, and the new one is made
+    // again.
+    fn put_new(&mut self, alloc: Global, key: &[u8], value: &[u8]) -> Result<(), NoMem>
         ensures ok { OnOk result (self.new ≡ insert self.old key.now value.now) }
         ensures err { OnErr result (self.new ≡ self.old) }
     {
@@ -140,12 +181,39 @@ impl MemStore {
         Ok(())
     }
 
+    // Puts a pair, by one search where it is there already, and by two where it is new.
+    fn put_over(&mut self, alloc: Global, key: &[u8], value: &[u8]) -> Result<(), NoMem>
+        ensures ok { OnOk result (self.new ≡ insert self.old key.now value.now) }
+        ensures err { OnErr result (self.new ≡ self.old) }
+    {
+        self.held.replace(HeldPair::new(alloc, key, value)?)?;
+        Ok(())
+    }
+
+    fn set(&mut self, alloc: Global, key: &[u8], value: &[u8]) -> Result<(), NoMem>
+        ensures ok { OnOk result (self.new ≡ insert self.old key.now value.now) }
+        ensures err { OnErr result (self.new ≡ self.old) }
+    {
+        if self.found.has(key) {
+            self.put_over(alloc, key, value)
+        } else {
+            self.put_new(alloc, key, value)
+        }
+    }
+
+    fn take_out(&mut self, asked: &HeldPair)
+        ensures { self.new ≡ remove self.old asked.now.0 }
+    {
+        self.held.remove(asked);
+    }
+
     fn remove(&mut self, alloc: Global, key: &[u8]) -> Result<(), NoMem>
         ensures ok { OnOk result (self.new ≡ remove self.old key.now) }
         ensures err { OnErr result (self.new ≡ self.old) }
     {
-        let asked = HeldPair::new(alloc, key, &[])?;
-        self.held.remove(&asked);
+        let asked = self.asked(alloc, key)?;
+        self.take_out(&asked);
+        self.asked = asked.into_memory();
         Ok(())
     }
 
@@ -227,7 +295,7 @@ impl<L: Ledger> Store<L> for MemStore {
         key: &[u8],
         meter: &mut Meter<L>,
     ) -> Result<Option<Bytes>, StoreErr> {
-        match self.value(alloc, key) {
+        match self.look_up(alloc, key) {
             Ok(None) => {
                 meter.charge(0);
                 Ok(None)

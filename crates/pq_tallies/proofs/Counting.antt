@@ -11,10 +11,9 @@ use Rattle.pq_content.specs.Tables.{Rows, Keeps}
 use Rattle.pq_index_keep.specs.Effects.{effect, changes_of}
 use Rattle.pq_index_keep.specs.Sound.{IsWrite}
 use Rattle.pq_index_keep.specs.declared.write.Write.{Write}
-use Rattle.pq_tallies.specs.declared.moves.GroupMove.{GroupMove}
 use Rattle.pq_tallies.specs.Counters.{counter_pairs, all_pairs, AreFewRows, AreBesideCounters}
 use Rattle.pq_tallies.specs.Defined.{NumberedCounter, counters_in}
-use Rattle.pq_tallies.specs.Moves.{move_in, left_changes, joined_changes, move_changes, first_full}
+use Rattle.pq_tallies.specs.Moves.{GroupMove, move_in, left_changes, joined_changes, move_changes, first_full}
 use Rattle.pq_tallies.specs.Writes.{written_table, old_row, new_row, counter_changes, counter_full, full_refusal}
 use Rattle.pq_tallies.proofs.Defined.{schema_counters}
 use Rattle.pq_tallies.proofs.Effects.{effect_written, pairs_changed, changed-append, stay_few}

@@ -15,10 +15,9 @@ use Rattle.pq_content.proofs.Lengths.{values_within, length-code_of}
 use Rattle.pq_content.proofs.Values.{same_values_decides}
 use Rattle.pq_index_keep.specs.Sound.{IsWritable}
 use Rattle.pq_index_keep.proofs.Coding.{whole_short}
-use Rattle.pq_tallies.specs.declared.moves.GroupMove.{GroupMove}
 use Rattle.pq_tallies.specs.Counters.{counter_key}
 use Rattle.pq_tallies.specs.Defined.{NumberedCounter}
-use Rattle.pq_tallies.specs.Moves.{no_move, group_in, moved, move_in}
+use Rattle.pq_tallies.specs.Moves.{GroupMove, no_move, group_in, group_key, moved, moved_keys, move_in}
 use Rattle.pq_tallies.proofs.Written.{turn}
 
 -- what holds of no group, and of the groups of the two rows, holds of both groups of a move
@@ -60,9 +59,9 @@ stays_still t old new c same =
     ]
 
 -- where they don't, the move is from the group of the one row into that of the other
-pub turns_from : (c : NumberedCounter) (old new : List Value) (left joined : Option (List Value)) → same_values (cells c.cols old) (cells c.cols new) ≡ false → left ≡ group_in c old → joined ≡ group_in c new → record { from = left; to = joined } ≡ moved c (Some old) (Some new)
+pub turns_from : (c : NumberedCounter) (old new : List Value) (left joined : Option (List ℕ)) → same_values (cells c.cols old) (cells c.cols new) ≡ false → left ≡ group_key c.number (group_in c old) → joined ≡ group_key c.number (group_in c new) → record { from = left; to = joined } ≡ moved_keys c.number (moved c (Some old) (Some new))
 turns_from c old new left joined other goes comes =
-    (λ i. record { from = goes i; to = comes i }) ∙ sym (ap (λ b. turn b c old new) other)
+    (λ i. record { from = goes i; to = comes i }) ∙ sym (ap (λ b. moved_keys c.number (turn b c old new)) other)
 
 -- ---- lengths of keys
 

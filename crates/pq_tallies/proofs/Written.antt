@@ -23,10 +23,9 @@ use Rattle.pq_content.proofs.Keys.{apart_by}
 use Rattle.pq_content.proofs.Others.{get_other}
 use Rattle.pq_content.proofs.Values.{fit_at, same_from_test}
 use Rattle.pq_store.specs.Content.{key_cmp}
-use Rattle.pq_tallies.specs.declared.moves.GroupMove.{GroupMove}
 use Rattle.pq_tallies.specs.Counters.{tally, counted_rows, counter_key, count_code, counter_pair, group_pairs, counter_pairs, all_pairs, AreBesideCounters}
 use Rattle.pq_tallies.specs.Defined.{NumberedCounter, group_types}
-use Rattle.pq_tallies.specs.Moves.{no_move, group_in, moved, move_in, move_changes, moves_changes}
+use Rattle.pq_tallies.specs.Moves.{GroupMove, no_move, group_in, moved, move_in, move_changes, moves_changes}
 use Rattle.pq_tallies.proofs.Keys.{of_counter, its_own, of_none_behind}
 use Rattle.pq_tallies.proofs.GroupPairs.{pairs_by, count_in, all_left, filters_swap, counted, inserted, removed, stayed, changed}
 

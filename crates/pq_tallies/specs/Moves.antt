@@ -1,5 +1,5 @@
 -- What a write makes of the groups of counters: which group a row leaves and into which one it comes.
-use Rattle.std.specs.Prelude.{ℕ, ◌+◌, ◌-◌, Bool, false, nat_le, ◌==◌, if◌then◌else◌, List, [], ◌∷◌, ◌++◌, flat_map, Option, Some, None}
+use Rattle.std.specs.Prelude.{ℕ, ◌+◌, ◌-◌, Bool, false, nat_le, ◌==◌, if◌then◌else◌, List, [], ◌∷◌, ◌++◌, flat_map, Option, Some, None, option_map}
 use Rattle.std.specs.List as lists
 use Rattle.pq_base.specs.declared.value.Value.{Value}
 use Rattle.pq_base.specs.Values.{has_null}
@@ -7,9 +7,14 @@ use Rattle.pq_content.specs.Pairs.{Change}
 use Rattle.pq_content.specs.Tables.{Rows, cells, same_values}
 use Rattle.pq_tallies.specs.Counters.{most_count, tally, counter_key, stored_count}
 use Rattle.pq_tallies.specs.Defined.{NumberedCounter}
-use Rattle.pq_tallies.specs.declared.moves.GroupMove.{GroupMove}
+use Rattle.pq_tallies.specs.declared.moves.MovedKeys.{MovedKeys}
 
 -- ---- groups
+
+-- the values of the group that a row leaves, and of the one that a row comes into
+pub record GroupMove : Type 0 where
+  pub from : Option (List Value)
+  pub to : Option (List Value)
 
 abbrev pub no_move : GroupMove
 no_move = record { from = None; to = None }
@@ -30,6 +35,13 @@ moved counter None None = no_move
 -- only counters of the written table
 abbrev pub move_in : ℕ → Option (List Value) → Option (List Value) → NumberedCounter → GroupMove
 move_in t old new counter = if t == counter.table then moved counter old new else no_move
+
+-- the key of a group, and those of a move
+abbrev pub group_key : ℕ → Option (List Value) → Option (List ℕ)
+group_key number group = option_map (counter_key number) group
+
+abbrev pub moved_keys : ℕ → GroupMove → MovedKeys
+moved_keys number move = record { from = group_key number move.from; to = group_key number move.to }
 
 -- ---- the changes of pairs
 

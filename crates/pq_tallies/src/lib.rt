@@ -8,4 +8,4 @@ mod moves;
 
 pub use codes::{MOST_COUNT, count_of, counter_key, next_count, stored_count};
 pub use laws::{counter_laws, schema_laws, tally_laws};
-pub use moves::{GroupMove, move_in};
+pub use moves::{MovedKeys, move_in};

@@ -13,19 +13,19 @@ returns-in-Err-clause-undamaged g c = λ rows others s.
     let schema = c.args.catalog.now in
     c.in-Err.ensures.undamaged rows (counter_pairs (counters_in schema) rows ++ others) (holds_rows (g.S.Store.content c.args.store.now) schema rows others s)
 
-pub returns-in-Ok-Refused-clause-answer : goal.returns-in-Ok-Refused-clause-answer
-returns-in-Ok-Refused-clause-answer g c = λ rows others s.
+pub returns-in-Refused-clause-answer : goal.returns-in-Refused-clause-answer
+returns-in-Refused-clause-answer g c = λ rows others s.
     let schema = c.args.catalog.now in
     let w = c.args.write.now in
     let beside : List Pair = counter_pairs (counters_in schema) rows ++ others in
-    effect_refused schema rows others w c.in-Ok-Refused.why
-    (subst (Plans schema.tables rows beside w) c.in-Ok-Refused.field-0-is (c.in-Ok-Refused.ensures.answer rows beside (holds_rows (g.S.Store.content c.args.store.now) schema rows others s)))
+    effect_refused schema rows others w c.in-Refused.why
+    (subst (Plans schema.tables rows beside w) c.in-Refused.is (c.in-Ok.ensures.answer rows beside (holds_rows (g.S.Store.content c.args.store.now) schema rows others s)))
 
-pub returns-in-Ok-clause-answer : goal.returns-in-Ok-clause-answer
-returns-in-Ok-clause-answer g c = λ rows others s.
+pub returns-clause-answer : goal.returns-clause-answer
+returns-clause-answer g c = λ rows others s.
     let schema = c.args.catalog.now in
     let w = c.args.write.now in
     let beside : List Pair = counter_pairs (counters_in schema) rows ++ others in
-    let has : HasMade schema.tables rows beside w c.in-Ok-Changes.changes = has_made schema.tables rows beside w c.in-Ok-Changes.changes
-    (subst (Plans schema.tables rows beside w) c.in-Ok-Changes.field-0-is (c.in-Ok-Changes.ensures.answer rows beside (holds_rows (g.S.Store.content c.args.store.now) schema rows others s))) in
-    c.in-Ok.ensures.answer rows has.made others (counted_later _ _ _ _ schema rows others c.plan_write.ensures.reads s) has.is has.makes
+    let has : HasMade schema.tables rows beside w c.in-Changes.changes = has_made schema.tables rows beside w c.in-Changes.changes
+    (subst (Plans schema.tables rows beside w) c.in-Changes.is (c.in-Ok.ensures.answer rows beside (holds_rows (g.S.Store.content c.args.store.now) schema rows others s))) in
+    c.in-Ok-plan_more.ensures.answer rows has.made others (counted_later _ _ _ _ schema rows others c.plan_with_rows.ensures.reads s) has.is has.makes

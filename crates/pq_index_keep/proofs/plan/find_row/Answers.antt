@@ -14,3 +14,6 @@ returns-in-Err-clause-cause g c =
 pub returns-in-Ok-clause-answer : goal.returns-in-Ok-clause-answer
 returns-in-Ok-clause-answer g c = λ rows others s.
     told_row c.args.catalog.now.tables rows others _ c.args.number c.args.key.now s c.requires.sound c.requires.number c.requires.kinds (option_map (λ (stored : StoredRow). stored.row) c.in-Ok.found) (rw c.table_of.ensures.table at c.in-Ok.ensures.read)
+
+pub returns-in-Ok-clause-read : goal.returns-in-Ok-clause-read
+returns-in-Ok-clause-read g c = rw c.table_of.ensures.table at c.in-Ok.ensures.read

@@ -19,23 +19,23 @@ child_refusal-requires-clause-may g c =
 pub returns-in-Some-clause-answer : goal.returns-in-Some-clause-answer
 returns-in-Some-clause-answer g c = λ rows others s found.
     let answer = rw c.tables-tables.ensures.tables at c.in_ok-refusal.ensures.answer in
-    delete_refused c.args.catalog.now.tables rows others c.args.number c.args.key.now c.args.found.row c.in-Some.refusal found (sym c.in-Some.is ∙ answer rows others s)
+    delete_refused c.args.catalog.now.tables rows others c.args.number c.args.key.now c.args.row.now c.in-Some.refusal found (sym c.in-Some.is ∙ answer rows others s)
 
 pub returns-in_ok-changes-in-None-clause-plan : goal.returns-in_ok-changes-in-None-clause-plan
 returns-in_ok-changes-in-None-clause-plan g c =
     let tables = c.args.catalog.now.tables in
-    delete_planned tables (table_at tables c.args.number) (writable_at tables c.args.number c.requires.sound c.requires.delete.number) c.args.number c.args.found.row c.requires.fits c.args.key.now c.args.found.at c.requires.delete.fits c.requires.at c.in_ok-changes-in-None.changes
+    delete_planned tables (table_at tables c.args.number) (writable_at tables c.args.number c.requires.sound c.requires.delete.number) c.args.number c.args.row.now c.requires.fits c.args.key.now c.args.at c.requires.delete.fits c.requires.at c.in_ok-changes-in-None.changes
     (rw (← c.table_of-table.ensures.table) c.in_ok-changes-in-None.ensures)
 
 pub returns-in_ok-changes-in-None-clause-answer : goal.returns-in_ok-changes-in-None-clause-answer
 returns-in_ok-changes-in-None-clause-answer g c = λ rows others s found.
     let answer = rw c.tables-tables.ensures.tables at c.in_ok-refusal.ensures.answer in
-    delete_made c.args.catalog.now.tables rows others c.args.number c.args.key.now _ c.args.found.row c.in_ok-changes-in-None.changes s found (sym c.in-None.is ∙ answer rows others s) c.args.found.at c.requires.at
+    delete_made c.args.catalog.now.tables rows others c.args.number c.args.key.now _ c.args.row.now c.in_ok-changes-in-None.changes s found (sym c.in-None.is ∙ answer rows others s) c.args.at c.requires.at
     (rw (← c.table_of-table.ensures.table) c.in_ok-changes-in-None.ensures)
 
 pub returns-in_ok-changes-in-None-clause-own : goal.returns-in_ok-changes-in-None-clause-own
 returns-in_ok-changes-in-None-clause-own g c =
-    own_removal c.args.number c.args.key.now c.args.found.at _ _ c.requires.at c.in_ok-changes-in-None.ensures
+    own_removal c.args.number c.args.key.now c.args.at _ _ c.requires.at c.in_ok-changes-in-None.ensures
 
 pub returns-in-Some-clause-can : goal.returns-in-Some-clause-can
 returns-in-Some-clause-can g c =

@@ -7,7 +7,7 @@ use Rattle.pq_index_keep.specs.Tested.{with_sets, scope_of}
 use Rattle.pq_index_keep.proofs.Changing.{own_change}
 use Rattle.pq_index_keep.proofs.Coding.{fit_texts, fit_columns, update_planned}
 use Rattle.pq_index_keep.proofs.Inserting.{writable_at, is_tested}
-use Rattle.pq_index_keep.proofs.Updating.{fit_sets, sets_inside, sets_small, as_update, kept_sequence, update_refused, update_made}
+use Rattle.pq_index_keep.proofs.Updating.{fit_sets, sets_small, as_update, kept_sequence, update_refused, update_made}
 use Rattle.std.specs.Prelude.{IfSome}
 use Rattle.pq_schema.specs.declared.table.Table.{Table}
 use Rattle.pq_index_keep.specs.Refusals.{IsUpdateRefusal}
@@ -21,68 +21,63 @@ scope_of-scope-requires g c =
     let w : IsWritable tables (table_at tables c.args.number) = writable_at tables c.args.number c.requires.sound c.requires.update.number in
     sets_small (table_at tables c.args.number) c.args.sets.now w.made.few_columns c.requires.update.each
 
-pub new_row-requires : goal.new_row-requires
-new_row-requires g c =
-    let tables = c.args.catalog.now.tables in
-    sets_inside (table_at tables c.args.number) c.args.sets.now c.args.found.row c.requires.update.each c.requires.fits
-
 pub update_refusal-requires-clause-long : goal.update_refusal-requires-clause-long
 update_refusal-requires-clause-long g c =
     let tables = c.args.catalog.now.tables in
     let table = table_at tables c.args.number in
-    rw c.in_ok-new.ensures (fit_columns tables table (writable_at tables c.args.number c.requires.sound c.requires.update.number) (with_sets c.args.sets.now c.args.found.row) (fit_sets table c.args.sets.now c.args.found.row c.requires.update.each c.requires.fits))
+    rw c.requires.new (fit_columns tables table (writable_at tables c.args.number c.requires.sound c.requires.update.number) (with_sets c.args.sets.now c.args.row.now) (fit_sets table c.args.sets.now c.args.row.now c.requires.update.each c.requires.fits))
 
 pub update_refusal-requires-clause-texts : goal.update_refusal-requires-clause-texts
 update_refusal-requires-clause-texts g c =
     let tables = c.args.catalog.now.tables in
     let table = table_at tables c.args.number in
-    rw c.in_ok-new.ensures (fit_texts tables table (writable_at tables c.args.number c.requires.sound c.requires.update.number) (with_sets c.args.sets.now c.args.found.row) (fit_sets table c.args.sets.now c.args.found.row c.requires.update.each c.requires.fits))
+    rw c.requires.new (fit_texts tables table (writable_at tables c.args.number c.requires.sound c.requires.update.number) (with_sets c.args.sets.now c.args.row.now) (fit_sets table c.args.sets.now c.args.row.now c.requires.update.each c.requires.fits))
 
 pub updates-requires-clause-columns : goal.updates-requires-clause-columns
 updates-requires-clause-columns g c =
     let tables = c.args.catalog.now.tables in
     let table = table_at tables c.args.number in
-    rw c.in_ok-new.ensures (fit_columns tables table (writable_at tables c.args.number c.requires.sound c.requires.update.number) (with_sets c.args.sets.now c.args.found.row) (fit_sets table c.args.sets.now c.args.found.row c.requires.update.each c.requires.fits))
+    rw c.requires.new (fit_columns tables table (writable_at tables c.args.number c.requires.sound c.requires.update.number) (with_sets c.args.sets.now c.args.row.now) (fit_sets table c.args.sets.now c.args.row.now c.requires.update.each c.requires.fits))
 
 pub updates-requires-clause-texts : goal.updates-requires-clause-texts
 updates-requires-clause-texts g c =
     let tables = c.args.catalog.now.tables in
     let table = table_at tables c.args.number in
-    rw c.in_ok-new.ensures (fit_texts tables table (writable_at tables c.args.number c.requires.sound c.requires.update.number) (with_sets c.args.sets.now c.args.found.row) (fit_sets table c.args.sets.now c.args.found.row c.requires.update.each c.requires.fits))
+    rw c.requires.new (fit_texts tables table (writable_at tables c.args.number c.requires.sound c.requires.update.number) (with_sets c.args.sets.now c.args.row.now) (fit_sets table c.args.sets.now c.args.row.now c.requires.update.each c.requires.fits))
 
 pub returns-in-Some-clause-answer : goal.returns-in-Some-clause-answer
 returns-in-Some-clause-answer g c = λ rows others s found.
     let tables = c.args.catalog.now.tables in
     let table = table_at tables c.args.number in
-    let fits = fit_sets table c.args.sets.now c.args.found.row c.requires.update.each c.requires.fits in
-    let tested : IsTested tables c.table_of-table.result.now c.in_ok-new.new = rw (c.table_of-table.ensures.table, c.in_ok-new.ensures) (is_tested tables c.args.number (with_sets c.args.sets.now c.args.found.row) c.requires.sound c.requires.update.number fits) in
-    update_refused tables rows others c.args.number c.args.key.now c.args.sets.now c.args.found.row c.in-Some.refusal found
-    (sym c.in-Some.is ∙ as_update tables rows c.args.number c.args.sets.now c.args.found.row _ (Some c.in_ok-copy.copy) c.table_of-table.result.now c.in_ok-new.new _ c.table_of-table.ensures.table c.in_ok-new.ensures c.scope_of-scope.ensures (ap (λ (v : List Value). Some v) c.in_ok-copy.ensures)
+    let fits = fit_sets table c.args.sets.now c.args.row.now c.requires.update.each c.requires.fits in
+    let tested : IsTested tables c.table_of-table.result.now c.args.new.now = rw (c.table_of-table.ensures.table, c.requires.new) (is_tested tables c.args.number (with_sets c.args.sets.now c.args.row.now) c.requires.sound c.requires.update.number fits) in
+    update_refused tables rows others c.args.number c.args.key.now c.args.sets.now c.args.row.now c.in-Some.refusal found
+    (sym c.in-Some.is ∙ as_update tables rows c.args.number c.args.sets.now c.args.row.now _ (Some c.in_ok-copy.copy) c.table_of-table.result.now c.args.new.now _ c.table_of-table.ensures.table c.requires.new c.scope_of-scope.ensures (ap (λ (v : List Value). Some v) c.in_ok-copy.ensures)
     (c.in_ok-refusal.ensures.answer tables rows others s c.table_of-table.ensures.table tested))
 
 pub returns-in_ok-changes-in-None-clause-plan : goal.returns-in_ok-changes-in-None-clause-plan
 returns-in_ok-changes-in-None-clause-plan g c =
     let tables = c.args.catalog.now.tables in
     let table = table_at tables c.args.number in
-    let fits = fit_sets table c.args.sets.now c.args.found.row c.requires.update.each c.requires.fits in
-    update_planned tables table (writable_at tables c.args.number c.requires.sound c.requires.update.number) c.args.number c.args.found.row c.requires.fits (with_sets c.args.sets.now c.args.found.row) fits (scope_of c.args.sets.now) (kept_sequence table c.args.sets.now c.args.found.row) c.args.key.now c.args.found.at c.requires.update.fits c.requires.at c.in_ok-changes-in-None.changes
-    (rw (← c.table_of-table.ensures.table, ← c.in_ok-new.ensures) c.in_ok-changes-in-None.ensures)
+    let fits = fit_sets table c.args.sets.now c.args.row.now c.requires.update.each c.requires.fits in
+    update_planned tables table (writable_at tables c.args.number c.requires.sound c.requires.update.number) c.args.number c.args.row.now c.requires.fits (with_sets c.args.sets.now c.args.row.now) fits (scope_of c.args.sets.now) (kept_sequence table c.args.sets.now c.args.row.now) c.args.key.now c.args.at c.requires.update.fits c.requires.at c.in_ok-changes-in-None.changes
+    (rw (← c.table_of-table.ensures.table, ← c.requires.new) c.in_ok-changes-in-None.ensures)
 
 pub returns-in_ok-changes-in-None-clause-answer : goal.returns-in_ok-changes-in-None-clause-answer
 returns-in_ok-changes-in-None-clause-answer g c = λ rows others s found.
     let tables = c.args.catalog.now.tables in
     let table = table_at tables c.args.number in
-    let fits = fit_sets table c.args.sets.now c.args.found.row c.requires.update.each c.requires.fits in
-    let tested : IsTested tables c.table_of-table.result.now c.in_ok-new.new = rw (c.table_of-table.ensures.table, c.in_ok-new.ensures) (is_tested tables c.args.number (with_sets c.args.sets.now c.args.found.row) c.requires.sound c.requires.update.number fits) in
-    update_made tables rows others c.args.number c.args.key.now c.args.sets.now _ c.args.found.row c.in_ok-changes-in-None.changes s c.requires.update found
-    (sym c.in-None.is ∙ as_update tables rows c.args.number c.args.sets.now c.args.found.row _ (Some c.in_ok-copy.copy) c.table_of-table.result.now c.in_ok-new.new _ c.table_of-table.ensures.table c.in_ok-new.ensures c.scope_of-scope.ensures (ap (λ (v : List Value). Some v) c.in_ok-copy.ensures)
+    let fits = fit_sets table c.args.sets.now c.args.row.now c.requires.update.each c.requires.fits in
+    let tested : IsTested tables c.table_of-table.result.now c.args.new.now = rw (c.table_of-table.ensures.table, c.requires.new) (is_tested tables c.args.number (with_sets c.args.sets.now c.args.row.now) c.requires.sound c.requires.update.number fits) in
+    update_made tables rows others c.args.number c.args.key.now c.args.sets.now _ c.args.row.now c.in_ok-changes-in-None.changes s c.requires.update found
+    (sym c.in-None.is ∙ as_update tables rows c.args.number c.args.sets.now c.args.row.now _ (Some c.in_ok-copy.copy) c.table_of-table.result.now c.args.new.now _ c.table_of-table.ensures.table c.requires.new c.scope_of-scope.ensures (ap (λ (v : List Value). Some v) c.in_ok-copy.ensures)
     (c.in_ok-refusal.ensures.answer tables rows others s c.table_of-table.ensures.table tested))
-    c.args.found.at c.requires.at
-    (rw (← c.table_of-table.ensures.table, ← c.in_ok-new.ensures) c.in_ok-changes-in-None.ensures)
+    c.args.at c.requires.at
+    (rw (← c.table_of-table.ensures.table, ← c.requires.new) c.in_ok-changes-in-None.ensures)
 
 pub returns-in_ok-changes-in-None-clause-own : goal.returns-in_ok-changes-in-None-clause-own
 returns-in_ok-changes-in-None-clause-own g c =
-    own_change c.args.number c.args.key.now c.args.found.at _ _ _ c.requires.at c.in_ok-changes-in-None.ensures
+    own_change c.args.number c.args.key.now c.args.at _ _ _ c.requires.at c.in_ok-changes-in-None.ensures
 
 pub returns-in-Some-clause-can : goal.returns-in-Some-clause-can
 returns-in-Some-clause-can g c =

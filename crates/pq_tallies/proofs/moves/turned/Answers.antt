@@ -7,4 +7,4 @@ use Rattle.pq_tallies.proofs.moves.turned.Goals as goal
 pub returns : goal.returns
 returns c =
     let other : same_values (cells c.args.counter.now.cols c.args.old.now) (cells c.args.counter.now.cols c.args.new.now) ≡ false = cc in
-    λ number. turns_from (with_number number c.args.counter.now) c.args.old.now c.args.new.now c.in_ok-group_in.field-0 c.in_ok-group_in-2.field-0 other (c.in_ok-group_in.ensures number) (c.in_ok-group_in-2.ensures number)
+    turns_from (with_number c.args.number c.args.counter.now) c.args.old.now c.args.new.now c.in_ok-key_in.field-0 c.in_ok-key_in-2.field-0 other c.in_ok-key_in.ensures c.in_ok-key_in-2.ensures

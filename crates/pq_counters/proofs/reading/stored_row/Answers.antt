@@ -1,6 +1,6 @@
 use Rattle.pq_calls.specs.Calls.{seen_world}
 use Rattle.pq_calls.proofs.Shown.{no_row_explains}
-use Rattle.pq_counters.proofs.plan.stored_row.Goals as goal
+use Rattle.pq_counters.proofs.reading.stored_row.Goals as goal
 
 pub returns-in-Err-clause-cause : goal.returns-in-Err-clause-cause
 returns-in-Err-clause-cause g c =

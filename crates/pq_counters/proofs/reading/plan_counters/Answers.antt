@@ -10,14 +10,14 @@ use Rattle.pq_calls.proofs.Steps.{explained_undamaged}
 use Rattle.pq_tallies.specs.Counters.{HoldsCounted}
 use Rattle.pq_counters.specs.Evidence.{ShowsCounted}
 use Rattle.pq_counters.proofs.Showing.{none_told}
-use Rattle.pq_counters.proofs.plan.plan_counters.Goals as goal
+use Rattle.pq_counters.proofs.reading.plan_counters.Goals as goal
 
 pub returns-clause-undamaged : goal.returns-clause-undamaged
 returns-clause-undamaged g c =
     let schema = c.args.catalog.now in
     let before = world (g.S.Store.content c.args.store.now) (g.S.Store.faults c.args.store.now) c.args.allowance.now c.args.meter.now in
-    let after = seen_world g.S.Store.content g.S.Store.faults c.plan_any.new.calls in
-    IfErr-weaker c.plan_any.result (Explains (where_told (ShowsCounted schema)) before after)
+    let after = seen_world g.S.Store.content g.S.Store.faults c.plan_reading.new.calls in
+    IfErr-weaker c.plan_reading.result (Explains (where_told (ShowsCounted schema)) before after)
     (λ (error : Broke). (rows : Rows) (others : List Pair) → HoldsCounted (g.S.Store.content c.args.store.now) schema rows others → IsUndamaged error)
     (λ error why rows others s. explained_undamaged (where_told (ShowsCounted schema)) before after error (none_told (g.S.Store.content c.args.store.now) schema rows others s c.known.ensures) why)
-    c.plan_any.ensures.cause
+    c.plan_reading.ensures.cause

@@ -2,7 +2,7 @@ use Rattle.pq_calls.specs.Calls.{seen_world}
 use Rattle.pq_calls.specs.World.{world}
 use Rattle.pq_index_keep.proofs.Deleting.{told_undamaged}
 use Rattle.pq_index_keep.proofs.Narrow.{valid_writable}
-use Rattle.pq_index_keep.proofs.writes.plan_write.Goals as goal
+use Rattle.pq_index_keep.proofs.writes.plan_with_rows.Goals as goal
 
 pub plan_by-requires-clause-sound : goal.plan_by-requires-clause-sound
 plan_by-requires-clause-sound g c = valid_writable c.known.ensures

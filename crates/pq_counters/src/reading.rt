@@ -1,0 +1,193 @@
+//! The changes of counters' pairs that belong to a write whose rows are not at hand.
+ghost use Rattle.std.specs.Prelude.{◌≡◌, ◌+◌, List, Ok, option_map, IfOk, IfErr, IfSome};
+ghost use Rattle.std.specs.FinMap.{get as value_at};
+ghost use Rattle.pq_base.specs.Values.{AllFit};
+ghost use Rattle.pq_key_code.specs.KeyCode.{row_key};
+ghost use Rattle.pq_schema.specs.Tables.{table_at};
+ghost use Rattle.pq_schema.specs.Valid.{IsValid};
+ghost use Rattle.pq_content.specs.Pairs.{Pair};
+ghost use Rattle.pq_content.specs.Tables.{Rows, AllOfKinds, IsTableNumber, key_types, types_of, shape_of};
+ghost use Rattle.pq_store.specs.Breaks.{IsUndamaged, IsAnswered};
+ghost use Rattle.pq_calls.specs.Calls.{Uses, Fails};
+ghost use Rattle.pq_calls.specs.Evidence.{IsRead, IsNoRow};
+ghost use Rattle.pq_calls.specs.World.{world, Affords, Reads, Explains, where_told};
+ghost use Rattle.pq_index_keep.specs.Effects.{effect};
+ghost use Rattle.pq_index_keep.specs.Promises.{IsReadFor, FitsItsTable, IsNewFor};
+ghost use Rattle.pq_index_keep.specs.Sound.{IsWrite};
+ghost use Rattle.pq_tallies.specs.Counters.{HoldsCounted};
+ghost use Rattle.pq_tallies.specs.Defined.{counters_in};
+ghost use Rattle.pq_counters.specs.Bounds.{rereading, all_moves, counter_reads};
+ghost use Rattle.pq_counters.specs.Evidence.{ShowsCounted};
+ghost use Rattle.pq_counters.specs.Promises.{Counts, IsCountedWithin, RefusesAsFull};
+
+use crate::bound::all_moves;
+use crate::plan::plan_by;
+use pq_base::{List, Row};
+use pq_calls::{Calls, StoredRow};
+use pq_index_keep::{Planned, Write, with_sets};
+use pq_schema::Catalog;
+use pq_store::{Allowance, Broke, Meter, Store};
+use std::alloc::Global;
+use std::sync::ledger::Ledger;
+
+/// The row of the table with this key.
+fn stored_row<S: Store<L>, L: Ledger>(
+    alloc: Global,
+    catalog: &Catalog,
+    table: u8,
+    key: &Row,
+    calls: &mut Calls<S, L>,
+) -> Result<Option<StoredRow>, Broke>
+    requires number { IsTableNumber catalog.now.tables table }
+    requires kinds { AllOfKinds (key_types (table_at catalog.now.tables table)) key.now }
+    requires share { Affords calls.old.allowance.now 1 1 }
+    ensures uses { Uses S.content S.faults calls.old calls.new 1 1 }
+    ensures cause { IfErr result (Fails (where_told (IsNoRow catalog.now.tables)) S.content S.faults calls.old
+        calls.new) }
+    ensures answered { IfErr result (IsAnswered S.answers) }
+    ensures read { IfOk result (λ found. IfSome (S.content calls.old.store.now)
+        (λ c. IsRead (shape_of (table_at catalog.now.tables table)) (value_at c (row_key table key.now))
+        (option_map (λ stored. stored.row) found))) }
+    ensures fits { IfOk result (λ found. IfSome found
+        (λ stored. AllFit (types_of (table_at catalog.now.tables table)) stored.row)) }
+{
+    match calls.row(alloc, table, catalog.table(table), key) {
+        Err(error) => Err(error),
+        Ok(found) => Ok(found),
+    }
+}
+
+/// The old row of a write, and the row that an UPDATE puts in its place.
+#[derive(Drop)]
+struct ReadRows {
+    old: Option<Row>,
+    new: Option<Row>,
+}
+
+/// The rows of a write.
+fn read_rows<S: Store<L>, L: Ledger>(
+    alloc: Global,
+    catalog: &Catalog,
+    write: &Write,
+    calls: &mut Calls<S, L>,
+) -> Result<ReadRows, Broke>
+    requires write { IsWrite catalog.now.tables write.now }
+    requires share { Affords calls.old.allowance.now (rereading write.now) (rereading write.now) }
+    ensures uses { Uses S.content S.faults calls.old calls.new (rereading write.now) (rereading write.now) }
+    ensures cause { IfErr result (Fails (where_told (IsNoRow catalog.now.tables)) S.content S.faults calls.old
+        calls.new) }
+    ensures answered { IfErr result (IsAnswered S.answers) }
+    ensures read { IfOk result (λ rows. IfSome (S.content calls.old.store.now)
+        (λ c. IsReadFor catalog.now.tables write.now c rows.old)) }
+    ensures fits { IfOk result (λ rows. FitsItsTable catalog.now.tables write.now rows.old) }
+    ensures new { IfOk result (λ rows. IsNewFor write.now rows.old rows.new) }
+{
+    match write {
+        Write::Insert { .. } => Ok(ReadRows {
+            old: None,
+            new: None,
+        }),
+        Write::Update { table, key, sets } => {
+            match stored_row(alloc, catalog, *table, key, calls) {
+                Err(error) => Err(error),
+                Ok(None) => Ok(ReadRows {
+                    old: None,
+                    new: None,
+                }),
+                Ok(Some(found)) => {
+                    let new = with_sets(alloc, &found.row, sets.items())?;
+                    Ok(ReadRows {
+                        old: Some(found.row),
+                        new: Some(new),
+                    })
+                }
+            }
+        }
+        Write::Delete { table, key } => match stored_row(alloc, catalog, *table, key, calls) {
+            Err(error) => Err(error),
+            Ok(None) => Ok(ReadRows {
+                old: None,
+                new: None,
+            }),
+            Ok(Some(found)) => Ok(ReadRows {
+                old: Some(found.row),
+                new: None,
+            }),
+        },
+    }
+}
+
+/// The changes of any write, whose row is read again; nothing is read where none can move.
+fn plan_reading<S: Store<L>, L: Ledger>(
+    alloc: Global,
+    catalog: &Catalog,
+    write: &Write,
+    calls: &mut Calls<S, L>,
+) -> Result<Planned, Broke>
+    requires valid { IsValid catalog.now }
+    requires write { IsWrite catalog.now.tables write.now }
+    requires share { Affords calls.old.allowance.now (counter_reads (counters_in catalog.now) write.now)
+        (counter_reads (counters_in catalog.now) write.now) }
+    ensures uses { Uses S.content S.faults calls.old calls.new (counter_reads (counters_in catalog.now) write.now)
+        (counter_reads (counters_in catalog.now) write.now) }
+    ensures cause { IfErr result (Fails (where_told (ShowsCounted catalog.now)) S.content
+        S.faults calls.old calls.new) }
+    ensures answered { IfErr result (IsAnswered S.answers) }
+    ensures plan { IfOk result (IsCountedWithin (all_moves (counters_in catalog.now) write.now)) }
+    ensures can { IfOk result (RefusesAsFull catalog.now) }
+    ensures answer { IfOk result (λ planned. (rows made : Rows) (others : List Pair)
+        → HoldsCounted (S.content calls.old.store.now) catalog.now rows others
+        → effect catalog.now.tables rows write.now ≡ Ok made
+        → Counts catalog.now rows others write.now made planned) }
+{
+    if all_moves(catalog, write) == 0 {
+        return Ok(Planned::Changes(List::new(alloc)));
+    }
+    match read_rows(alloc, catalog, write, calls) {
+        Err(error) => Err(error),
+        Ok(rows) => match plan_by(alloc, catalog, write, &rows.old, &rows.new, calls) {
+            Err(error) => Err(error),
+            Ok(planned) => Ok(planned),
+        },
+    }
+}
+
+/// The changes that keep the counters' pairs with a write, for which `plan_write` answered changes, or the refusal of
+/// the first counter of which a group would have too many rows. It reads the old row again where it needs it, and
+/// changes nothing in the store.
+pub fn plan_counters<S: Store<L>, L: Ledger>(
+    alloc: Global,
+    catalog: &Catalog,
+    write: &Write,
+    store: &mut S,
+    allowance: &mut Allowance,
+    meter: &mut Meter<L>,
+) -> Result<Planned, Broke>
+    requires write { IsWrite catalog.now.tables write.now }
+    requires share { Affords allowance.old (counter_reads (counters_in catalog.now) write.now)
+        (counter_reads (counters_in catalog.now) write.now) }
+    ensures reads { Reads (world (S.content store.old) (S.faults store.old) allowance.old meter.old)
+        (world (S.content store.new) (S.faults store.new) allowance.new meter.new)
+        (counter_reads (counters_in catalog.now) write.now) (counter_reads (counters_in catalog.now) write.now) }
+    ensures cause { IfErr result (Explains (where_told (ShowsCounted catalog.now))
+        (world (S.content store.old) (S.faults store.old) allowance.old meter.old)
+        (world (S.content store.new) (S.faults store.new) allowance.new meter.new)) }
+    ensures answered { IfErr result (IsAnswered S.answers) }
+    ensures undamaged { IfErr result (λ error. (rows : Rows) (others : List Pair)
+        → HoldsCounted (S.content store.old) catalog.now rows others → IsUndamaged error) }
+    // At most as many changes as the counters add, each of a counter's key, whatever the store tells.
+    ensures plan { IfOk result (IsCountedWithin (all_moves (counters_in catalog.now) write.now)) }
+    ensures can { IfOk result (RefusesAsFull catalog.now) }
+    ensures answer { IfOk result (λ planned. (rows made : Rows) (others : List Pair)
+        → HoldsCounted (S.content store.old) catalog.now rows others
+        → effect catalog.now.tables rows write.now ≡ Ok made
+        → Counts catalog.now rows others write.now made planned) }
+{
+    catalog.known();
+    let mut calls = Calls {
+        store,
+        allowance,
+        meter,
+    };
+    plan_reading(alloc, catalog, write, &mut calls)
+}
