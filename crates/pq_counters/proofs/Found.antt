@@ -1,6 +1,6 @@
 -- The row that is read again.
-use Rattle.std.proofs.Common.{◌≡◌, ℕ, ◌++◌, List, Option, None, Ok, ap, ◌∙◌, subst}
-use Rattle.std.specs.Prelude.{IfSome, option_map}
+use Rattle.std.proofs.Common.{◌≡◌, ℕ, ◌++◌, List, Option, None, Ok, ap, ◌∙◌}
+use Rattle.std.specs.Prelude.{IfSome}
 use Rattle.std.specs.FinMap.{get}
 use Rattle.pq_base.specs.declared.value.Value.{Value}
 use Rattle.pq_key_code.specs.KeyCode.{row_key}
@@ -12,7 +12,6 @@ use Rattle.pq_content.specs.Pairs.{Pair}
 use Rattle.pq_content.specs.Tables.{Rows, AllOfKinds, IsTableNumber, key_types, shape_of, row_at}
 use Rattle.pq_store.specs.Content.{Content}
 use Rattle.pq_calls.specs.Evidence.{IsRead}
-use Rattle.pq_calls.specs.declared.rows.StoredRow.{StoredRow}
 use Rattle.pq_index_keep.specs.Effects.{effect, updated_rows, deleted_rows}
 use Rattle.pq_index_keep.specs.declared.write.SetCol.{SetCol}
 use Rattle.pq_index_keep.specs.declared.write.Write.TheVariants as write
@@ -26,10 +25,6 @@ use Rattle.pq_tallies.proofs.Told.{holds_rows}
 pub found_row : (told : Option Content) (schema : Schema) (rows : Rows) (others : List Pair) (t : ℕ) (key : List Value) → IsValid schema → IsTableNumber schema.tables t → AllOfKinds (key_types (table_at schema.tables t)) key → HoldsCounted told schema rows others
     → (found : Option (List Value)) → IfSome told (λ content. IsRead (shape_of (table_at schema.tables t)) (get content (row_key t key)) found) → found ≡ row_at schema.tables rows t key
 found_row told schema rows others t key valid number kinds s found read = told_row schema.tables rows (counter_pairs (counters_in schema) rows ++ others) told t key (holds_rows told schema rows others s) (valid_writable valid) number kinds found read
-
--- what was read, as the row alone
-pub row_read : (told : Option Content) (table : Table) (t : ℕ) (key : List Value) (found : Option StoredRow) (row : Option (List Value)) → option_map (λ stored. stored.row) found ≡ row → IfSome told (λ content. IsRead (shape_of table) (get content (row_key t key)) (option_map (λ stored. stored.row) found)) → IfSome told (λ content. IsRead (shape_of table) (get content (row_key t key)) row)
-row_read told table t key found row is read = subst (λ (o : Option (List Value)). IfSome told (λ content. IsRead (shape_of table) (get content (row_key t key)) o)) is read
 
 -- a write of a row that isn't there has no effect
 pub no_delete : (tables : List Table) (rows made : Rows) (t : ℕ) (key : List Value) → None ≡ row_at tables rows t key → effect tables rows (write.Delete t key) ≡ Ok made → ⊥

@@ -1,36 +1,34 @@
 -- The changes of rows and entries and behind them those of counters, as one list.
-use Rattle.std.proofs.Common.{◌≡◌, ℕ, ◌+◌, ◌-◌, ◌≤◌, ◌<◌, ◌^◌, ◌||◌, Bool, true, false, List, [], ◌∷◌, ◌++◌, length, map, Option, Some, None, Result, Ok, Err, inl, inr, refl, sym, ap, ◌∙◌, subst, arith, length-append}
-use Rattle.std.specs.Prelude.{All, MatchResult}
+use Rattle.std.proofs.Common.{◌≡◌, ◌+◌, ◌||◌, Bool, true, false, List, [], ◌∷◌, ◌++◌, length, map, Option, Some, None, Result, Ok, Err, inr, refl, sym, ap, ◌∙◌, subst, arith, length-append}
+use Rattle.std.specs.Prelude.{MatchResult}
 use Rattle.std.specs.List.{AllByRecursion}
 use Rattle.std.proofs.lemmas.List.{map-append}
 use Rattle.pq_base.proofs.Members.{each_append}
 use Rattle.pq_base.specs.declared.refusal.Refusal.{Refusal}
-use Rattle.pq_row_code.specs.Changes.{IsChange, AreChanges}
+use Rattle.pq_row_code.specs.Changes.{IsChange}
 use Rattle.pq_row_code.specs.declared.changes.Change.{Change as Coded}
 use Rattle.pq_schema.specs.Definitions.{or_ok}
 use Rattle.pq_schema.specs.Schema.{Schema}
 use Rattle.pq_schema.specs.Valid.{IsValid}
 use Rattle.pq_schema.specs.declared.table.Table.{Table}
 use Rattle.pq_content.specs.Pairs.{Pair, Change, changed_content, is_of_rows, is_of_counters}
-use Rattle.pq_content.specs.Standing.{change_of, AreIntended, may_intend, write_ops}
+use Rattle.pq_content.specs.Standing.{change_of, AreIntended, may_intend}
 use Rattle.pq_content.specs.Tables.{Rows}
-use Rattle.pq_store.specs.Counts.{AllowedCounts}
 use Rattle.pq_calls.specs.World.{World, Affords, Reads}
 use Rattle.pq_index_keep.proofs.Inserting.{each_by, each_is}
 use Rattle.pq_index_keep.proofs.Narrow.{valid_writable}
 use Rattle.pq_index_keep.specs.Bounds.{most_changes, write_tests}
-use Rattle.pq_index_keep.specs.Effects.{effect, changes_of}
+use Rattle.pq_index_keep.specs.Effects.{effect}
 use Rattle.pq_index_keep.specs.Promises.{ArePlanned, MakesRows, Plans}
 use Rattle.pq_index_keep.specs.Sound.{IsWrite}
 use Rattle.pq_index_keep.specs.declared.plan.Planned.{Planned}
 use Rattle.pq_index_keep.specs.declared.plan.Planned.TheVariants as planned
 use Rattle.pq_index_keep.specs.declared.write.Write.{Write}
-use Rattle.pq_tallies.specs.Counters.{all_pairs, counter_pairs, HoldsCounted}
+use Rattle.pq_tallies.specs.Counters.{all_pairs, counter_pairs}
 use Rattle.pq_tallies.specs.Defined.{counters_in}
 use Rattle.pq_tallies.specs.Writes.{counted_effect, full_refusal, unless_full}
-use Rattle.pq_tallies.proofs.Told.{holds_rows}
 use Rattle.pq_counters.specs.Bounds.{all_moves, counter_reads, whole_bound, whole_ops}
-use Rattle.pq_counters.specs.Promises.{IsCounterChange, AreCounterChanges, CanBeFull, MakesCounts, RefusesAsFull}
+use Rattle.pq_counters.specs.Promises.{IsCounterChange, AreCounterChanges, MakesCounts, RefusesAsFull}
 use Rattle.pq_counters.specs.Whole.{whole_reads, whole_changes, AreWhole, MakesWhole, RefusesWhole, PlansWhole}
 use Rattle.pq_counters.proofs.Small.{few_changes, moves_few, some_changes, more_ops}
 

@@ -1,8 +1,7 @@
 -- The changes for one counter after those for the counters before it.
-use Rattle.std.proofs.Common.{◌≡◌, ℕ, zero, suc, ◌+◌, ◌≤◌, ◌<◌, inl, inr, Bool, true, false, cond, not, List, [], ◌∷◌, ◌++◌, length, map, get_or, take, Option, Some, None, refl, sym, ap, ◌∙◌, subst, arith}
+use Rattle.std.proofs.Common.{◌≡◌, ℕ, zero, suc, ◌+◌, ◌≤◌, ◌<◌, inl, inr, Bool, true, false, cond, List, [], ◌∷◌, ◌++◌, length, map, get_or, take, Option, Some, None, refl, sym, ap, ◌∙◌, subst, arith}
 use Rattle.std.specs.Prelude.{All, IfSome, is_some, option_map}
 use Rattle.std.specs.List.{find, sum_by}
-use Rattle.std.proofs.lemmas.Bool.{false≢true}
 use Rattle.std.proofs.lemmas.Option.{none-some}
 use Rattle.std.proofs.lemmas.List.{take_more, append-nil, map-append}
 use Rattle.std.proofs.lemmas.List.Concat.{flat_map-append}
@@ -10,9 +9,7 @@ use Rattle.std.proofs.lemmas.List.Sums.{sum_by_more}
 use Rattle.pq_base.specs.declared.refusal.Refusal.{Refusal}
 use Rattle.pq_base.specs.declared.value.Value.{Value}
 use Rattle.pq_content.specs.Pairs.{Change, Pair}
-use Rattle.pq_content.specs.Standing.{change_of}
 use Rattle.pq_content.specs.Tables.{Rows}
-use Rattle.pq_row_code.specs.declared.changes.Change.{Change as Coded}
 use Rattle.pq_schema.specs.Counters.{IsCounterNumber}
 use Rattle.pq_schema.specs.Schema.{Schema}
 use Rattle.pq_store.specs.Content.{Content}
@@ -21,7 +18,7 @@ use Rattle.pq_store.specs.declared.damage.Broke.TheVariants.{Failed, NoMem, Dama
 use Rattle.pq_store.specs.declared.damage.Damage.{Damage}
 use Rattle.pq_calls.specs.World.{World, Reads, Explains}
 use Rattle.pq_calls.proofs.Steps.{explained_as}
-use Rattle.pq_index_keep.specs.declared.plan.Planned.TheVariants.{Changes, Refused}
+use Rattle.pq_index_keep.specs.declared.plan.Planned.TheVariants.{Refused}
 use Rattle.pq_tallies.specs.Counters.{HoldsCounted}
 use Rattle.pq_tallies.specs.Defined.{NumberedCounter, counter_numbered}
 use Rattle.pq_tallies.specs.Moves.{move_in, move_changes, moves_changes, lacks_count, first_full}

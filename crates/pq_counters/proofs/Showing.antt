@@ -1,5 +1,5 @@
 -- What damage of counters' pairs shows of a content, and that a content that stands shows none.
-use Rattle.std.proofs.Common.{◌≡◌, ℕ, ◌≤◌, inl, inr, Bool, true, false, cond, not, ◌&&◌, ◌==◌, List, [], ◌∷◌, ◌++◌, Option, Some, None, refl, sym, ap, ◌∙◌, subst, arith}
+use Rattle.std.proofs.Common.{◌≡◌, ℕ, ◌≤◌, inl, inr, Bool, true, false, cond, not, ◌&&◌, ◌==◌, List, ◌++◌, Option, Some, None, refl, sym, ap, ◌∙◌, subst, arith}
 use Rattle.std.specs.Prelude.{IfSome}
 use Rattle.std.specs.FinMap.{get}
 use Rattle.std.proofs.lemmas.Bool.{eqb-true, eq-eqb}
@@ -11,7 +11,6 @@ use Rattle.pq_base.proofs.Members.{each_in}
 use Rattle.pq_key_code.specs.KeyCode.{row_key}
 use Rattle.pq_schema.proofs.TypeKinds.{kinds_from_fit}
 use Rattle.pq_schema.specs.declared.table.Table.{Table}
-use Rattle.pq_schema.specs.Counters.{IsCounterNumber}
 use Rattle.pq_schema.specs.Schema.{Schema}
 use Rattle.pq_schema.specs.Tables.{table_at}
 use Rattle.pq_schema.specs.Valid.{IsValid}
@@ -27,7 +26,7 @@ use Rattle.pq_calls.specs.World.{World, Explains, where_told}
 use Rattle.pq_calls.proofs.Steps.{explained_as}
 use Rattle.pq_index_keep.proofs.Deleting.{told_row, undamaged}
 use Rattle.pq_index_keep.proofs.Narrow.{valid_writable}
-use Rattle.pq_tallies.specs.Counters.{tally, most_count, counter_key, count_code, stored_count, all_pairs, counter_pairs, AreFewRows, HoldsCounted}
+use Rattle.pq_tallies.specs.Counters.{tally, most_count, counter_key, count_code, stored_count, all_pairs, counter_pairs, HoldsCounted}
 use Rattle.pq_tallies.specs.Defined.{NumberedCounter, counters_in, counter_numbered, group_types}
 use Rattle.pq_tallies.specs.Moves.{no_move, group_in, moved, move_in}
 use Rattle.pq_tallies.proofs.Defined.{schema_counters, numbered_in}

@@ -106,7 +106,8 @@ fn plan_delete<S: Store<L>, L: Ledger>(
 ) -> Result<Planned, Broke>
     requires valid { IsValid catalog.now }
     requires delete { IsDelete catalog.now.tables table key.now }
-    requires read { IfSome (S.content calls.old.store.now) (λ c. IsReadFor catalog.now.tables (Write.Delete table key.now) c old.now) }
+    requires read { IfSome (S.content calls.old.store.now)
+        (λ c. IsReadFor catalog.now.tables (Write.Delete table key.now) c old.now) }
     requires fits { FitsItsTable catalog.now.tables (Write.Delete table key.now) old.now }
     requires share { Affords calls.old.allowance.now
         (all_moves (counters_in catalog.now) (Write.Delete table key.now))
@@ -182,7 +183,8 @@ fn plan_update<S: Store<L>, L: Ledger>(
 ) -> Result<Planned, Broke>
     requires valid { IsValid catalog.now }
     requires update { IsUpdate catalog.now.tables table key.now sets.now }
-    requires read { IfSome (S.content calls.old.store.now) (λ c. IsReadFor catalog.now.tables (Write.Update table key.now sets.now) c old.now) }
+    requires read { IfSome (S.content calls.old.store.now)
+        (λ c. IsReadFor catalog.now.tables (Write.Update table key.now sets.now) c old.now) }
     requires fits { FitsItsTable catalog.now.tables (Write.Update table key.now sets.now) old.now }
     requires new { IsNewFor (Write.Update table key.now sets.now) old.now new.now }
     requires share { Affords calls.old.allowance.now

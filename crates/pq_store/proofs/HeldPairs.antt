@@ -19,7 +19,7 @@ use Rattle.pq_store.specs.Held.{len_bytes, key_len, behind_len, held_pair, held_
 use Rattle.std.proofs.lemmas.List.{length-take, length-append, map-append}
 use Rattle.std.proofs.Math.Seq.{take-append_seam, drop-append_seam}
 use Rattle.pq_store.specs.declared.store.Pair.{Pair}
-use Rattle.pq_store.proofs.Places.{Pairs, is_below_all, is_other, turned, same_key, itself, first_below, rest_rises, others_below_all, below_below}
+use Rattle.pq_store.proofs.Places.{Pairs, is_below_all, is_other, turned, same_key, itself, first_below, rest_rises, rising_first, others_below_all, below_below}
 use Rattle.pq_store.proofs.Views.{seen, seen_get, seen_put, seen_others, seen_within}
 
 -- ---- a pair in its bytes
@@ -90,9 +90,6 @@ pub rising_held : (pairs : Pairs) → IsStrictlySortedBy held_cmp pairs → IsTr
 unfolding IsStrictlySortedBy
 rising_held [] up = refl
 rising_held (pair ∷ pairs) up = rising_first pair pairs (below_held pair pairs up.0) (rising_held pairs up.1)
-  where
-    rising_first : (pair : List ℕ × List ℕ) (pairs : Pairs) → IsTrue (is_below_all pair.0 pairs) → IsTrue (is_rising pairs) → IsTrue (is_rising (pair ∷ pairs))
-    rising_first pair pairs below up = grind (arith, below, up)
 
 -- a look-up
 look_held : (asked : List ℕ × List ℕ) (pairs : Pairs) → option_map (λ pair. pair.1) (find (is_at (held_cmp asked)) pairs) ≡ fin.find key_cmp asked.0 pairs
@@ -120,7 +117,7 @@ replace_held pair (first ∷ pairs) =
     ] refl
 
 -- a pair that is taken out
-remove_held : (asked : List ℕ × List ℕ) (pairs : Pairs) → IsTrue (is_rising pairs) → filter (is_other asked.0) pairs ≡ remove_key (is_at (held_cmp asked)) pairs
+pub remove_held : (asked : List ℕ × List ℕ) (pairs : Pairs) → IsTrue (is_rising pairs) → filter (is_other asked.0) pairs ≡ remove_key (is_at (held_cmp asked)) pairs
 remove_held asked [] up = refl
 remove_held asked (pair ∷ pairs) up =
     let rest = remove_held asked pairs (rest_rises pair pairs up) in
@@ -162,28 +159,6 @@ module _ (pairs : Pairs) (up : IsTrue (is_rising pairs)) where
   seen_between low high start end range starts ends is =
       is ∙ between_held start end pairs ∙ ap (λ key. filter (is_within key end.0) pairs) starts
       ∙ ap (λ key. filter (is_within low key) pairs) ends ∙ within_end low high pairs ∙ sym (seen_within low high pairs up)
-
--- where keys rise, a pair is put behind those before it
-insert_behind : (pair : List ℕ × List ℕ) (pairs rest : Pairs) → IsTrue (is_rising (pairs ++ pair ∷ rest)) → insert_key held_cmp pairs pair ≡ pairs ++ pair ∷ []
-insert_behind pair [] rest up = refl
-insert_behind pair (first ∷ pairs) rest up =
-    let less = above first.0 pairs (first_below first (pairs ++ pair ∷ rest) up) in
-    let others = insert_behind pair pairs rest (rest_rises first (pairs ++ pair ∷ rest) up) in
-    grind (arith, turned pair.0 first.0, less, others)
-  where
-    above : (first : List ℕ) (pairs : Pairs) → IsTrue (is_below_all first (pairs ++ pair ∷ rest)) → key_cmp first pair.0 ≡ Less
-    above first [] below = grind (arith, below)
-    above first (q ∷ pairs) below = above first pairs (grind (arith, below))
-
--- a loop that puts pairs into the set, one pair further
-pub held_more : (old new : Pairs) (pair : List ℕ × List ℕ) (p : Pair) (front rest pairs : List Pair) → IsTrue (is_rising (map entry pairs))
-    → front ≡ p ∷ rest → pair ≡ (p.key, p.value) → old ++ map entry front ≡ map entry pairs → new ≡ insert_key held_cmp old pair
-    → new ++ map entry rest ≡ map entry pairs
-held_more old new pair p front rest pairs up next pair_is so_far put_is =
-    let is : old ++ pair ∷ map entry rest ≡ map entry pairs =
-    ap (λ q. old ++ q ∷ map entry rest) pair_is ∙ ap (λ ps. old ++ map entry ps) (sym next) ∙ so_far in
-    ap (λ ps. ps ++ map entry rest) (put_is ∙ insert_behind pair old (map entry rest) (subst (λ ps. IsTrue (is_rising ps)) (sym is) up))
-    ∙ append_assoc old (pair ∷ []) (map entry rest) ∙ is
 
 -- a loop over the first n pairs of the set that copies them, one further
 pub copied_more : (before after : List Pair) (copy : Pair) (m n : ℕ) (s t : Pairs) (pair : List ℕ × List ℕ) (all : Pairs)

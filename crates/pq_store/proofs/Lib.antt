@@ -2,4 +2,6 @@ pub mod Answered
 pub mod Places
 pub mod Views
 pub mod HeldPairs
+pub mod PairMaps
 pub mod Uses
+pub mod Split

@@ -34,6 +34,10 @@ first_below pair pairs up = grind (arith, up)
 pub rest_rises : (pair : List ℕ × List ℕ) (pairs : Pairs) → IsTrue (is_rising (pair ∷ pairs)) → IsTrue (is_rising pairs)
 rest_rises pair pairs up = grind (arith, up)
 
+-- and back
+pub rising_first : (pair : List ℕ × List ℕ) (pairs : Pairs) → IsTrue (is_below_all pair.0 pairs) → IsTrue (is_rising pairs) → IsTrue (is_rising (pair ∷ pairs))
+rising_first pair pairs below up = grind (arith, below, up)
+
 -- a key that is smaller than the first is smaller than all
 pub below_all : (low key : List ℕ) (pairs : Pairs) → key_cmp low key ≡ Less → IsTrue (is_below_all key pairs) → IsTrue (is_below_all low pairs)
 below_all low key [] less below = refl

@@ -5,3 +5,4 @@ pub mod NotPairs
 pub mod Faults
 pub mod Breaks
 pub mod Switching
+pub mod Split

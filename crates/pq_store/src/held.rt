@@ -1,5 +1,5 @@
 //! A key and its value in one piece of memory.
-ghost use Rattle.std.specs.Prelude.{◌≡◌, ◌++◌, ◌∷◌, ◌<◌, ◌≤◌, ◌^◌, [], length, take, refl, IfOk, IfSome, OnOk};
+ghost use Rattle.std.specs.Prelude.{◌≡◌, ◌++◌, ◌<◌, ◌≤◌, ◌^◌, [], length, refl, IfOk, OnOk};
 ghost use Rattle.std.specs.Cmp.{eq_by_cmp_equiv, partial_equiv_from_equiv, partial_order_from_total};
 ghost use Rattle.std.specs.Ordering.{eq_by_cmp, as_partial_cmp};
 ghost use Rattle.pq_store.specs.Held.{len_bytes, key_len, behind_len, held_pair, held_cmp, held_total};
@@ -133,30 +133,6 @@ fn behind_len(bytes: &[u8]) -> &[u8]
     if *byte == 255 { behind_len(rest) } else { rest }
 }
 
-// The first byte of the key: told where the key is not empty and its length has one byte.
-fn first_of(bytes: &[u8]) -> Option<u8>
-    requires { key_len bytes.now ≤ length (behind_len bytes.now) }
-    ensures { IfSome result (λ first. take 1 (held_pair bytes.now).0 ≡ first ∷ []) }
-{
-    match bytes {
-        [1..=254, first, ..] => Some(*first),
-        _ => None,
-    }
-}
-
-// The order of two keys whose first bytes differ, where these are told. Most that a search meets are of another space
-// than the one that is sought.
-fn cmp_first(bytes: &[u8], other: &[u8]) -> Option<Ordering>
-    requires own { key_len bytes.now ≤ length (behind_len bytes.now) }
-    requires other { key_len other.now ≤ length (behind_len other.now) }
-    ensures { IfSome result (λ order. order ≡ held_cmp (held_pair bytes.now) (held_pair other.now)) }
-{
-    match (first_of(bytes), first_of(other)) {
-        (Some(first), Some(other_first)) if first != other_first => Some(first.cmp(&other_first)),
-        _ => None,
-    }
-}
-
 impl PartialEq for HeldPair {
     ghost eq = { eq_by_cmp held_cmp };
 
@@ -191,9 +167,6 @@ impl Ord for HeldPair {
     ghost matches_eq = { λ x y. refl };
 
     fn cmp(&self, other: &HeldPair) -> Ordering {
-        match cmp_first(self.bytes.as_slice(), other.bytes.as_slice()) {
-            Some(order) => order,
-            None => self.key().cmp(other.key()),
-        }
+        self.key().cmp(other.key())
     }
 }

@@ -12,6 +12,8 @@ mod held;
 mod last_found;
 mod mem;
 mod meter;
+mod pair_map;
+mod pair_tree;
 mod part_check;
 mod store;
 mod switch;

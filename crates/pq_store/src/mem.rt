@@ -1,30 +1,37 @@
-//! A store in memory: an ordered set of pairs, each in one piece of memory, seen as its content.
-ghost use Rattle.std.specs.Prelude.{◌≡◌, [], IsTrue, IfOk, IfErr, IsOk, OnOk, OnErr, map, take, length, min, if◌then◌else◌};
-ghost use Rattle.std.specs.Option.{option_map, option_copied};
+//! A store in memory: an ordered set of pairs and a map, seen as one content.
+ghost use Rattle.std.specs.Prelude.{◌≡◌, [], false, IsTrue, IfOk, IfErr, IsOk, OnOk, OnErr, map, take, length, min};
+ghost use Rattle.std.specs.Option.{option_copied};
 ghost use Rattle.std.specs.FinMap.{empty, entries, get as value_at, insert, remove};
-ghost use Rattle.std.specs.Ordering.{eq_by_cmp, is_lt};
+ghost use Rattle.std.specs.Ordering.{eq_by_cmp};
 ghost use Rattle.pq_store.specs.Content.{is_rising, entry, pairs_within, key_cmp, admits, written_content};
 ghost use Rattle.pq_store.specs.NotPairs.{GivesBack};
+ghost use Rattle.pq_store.specs.Split.{is_late};
 
 use crate::held::HeldPair;
 use crate::last_found::LastFound;
 use crate::meter::Meter;
+use crate::pair_map::PairMap;
+use crate::pair_tree::PairTree;
 use crate::part_check::rise;
 use crate::store::{Guard, Pair, Store, StoreErr};
 use pq_base::{Bytes, List, NoMem};
 use std::alloc::Global;
-use std::collections::{BTreeSet, btree_set};
 use std::marker::Model;
 use std::mem::replace;
-use std::ops::Range;
 use std::sync::ledger::Ledger;
 
 /// A store in memory, which tells its content and never fails. A look-up and a write take
 /// logarithmically many comparisons in the number of pairs, a range and a count besides as many steps
 /// as they answer entries.
+///
+/// The pairs are in two parts, by the first bytes of their keys. Rows and entries of indexes are many and stand in the
+/// early one, which has each in one piece of memory. The intent and the numbers of counters are few, and are read and
+/// written often. They stand in the late one, where no search for them passes the others.
 #[derive(Drop)]
 pub struct MemStore {
-    held: BTreeSet<HeldPair>,
+    early: PairTree,
+    late: PairMap,
+    // Of the keys in the early part.
     found: LastFound,
     // The memory of the key that was searched for last.
     asked: Vec<u8>,
@@ -32,16 +39,27 @@ pub struct MemStore {
 
 impl Model for MemStore {
     ghost use Rattle.std.specs.Prelude.{IsTrue};
-    ghost use Rattle.std.specs.FinMap.{from_sorted};
-    ghost use Rattle.pq_store.specs.Content.{Content, content_code, is_rising};
+    ghost use Rattle.std.specs.FinMap.{entries};
+    ghost use Rattle.pq_store.specs.Content.{Content, content_code};
+    ghost use Rattle.pq_store.specs.Split.{both_contents, are_early, are_late};
 
     ghost Value = { Content };
 
     ghost coded = { content_code };
 
-    ghost view = { λ a. from_sorted a.held.keys };
+    ghost view = { λ a. both_contents a.early a.late };
 
-    ghost invariant = { λ a. IsTrue (is_rising a.held.keys) };
+    ghost invariant = { λ a. IsTrue (are_early (entries a.early)) × IsTrue (are_late (entries a.late)) };
+}
+
+// Whether a key belongs into the late part: from the first byte 4 on, which no row and no entry of an index has.
+fn is_late(key: &[u8]) -> bool
+    ensures { result ≡ is_late key.now }
+{
+    match key {
+        [first, ..] => *first >= 4,
+        [] => false,
+    }
 }
 
 /// Why pairs make no store.
@@ -59,7 +77,8 @@ impl MemStore {
         ensures { result ≡ empty }
     {
         MemStore {
-            held: BTreeSet::new(alloc),
+            early: PairTree::new(alloc),
+            late: PairMap::new(alloc),
             found: LastFound::new(),
             asked: Vec::new(alloc),
         }
@@ -71,9 +90,8 @@ impl MemStore {
         ensures { IfOk result (λ pairs. map entry pairs ≡ entries self.now) }
     {
         let mut pairs = List::new(alloc);
-        for pair in &self.held {
-            pairs.push(alloc, copy_of(alloc, pair)?)?;
-        }
+        self.early.copy_all(alloc, &mut pairs)?;
+        self.late.copy_all(alloc, &mut pairs)?;
         Ok(pairs)
     }
 
@@ -87,14 +105,22 @@ impl MemStore {
         if !rise(pairs.items()) {
             return Err(NotPairs::Unordered(pairs));
         }
-        match held_of(alloc, pairs) {
-            Ok(held) => Ok(MemStore {
-                held,
-                found: LastFound::new(),
-                asked: Vec::new(alloc),
-            }),
+        match MemStore::of_rising(alloc, pairs.items()) {
+            Ok(store) => Ok(store),
             Err(_) => Err(NotPairs::NoMem),
         }
+    }
+
+    // The store of pairs whose keys strictly rise.
+    fn of_rising(alloc: Global, pairs: &[Pair]) -> Result<MemStore, NoMem>
+        requires { IsTrue (is_rising (map entry pairs.now)) }
+        ensures { IfOk result (λ store. entries store ≡ map entry pairs.now) }
+    {
+        let mut store = MemStore::new(alloc);
+        for pair in pairs {
+            store.set(alloc, pair.key.items(), pair.value.items())?;
+        }
+        Ok(store)
     }
 
     // Memory for the key of a search: that of the last one.
@@ -105,55 +131,69 @@ impl MemStore {
         HeldPair::asked(replace(&mut self.asked, Vec::new(alloc)), key)
     }
 
-    fn find(&self, asked: &HeldPair) -> Option<&HeldPair>
-        ensures { option_map (λ pair. pair.1) (option_copied result) ≡ value_at self.now asked.now.0 }
-    {
-        self.held.get(asked)
-    }
-
-    fn copy_found(&self, alloc: Global, asked: &HeldPair) -> Result<Option<Bytes>, NoMem>
-        ensures { IfOk result (λ found. found ≡ value_at self.now asked.now.0) }
-    {
-        match self.find(asked) {
-            Some(pair) => Ok(Some(Bytes::of_bytes(alloc, pair.value())?)),
-            None => Ok(None),
-        }
-    }
-
-    fn value(&mut self, alloc: Global, key: &[u8]) -> Result<Option<Bytes>, NoMem>
+    // The value of a key that is not late, which is remembered where it has one.
+    fn early_value(&mut self, alloc: Global, key: &[u8]) -> Result<Option<Bytes>, NoMem>
+        requires { is_late key.now ≡ false }
         ensures same { self.new ≡ self.old }
         ensures value { IfOk result (λ found. found ≡ value_at self.old key.now) }
     {
         let asked = self.asked(alloc, key)?;
-        let value = self.copy_found(alloc, &asked)?;
+        let value = copied(alloc, self.early.find(&asked))?;
         self.asked = asked.into_memory();
-        Ok(value)
-    }
-
-    // The value of a key that is remembered as found where it has one.
-    fn look_up(&mut self, alloc: Global, key: &[u8]) -> Result<Option<Bytes>, NoMem>
-        ensures same { self.new ≡ self.old }
-        ensures value { IfOk result (λ found. found ≡ value_at self.old key.now) }
-    {
-        let value = self.value(alloc, key)?;
         if value.is_some() {
             self.found.note(key);
         }
         Ok(value)
     }
 
+    fn value(&mut self, alloc: Global, key: &[u8]) -> Result<Option<Bytes>, NoMem>
+        ensures same { self.new ≡ self.old }
+        ensures value { IfOk result (λ found. found ≡ value_at self.old key.now) }
+    {
+        if is_late(key) {
+            copied(alloc, self.late.find(key))
+        } else {
+            self.early_value(alloc, key)
+        }
+    }
+
+    fn find(&self, alloc: Global, key: &[u8]) -> Result<Option<&[u8]>, NoMem>
+        ensures { IfOk result (λ found. option_copied found ≡ value_at self.now key.now) }
+    {
+        if is_late(key) {
+            return Ok(self.late.find(key));
+        }
+        Ok(self.early.find(&HeldPair::new(alloc, key, &[])?))
+    }
+
     fn part(&self, alloc: Global, low: &[u8], high: &[u8], limit: u32) -> Result<List<Pair>, NoMem>
         ensures { IfOk result (λ found. map entry found ≡ take limit (pairs_within self.now low.now high.now)) }
     {
-        let bounds = bounds_of(alloc, low, high)?;
-        copy_first(alloc, self.held.range(bounds), limit)
+        let mut copies = List::new(alloc);
+        if is_late(low) {
+            self.late.copy_first(alloc, low, high, limit, &mut copies)?;
+            return Ok(copies);
+        }
+        self.early.copy_first(alloc, low, high, limit, &mut copies)?;
+        if !is_late(high) {
+            return Ok(copies);
+        }
+        let left = limit - copies.items().len() as u32;
+        self.late.copy_first(alloc, low, high, left, &mut copies)?;
+        Ok(copies)
     }
 
     fn number(&self, alloc: Global, low: &[u8], high: &[u8], cap: u32) -> Result<u32, NoMem>
         ensures { IfOk result (λ n. n ≡ min cap (length (pairs_within self.now low.now high.now))) }
     {
-        let bounds = bounds_of(alloc, low, high)?;
-        Ok(self.held.range(bounds).take(cap as usize).count() as u32)
+        if is_late(low) {
+            return self.late.number(alloc, low, high, cap);
+        }
+        let early = self.early.number(alloc, low, high, cap)?;
+        if !is_late(high) {
+            return Ok(early);
+        }
+        Ok(early + self.late.number(alloc, low, high, cap - early)?)
     }
 
     fn admits(&self, alloc: Global, key: &[u8], guard: Guard) -> Result<bool, NoMem>
@@ -161,56 +201,41 @@ impl MemStore {
     {
         match guard {
             Guard::Any => Ok(true),
-            Guard::Absent => Ok(self.find(&HeldPair::new(alloc, key, &[])?).is_none()),
-            Guard::Is(value) => match self.find(&HeldPair::new(alloc, key, &[])?) {
-                Some(held) => Ok(are_same(held.value(), value)),
+            Guard::Absent => Ok(self.find(alloc, key)?.is_none()),
+            Guard::Is(value) => match self.find(alloc, key)? {
+                Some(held) => Ok(are_same(held, value)),
                 None => Ok(false),
             },
         }
-    }
-
-    // Puts a pair, by one search where it is new. One that is there already stays at first, and the new one is made
-    // again.
-    fn put_new(&mut self, alloc: Global, key: &[u8], value: &[u8]) -> Result<(), NoMem>
-        ensures ok { OnOk result (self.new ≡ insert self.old key.now value.now) }
-        ensures err { OnErr result (self.new ≡ self.old) }
-    {
-        if !self.held.insert(HeldPair::new(alloc, key, value)?)? {
-            self.held.replace(HeldPair::new(alloc, key, value)?)?;
-        }
-        Ok(())
-    }
-
-    // Puts a pair, by one search where it is there already, and by two where it is new.
-    fn put_over(&mut self, alloc: Global, key: &[u8], value: &[u8]) -> Result<(), NoMem>
-        ensures ok { OnOk result (self.new ≡ insert self.old key.now value.now) }
-        ensures err { OnErr result (self.new ≡ self.old) }
-    {
-        self.held.replace(HeldPair::new(alloc, key, value)?)?;
-        Ok(())
     }
 
     fn set(&mut self, alloc: Global, key: &[u8], value: &[u8]) -> Result<(), NoMem>
         ensures ok { OnOk result (self.new ≡ insert self.old key.now value.now) }
         ensures err { OnErr result (self.new ≡ self.old) }
     {
-        if self.found.has(key) {
-            self.put_over(alloc, key, value)
+        if is_late(key) {
+            self.late.put(alloc, key, value)
         } else {
-            self.put_new(alloc, key, value)
+            self.early.put(alloc, key, value, self.found.has(key))
         }
     }
 
+    // Takes the pair of a key that is not late out.
     fn take_out(&mut self, asked: &HeldPair)
+        requires { is_late asked.now.0 ≡ false }
         ensures { self.new ≡ remove self.old asked.now.0 }
     {
-        self.held.remove(asked);
+        self.early.take_out(asked);
     }
 
     fn remove(&mut self, alloc: Global, key: &[u8]) -> Result<(), NoMem>
         ensures ok { OnOk result (self.new ≡ remove self.old key.now) }
         ensures err { OnErr result (self.new ≡ self.old) }
     {
+        if is_late(key) {
+            self.late.take_out(key);
+            return Ok(());
+        }
         let asked = self.asked(alloc, key)?;
         self.take_out(&asked);
         self.asked = asked.into_memory();
@@ -229,51 +254,14 @@ impl MemStore {
     }
 }
 
-// The bounds of a range from a low key up to a high one. Where that is below the low one, they are both the low one.
-fn bounds_of(alloc: Global, low: &[u8], high: &[u8]) -> Result<Range<HeldPair>, NoMem>
-    ensures start { IfOk result (λ bounds. bounds.start.0 ≡ low.now) }
-    ensures end { IfOk result (λ bounds. bounds.end.0
-        ≡ (if is_lt (key_cmp low.now high.now) then high.now else low.now)) }
+// A copy of a value that was found.
+fn copied(alloc: Global, found: Option<&[u8]>) -> Result<Option<Bytes>, NoMem>
+    ensures { IfOk result (λ copy. copy ≡ option_copied found.entry) }
 {
-    let start = HeldPair::new(alloc, low, &[])?;
-    let end = if low.cmp(high).is_lt() { high } else { low };
-    Ok(start..HeldPair::new(alloc, end, &[])?)
-}
-
-// Copies of the first pairs of a range, or of all where there are fewer.
-fn copy_first(
-    alloc: Global,
-    range: btree_set::Range<'_, HeldPair>,
-    limit: u32,
-) -> Result<List<Pair>, NoMem>
-    ensures { IfOk result (λ copies. map entry copies ≡ take limit range.entry) }
-{
-    let mut copies = List::new(alloc);
-    for pair in range.take(limit as usize) {
-        copies.push(alloc, copy_of(alloc, pair)?)?;
+    match found {
+        Some(value) => Ok(Some(Bytes::of_bytes(alloc, value)?)),
+        None => Ok(None),
     }
-    Ok(copies)
-}
-
-// A pair of copies.
-fn copy_of(alloc: Global, pair: &HeldPair) -> Result<Pair, NoMem>
-    ensures { IfOk result (λ copy. entry copy ≡ pair.now) }
-{
-    let key = Bytes::of_bytes(alloc, pair.key())?;
-    let value = Bytes::of_bytes(alloc, pair.value())?;
-    Ok(Pair { key, value })
-}
-
-// The set of pairs whose keys strictly rise.
-fn held_of(alloc: Global, pairs: List<Pair>) -> Result<BTreeSet<HeldPair>, NoMem>
-    requires { IsTrue (is_rising (map entry pairs)) }
-    ensures { IfOk result (λ held. held.keys ≡ map entry pairs) }
-{
-    let mut held = BTreeSet::new(alloc);
-    for pair in pairs.items() {
-        held.insert(HeldPair::new(alloc, pair.key.items(), pair.value.items())?)?;
-    }
-    Ok(held)
 }
 
 fn are_same(a: &[u8], b: &[u8]) -> bool
@@ -295,7 +283,7 @@ impl<L: Ledger> Store<L> for MemStore {
         key: &[u8],
         meter: &mut Meter<L>,
     ) -> Result<Option<Bytes>, StoreErr> {
-        match self.look_up(alloc, key) {
+        match self.value(alloc, key) {
             Ok(None) => {
                 meter.charge(0);
                 Ok(None)

@@ -1,6 +1,9 @@
 //! A store of pairs with rising keys, as its callers know it.
+ghost use Rattle.std.specs.Prelude.{◌≡◌, IfOk};
+ghost use Rattle.pq_store.specs.Content.{entry};
+
 use crate::meter::Meter;
-use pq_base::{Bytes, List};
+use pq_base::{Bytes, List, NoMem};
 use std::alloc::Global;
 use std::sync::ledger::Ledger;
 use thiserror::Error;
@@ -10,6 +13,15 @@ use thiserror::Error;
 pub struct Pair {
     pub key: Bytes,
     pub value: Bytes,
+}
+
+/// A pair of copies.
+pub(crate) fn pair_of(alloc: Global, key: &[u8], value: &[u8]) -> Result<Pair, NoMem>
+    ensures { IfOk result (λ pair. entry pair ≡ (key.now, value.now)) }
+{
+    let key = Bytes::of_bytes(alloc, key)?;
+    let value = Bytes::of_bytes(alloc, value)?;
+    Ok(Pair { key, value })
 }
 
 /// What the key must have before a write, so that the write is made.

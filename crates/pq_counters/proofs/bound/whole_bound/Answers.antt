@@ -1,4 +1,4 @@
-use Rattle.std.proofs.Common.{◌≡◌, ◌+◌, ◌<◌, ◌^◌, refl, arith}
+use Rattle.std.proofs.Common.{◌+◌, ◌<◌, ◌^◌, refl, arith}
 use Rattle.pq_counters.proofs.Small.{whole_few}
 use Rattle.pq_counters.proofs.bound.whole_bound.Goals as goal
 

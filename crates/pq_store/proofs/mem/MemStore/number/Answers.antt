@@ -1,15 +1,17 @@
-use Rattle.std.proofs.Common.{◌∙◌, refl}
-use Rattle.std.proofs.lemmas.Iterator.{YieldsList-from_take}
-use Rattle.std.proofs.lemmas.Iterator.Consumers.{YieldsList-at, YieldsList-from_rest, count_from_yields_List}
-use Rattle.pq_store.proofs.HeldPairs.{runs_forward, seen_between, length_first}
+use Rattle.std.proofs.Common.{◌∙◌, sym}
+use Rattle.pq_store.proofs.Split.{on_ok_value, number_late, number_early, number_both}
 use Rattle.pq_store.proofs.mem.MemStore.number.Goals as goal
 
-pub range-requires : goal.range-requires
-range-requires c = runs_forward c.args.low.now c.args.high.now _ _ c.in_ok-bounds.ensures.start c.in_ok-bounds.ensures.end
+pub returns-then-is_late : goal.returns-then-is_late
+returns-then-is_late c = on_ok_value c.number.result
+    (λ n is. rw (← c.self.view_is) (is ∙ number_late c.self.inside.early c.self.inside.late c.self.invariant c.args.low.now c.args.high.now c.args.cap (sym c.is_late.ensures ∙ c.if-is_late.true)))
+    c.number.ensures
+
+pub returns-then-not-is_late : goal.returns-then-not-is_late
+returns-then-not-is_late c = rw (← c.self.view_is)
+    (c.in_ok-early.ensures ∙ number_early c.self.inside.early c.self.inside.late c.self.invariant c.args.low.now c.args.high.now c.args.cap
+    (sym c.is_late-2.ensures ∙ c.if-not-is_late.true))
 
 pub returns : goal.returns
-returns c =
-    let is = seen_between c.self.inside.held.keys c.self.invariant c.args.low.now c.args.high.now c.in_ok-bounds.bounds.start c.in_ok-bounds.bounds.end c.range.result
-    c.in_ok-bounds.ensures.start c.in_ok-bounds.ensures.end (c.range.ensures.between tt) in
-    let count = count_from_yields_List c.take.result c.count.result c.count.ensures.ran (YieldsList-from_take c.args.cap (YieldsList-at c.take.ensures.source (YieldsList-from_rest c.range.result refl)) c.take.ensures.count) in
-    rw (← c.self.view_is) (count ∙ length_first c.args.cap c.range.result _ is)
+returns c = rw (← c.self.view_is)
+    (number_both c.self.inside.early c.self.inside.late c.self.invariant c.args.low.now c.args.high.now c.args.cap _ _ c.in_ok-early.ensures c.in_ok-number.ensures)

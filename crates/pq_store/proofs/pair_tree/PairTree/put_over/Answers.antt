@@ -2,7 +2,7 @@ use Rattle.std.proofs.Common.{◌∙◌, ap}
 use Rattle.std.specs.FinMap.{insert}
 use Rattle.pq_store.proofs.Views.{seen}
 use Rattle.pq_store.proofs.HeldPairs.{rising_held, seen_replaced}
-use Rattle.pq_store.proofs.mem.MemStore.put_over.Goals as goal
+use Rattle.pq_store.proofs.pair_tree.PairTree.put_over.Goals as goal
 
 pub invariant_of-self-2 : goal.invariant_of-self-2
 invariant_of-self-2 c = rising_held c.replace.new.self.keys c.replace.ensures.ordered

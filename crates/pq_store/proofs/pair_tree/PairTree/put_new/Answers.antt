@@ -5,8 +5,8 @@ use Rattle.std.specs.FinMap.{insert}
 use Rattle.pq_store.proofs.Views.{seen}
 use Rattle.pq_store.specs.Held.{held_cmp}
 use Rattle.pq_store.proofs.HeldPairs.{rising_held, seen_inserted, seen_replaced, is_false}
-use Rattle.pq_store.proofs.mem.MemStore.put_new.Goals.{in-Some-1, in-None-1}
-use Rattle.pq_store.proofs.mem.MemStore.put_new.Goals as goal
+use Rattle.pq_store.proofs.pair_tree.PairTree.put_new.Goals.{in-Some-1, in-None-1}
+use Rattle.pq_store.proofs.pair_tree.PairTree.put_new.Goals as goal
 
 pub invariant_of-self-in_ok-replace : goal.invariant_of-self-in_ok-replace
 invariant_of-self-in_ok-replace c = rising_held c.replace.new.self.keys c.replace.ensures.ordered

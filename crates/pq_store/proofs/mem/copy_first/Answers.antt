@@ -1,6 +1,0 @@
-use Rattle.pq_store.proofs.HeldPairs.{copied_more}
-use Rattle.pq_store.proofs.mem.copy_first.Goals as goal
-
-pub loop-pair-preserved : goal.loop-pair-preserved
-loop-pair-preserved c = copied_more c.loop-pair.copies c.push.new.self c.in_ok-copy_of.field-0 c.next.new.self.n c.loop-pair.pair-iterator.n c.loop-pair.pair-iterator.iter c.next.new.self.iter c.in-Some.pair.now _
-    c.in_ok-push.ensures.ok c.in_ok-copy_of.ensures c.in-Some.ensures.steps.1 c.in-Some.ensures.steps.0 c.loop-pair.invariant
