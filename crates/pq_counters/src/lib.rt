@@ -4,7 +4,6 @@
 
 mod bound;
 mod groups;
-mod numbers;
 mod plan;
 mod read;
 mod reading;

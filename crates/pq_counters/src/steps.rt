@@ -18,7 +18,6 @@ ghost use Rattle.pq_counters.specs.Promises.{IsCounterChange, IsCountedWithin, R
 ghost use Rattle.pq_counters.specs.Steps.{key_count, moves_of, moves_at, IsSmallKey, IsSmallMove, MovesLittle, TellsGroup, TellsMove, JoinsGroup, MovesRow, MovesCounter, PlansMoves, AreOfTable, SpoilsFromKey, SpoilsToKey, SpoilsMove, SpoilsMoves};
 
 use crate::groups::{joined, left};
-use crate::numbers::numbers_of;
 use pq_base::{Bytes, List, NoMem, Refusal, Row};
 use pq_calls::Calls;
 use pq_index_keep::Planned;
@@ -254,6 +253,6 @@ pub(crate) fn plan_moves<S: Store<L>, L: Ledger>(
         planned) }
 {
     catalog.known();
-    let numbers = numbers_of(alloc, catalog, table)?;
+    let numbers = catalog.counters_of(alloc, table)?;
     plan_each(alloc, catalog, table, old, new, numbers.as_slice(), calls)
 }

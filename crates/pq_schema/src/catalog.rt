@@ -6,7 +6,7 @@ ghost use Rattle.indexmap.specs.IndexMap.{get_by_text, spare};
 ghost use Rattle.pq_schema.specs.Tables.{table_at, referring_limits, foreign_to};
 ghost use Rattle.pq_schema.specs.Valid.{IsValid, IsDefined};
 
-use crate::counter::Counter;
+use crate::counter::{Counter, CounterNumbers};
 use crate::made::{Def, Definition, Made};
 use crate::query::Query;
 use crate::table::{Column, Foreign, NewIndex, Referring, Table};
@@ -342,13 +342,13 @@ impl Catalog {
     }
 
     /// The numbers of the counters of this table, in the order of their definitions.
-    pub fn counters_of(&self, alloc: Global, table: u8) -> Result<List<u16>, NoMem>
-        ensures { IfOk result (λ found. found ≡ counters_of self.now table) }
+    pub fn counters_of(&self, alloc: Global, table: u8) -> Result<CounterNumbers, NoMem>
+        ensures { IfOk result (λ found. found.items ≡ counters_of self.now table) }
     {
-        let mut found = List::new(alloc);
+        let mut found = CounterNumbers::new(alloc);
         for (place, definition) in self.definitions.iter().enumerate() {
             if definition.is_counter_of(table) {
-                found.push(alloc, place as u16 + 1)?;
+                found.push(place as u16 + 1)?;
             }
         }
         Ok(found)

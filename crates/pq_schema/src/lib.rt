@@ -19,7 +19,7 @@ mod table_checks;
 
 pub use catalog::Catalog;
 pub use column_names::{check_known, check_names, check_repeated, names_of, place_of, places_of};
-pub use counter::Counter;
+pub use counter::{Counter, CounterNumbers};
 pub use definition::{AlterDef, ColumnDef, CounterDef, ForeignDef, LimitDef, TableDef};
 pub use made::{Def, Definition, Made};
 pub use names::{NAME_BYTES, is_name};

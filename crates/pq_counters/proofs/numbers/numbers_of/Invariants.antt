@@ -1,6 +1,0 @@
-use Rattle.std.proofs.Common.{◌≡◌, ◌+◌, ◌++◌, drop}
-use Rattle.pq_schema.specs.Schema.{counters_from, counters_of}
-use Rattle.pq_counters.proofs.numbers.numbers_of.Given as goal
-
-abbrev pub invariant-loop-place : goal.invariant-loop-place
-invariant-loop-place l = l.found.items ++ counters_from l.table (l.place + 1) (drop l.place l.catalog.definitions) ≡ counters_of l.catalog l.table
