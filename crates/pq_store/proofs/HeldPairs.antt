@@ -16,7 +16,7 @@ use Rattle.std.specs.FinMap.{put}
 use Rattle.std.specs.FinMap.Entries.{by_order}
 use Rattle.pq_store.specs.Content.{key_cmp, is_rising, is_within, pairs_within, entry}
 use Rattle.pq_store.specs.Held.{len_bytes, key_len, behind_len, held_pair, held_cmp}
-use Rattle.std.proofs.lemmas.List.{length-take, length-append, map-append}
+use Rattle.std.proofs.lemmas.List.{length-take, length-append, map-append, append-nil}
 use Rattle.std.proofs.Math.Seq.{take-append_seam, drop-append_seam}
 use Rattle.pq_store.specs.declared.store.Pair.{Pair}
 use Rattle.pq_store.proofs.Places.{Pairs, is_below_all, is_other, turned, same_key, itself, first_below, rest_rises, rising_first, others_below_all, below_below}
@@ -50,7 +50,7 @@ module _ (bytes key value : List ℕ) (is : bytes ≡ (len_bytes (length key) ++
 
 -- ---- ranges
 
-not_past : (key high : List ℕ) → not (is_le (key_cmp high key)) ≡ is_lt (key_cmp key high)
+pub not_past : (key high : List ℕ) → not (is_le (key_cmp high key)) ≡ is_lt (key_cmp key high)
 not_past key high = grind (arith, turned key high)
 
 -- a range that ends where it begins or before has no pairs
@@ -72,7 +72,7 @@ runs_forward low high start end starts ends = rw (starts, ends) (forward (key_cm
     forward Greater is = ap is_gt (itself low)
 
 -- and have the pairs of the range
-within_end : (low high : List ℕ) (pairs : Pairs) → filter (is_within low (end_of low high)) pairs ≡ filter (is_within low high) pairs
+pub within_end : (low high : List ℕ) (pairs : Pairs) → filter (is_within low (end_of low high)) pairs ≡ filter (is_within low high) pairs
 within_end low high pairs =
     elim (is_lt (key_cmp low high)) as (λ b. is_lt (key_cmp low high) ≡ b → filter (is_within low (cond b high low)) pairs ≡ filter (is_within low high) pairs) [
       | true ↦ λ is. refl
@@ -175,3 +175,7 @@ copied_more before after copy m n s t pair all pushed copy_is count next so_far 
 -- how many of the first pairs there are
 pub length_first : (cap : ℕ) (range pairs : Pairs) → range ≡ pairs → length (take cap range) ≡ min cap (length pairs)
 length_first cap range pairs is = length-take cap range ∙ ap (λ ps. min cap (length ps)) is
+
+-- and at its end: the number or the list has run out
+pub copied_all : (before : List Pair) (n : ℕ) (s all : Pairs) → take n s ≡ [] → map entry before ++ take n s ≡ all → map entry before ≡ all
+copied_all before n s all out so_far = sym (append-nil (map entry before)) ∙ ap (λ pairs. map entry before ++ pairs) (sym out) ∙ so_far

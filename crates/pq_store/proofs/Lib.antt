@@ -4,4 +4,5 @@ pub mod Views
 pub mod HeldPairs
 pub mod PairMaps
 pub mod Uses
+pub mod Hashed
 pub mod Split

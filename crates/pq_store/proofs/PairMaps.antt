@@ -38,7 +38,7 @@ module _ {K X : Type 0} (key_bytes : K → List ℕ) (value_bytes : X → List �
   sought key k = key_cmp key (key_bytes k)
 
   -- a look-up
-  look_mapped : (key : List ℕ) (pairs : List (K × X)) → option_map value_bytes (lookup (is_at (sought key)) pairs) ≡ fin.find key_cmp key (pairs_bytes pairs)
+  pub look_mapped : (key : List ℕ) (pairs : List (K × X)) → option_map value_bytes (lookup (is_at (sought key)) pairs) ≡ fin.find key_cmp key (pairs_bytes pairs)
   look_mapped key [] = refl
   look_mapped key (pair ∷ pairs) = either (is_eq (sought key pair.0)) pair.1 (lookup (is_at (sought key)) pairs) _ (look_mapped key pairs)
     where

@@ -8,8 +8,10 @@
 mod allowance;
 mod damage;
 mod failing;
+mod hashed_pairs;
 mod held;
 mod last_found;
+mod late_pairs;
 mod mem;
 mod meter;
 mod pair_map;

@@ -1,16 +1,16 @@
-//! A store in memory: an ordered set of pairs and a map, seen as one content.
+//! A store in memory: two parts by the first bytes of keys, seen as one content.
 ghost use Rattle.std.specs.Prelude.{◌≡◌, [], false, IsTrue, IfOk, IfErr, IsOk, OnOk, OnErr, map, take, length, min};
 ghost use Rattle.std.specs.Option.{option_copied};
 ghost use Rattle.std.specs.FinMap.{empty, entries, get as value_at, insert, remove};
 ghost use Rattle.std.specs.Ordering.{eq_by_cmp};
 ghost use Rattle.pq_store.specs.Content.{is_rising, entry, pairs_within, key_cmp, admits, written_content};
 ghost use Rattle.pq_store.specs.NotPairs.{GivesBack};
-ghost use Rattle.pq_store.specs.Split.{is_late};
+ghost use Rattle.pq_store.specs.Split.{first_late, is_from};
 
 use crate::held::HeldPair;
 use crate::last_found::LastFound;
+use crate::late_pairs::LatePairs;
 use crate::meter::Meter;
-use crate::pair_map::PairMap;
 use crate::pair_tree::PairTree;
 use crate::part_check::rise;
 use crate::store::{Guard, Pair, Store, StoreErr};
@@ -22,15 +22,15 @@ use std::sync::ledger::Ledger;
 
 /// A store in memory, which tells its content and never fails. A look-up and a write take
 /// logarithmically many comparisons in the number of pairs, a range and a count besides as many steps
-/// as they answer entries.
+/// as they answer entries. The number of a counter is found by a hash of its key, without a search.
 ///
-/// The pairs are in two parts, by the first bytes of their keys. Rows and entries of indexes are many and stand in the
-/// early one, which has each in one piece of memory. The intent and the numbers of counters are few, and are read and
-/// written often. They stand in the late one, where no search for them passes the others.
+/// The pairs are in two parts, by the first bytes of their keys. Rows and entries of indexes stand in the early one, which
+/// has each in one piece of memory. The intent and the numbers of counters are written over more often than others. They
+/// stand in the late one, where no search for them passes a row.
 #[derive(Drop)]
 pub struct MemStore {
     early: PairTree,
-    late: PairMap,
+    late: LatePairs,
     // Of the keys in the early part.
     found: LastFound,
     // The memory of the key that was searched for last.
@@ -41,7 +41,7 @@ impl Model for MemStore {
     ghost use Rattle.std.specs.Prelude.{IsTrue};
     ghost use Rattle.std.specs.FinMap.{entries};
     ghost use Rattle.pq_store.specs.Content.{Content, content_code};
-    ghost use Rattle.pq_store.specs.Split.{both_contents, are_early, are_late};
+    ghost use Rattle.pq_store.specs.Split.{first_late, both_contents, are_before, are_from};
 
     ghost Value = { Content };
 
@@ -49,12 +49,12 @@ impl Model for MemStore {
 
     ghost view = { λ a. both_contents a.early a.late };
 
-    ghost invariant = { λ a. IsTrue (are_early (entries a.early)) × IsTrue (are_late (entries a.late)) };
+    ghost invariant = { λ a. IsTrue (are_before first_late (entries a.early)) × IsTrue (are_from first_late (entries a.late)) };
 }
 
 // Whether a key belongs into the late part: from the first byte 4 on, which no row and no entry of an index has.
 fn is_late(key: &[u8]) -> bool
-    ensures { result ≡ is_late key.now }
+    ensures { result ≡ is_from first_late key.now }
 {
     match key {
         [first, ..] => *first >= 4,
@@ -78,7 +78,7 @@ impl MemStore {
     {
         MemStore {
             early: PairTree::new(alloc),
-            late: PairMap::new(alloc),
+            late: LatePairs::new(alloc),
             found: LastFound::new(),
             asked: Vec::new(alloc),
         }
@@ -133,7 +133,7 @@ impl MemStore {
 
     // The value of a key that is not late, which is remembered where it has one.
     fn early_value(&mut self, alloc: Global, key: &[u8]) -> Result<Option<Bytes>, NoMem>
-        requires { is_late key.now ≡ false }
+        requires { is_from first_late key.now ≡ false }
         ensures same { self.new ≡ self.old }
         ensures value { IfOk result (λ found. found ≡ value_at self.old key.now) }
     {
@@ -222,7 +222,7 @@ impl MemStore {
 
     // Takes the pair of a key that is not late out.
     fn take_out(&mut self, asked: &HeldPair)
-        requires { is_late asked.now.0 ≡ false }
+        requires { is_from first_late asked.now.0 ≡ false }
         ensures { self.new ≡ remove self.old asked.now.0 }
     {
         self.early.take_out(asked);

@@ -132,7 +132,7 @@ impl PairMap {
 }
 
 // A copy of bytes.
-fn vec_of(alloc: Global, bytes: &[u8]) -> Result<Vec<u8>, NoMem>
+pub(crate) fn vec_of(alloc: Global, bytes: &[u8]) -> Result<Vec<u8>, NoMem>
     ensures { IfOk result (λ copy. copy.items ≡ bytes.now) }
 {
     let mut copy = Vec::with_capacity(alloc, bytes.len())?;
@@ -141,7 +141,7 @@ fn vec_of(alloc: Global, bytes: &[u8]) -> Result<Vec<u8>, NoMem>
 }
 
 // The bounds of a range from a low key up to a high one. Where that is below the low one, they are both the low one.
-fn bounds_of(alloc: Global, low: &[u8], high: &[u8]) -> Result<Range<Vec<u8>>, NoMem>
+pub(crate) fn bounds_of(alloc: Global, low: &[u8], high: &[u8]) -> Result<Range<Vec<u8>>, NoMem>
     ensures start { IfOk result (λ bounds. bounds.start.items ≡ low.now) }
     ensures end { IfOk result (λ bounds. bounds.end.items
         ≡ (if is_lt (key_cmp low.now high.now) then high.now else low.now)) }

@@ -1,12 +1,13 @@
 use Rattle.std.proofs.Common.{◌≡◌, ◌∙◌, ◌++◌, ap, map, drop, ◌∷◌, ◌+◌, ◌<◌, length, arith, add-one, drop-cons}
 use Rattle.std.specs.FinMap.{insert}
 use Rattle.pq_store.specs.Content.{entry}
+use Rattle.pq_store.specs.Split.{first_late}
 use Rattle.pq_store.proofs.Split.{none_held}
 use Rattle.pq_store.proofs.Uses.{filled_more}
 use Rattle.pq_store.proofs.mem.MemStore.of_rising.Goals as goal
 
 pub loop-pair-init : goal.loop-pair-init
-loop-pair-init c = ap (λ pairs. pairs ++ map entry c.args.pairs.now) (none_held c.new-store.result c.new-store.ensures)
+loop-pair-init c = ap (λ pairs. pairs ++ map entry c.args.pairs.now) (none_held first_late c.new-store.result c.new-store.ensures)
 
 pub loop-pair-preserved : goal.loop-pair-preserved
 loop-pair-preserved c =
