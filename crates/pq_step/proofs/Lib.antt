@@ -6,6 +6,7 @@ pub mod Counted
 pub mod Counting
 pub mod Defining
 pub mod Definitions
+pub mod Extending
 pub mod Kept
 pub mod Known
 pub mod Made

@@ -1,5 +1,8 @@
 -- The plans that are kept beside definitions.
-use Rattle.std.specs.Prelude.{◌≡◌, ℕ, ◌-◌, List, length, Option, None, slice_index_or, MatchOption}
+use Rattle.std.specs.Prelude.{◌≡◌, ℕ, ◌-◌, ◌++◌, ◌∷◌, [], List, length, Option, None, Result, Ok, Err, slice_index_or, MatchOption}
+use Rattle.pq_base.specs.declared.refusal.Refusal.{Refusal}
+use Rattle.pq_base.specs.declared.refusal.Stopped.{Stopped}
+use Rattle.pq_base.specs.declared.refusal.Stopped.TheVariants.{Refused, NoMem}
 use Rattle.pq_schema.specs.Schema.{Schema, query_at}
 use Rattle.pq_schema.specs.declared.query.Query.{Query}
 use Rattle.pq_schema.specs.declared.table.NewIndex.{NewIndex}
@@ -29,3 +32,9 @@ pub record IsPlanWanting (tables : List Table) (query : Query) (plan : Physical)
   pub compiled : IsCompiled tables query made
   pub plan_is : made.plan ≡ plan
   pub wanted_is : made.wanted ≡ wanted
+
+-- the plan of a definition that was made is kept behind the others; of one that is refused none is
+abbrev pub KeepsPlan : {N P : Type 0} → List P → P → Result N Stopped → Result N Refusal → List P → Type 0
+KeepsPlan plans plan (Ok number) made kept = (made ≡ Ok number) × (kept ≡ plans ++ plan ∷ [])
+KeepsPlan plans plan (Err (Refused why)) made kept = (made ≡ Err why) × (kept ≡ plans)
+KeepsPlan plans plan (Err NoMem) made kept = ⊥

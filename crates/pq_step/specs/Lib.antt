@@ -2,6 +2,7 @@ pub mod Calls
 pub mod Checks
 pub mod Evidence
 pub mod Extends
+pub mod Filling
 pub mod Format
 pub mod Kept
 pub mod Matches

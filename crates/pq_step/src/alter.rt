@@ -8,10 +8,10 @@ ghost use Rattle.pq_statement.specs.Actions.{Adds, action_from};
 ghost use Rattle.pq_step.specs.Extends.{ExtendsWith};
 ghost use Rattle.pq_step.specs.Promise.{Promises};
 
-use crate::define::Defined;
+use crate::define::{Defined, keep_plan};
 use crate::planned::PlannedCatalog;
 use crate::reports::unread_report;
-use pq_base::{List, NoMem, Stopped};
+use pq_base::{List, NoMem};
 use pq_print::Report;
 use pq_schema::AlterDef;
 use pq_store::{Broke, Meter, Store};
@@ -32,14 +32,9 @@ impl PlannedCatalog {
         let PlannedCatalog { catalog, plans } = self;
         let mut catalog = catalog;
         let mut plans = plans;
-        match catalog.add_column(alloc, def) {
-            Ok(number) => {
-                plans.push(alloc, None)?;
-                Ok((PlannedCatalog { catalog, plans }, Ok(number)))
-            }
-            Err(Stopped::Refused(why)) => Ok((PlannedCatalog { catalog, plans }, Err(why))),
-            Err(Stopped::NoMem) => Err(NoMem),
-        }
+        let added = catalog.add_column(alloc, def);
+        let made = keep_plan(alloc, &mut plans, None, added)?;
+        Ok((PlannedCatalog { catalog, plans }, made))
     }
 
     /// Adds a column to a table, where nothing refuses it.

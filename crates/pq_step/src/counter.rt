@@ -12,7 +12,7 @@ ghost use Rattle.pq_statement.specs.Actions.{Counts, action_from};
 ghost use Rattle.pq_step.specs.Extends.{ExtendsCounting};
 ghost use Rattle.pq_step.specs.Promise.{Promises};
 
-use crate::define::Defined;
+use crate::define::{Defined, keep_plan};
 use crate::planned::PlannedCatalog;
 use crate::reports::{counter_report, crowded_report, unread_report};
 use pq_base::{NoMem, Refusal, Stopped};
@@ -70,14 +70,9 @@ impl PlannedCatalog {
         let PlannedCatalog { catalog, plans } = self;
         let mut catalog = catalog;
         let mut plans = plans;
-        match catalog.add_counter(alloc, def) {
-            Ok(number) => {
-                plans.push(alloc, None)?;
-                Ok((PlannedCatalog { catalog, plans }, Ok(number)))
-            }
-            Err(Stopped::Refused(why)) => Ok((PlannedCatalog { catalog, plans }, Err(why))),
-            Err(Stopped::NoMem) => Err(NoMem),
-        }
+        let added = catalog.add_counter(alloc, def);
+        let made = keep_plan(alloc, &mut plans, None, added)?;
+        Ok((PlannedCatalog { catalog, plans }, made))
     }
 
     /// The catalog with a counter that nothing refuses.

@@ -1,5 +1,5 @@
 //! Definitions: each is one write of its pair, whose key has to be absent.
-ghost use Rattle.std.specs.Prelude.{◌≡◌, ◌≤◌, ◌<◌, ◌+◌, true, None, Some, Ok, Result, length, IfOk, IfErr, IfSome, OnOk, OnErr};
+ghost use Rattle.std.specs.Prelude.{◌≡◌, ◌≤◌, ◌<◌, ◌+◌, true, ℕ, None, Some, Ok, Result, length, IfOk, IfErr, IfSome, OnOk, OnErr};
 ghost use Rattle.std.specs.FinMap.{get as value_at_key};
 ghost use Rattle.pq_base.specs.declared.refusal.Refusal.{Refusal};
 ghost use Rattle.pq_store.specs.Content.{HasBrokeCause};
@@ -8,12 +8,13 @@ ghost use Rattle.pq_step.specs.Calls.{PutsNew, MayPut};
 ghost use Rattle.pq_schema.specs.Resolved.{IsResolved};
 ghost use Rattle.pq_schema.specs.Wanted.{IsWanted};
 ghost use Rattle.pq_step.specs.Extends.{Extends, ExtendsBy};
+ghost use Rattle.pq_step.specs.Filling.{FillsIndex};
 ghost use Rattle.pq_store.specs.Breaks.{IfDamaged, IsPresent, IsUndamaged, IsAnswered, IsAnsweredBut};
 ghost use Rattle.pq_intent.specs.Changing.{IfDamagedSame};
 ghost use Rattle.pq_intent.specs.Spending.{TakesAtMost};
-ghost use Rattle.pq_step.specs.Promise.{Promises};
+ghost use Rattle.pq_step.specs.Promise.{BrokenStatement, Promises};
 ghost use Rattle.pq_step.specs.Reports.{define_report};
-ghost use Rattle.pq_step.specs.Kept.{IsPlanWanting};
+ghost use Rattle.pq_step.specs.Kept.{IsPlanWanting, KeepsPlan};
 ghost use Rattle.pq_statement.specs.Actions.{Action, Creates, Prepares, action_from};
 ghost use Rattle.pq_statement.specs.Planned.{IsComputed};
 ghost use Rattle.pq_statement.specs.Planning.{planned_definition};
@@ -109,11 +110,33 @@ fn put_absent<S: Store<L>, L: Ledger>(
     }
 }
 
+/// Puts the plan of a definition that was made behind the others, or answers why the definition is refused.
+pub(crate) fn keep_plan<N: Drop, P: Drop>(
+    alloc: Global,
+    plans: &mut List<P>,
+    plan: P,
+    added: Result<N, Stopped>,
+) -> Result<Result<N, Refusal>, NoMem>
+    ensures { IfOk result (λ made. KeepsPlan plans.old plan added made plans.new) }
+{
+    match added {
+        Ok(number) => {
+            plans.push(alloc, plan)?;
+            Ok(Ok(number))
+        }
+        Err(Stopped::Refused(why)) => Ok(Err(why)),
+        Err(Stopped::NoMem) => Err(NoMem),
+    }
+}
+
 /// A table's number, or why it is refused.
 pub type Numbered = Result<u8, Refusal>;
 
 /// The number of a query's definition, or why it is refused.
 pub type Defined = Result<u16, Refusal>;
+
+/// Over how many rows an index was filled, or why it is refused.
+type Filled = Result<u32, Refusal>;
 
 impl PlannedCatalog {
     /// The catalog with the table that the definition makes, and its number; or as it was, where it
@@ -129,14 +152,9 @@ impl PlannedCatalog {
         let PlannedCatalog { catalog, plans } = self;
         let mut catalog = catalog;
         let mut plans = plans;
-        match catalog.add_table(alloc, def) {
-            Ok(number) => {
-                plans.push(alloc, None)?;
-                Ok((PlannedCatalog { catalog, plans }, Ok(number)))
-            }
-            Err(Stopped::Refused(why)) => Ok((PlannedCatalog { catalog, plans }, Err(why))),
-            Err(Stopped::NoMem) => Err(NoMem),
-        }
+        let added = catalog.add_table(alloc, def);
+        let made = keep_plan(alloc, &mut plans, None, added)?;
+        Ok((PlannedCatalog { catalog, plans }, made))
     }
 
     /// The catalog with the query, its plan and the index that it wants, and the number of its
@@ -157,14 +175,9 @@ impl PlannedCatalog {
         let PlannedCatalog { catalog, plans } = self;
         let mut catalog = catalog;
         let mut plans = plans;
-        match catalog.add_query(alloc, query, wanted) {
-            Ok(number) => {
-                plans.push(alloc, Some(plan))?;
-                Ok((PlannedCatalog { catalog, plans }, Ok(number)))
-            }
-            Err(Stopped::Refused(why)) => Ok((PlannedCatalog { catalog, plans }, Err(why))),
-            Err(Stopped::NoMem) => Err(NoMem),
-        }
+        let added = catalog.add_query(alloc, query, wanted);
+        let made = keep_plan(alloc, &mut plans, Some(plan), added)?;
+        Ok((PlannedCatalog { catalog, plans }, made))
     }
 
     /// The lines of the indexes that a table was made with.
@@ -326,6 +339,34 @@ impl PlannedCatalog {
         Ok(Refusal::TooManyRows { table })
     }
 
+    /// Writes the definition of a query and fills the index that it wants, and answers over how many rows, or why it is
+    /// refused.
+    fn fill_index<S: Store<L>, L: Ledger>(
+        &self,
+        alloc: Global,
+        query: &Query,
+        new: &NewIndex,
+        store: &mut S,
+        meter: &mut Meter<L>,
+    ) -> Result<Filled, Broke>
+        requires { IsDefined self.now query.now (Some new.now) }
+        ensures filled { IfOk result (FillsIndex self.now query.now new.now (S.content store.old)
+            (S.content store.new) meter.old meter.new) }
+        ensures broken { IfErr result (λ broke. (number : ℕ) (best : Candidate)
+            → BrokenStatement number (Ok (Prepares (planned_definition query.now best (Some new.now))))
+            (S.content store.old) (S.content store.new) self.now meter.old meter.new broke) }
+        ensures cause { HasBrokeCause (S.faults store.old) (S.faults store.new) result }
+        ensures answered { IfErr result (IsAnsweredBut S.answers (next_key self.now)) }
+    {
+        self.known();
+        let target = self.target(alloc, new)?;
+        let defined = self.new_query(alloc, query)?;
+        match build_index(alloc, &target, &defined, store, meter)? {
+            Built::TooMany => Ok(Err(self.too_many_rows(alloc, new.table)?)),
+            Built::Rows(count) => Ok(Ok(count)),
+        }
+    }
+
     /// Defines a query, and makes the index that it wants: each row of its table gets its entry.
     fn build_query<S: Store<L>, L: Ledger>(
         self,
@@ -346,14 +387,9 @@ impl PlannedCatalog {
         ensures cause { HasBrokeCause (S.faults store.old) (S.faults store.new) result }
         ensures answered { IfErr result (IsAnsweredBut S.answers (next_key self)) }
     {
-        let target = self.target(alloc, &new)?;
-        let defined = self.new_query(alloc, &query)?;
-        match build_index(alloc, &target, &defined, store, meter)? {
-            Built::TooMany => {
-                let why = self.too_many_rows(alloc, new.table)?;
-                Ok((self, too_many_report(alloc, number, why)))
-            }
-            Built::Rows(count) => {
+        match self.fill_index(alloc, &query, &new, store, meter)? {
+            Err(why) => Ok((self, too_many_report(alloc, number, why))),
+            Ok(count) => {
                 let planned = self.with_defined(alloc, query, plan, Some(new))?;
                 Ok((planned, build_report(number, lines, count)))
             }

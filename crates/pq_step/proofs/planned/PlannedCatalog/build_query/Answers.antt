@@ -1,95 +1,33 @@
-use Rattle.std.proofs.Common.{◌≡◌, false, refl, sym, subst, Option}
-use Rattle.std.specs.Prelude.{IfSome}
+use Rattle.std.proofs.Common.{ℕ, subst}
+use Rattle.std.specs.Prelude.{Result}
 use Rattle.std.proofs.lemmas.Result.{err_from_is_err_and}
-use Rattle.pq_content.specs.Pairs.{is_of_rows}
-use Rattle.pq_builds.specs.declared.target.NewQuery.{NewQuery}
-use Rattle.pq_builds.specs.declared.build.Built.{Built}
-use Rattle.pq_builds.specs.declared.build.Built.TheVariants.{Rows as Filled, TooMany}
-use Rattle.pq_builds.specs.Stages.{IsFew, ShowsBuild, StopsBuilding, TakesBuild}
-use Rattle.pq_builds.proofs.Lasting.{shows_still_told}
-use Rattle.pq_builds.specs.Bounds.{build_bound}
-use Rattle.pq_builds.specs.Standing.{Origin, HoldsOrigin, Leaves, Makes, rows_in}
-use Rattle.pq_intent.specs.Spending.{TakesAtMost}
-use Rattle.pq_store.specs.Breaks.{IsUndamaged}
-use Rattle.pq_store.specs.Content.{Content}
-use Rattle.pq_step.specs.Evidence.{TellsEvidence}
-use Rattle.pq_step.specs.Stands.{new_query_of}
-use Rattle.pq_schema.specs.Valid.{IsValid}
-use Rattle.pq_step.proofs.Built.{build_shown}
-use Rattle.pq_step.proofs.Prepared.{target_there, build_done, too_many_done, build_broken, build_lost, too_many_lost, moved}
-use Rattle.pq_step.proofs.Promises.{broken_same}
+use Rattle.pq_base.specs.declared.refusal.Refusal.{Refusal}
+use Rattle.pq_step.specs.Filling.{FillsIndex}
+use Rattle.pq_step.proofs.Prepared.{build_done, too_many_done, build_lost}
 use Rattle.pq_step.proofs.planned.PlannedCatalog.build_query.Goals as goal
 
-pub target-requires : goal.target-requires
-target-requires g c = target_there c.args.self c.args.query c.args.new (subst IsValid c.self.view_is c.self.invariant.0) c.requires.defined
-
-pub returns-in_err-target-clause-step : goal.returns-in_err-target-clause-step
-returns-in_err-target-clause-step g c best lined =
+pub returns-in_err-why-clause-step : goal.returns-in_err-why-clause-step
+returns-in_err-why-clause-step g c best lined =
     let p = err_from_is_err_and c.from_residual.result c.from_residual.ensures.1 in
-    rw (p.1, p.2) (broken_same _ _ _ c.args.self _ _ tt)
-
-pub returns-in_err-defined-clause-step : goal.returns-in_err-defined-clause-step
-returns-in_err-defined-clause-step g c best lined =
-    let p = err_from_is_err_and c.from_residual-in_err-defined.result c.from_residual-in_err-defined.ensures.1 in
-    rw (p.1, p.2) (broken_same _ _ _ c.args.self _ _ tt)
-
-pub too_many_rows-requires : goal.too_many_rows-requires
-too_many_rows-requires g c = (target_there c.args.self c.args.query c.args.new (subst IsValid c.self.view_is c.self.invariant.0) c.requires.defined).0
+    rw (p.1, p.2) (c.in_err-why.ensures.broken c.args.number best)
 
 pub build_report-requires : goal.build_report-requires
-build_report-requires g c = subst IsFew c.in-Rows.is c.in_ok-build_index.ensures.few
+build_report-requires g c =
+    let f = subst (λ (x : Result ℕ Refusal). FillsIndex c.args.self c.args.query c.args.new (g.S.Store.content c.args.store.now) (g.S.Store.content c.fill_index.new.store) c.args.meter.now c.fill_index.new.meter x) c.in-Ok.is c.in_ok-why.ensures.filled in
+    f.few
 
-pub returns-in_err-build_index-clause-step : goal.returns-in_err-build_index-clause-step
-returns-in_err-build_index-clause-step g c best lined =
-    let p = err_from_is_err_and c.from_residual-in_err-build_index.result c.from_residual-in_err-build_index.ensures.1 in
-    let e = c.in_err-build_index.ensures in
-    let old = g.S.Store.content c.args.store.now in
-    let valid = subst IsValid c.self.view_is c.self.invariant.0 in
-    let now = g.S.Store.content c.build_index.new.store in
-    let broke = c.in_err-build_index.field-0.0 in
-    let index = c.in_ok-target.ensures in
-    let query = c.in_ok-defined.ensures in
-    let shows : (content : Option Content) → IfSome content (λ c'. ShowsBuild c.in_ok-target.target c.in_ok-defined.defined c' broke) → IfSome content (λ c'. TellsEvidence c.args.self c' broke) =
-    λ content is. build_shown content c.args.self c.args.new (new_query_of c.args.self c.args.query) broke valid (target_there c.args.self c.args.query c.args.new valid c.requires.defined).0 refl
-    (moved (λ t q. IfSome content (λ c'. ShowsBuild t q c' broke)) index query is) in
-    let lasting = shows_still_told c.in_ok-target.target c.in_ok-defined.defined (subst (λ (q : NewQuery). is_of_rows q.key ≡ false) (sym query) refl) old now broke e.untold e.ended e.shown in
-    rw (p.1, p.2) (build_broken c.args.number c.args.query c.args.new best c.args.self c.requires.defined old now _ _ broke
-    (moved (λ t q. (origin : Origin) → HoldsOrigin origin t q old → Leaves origin t q now) index query e.stopped)
-    (moved (λ t q. (origin : Origin) → HoldsOrigin origin t q old → IsUndamaged broke) index query e.sound)
-    (moved (λ t q. IfSome old (λ content. StopsBuilding t q content now)) index query e.ended)
-    (shows old e.shown) (shows now lasting) e.within
-    (moved (λ t q. (origin : Origin) → HoldsOrigin origin t q old → TakesAtMost (build_bound (rows_in origin t)) c.args.meter.now c.build_index.new.meter) index query e.bounded))
+pub returns-in_err-planned-in-Ok-clause-step : goal.returns-in_err-planned-in-Ok-clause-step
+returns-in_err-planned-in-Ok-clause-step g c best lined =
+    let p = err_from_is_err_and c.from_residual-in_err-planned-in-Ok.result c.from_residual-in_err-planned-in-Ok.ensures.1 in
+    let f = subst (λ (x : Result ℕ Refusal). FillsIndex c.args.self c.args.query c.args.new (g.S.Store.content c.args.store.now) (g.S.Store.content c.fill_index.new.store) c.args.meter.now c.fill_index.new.meter x) c.in-Ok.is c.in_ok-why.ensures.filled in
+    rw (p.1, p.2) (build_lost c.args.number c.args.query c.args.new best c.args.self c.requires.defined _ _ _ _ c.in-Ok.count f.few f.made f.takes)
 
-pub returns-in_err-why-in-TooMany-clause-step : goal.returns-in_err-why-in-TooMany-clause-step
-returns-in_err-why-in-TooMany-clause-step g c best lined =
-    let p = err_from_is_err_and c.from_residual-in_err-why-in-TooMany.result c.from_residual-in_err-why-in-TooMany.ensures.1 in
-    let e = c.in_ok-build_index.ensures in
-    let made : (origin : Origin) → HoldsOrigin origin c.in_ok-target.target c.in_ok-defined.defined (g.S.Store.content c.args.store.now) → Makes origin c.in_ok-target.target c.in_ok-defined.defined TooMany (g.S.Store.content c.build_index.new.store) =
-    subst (λ (b : Built). (origin : Origin) → HoldsOrigin origin c.in_ok-target.target c.in_ok-defined.defined (g.S.Store.content c.args.store.now) → Makes origin c.in_ok-target.target c.in_ok-defined.defined b (g.S.Store.content c.build_index.new.store)) c.in-TooMany.is e.made in
-    rw (p.1, p.2) (too_many_lost c.args.number c.args.query c.args.new best c.args.self c.requires.defined _ _ _ _
-    (moved (λ t q. (origin : Origin) → HoldsOrigin origin t q (g.S.Store.content c.args.store.now) → Makes origin t q TooMany (g.S.Store.content c.build_index.new.store)) c.in_ok-target.ensures c.in_ok-defined.ensures made) (e.unchanged c.in-TooMany.is) (subst (λ (b : Built). TakesBuild b c.args.meter.now c.build_index.new.meter) c.in-TooMany.is e.takes))
+pub returns-in-Err-clause-step : goal.returns-in-Err-clause-step
+returns-in-Err-clause-step g c best lined =
+    let f = subst (λ (x : Result ℕ Refusal). FillsIndex c.args.self c.args.query c.args.new (g.S.Store.content c.args.store.now) (g.S.Store.content c.fill_index.new.store) c.args.meter.now c.fill_index.new.meter x) c.in-Err.is c.in_ok-why.ensures.filled in
+    rw c.too_many_report.ensures (too_many_done c.args.number c.args.query c.args.new best c.args.self c.requires.defined _ _ _ _ c.in-Err.why f.refused.0 f.made f.refused.1 f.takes)
 
-pub returns-in_err-planned-in-Rows-clause-step : goal.returns-in_err-planned-in-Rows-clause-step
-returns-in_err-planned-in-Rows-clause-step g c best lined =
-    let p = err_from_is_err_and c.from_residual-in_err-planned-in-Rows.result c.from_residual-in_err-planned-in-Rows.ensures.1 in
-    let e = c.in_ok-build_index.ensures in
-    let made : (origin : Origin) → HoldsOrigin origin c.in_ok-target.target c.in_ok-defined.defined (g.S.Store.content c.args.store.now) → Makes origin c.in_ok-target.target c.in_ok-defined.defined (Filled c.in-Rows.count) (g.S.Store.content c.build_index.new.store) =
-    subst (λ (b : Built). (origin : Origin) → HoldsOrigin origin c.in_ok-target.target c.in_ok-defined.defined (g.S.Store.content c.args.store.now) → Makes origin c.in_ok-target.target c.in_ok-defined.defined b (g.S.Store.content c.build_index.new.store)) c.in-Rows.is e.made in
-    rw (p.1, p.2) (build_lost c.args.number c.args.query c.args.new best c.args.self c.requires.defined _ _ _ _ c.in-Rows.count (subst IsFew c.in-Rows.is e.few)
-    (moved (λ t q. (origin : Origin) → HoldsOrigin origin t q (g.S.Store.content c.args.store.now) → Makes origin t q (Filled c.in-Rows.count) (g.S.Store.content c.build_index.new.store)) c.in_ok-target.ensures c.in_ok-defined.ensures made) (subst (λ (b : Built). TakesBuild b c.args.meter.now c.build_index.new.meter) c.in-Rows.is e.takes))
-
-pub returns-in_ok-why-in-TooMany-clause-step : goal.returns-in_ok-why-in-TooMany-clause-step
-returns-in_ok-why-in-TooMany-clause-step g c best lined =
-    let e = c.in_ok-build_index.ensures in
-    let made : (origin : Origin) → HoldsOrigin origin c.in_ok-target.target c.in_ok-defined.defined (g.S.Store.content c.args.store.now) → Makes origin c.in_ok-target.target c.in_ok-defined.defined TooMany (g.S.Store.content c.build_index.new.store) =
-    subst (λ (b : Built). (origin : Origin) → HoldsOrigin origin c.in_ok-target.target c.in_ok-defined.defined (g.S.Store.content c.args.store.now) → Makes origin c.in_ok-target.target c.in_ok-defined.defined b (g.S.Store.content c.build_index.new.store)) c.in-TooMany.is e.made in
-    rw c.too_many_report.ensures (too_many_done c.args.number c.args.query c.args.new best c.args.self c.requires.defined _ _ _ _ c.in_ok-why-in-TooMany.why c.in_ok-why-in-TooMany.ensures
-    (moved (λ t q. (origin : Origin) → HoldsOrigin origin t q (g.S.Store.content c.args.store.now) → Makes origin t q TooMany (g.S.Store.content c.build_index.new.store)) c.in_ok-target.ensures c.in_ok-defined.ensures made) (e.unchanged c.in-TooMany.is) (subst (λ (b : Built). TakesBuild b c.args.meter.now c.build_index.new.meter) c.in-TooMany.is e.takes))
-
-pub returns-in_ok-planned-in-Rows-clause-step : goal.returns-in_ok-planned-in-Rows-clause-step
-returns-in_ok-planned-in-Rows-clause-step g c best lined =
-    let e = c.in_ok-build_index.ensures in
-    let made : (origin : Origin) → HoldsOrigin origin c.in_ok-target.target c.in_ok-defined.defined (g.S.Store.content c.args.store.now) → Makes origin c.in_ok-target.target c.in_ok-defined.defined (Filled c.in-Rows.count) (g.S.Store.content c.build_index.new.store) =
-    subst (λ (b : Built). (origin : Origin) → HoldsOrigin origin c.in_ok-target.target c.in_ok-defined.defined (g.S.Store.content c.args.store.now) → Makes origin c.in_ok-target.target c.in_ok-defined.defined b (g.S.Store.content c.build_index.new.store)) c.in-Rows.is e.made in
-    rw (c.build_report.ensures, c.in_ok-planned-in-Rows.ensures) (build_done c.args.number c.args.query c.args.new best c.args.self c.requires.defined _ _ _ _ c.in-Rows.count c.args.lines (subst IsFew c.in-Rows.is e.few) lined
-    (moved (λ t q. (origin : Origin) → HoldsOrigin origin t q (g.S.Store.content c.args.store.now) → Makes origin t q (Filled c.in-Rows.count) (g.S.Store.content c.build_index.new.store)) c.in_ok-target.ensures c.in_ok-defined.ensures made) (subst (λ (b : Built). TakesBuild b c.args.meter.now c.build_index.new.meter) c.in-Rows.is e.takes))
+pub returns-in_ok-planned-in-Ok-clause-step : goal.returns-in_ok-planned-in-Ok-clause-step
+returns-in_ok-planned-in-Ok-clause-step g c best lined =
+    let f = subst (λ (x : Result ℕ Refusal). FillsIndex c.args.self c.args.query c.args.new (g.S.Store.content c.args.store.now) (g.S.Store.content c.fill_index.new.store) c.args.meter.now c.fill_index.new.meter x) c.in-Ok.is c.in_ok-why.ensures.filled in
+    rw (c.build_report.ensures, c.in_ok-planned-in-Ok.ensures) (build_done c.args.number c.args.query c.args.new best c.args.self c.requires.defined _ _ _ _ c.in-Ok.count c.args.lines f.few lined f.made f.takes)
