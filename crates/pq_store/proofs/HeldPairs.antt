@@ -50,7 +50,7 @@ module _ (bytes key value : List ℕ) (is : bytes ≡ (len_bytes (length key) ++
 
 -- ---- ranges
 
-pub not_past : (key high : List ℕ) → not (is_le (key_cmp high key)) ≡ is_lt (key_cmp key high)
+not_past : (key high : List ℕ) → not (is_le (key_cmp high key)) ≡ is_lt (key_cmp key high)
 not_past key high = grind (arith, turned key high)
 
 -- a range that ends where it begins or before has no pairs
@@ -72,7 +72,7 @@ runs_forward low high start end starts ends = rw (starts, ends) (forward (key_cm
     forward Greater is = ap is_gt (itself low)
 
 -- and have the pairs of the range
-pub within_end : (low high : List ℕ) (pairs : Pairs) → filter (is_within low (end_of low high)) pairs ≡ filter (is_within low high) pairs
+within_end : (low high : List ℕ) (pairs : Pairs) → filter (is_within low (end_of low high)) pairs ≡ filter (is_within low high) pairs
 within_end low high pairs =
     elim (is_lt (key_cmp low high)) as (λ b. is_lt (key_cmp low high) ≡ b → filter (is_within low (cond b high low)) pairs ≡ filter (is_within low high) pairs) [
       | true ↦ λ is. refl

@@ -1,8 +1,7 @@
 -- The two parts of a store in memory: the pairs with keys below a first late one, and the others.
 use Rattle.std.specs.Prelude.{map, ℕ, Bool, true, ◌&&◌, not, List, [], ◌∷◌, ◌++◌}
-use Rattle.std.specs.Option.{unwrap_or}
 use Rattle.std.specs.Ordering.{is_le}
-use Rattle.std.specs.FinMap.{entries, keys, get, from_sorted, from_entries}
+use Rattle.std.specs.FinMap.{entries, insert, from_sorted, from_entries}
 use Rattle.pq_store.specs.Content.{Content, key_cmp}
 
 -- the first key of the second part of a store in memory, and of the second part of that one
@@ -34,13 +33,11 @@ both_contents early late = from_sorted (entries early ++ entries late)
 abbrev pub pair_bytes : {K X : Type 0} → (K → List ℕ) → (X → List ℕ) → K × X → List ℕ × List ℕ
 pair_bytes key_bytes value_bytes pair = (key_bytes pair.0, value_bytes pair.1)
 
--- keys with what a content has at them
-abbrev pub filled : Content → List (List ℕ) → List (List ℕ × List ℕ)
-filled content keys = map (λ key. (key, unwrap_or (get content key) [])) keys
-
--- the content of pairs in any order, and the keys of a content in theirs
+-- the content of pairs in any order
 abbrev pub content_of : {K X : Type 0} → (K → List ℕ) → (X → List ℕ) → List (K × X) → Content
 content_of key_bytes value_bytes pairs = from_entries (map (pair_bytes key_bytes value_bytes) pairs)
 
-abbrev pub keys_in : Content → List (List ℕ)
-keys_in content = keys content
+-- a content after pairs that are put in turn
+abbrev pub poured : Content → List (List ℕ × List ℕ) → Content
+poured content [] = content
+poured content (pair ∷ pairs) = poured (insert content pair.0 pair.1) pairs

@@ -22,11 +22,13 @@ use std::sync::ledger::Ledger;
 
 /// A store in memory, which tells its content and never fails. A look-up and a write take
 /// logarithmically many comparisons in the number of pairs, a range and a count besides as many steps
-/// as they answer entries. The number of a counter is found by a hash of its key, without a search.
+/// as they answer entries. The number of a counter is found by a hash of its key, without a search; a
+/// range and a count that have numbers in them put all of these into order first.
 ///
-/// The pairs are in two parts, by the first bytes of their keys. Rows and entries of indexes stand in the early one, which
-/// has each in one piece of memory. The intent and the numbers of counters are written over more often than others. They
-/// stand in the late one, where no search for them passes a row.
+/// The pairs are in two parts, by the first bytes of their keys. Rows and entries of indexes stand in
+/// the early one, which has each in one piece of memory. The intent and the numbers of counters are
+/// written over more often than others. They stand in the late one, where no search for them passes a
+/// row.
 #[derive(Drop)]
 pub struct MemStore {
     early: PairTree,
@@ -49,7 +51,8 @@ impl Model for MemStore {
 
     ghost view = { λ a. both_contents a.early a.late };
 
-    ghost invariant = { λ a. IsTrue (are_before first_late (entries a.early)) × IsTrue (are_from first_late (entries a.late)) };
+    ghost invariant = { λ a. IsTrue (are_before first_late (entries a.early))
+        × IsTrue (are_from first_late (entries a.late)) };
 }
 
 // Whether a key belongs into the late part: from the first byte 4 on, which no row and no entry of an index has.

@@ -141,7 +141,7 @@ pub(crate) fn vec_of(alloc: Global, bytes: &[u8]) -> Result<Vec<u8>, NoMem>
 }
 
 // The bounds of a range from a low key up to a high one. Where that is below the low one, they are both the low one.
-pub(crate) fn bounds_of(alloc: Global, low: &[u8], high: &[u8]) -> Result<Range<Vec<u8>>, NoMem>
+fn bounds_of(alloc: Global, low: &[u8], high: &[u8]) -> Result<Range<Vec<u8>>, NoMem>
     ensures start { IfOk result (λ bounds. bounds.start.items ≡ low.now) }
     ensures end { IfOk result (λ bounds. bounds.end.items
         ≡ (if is_lt (key_cmp low.now high.now) then high.now else low.now)) }
