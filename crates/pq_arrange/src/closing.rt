@@ -341,6 +341,7 @@ pub(crate) fn closed(alloc: Global, catalog: &Catalog, query: Query) -> Result<Q
     requires { IsQuery catalog.now.tables query }
     ensures { IfOk result (λ found. found ≡ closed_query catalog.now.tables query) }
 {
-    let preds = closed_preds(alloc, catalog, &query)?;
-    Ok(Query { preds, ..query })
+    let mut query = query;
+    query.preds = closed_preds(alloc, catalog, &query)?;
+    Ok(query)
 }

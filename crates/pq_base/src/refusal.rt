@@ -3,7 +3,7 @@ use crate::list::NoMem;
 use crate::text::PText;
 
 /// A refusal. A refused statement changes nothing. Names are in small letters.
-#[derive(Debug, Drop)]
+#[derive(Debug)]
 pub enum Refusal {
     /// E101: the piece isn't UTF-8.
     NotUtf8,
@@ -70,6 +70,65 @@ pub enum Refusal {
     RowLong { table: PText, length: u32 },
     /// E510: a group of this counter that would grow has the greatest number of rows.
     CounterFull { name: PText },
+}
+
+// Written out, so that whoever drops a refusal makes one call for it.
+impl Drop for Refusal {
+    fn drop(self) {
+        match self {
+            Refusal::NotUtf8 => {}
+            Refusal::Unfinished => {}
+            Refusal::StatementLong => {}
+            Refusal::Syntax { at: _at } => {}
+            Refusal::NameTaken { name: _name } => {}
+            Refusal::NoTable { name: _name } => {}
+            Refusal::NoColumn { name: _name } => {}
+            Refusal::Repeated { name: _name } => {}
+            Refusal::ForeignShape { number: _number } => {}
+            Refusal::Count { word: _word } => {}
+            Refusal::TooManyRows { table: _table } => {}
+            Refusal::NullableKey { name: _name } => {}
+            Refusal::NotEmpty { table: _table } => {}
+            Refusal::Alias { name: _name } => {}
+            Refusal::OperandKind { pred: _pred } => {}
+            Refusal::Params => {}
+            Refusal::NoBound { alias: _alias } => {}
+            Refusal::BoundLarge {
+                ops: _ops,
+                entries: _entries,
+            } => {}
+            Refusal::NoQuery { name: _name } => {}
+            Refusal::ParamValue { number: _number } => {}
+            Refusal::Cursor => {}
+            Refusal::NotPaged => {}
+            Refusal::NoCounter { name: _name } => {}
+            Refusal::ValueKind {
+                table: _table,
+                column: _column,
+            } => {}
+            Refusal::WrongColumns { table: _table } => {}
+            Refusal::DuplicateKey { table: _table } => {}
+            Refusal::NoRow { table: _table } => {}
+            Refusal::NoParent {
+                table: _table,
+                number: _number,
+            } => {}
+            Refusal::Referenced {
+                table: _table,
+                number: _number,
+            } => {}
+            Refusal::Cardinality {
+                table: _table,
+                number: _number,
+                n: _n,
+            } => {}
+            Refusal::RowLong {
+                table: _table,
+                length: _length,
+            } => {}
+            Refusal::CounterFull { name: _name } => {}
+        }
+    }
 }
 
 /// Why a call that may refuse gave no answer.

@@ -5,6 +5,7 @@ ghost use Rattle.pq_schema.specs.Schema.{empty_schema, definition_at, def_of, fi
 ghost use Rattle.indexmap.specs.IndexMap.{get_by_text, spare};
 ghost use Rattle.pq_schema.specs.Tables.{table_at, referring_limits, foreign_to};
 ghost use Rattle.pq_schema.specs.Valid.{IsValid, IsDefined};
+ghost use Rattle.pq_schema.specs.declared.made.Definition.TheVariants.{OfTable};
 
 use crate::counter::{Counter, CounterNumbers};
 use crate::made::{Def, Definition, Made};
@@ -16,7 +17,7 @@ use std::alloc::Global;
 use std::marker::Model;
 
 /// The tables, queries, added columns and counters that are defined: at most 64 tables and 256 definitions.
-#[derive(Debug, Drop)]
+#[derive(Debug)]
 pub struct Catalog {
     tables: Vec<Table>,
     definitions: Vec<Definition>,
@@ -24,6 +25,18 @@ pub struct Catalog {
     table_numbers: IndexMap<String, u8>,
     /// The numbers of the queries among the definitions, by their names.
     query_numbers: IndexMap<String, u16>,
+}
+
+// Written out, so that whoever drops a catalog makes one call for it.
+impl Drop for Catalog {
+    fn drop(self) {
+        let Catalog {
+            tables: _tables,
+            definitions: _definitions,
+            table_numbers: _table_numbers,
+            query_numbers: _query_numbers,
+        } = self;
+    }
 }
 
 impl Model for Catalog {
@@ -117,6 +130,19 @@ fn made_by(wanted: &Option<NewIndex>) -> Option<Made>
     }
 }
 
+/// The definition of the table of this number.
+fn made_table(number: u8, table: &Table) -> Definition
+    requires columns { length table.now.columns ≤ 32 }
+    requires indexes { length table.now.indexes ≤ 16 }
+    ensures { result ≡ OfTable number (length table.now.columns) (length table.now.indexes) }
+{
+    Definition::OfTable {
+        table: number,
+        columns: table.columns.items().len() as u8,
+        made: table.indexes.items().len() as u8,
+    }
+}
+
 /// Puts an item behind the others, where there is room for it.
 fn put_last<T: Drop>(items: &mut Vec<T>, item: T)
     requires { length items.old.items < vec_capacity items.old }
@@ -126,6 +152,21 @@ fn put_last<T: Drop>(items: &mut Vec<T>, item: T)
         Ok(()) => {}
         Err(_) => unreachable!(),
     }
+}
+
+/// Makes room for an item more and for the number of a name more.
+fn make_room<T: Drop, N: Drop>(
+    items: &mut Vec<T>,
+    numbers: &mut IndexMap<String, N>,
+) -> Result<(), NoMem>
+    ensures items { items.new.items ≡ items.old.items }
+    ensures numbers { numbers.new.entries ≡ numbers.old.entries }
+    ensures item { OnOk result (length items.new.items < vec_capacity items.new) }
+    ensures number { OnOk result (0 < spare numbers.new) }
+{
+    items.reserve(1)?;
+    numbers.reserve(1)?;
+    Ok(())
 }
 
 /// Puts a number under a name that has none, where there is room for it.
@@ -365,16 +406,10 @@ impl Catalog {
     {
         let name = String::from_str(alloc, table.name.as_str())?;
         let number = self.tables.len() as u8 + 1;
-        let definition = Definition::OfTable {
-            table: number,
-            columns: table.columns.items().len() as u8,
-            made: table.indexes.items().len() as u8,
-        };
         self.tables.reserve(1)?;
-        self.definitions.reserve(1)?;
-        self.table_numbers.reserve(1)?;
+        make_room(&mut self.definitions, &mut self.table_numbers)?;
+        put_last(&mut self.definitions, made_table(number, &table));
         put_last(&mut self.tables, table);
-        put_last(&mut self.definitions, definition);
         put_number(&mut self.table_numbers, name, number);
         Ok(())
     }
@@ -395,8 +430,7 @@ impl Catalog {
         let name = String::from_str(alloc, query.name.as_str())?;
         let number = self.definitions.len() as u16 + 1;
         let made = made_by(&wanted);
-        self.definitions.reserve(1)?;
-        self.query_numbers.reserve(1)?;
+        make_room(&mut self.definitions, &mut self.query_numbers)?;
         put_wanted(alloc, &mut self.tables, wanted)?;
         put_last(&mut self.definitions, Definition::OfQuery { query, made });
         put_number(&mut self.query_numbers, name, number);

@@ -27,13 +27,26 @@ pub struct ForeignDef {
 }
 
 /// A table. Names are in small letters.
-#[derive(Debug, Drop)]
+#[derive(Debug)]
 pub struct TableDef {
     pub name: PText,
     pub columns: List<ColumnDef>,
     pub key: List<PText>,
     pub limits: List<LimitDef>,
     pub foreign: List<ForeignDef>,
+}
+
+// Written out, so that whoever drops a definition makes one call for it.
+impl Drop for TableDef {
+    fn drop(self) {
+        let TableDef {
+            name: _name,
+            columns: _columns,
+            key: _key,
+            limits: _limits,
+            foreign: _foreign,
+        } = self;
+    }
 }
 
 /// A column that comes behind those of a table, with the value that it has in the rows that are there.

@@ -19,7 +19,7 @@ put_number-requires-clause-free c =
     let inside = c.self.inside in
     let schema : Schema = record { tables = inside.tables.items; definitions = inside.definitions.items } in
     let free : is_taken schema c.args.query.name ≡ false = subst (λ (s : Schema). is_taken s c.args.query.name ≡ false) (sym c.self.view_is) c.requires.free in
-    rw (c.reserve-2.ensures.entries, c.in_ok-name.ensures.ok, c.as_str.ensures)
+    rw (c.make_room.ensures.numbers, c.in_ok-name.ensures.ok, c.as_str.ensures)
     (no_query_number schema inside.table_numbers.entries inside.query_numbers.entries c.self.invariant.1 c.args.query.name free)
 
 pub returns-clause-ok : goal.returns-clause-ok
@@ -28,7 +28,7 @@ returns-clause-ok c =
     let definition = OfQuery c.args.query (option_map made_of c.args.wanted) in
     let tables = c.in_ok-put_wanted.ensures.ok ∙ ap (λ (s : Schema). with_wanted s.tables c.args.wanted) c.self.view_is in
     let last : c.put_last.new.items.items ≡ inside.definitions.items ++ definition ∷ [] =
-    c.put_last.ensures ∙ (λ i. c.reserve.ensures.items i ++ OfQuery c.args.query (c.made_by-made.ensures i) ∷ []) in
+    c.put_last.ensures ∙ (λ i. c.make_room.ensures.items i ++ OfQuery c.args.query (c.made_by-made.ensures i) ∷ []) in
     let definitions = last ∙ ap (λ (s : Schema). s.definitions ++ definition ∷ []) c.self.view_is in
     λ i. record { tables = tables i; definitions = definitions i }
 
@@ -44,7 +44,7 @@ invariant_of-self-2 c =
     let whole = returns-clause-ok c in
     let long : c.len.result ≡ length inside.definitions.items = search rules in
     let numbers : c.put_number.new.numbers.entries ≡ qns ++ (name, length inside.definitions.items + 1) ∷ [] =
-    c.put_number.ensures ∙ (λ i. c.reserve-2.ensures.entries i ++ (name, long i + 1) ∷ []) in
+    c.put_number.ensures ∙ (λ i. c.make_room.ensures.numbers i ++ (name, long i + 1) ∷ []) in
     catalog_as next _ _ _ tns _ (qns ++ (name, length now.definitions + 1) ∷ [])
     (ap (λ (s : Schema). s.tables) whole) (ap (λ (s : Schema). s.definitions) whole) (λ _. tns)
     (numbers ∙ ap (λ (s : Schema). qns ++ (name, length s.definitions + 1) ∷ []) c.self.view_is)

@@ -15,8 +15,8 @@ invariant_of-self-2 c =
     let tns = inside.table_numbers.entries in
     let qns = inside.query_numbers.entries in
     let definition = OfTable (length inside.tables.items + 1) (length table.columns) (length table.indexes) in
-    let tables : c.put_last.new.items.items ≡ inside.tables.items ++ table ∷ [] = search rules in
-    let definitions : c.put_last-2.new.items.items ≡ inside.definitions.items ++ definition ∷ [] = search rules in
+    let tables : c.put_last-2.new.items.items ≡ inside.tables.items ++ table ∷ [] = search rules in
+    let definitions : c.put_last.new.items.items ≡ inside.definitions.items ++ definition ∷ [] = search rules in
     let numbers : c.put_number.new.numbers.entries ≡ tns ++ (name, length inside.tables.items + 1) ∷ [] = search rules in
     catalog_as (with_table now table) _ _ _ (tns ++ (name, length now.tables + 1) ∷ []) _ qns
     (tables ∙ ap (λ (s : Schema). s.tables ++ table ∷ []) c.self.view_is)
