@@ -129,5 +129,31 @@ class MutantsTest(unittest.TestCase):
         self.assertEqual((self.top / "crates/low/out/rlib/stamp").read_text(), "kept")
 
 
+def misplaced(repository: Repository, crate: str, edit: pathlib.Path) -> list[str]:
+    """The old lines of a wrong body that don't stand once in their file as its earlier pairs left it."""
+    found, texts, name, old = [], {}, "", ""
+    for line in edit.read_text().splitlines():
+        word, _, text = line.partition(":")
+        text = text.removeprefix(" ")
+        if word == "file":
+            name = text
+            texts[name] = (repository.folder(crate) / name).read_text()
+        elif word == "old":
+            old = text
+            found += [old] if texts[name].count(old) != 1 else []
+        else:
+            texts[name] = texts[name].replace(old, text)
+    return found
+
+
+class WrongBodiesOfTheRepositoryTest(unittest.TestCase):
+    def test_each_has_a_place(self) -> None:
+        repository = Repository()
+        for crate in repository.uses:
+            for edit in repository.edits(crate):
+                with self.subTest(f"{crate}/{edit.stem}"):
+                    self.assertEqual(misplaced(repository, crate, edit), [])
+
+
 if __name__ == "__main__":
     unittest.main()
