@@ -16,7 +16,7 @@ use pq_stop_push::has_candidate;
 use std::alloc::Global;
 
 /// A query with its relations in another order.
-#[derive(Debug, Drop)]
+#[derive(Drop)]
 pub struct Rearranged {
     pub query: Query,
     /// The new number of each relation of the old query, in the order of these.

@@ -3,7 +3,6 @@ use crate::list::NoMem;
 use crate::text::PText;
 
 /// A refusal. A refused statement changes nothing. Names are in small letters.
-#[derive(Debug)]
 pub enum Refusal {
     /// E101: the piece isn't UTF-8.
     NotUtf8,
@@ -132,7 +131,7 @@ impl Drop for Refusal {
 }
 
 /// Why a call that may refuse gave no answer.
-#[derive(Debug, Drop)]
+#[derive(Drop)]
 pub enum Stopped {
     Refused(Refusal),
     NoMem,

@@ -6,7 +6,7 @@ use std::alloc::Global;
 use std::marker::Model;
 
 /// A text of UTF-8 bytes.
-#[derive(Debug, Drop)]
+#[derive(Drop)]
 pub struct PText {
     text: String,
 }

@@ -9,7 +9,7 @@ use std::alloc::Global;
 use std::cmp::Ordering;
 
 /// A value of a column.
-#[derive(Debug, Drop)]
+#[derive(Drop)]
 pub enum Value {
     Null,
     Int(i64),
@@ -21,7 +21,7 @@ pub enum Value {
 pub type Row = List<Value>;
 
 /// The type of a column or of a parameter.
-#[derive(Debug, Clone, Copy, PartialEq, Eq)]
+#[derive(Clone, Copy, PartialEq, Eq)]
 pub enum ColType {
     Int,
     Bool,
@@ -34,7 +34,7 @@ pub enum ColType {
 }
 
 /// The kind of a value, or of the values of a type. NULL has none.
-#[derive(Debug, Clone, Copy, PartialEq, Eq)]
+#[derive(Clone, Copy, PartialEq, Eq)]
 pub enum DataKind {
     Int,
     Bool,
@@ -42,7 +42,7 @@ pub enum DataKind {
 }
 
 /// The direction of an order by one column.
-#[derive(Debug, Clone, Copy, PartialEq, Eq)]
+#[derive(Clone, Copy, PartialEq, Eq)]
 pub enum Dir {
     Asc,
     Desc,

@@ -21,7 +21,7 @@ use std::alloc::Global;
 use std::sync::ledger::Ledger;
 
 /// What a build made: an index over so many rows, or nothing, since the table has too many.
-#[derive(Clone, Copy, Debug, PartialEq, Eq)]
+#[derive(Clone, Copy, PartialEq, Eq)]
 pub enum Built {
     Rows(u32),
     TooMany,

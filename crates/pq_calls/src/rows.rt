@@ -20,7 +20,7 @@ use std::alloc::Global;
 use std::sync::ledger::Ledger;
 
 /// A row that is there, and its key in the store.
-#[derive(Debug, Drop)]
+#[derive(Drop)]
 pub struct StoredRow {
     pub at: Bytes,
     pub row: Row,

@@ -5,7 +5,7 @@ use pq_base::NoMem;
 use pq_store::StoreErr;
 
 /// Why a step ended without its call's answer.
-#[derive(Debug, Clone, Copy, PartialEq, Eq)]
+#[derive(Clone, Copy, PartialEq, Eq)]
 pub enum Halt {
     /// The call of the store failed.
     Failed,

@@ -19,7 +19,7 @@ use pq_stop_push::{Candidate, candidates};
 use std::alloc::Global;
 
 /// The plan of a query, the candidate that it was made for, and the index that it wants.
-#[derive(Debug, Drop)]
+#[derive(Drop)]
 pub struct Compiled {
     pub plan: BoundedPlan,
     pub choice: Choice,

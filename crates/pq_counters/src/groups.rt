@@ -18,7 +18,7 @@ use std::alloc::Global;
 use std::sync::ledger::Ledger;
 
 /// The key of a group, and the number of its rows.
-#[derive(Debug, Drop)]
+#[derive(Drop)]
 pub(crate) struct GroupCount {
     pub at: Bytes,
     pub count: u64,

@@ -3,14 +3,14 @@ use pq_base::{List, PText, Value};
 use pq_schema::{AlterDef, CounterDef, TableDef};
 
 /// A column and the value that it is to have.
-#[derive(Debug, Drop)]
+#[derive(Drop)]
 pub struct Assign {
     pub col: PText,
     pub value: Value,
 }
 
 /// A statement. Names are in small letters.
-#[derive(Debug, Drop)]
+#[derive(Drop)]
 pub enum Statement {
     /// CREATE TABLE.
     Create(TableDef),

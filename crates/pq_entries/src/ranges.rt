@@ -71,7 +71,7 @@ pub fn range_rows<S: Store<L>, L: Ledger>(
 }
 
 /// What the values of a sequence's keys are read by: their types and directions.
-#[derive(Debug, Drop)]
+#[derive(Drop)]
 struct KeyShape {
     types: List<ColType>,
     dirs: List<Dir>,

@@ -23,7 +23,7 @@ use std::alloc::Global;
 use std::sync::ledger::Ledger;
 
 /// The rows of an answer, the position of the last one, and what was used of the store.
-#[derive(Debug, Drop)]
+#[derive(Drop)]
 pub struct Answer {
     /// The selected columns.
     pub rows: List<Row>,

@@ -3,7 +3,7 @@ ghost use Rattle.std.specs.Prelude.{◌≡◌};
 ghost use Rattle.pq_fill.specs.Script.{script_definition, item_kind};
 
 /// A statement that defines a table or the query.
-#[derive(Clone, Copy, Debug, PartialEq, Eq)]
+#[derive(Clone, Copy, PartialEq, Eq)]
 pub enum Definition {
     Users,
     Subs,
@@ -12,7 +12,7 @@ pub enum Definition {
 }
 
 /// A statement of the script. Users are numbered from 0.
-#[derive(Clone, Copy, Debug, PartialEq, Eq)]
+#[derive(Clone, Copy, PartialEq, Eq)]
 pub enum Item {
     Definition(Definition),
     /// A user is inserted.
@@ -33,7 +33,7 @@ pub enum Item {
 }
 
 /// What a statement of the script is counted as, where it is accepted.
-#[derive(Clone, Copy, Debug, PartialEq, Eq)]
+#[derive(Clone, Copy, PartialEq, Eq)]
 pub enum Kind {
     /// A CREATE TABLE or the PREPARE: not counted.
     Definition,

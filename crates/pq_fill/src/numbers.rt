@@ -10,14 +10,14 @@ use pq_base::{Bound, Row, Used, Value};
 use pq_print::{End, Line, Report};
 
 /// What all reports used together.
-#[derive(Clone, Copy, Debug)]
+#[derive(Clone, Copy)]
 pub struct Total {
     pub ops: u128,
     pub entries: u128,
 }
 
 /// The numbers of the reports that were noted.
-#[derive(Clone, Copy, Debug)]
+#[derive(Clone, Copy)]
 pub struct Numbers {
     /// How many reports were noted.
     pub reports: u32,

@@ -11,7 +11,7 @@ use std::alloc::{AllocError, Global};
 use std::marker::Model;
 
 /// The summary of the reports that were noted. It keeps numbers alone.
-#[derive(Debug, Drop)]
+#[derive(Drop)]
 pub struct Summary {
     numbers: Numbers,
 }

@@ -7,7 +7,7 @@ use itoa::Buffer;
 use pq_base::PText;
 
 /// What a run is asked for.
-#[derive(Clone, Copy, Debug, PartialEq, Eq)]
+#[derive(Clone, Copy, PartialEq, Eq)]
 pub enum Form {
     /// `run`: the script that is read is run over the store.
     Run,

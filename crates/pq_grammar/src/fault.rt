@@ -5,7 +5,7 @@ ghost use Rattle.pq_grammar.specs.declared.fault.ReadError.TheVariants.{NoMem as
 use pq_base::NoMem;
 
 /// Why a reader answered nothing.
-#[derive(Debug, Drop)]
+#[derive(Drop)]
 pub enum ReadError {
     /// There was no memory.
     NoMem,

@@ -15,7 +15,7 @@ const FAILED: u8 = 0;
 const DONE: u8 = 1;
 
 /// What the head of an answer says.
-#[derive(Clone, Copy, Debug, PartialEq, Eq)]
+#[derive(Clone, Copy, PartialEq, Eq)]
 pub(crate) enum Head {
     /// What was asked is done, and a body of so many bytes comes.
     Done(u32),
@@ -24,7 +24,7 @@ pub(crate) enum Head {
 }
 
 /// Why nothing was read in the body of an answer.
-#[derive(Clone, Copy, Debug, PartialEq, Eq)]
+#[derive(Clone, Copy, PartialEq, Eq)]
 pub(crate) enum Unread {
     /// It says nothing that answers its request.
     Malformed,

@@ -17,7 +17,7 @@ pub(crate) const PIECE: usize = 65_536;
 pub(crate) const MOST: usize = 16_777_213;
 
 /// What a host is asked.
-#[derive(Clone, Copy, Debug, PartialEq, Eq)]
+#[derive(Clone, Copy, PartialEq, Eq)]
 pub(crate) enum Op {
     /// For more of the script.
     Read,

@@ -32,7 +32,7 @@ use std::alloc::Global;
 use std::sync::ledger::Ledger;
 
 /// The changes that a write makes, or its refusal.
-#[derive(Debug, Drop)]
+#[derive(Drop)]
 pub enum Planned {
     Changes(List<Change>),
     Refused(Refusal),
@@ -40,7 +40,7 @@ pub enum Planned {
 
 /// The plan of a write, the row that was read for it, which is the old one of an UPDATE or DELETE, and the row that an
 /// UPDATE puts in its place.
-#[derive(Debug, Drop)]
+#[derive(Drop)]
 pub struct PlannedWrite {
     pub planned: Planned,
     pub old: Option<Row>,

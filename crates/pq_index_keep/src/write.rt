@@ -5,14 +5,14 @@ ghost use Rattle.pq_index_keep.specs.Tested.{touches, scope_of};
 use pq_base::{ColSet, List, Row, Value};
 
 /// A column and the value that it is to have.
-#[derive(Debug, Drop)]
+#[derive(Drop)]
 pub struct SetCol {
     pub col: u8,
     pub value: Value,
 }
 
 /// An INSERT, UPDATE or DELETE of one row.
-#[derive(Debug, Drop)]
+#[derive(Drop)]
 pub enum Write {
     /// The row, with a value for each column.
     Insert {

@@ -31,7 +31,7 @@ use std::alloc::Global;
 use std::sync::ledger::Ledger;
 
 /// What a limit range goes over, whatever the input.
-#[derive(Debug, Drop)]
+#[derive(Drop)]
 struct LimitRange {
     rel: u8,
     limit: u8,

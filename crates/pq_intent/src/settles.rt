@@ -21,7 +21,7 @@ use std::alloc::Global;
 use std::sync::ledger::Ledger;
 
 /// How many changes the intent had that was found, 0 where there was none, and what was used.
-#[derive(Debug, Drop)]
+#[derive(Drop)]
 pub struct Settled {
     pub changes: u32,
     pub used: Used,

@@ -22,7 +22,7 @@ use std::alloc::Global;
 use std::sync::ledger::Ledger;
 
 /// What an opened store has: the catalog with its plans, and how many definitions were found.
-#[derive(Debug, Drop)]
+#[derive(Drop)]
 pub struct Begun {
     pub planned: PlannedCatalog,
     pub defs: u16,

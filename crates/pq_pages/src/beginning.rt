@@ -49,7 +49,7 @@ pub fn check_params(types: &[ColType], values: &[Value]) -> Result<(), Stopped>
 }
 
 /// What the values of a position are read by: their types and directions.
-#[derive(Debug, Drop)]
+#[derive(Drop)]
 pub(crate) struct PositionShape {
     pub types: List<ColType>,
     pub dirs: List<Dir>,

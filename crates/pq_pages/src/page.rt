@@ -26,7 +26,7 @@ use std::sync::ledger::Ledger;
 
 /// The rows of a page, and the cursor of the next one where the page is full; the bound of the query, and
 /// what was used of it.
-#[derive(Debug, Drop)]
+#[derive(Drop)]
 pub struct Page {
     pub rows: List<Row>,
     pub next: Option<PText>,

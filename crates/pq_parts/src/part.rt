@@ -11,7 +11,7 @@ use std::alloc::Global;
 use std::sync::ledger::Ledger;
 
 /// A node, and the first key of its range.
-#[derive(Debug, Drop)]
+#[derive(Drop)]
 pub struct Part<S> {
     /// The range has the keys from this one on, before that of the next part.
     pub from: Bytes,

@@ -7,7 +7,7 @@ use std::alloc::Global;
 use std::marker::Model;
 
 /// One row for each of the first relations of a query.
-#[derive(Debug, Drop)]
+#[derive(Drop)]
 pub struct Combo {
     pub rows: List<Row>,
 }

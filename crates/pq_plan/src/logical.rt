@@ -1,7 +1,7 @@
 //! Trees that say what a query means.
 
 /// A tree over the relations of a query, which are numbered from 1.
-#[derive(Debug, Drop)]
+#[derive(Drop)]
 pub enum Logical {
     /// The empty combination.
     Unit,

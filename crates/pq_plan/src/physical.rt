@@ -3,7 +3,7 @@
 use pq_schema::Access;
 
 /// A tree of operators. Relations and limits are numbered from 1.
-#[derive(Debug, Drop)]
+#[derive(Drop)]
 pub enum Physical {
     /// The empty combination.
     Unit,

@@ -9,7 +9,7 @@ use pq_base::Bound;
 use std::marker::Model;
 
 /// A tree and the sum over its nodes, seen as the tree.
-#[derive(Debug, Drop)]
+#[derive(Drop)]
 pub struct BoundedPlan {
     tree: Physical,
     bound: Bound,

@@ -11,7 +11,7 @@ use pq_schema::Access;
 use std::alloc::Global;
 
 /// A node of a plan, apart from its tree. Relations and limits are numbered from 1.
-#[derive(Clone, Copy, Debug)]
+#[derive(Clone, Copy)]
 pub enum PlanNode {
     /// The row whose key is tied, for each input.
     Lookup {
@@ -43,7 +43,7 @@ pub enum PlanNode {
 }
 
 /// A node, with its operations and entries, and how many combinations it gives at most.
-#[derive(Clone, Copy, Debug)]
+#[derive(Clone, Copy)]
 pub struct NodeLine {
     pub node: PlanNode,
     pub cost: Bound,

@@ -3,14 +3,14 @@
 use pq_base::{Bound, Choice, Dir, List, PText, Refusal, Row, Used};
 
 /// A column of an index that was made, with its direction.
-#[derive(Debug, Drop)]
+#[derive(Drop)]
 pub struct IndexCol {
     pub name: PText,
     pub dir: Dir,
 }
 
 /// A line of a report before its end line.
-#[derive(Debug, Drop)]
+#[derive(Drop)]
 pub enum Line {
     /// A row of an answer.
     Row(Row),
@@ -34,7 +34,7 @@ pub enum Line {
 }
 
 /// How a statement ended.
-#[derive(Debug, Drop)]
+#[derive(Drop)]
 pub enum End {
     Done,
     /// So many rows, and the cursor of the next page where this one is full.
@@ -43,7 +43,7 @@ pub enum End {
 }
 
 /// The report of a statement, numbered from 1.
-#[derive(Debug, Drop)]
+#[derive(Drop)]
 pub struct Report {
     pub number: u32,
     pub lines: List<Line>,
@@ -53,7 +53,7 @@ pub struct Report {
 }
 
 /// The opening of a store: how many definitions were found.
-#[derive(Debug, Drop)]
+#[derive(Drop)]
 pub struct Opened {
     pub defs: u16,
     pub bound: Bound,

@@ -13,7 +13,7 @@ use pq_schema::{Catalog, Operand, Pred, Relation, same_kind};
 use std::alloc::Global;
 
 /// A parameter where a predicate uses it: its number, and the type of what is compared there.
-#[derive(Clone, Copy, Debug, PartialEq, Eq)]
+#[derive(Clone, Copy, PartialEq, Eq)]
 pub struct ParamUse {
     pub number: u8,
     pub ty: ColType,

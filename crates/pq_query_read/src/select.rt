@@ -3,7 +3,7 @@ use pq_base::{Dir, List, PText, Value};
 use pq_schema::Op;
 
 /// A column by its name, with the relation's alias where it stands before a point.
-#[derive(Debug, Drop)]
+#[derive(Drop)]
 pub struct RefDef {
     /// The name, or where a point follows it the alias.
     pub first: PText,
@@ -12,7 +12,7 @@ pub struct RefDef {
 }
 
 /// A relation of FROM.
-#[derive(Debug, Drop)]
+#[derive(Drop)]
 pub struct RelationDef {
     pub table: PText,
     /// The alias, where one is given.
@@ -20,7 +20,7 @@ pub struct RelationDef {
 }
 
 /// What a column is compared with.
-#[derive(Debug, Drop)]
+#[derive(Drop)]
 pub enum OperandDef {
     Const(Value),
     /// The parameter of this number.
@@ -29,7 +29,7 @@ pub enum OperandDef {
 }
 
 /// A comparison of WHERE.
-#[derive(Debug, Drop)]
+#[derive(Drop)]
 pub struct PredDef {
     pub left: RefDef,
     pub op: Op,
@@ -37,14 +37,14 @@ pub struct PredDef {
 }
 
 /// A column of ORDER BY.
-#[derive(Debug, Drop)]
+#[derive(Drop)]
 pub struct ItemDef {
     pub col: RefDef,
     pub dir: Dir,
 }
 
 /// How many rows are wanted.
-#[derive(Debug, Drop)]
+#[derive(Drop)]
 pub enum StopDef {
     All,
     Limit(i64),
@@ -52,7 +52,7 @@ pub enum StopDef {
 }
 
 /// What is selected.
-#[derive(Debug, Drop)]
+#[derive(Drop)]
 pub enum Selected {
     /// All columns of all relations.
     Star,
@@ -60,7 +60,7 @@ pub enum Selected {
 }
 
 /// A query.
-#[derive(Debug, Drop)]
+#[derive(Drop)]
 pub struct SelectDef {
     pub selected: Selected,
     pub relations: List<RelationDef>,

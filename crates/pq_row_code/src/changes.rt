@@ -12,7 +12,7 @@ use pq_base::{Bytes, List, NoMem};
 use std::alloc::Global;
 
 /// A key of the store and what it is to hold: a new value, or nothing.
-#[derive(Debug, Drop)]
+#[derive(Drop)]
 pub struct Change {
     pub key: Bytes,
     pub new: Option<Bytes>,

@@ -17,7 +17,6 @@ use std::alloc::Global;
 use std::marker::Model;
 
 /// The tables, queries, added columns and counters that are defined: at most 64 tables and 256 definitions.
-#[derive(Debug)]
 pub struct Catalog {
     tables: Vec<Table>,
     definitions: Vec<Definition>,

@@ -5,7 +5,7 @@ use smallvec::SmallVec;
 
 /// A counter has of each group of its table's rows, those with the same values at its columns, the number.
 /// The table is by its number from 1, and the columns by their places from 0.
-#[derive(Debug, Drop)]
+#[derive(Drop)]
 pub struct Counter {
     pub name: PText,
     pub table: u8,

@@ -4,7 +4,7 @@
 use pq_base::{List, PText, Value};
 
 /// A column: its kind is INT, BOOL or TEXT, and its size is that of TEXT, else 0.
-#[derive(Debug, Drop)]
+#[derive(Drop)]
 pub struct ColumnDef {
     pub name: PText,
     pub kind: PText,
@@ -13,21 +13,20 @@ pub struct ColumnDef {
 }
 
 /// A limit: at most n rows without NULL in the columns agree on them.
-#[derive(Debug, Drop)]
+#[derive(Drop)]
 pub struct LimitDef {
     pub n: i64,
     pub cols: List<PText>,
 }
 
 /// A foreign key: the columns name the key of a row of the table.
-#[derive(Debug, Drop)]
+#[derive(Drop)]
 pub struct ForeignDef {
     pub cols: List<PText>,
     pub table: PText,
 }
 
 /// A table. Names are in small letters.
-#[derive(Debug)]
 pub struct TableDef {
     pub name: PText,
     pub columns: List<ColumnDef>,
@@ -50,7 +49,7 @@ impl Drop for TableDef {
 }
 
 /// A column that comes behind those of a table, with the value that it has in the rows that are there.
-#[derive(Debug, Drop)]
+#[derive(Drop)]
 pub struct AlterDef {
     pub table: PText,
     pub column: ColumnDef,
@@ -58,7 +57,7 @@ pub struct AlterDef {
 }
 
 /// A counter of the rows of a table that have the same values at the columns.
-#[derive(Debug, Drop)]
+#[derive(Drop)]
 pub struct CounterDef {
     pub name: PText,
     pub table: PText,

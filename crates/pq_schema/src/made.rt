@@ -4,7 +4,7 @@ use crate::counter::Counter;
 use crate::query::Query;
 
 /// An index that a PREPARE made: the table's number and the index's, each from 1.
-#[derive(Clone, Copy, Debug, PartialEq, Eq)]
+#[derive(Clone, Copy, PartialEq, Eq)]
 pub struct Made {
     pub table: u8,
     pub index: u8,
@@ -12,7 +12,7 @@ pub struct Made {
 
 /// A definition by its kind: a table's number with how many indexes its CREATE TABLE made, the index
 /// that a query's PREPARE made, the place of an added column with its table's number, or a counter.
-#[derive(Clone, Copy, Debug, PartialEq, Eq)]
+#[derive(Clone, Copy, PartialEq, Eq)]
 pub enum Def {
     Table { table: u8, made: u8 },
     Query { made: Option<Made> },
@@ -21,7 +21,7 @@ pub enum Def {
 }
 
 /// A definition of a schema.
-#[derive(Debug, Drop)]
+#[derive(Drop)]
 pub enum Definition {
     /// The table of this number, whose CREATE TABLE gave its first columns and made its first indexes,
     /// so many of each.

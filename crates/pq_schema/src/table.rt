@@ -9,28 +9,28 @@ use pq_base::{ColType, Dir, List, PText, Value};
 use smallvec::SmallVec;
 
 /// A column of a table.
-#[derive(Debug, Drop)]
+#[derive(Drop)]
 pub struct Column {
     pub name: PText,
     pub ty: ColType,
 }
 
 /// At most `n` rows without NULL in the columns agree on them.
-#[derive(Debug, Drop)]
+#[derive(Drop)]
 pub struct Limit {
     pub n: u32,
     pub cols: List<u8>,
 }
 
 /// The columns name the key of a row of the table.
-#[derive(Debug, Drop)]
+#[derive(Drop)]
 pub struct Foreign {
     pub cols: List<u8>,
     pub table: u8,
 }
 
 /// A column of a sequence with its direction.
-#[derive(Clone, Copy, Debug, PartialEq, Eq)]
+#[derive(Clone, Copy, PartialEq, Eq)]
 pub struct KeyPart {
     pub col: u8,
     pub dir: Dir,
@@ -49,14 +49,14 @@ impl Default for KeyPart {
 pub type KeyParts = SmallVec<KeyPart, 4>;
 
 /// A secondary index. Its sequence goes on with the key columns that are not among its own.
-#[derive(Debug, Drop)]
+#[derive(Drop)]
 pub struct Index {
     pub cols: List<KeyPart>,
 }
 
 /// A table, with the indexes that it has by now. `fillers` has a place for each column: the default of an
 /// added one, and None at the columns of the definition.
-#[derive(Debug, Drop)]
+#[derive(Drop)]
 pub struct Table {
     pub name: PText,
     pub columns: List<Column>,
@@ -94,14 +94,14 @@ pub fn same_kind(a: ColType, b: ColType) -> bool
 }
 
 /// A sequence of a table: that of its key, or of a secondary index by its number, from 1.
-#[derive(Clone, Copy, Debug, PartialEq, Eq)]
+#[derive(Clone, Copy, PartialEq, Eq)]
 pub enum Access {
     Primary,
     Secondary(u8),
 }
 
 /// An index that a query wants, with the number that it gets.
-#[derive(Debug, Drop)]
+#[derive(Drop)]
 pub struct NewIndex {
     pub table: u8,
     pub number: u8,
@@ -109,7 +109,7 @@ pub struct NewIndex {
 }
 
 /// A foreign key of a table, by its number from 1.
-#[derive(Clone, Copy, Debug, PartialEq, Eq)]
+#[derive(Clone, Copy, PartialEq, Eq)]
 pub struct Referring {
     pub table: u8,
     pub foreign: u8,

@@ -34,7 +34,7 @@ use std::sync::ledger::Ledger;
 
 /// What a session knows of a store: its definitions, with the plan of each query. Rows are read from the
 /// store each time.
-#[derive(Debug, Drop)]
+#[derive(Drop)]
 pub struct Session {
     planned: PlannedCatalog,
 }
@@ -48,7 +48,7 @@ impl Model for Session {
 }
 
 /// A session over an opened store, with how many definitions were found.
-#[derive(Debug, Drop)]
+#[derive(Drop)]
 pub struct Started {
     pub session: Session,
     pub defs: u16,

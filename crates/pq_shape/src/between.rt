@@ -1,7 +1,7 @@
 //! What stands between the parts of a list.
 
 /// What stands between the parts of a list.
-#[derive(Debug, Clone, Copy, PartialEq, Eq)]
+#[derive(Clone, Copy, PartialEq, Eq)]
 pub enum Between {
     /// A comma.
     Comma,

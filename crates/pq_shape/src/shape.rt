@@ -11,7 +11,7 @@ use pq_text::{Kind, Token};
 use std::alloc::Global;
 
 /// What a token stands for.
-#[derive(Debug, Drop)]
+#[derive(Drop)]
 pub enum Shape {
     /// A word of the keyword table, by its place there.
     Keyword(u8),

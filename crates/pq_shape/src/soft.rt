@@ -3,7 +3,7 @@ ghost use Rattle.std.specs.Prelude.{◌≡◌};
 ghost use Rattle.pq_shape.specs.Front.{soft_name};
 
 /// A word of the table of soft words. It stands in the tokens as the name that has its letters.
-#[derive(Debug, Clone, Copy, PartialEq, Eq)]
+#[derive(Clone, Copy, PartialEq, Eq)]
 pub enum Soft {
     Add,
     Alter,

@@ -6,7 +6,7 @@ use std::io::{self, ErrorKind};
 use std::rt::Env;
 
 /// Why the words of a command line could not be read.
-#[derive(Clone, Copy, Debug, PartialEq, Eq)]
+#[derive(Clone, Copy, PartialEq, Eq)]
 pub enum WordsErr {
     /// A word isn't UTF-8.
     NotUtf8,

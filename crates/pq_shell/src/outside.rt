@@ -6,7 +6,7 @@ ghost use Rattle.pq_shell.specs.Outside.{HasFaultCause, IsCut};
 use thiserror::Error;
 
 /// A call of a source or a sink failed.
-#[derive(Clone, Copy, Debug, PartialEq, Eq, Error)]
+#[derive(Debug, Clone, Copy, PartialEq, Eq, Error)]
 #[error("the source or the sink failed")]
 pub struct Failed;
 

@@ -10,7 +10,7 @@ use crate::outside::{Failed, Source};
 pub const LIMIT: usize = 16_777_216;
 
 /// How the reading of a script ended.
-#[derive(Clone, Copy, Debug, PartialEq, Eq)]
+#[derive(Clone, Copy, PartialEq, Eq)]
 pub enum Ending {
     /// At the end of the source, within the limit.
     Whole,

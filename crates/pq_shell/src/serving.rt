@@ -22,7 +22,7 @@ use std::alloc::Global;
 use std::sync::ledger::Ledger;
 
 /// How many statements were made, and whether one of them was refused.
-#[derive(Clone, Copy, Debug)]
+#[derive(Clone, Copy)]
 pub struct Tally {
     pub count: u32,
     pub refused: bool,
@@ -50,7 +50,7 @@ pub struct Progress {
 }
 
 /// How the reading of a script ended, and whether a report is a refusal.
-#[derive(Clone, Copy, Debug)]
+#[derive(Clone, Copy)]
 pub struct Ended {
     pub ending: Ending,
     pub refused: bool,

@@ -5,7 +5,7 @@ ghost use Rattle.pq_shell.specs.Stops.{stop_of_broke};
 use pq_store::{Broke, Damage};
 
 /// Why a run stopped.
-#[derive(Debug, Drop)]
+#[derive(Drop)]
 pub enum Stop {
     /// A call of the store failed.
     StoreFailed,

@@ -53,7 +53,7 @@ fn all<D: Alter>(
 }
 
 /// What the table that is there is to the store.
-#[derive(Clone, Copy, Debug, PartialEq, Eq)]
+#[derive(Clone, Copy, PartialEq, Eq)]
 pub enum Shape {
     /// There is none.
     Absent,

@@ -18,7 +18,7 @@ use pq_text::Token;
 use std::alloc::Global;
 
 /// A query, and the plan of its least candidate.
-#[derive(Debug, Drop)]
+#[derive(Drop)]
 pub struct PlannedQuery {
     pub query: Query,
     pub compiled: Compiled,

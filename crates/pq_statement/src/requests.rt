@@ -28,7 +28,7 @@ use std::alloc::Global;
 const STATEMENT_BYTES: usize = 65536;
 
 /// A defined query, by its number, with parameters and the position behind which its page begins.
-#[derive(Debug, Drop)]
+#[derive(Drop)]
 pub struct RunRequest {
     pub query: u16,
     pub params: Row,
@@ -36,14 +36,14 @@ pub struct RunRequest {
 }
 
 /// A counter, by the number of its definition, and the values of a group.
-#[derive(Debug, Drop)]
+#[derive(Drop)]
 pub struct ReadRequest {
     pub counter: u16,
     pub values: Row,
 }
 
 /// What a piece asks for.
-#[derive(Debug, Drop)]
+#[derive(Drop)]
 pub enum Request {
     /// Whether a table is refused is found as it is added.
     Create(TableDef),

@@ -8,7 +8,7 @@ use pq_schema::{Catalog, Definition};
 use std::alloc::Global;
 
 /// Whether a definition is ready, or the index that it made is being filled.
-#[derive(Clone, Copy, Debug, PartialEq, Eq)]
+#[derive(Clone, Copy, PartialEq, Eq)]
 pub enum Mark {
     Ready,
     Building,

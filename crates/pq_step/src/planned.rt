@@ -37,7 +37,7 @@ use std::sync::ledger::Ledger;
 
 /// What is known of a store: its definitions, with the plan of each query. Rows are read from the store each
 /// time.
-#[derive(Debug, Drop)]
+#[derive(Drop)]
 pub struct PlannedCatalog {
     pub(crate) catalog: Catalog,
     /// One for each definition, `None` for one that is no query's.

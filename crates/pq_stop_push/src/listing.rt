@@ -16,7 +16,7 @@ use pq_schema::{Catalog, Query};
 use std::alloc::Global;
 
 /// A way to run a query, with the cost that it has at most.
-#[derive(Debug, Drop)]
+#[derive(Drop)]
 pub struct Candidate {
     pub choice: Choice,
     pub tree: Logical,

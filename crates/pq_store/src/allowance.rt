@@ -6,7 +6,7 @@ use pq_base::{Bound, Used};
 use std::marker::Model;
 
 /// Numbers of operations and entries: what is left, and what was granted.
-#[derive(Debug, Drop)]
+#[derive(Drop)]
 pub struct Allowance {
     ops: u64,
     entries: u64,

@@ -15,7 +15,7 @@ use std::marker::Model;
 use std::sync::ledger::Ledger;
 
 /// A call that is to fail, by its number from 1, and whether it is done all the same.
-#[derive(Debug, Clone, Copy)]
+#[derive(Clone, Copy)]
 pub struct Fail {
     pub call: u64,
     pub done: bool,

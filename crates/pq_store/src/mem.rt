@@ -66,7 +66,7 @@ fn is_late(key: &[u8]) -> bool
 }
 
 /// Why pairs make no store.
-#[derive(Debug, Drop)]
+#[derive(Drop)]
 pub enum NotPairs {
     /// Their keys don't strictly rise: the pairs that were given.
     Unordered(List<Pair>),

@@ -9,7 +9,7 @@ use std::sync::ledger::Ledger;
 use thiserror::Error;
 
 /// A key and its value.
-#[derive(Debug, Drop)]
+#[derive(Drop)]
 pub struct Pair {
     pub key: Bytes,
     pub value: Bytes,
@@ -25,7 +25,7 @@ pub(crate) fn pair_of(alloc: Global, key: &[u8], value: &[u8]) -> Result<Pair, N
 }
 
 /// What the key must have before a write, so that the write is made.
-#[derive(Debug, Clone, Copy)]
+#[derive(Clone, Copy)]
 pub enum Guard<'a> {
     /// Whatever it has.
     Any,

@@ -11,7 +11,7 @@ use pq_schema::Counter;
 use std::alloc::Global;
 
 /// The keys of the group that a row leaves, and of the one that a row comes into.
-#[derive(Debug, Drop)]
+#[derive(Drop)]
 pub struct MovedKeys {
     pub from: Option<Bytes>,
     pub to: Option<Bytes>,

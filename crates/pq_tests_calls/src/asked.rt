@@ -16,6 +16,15 @@ use pq_query_read::read_query;
 use pq_schema::{Catalog, Query, TableDef, is_name};
 use pq_text::tokens;
 use std::alloc::Global;
+use std::test::Fail;
+
+/// A text of the tests that has no answer, as the failure of a test.
+pub(crate) fn failure(stopped: Stopped) -> Fail {
+    Fail::new(match &stopped {
+        Stopped::Refused(_) => "a text of the tests is refused",
+        Stopped::NoMem => "there is no memory",
+    })
+}
 
 /// The text, which isn't too long to be read.
 fn text_of(alloc: Global, text: &str) -> Result<PText, NoMem>

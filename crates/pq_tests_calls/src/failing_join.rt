@@ -5,7 +5,7 @@ ghost use Rattle.pq_compile.specs.Chosen.{IsCompiled};
 ghost use Rattle.pq_nodes.specs.Operators.{IsAsked, AreInputs};
 ghost use Rattle.pq_schema.specs.Resolved.{IsResolved};
 
-use crate::asked::{Planned, catalog_of, plan_of};
+use crate::asked::{Planned, catalog_of, failure, plan_of};
 use crate::calls::failing;
 use crate::operators::{are_rows, is_asked, page_of};
 use crate::pages::{AMPLE, read_first, read_matching};
@@ -186,8 +186,8 @@ fn first_unlike<L: Ledger>(
 
 #[test]
 fn a_join_stops_at_the_call_that_fails(rt: HostRuntime) -> Result<(), test::Fail> {
-    let catalog = catalog_of(rt.alloc())?;
-    let planned = plan_of(rt.alloc(), &catalog, TEXT)?;
+    let catalog = catalog_of(rt.alloc()).map_err(failure)?;
+    let planned = plan_of(rt.alloc(), &catalog, TEXT).map_err(failure)?;
     let unlike = first_unlike::<Brand>(rt.alloc(), Blank::new(2), &catalog, &planned)?;
     assert_eq!(rt; unlike, None);
     Ok(())

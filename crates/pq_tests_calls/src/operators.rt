@@ -4,7 +4,7 @@ ghost use Rattle.pq_compile.specs.Chosen.{IsCompiled};
 ghost use Rattle.pq_nodes.specs.Operators.{IsAsked};
 ghost use Rattle.pq_schema.specs.Resolved.{IsResolved};
 
-use crate::asked::{Planned, catalog_of, plan_of, read_of};
+use crate::asked::{Planned, catalog_of, failure, plan_of, read_of};
 use crate::pages::{PAGE, page};
 use crate::plain::{Case, groups_of, plain};
 use crate::rows::{Cells, S, T, U, W, rows_in, store_of};
@@ -283,7 +283,7 @@ fn first_unlike<L: Ledger>(
 
 #[test]
 fn operators_give_the_plain_rows(rt: HostRuntime) -> Result<(), Fail> {
-    let catalog = catalog_of(rt.alloc())?;
+    let catalog = catalog_of(rt.alloc()).map_err(failure)?;
     let unlike = first_unlike::<Brand>(rt.alloc(), Blank::new(2), &catalog)?;
     assert!(rt; unlike.is_none(), "{unlike:?}");
     Ok(())

@@ -3,7 +3,7 @@
 use pq_base::PText;
 
 /// What a piece of a script is that isn't blank.
-#[derive(Debug, Drop)]
+#[derive(Drop)]
 pub enum Piece {
     /// A text with its `;`.
     Statement(PText),

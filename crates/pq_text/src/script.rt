@@ -10,7 +10,7 @@ use pq_base::{List, NoMem};
 use std::alloc::Global;
 
 /// A script that is cut.
-#[derive(Debug, Drop)]
+#[derive(Drop)]
 pub struct CutScript {
     /// The pieces that aren't blank, in order.
     pub pieces: List<Piece>,

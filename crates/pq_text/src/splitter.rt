@@ -103,7 +103,7 @@ fn completed(alloc: Global, kept: &mut Vec<u8>, part: &[u8]) -> Result<Piece, No
 ///
 /// A piece ends with a `;` outside texts and comments. Of a piece of at most 65,536 bytes the
 /// bytes are kept, of a longer one only where the scan stands and whether it has content.
-#[derive(Debug, Drop)]
+#[derive(Drop)]
 pub struct Splitter {
     state: State,
     kept: Vec<u8>,

@@ -5,7 +5,7 @@ ghost use Rattle.pq_text.specs.Cutting.{next, next_plain, cuts, shows, is_dash};
 use crate::byte::white;
 
 /// What the bytes so far leave open. A dash is plain until a second one makes it a comment.
-#[derive(Debug, Clone, Copy, PartialEq, Eq)]
+#[derive(Clone, Copy, PartialEq, Eq)]
 pub enum State {
     Plain,
     Dash,

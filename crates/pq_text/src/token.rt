@@ -1,7 +1,7 @@
 //! Tokens: what kind each is of, and where it stands.
 
 /// What a token is.
-#[derive(Debug, Clone, Copy, PartialEq, Eq)]
+#[derive(Clone, Copy, PartialEq, Eq)]
 pub enum Kind {
     /// A letter or `_`, then letters, digits and `_`.
     Word,
@@ -16,7 +16,7 @@ pub enum Kind {
 }
 
 /// A token: the bytes from `from` up to and without `to`, counted from the start of the text.
-#[derive(Debug, Clone, Copy, PartialEq, Eq)]
+#[derive(Clone, Copy, PartialEq, Eq)]
 pub struct Token {
     pub kind: Kind,
     pub from: u32,
