@@ -17,3 +17,4 @@ pub mod Joining
 pub mod Ranges
 pub mod Labelling
 pub mod Ordering
+pub mod Members

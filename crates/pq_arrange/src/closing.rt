@@ -122,6 +122,7 @@ fn push_members(
 }
 
 /// The members of a class by relation and then by column.
+#[tactic(auto, using(crate::proofs::Members::kept_next))]
 fn members(
     alloc: Global,
     catalog: &Catalog,

@@ -21,9 +21,16 @@ impl<T: Drop> From<AllocFailed<T>> for NoMem {
 }
 
 /// A growing list. It keeps the allocator that it was made with.
-#[derive(Debug, Drop)]
+#[derive(Debug)]
 pub struct List<T> {
     held: Vec<T>,
+}
+
+// Written out, so that whoever drops a list makes one call for it.
+impl<T: Drop> Drop for List<T> {
+    fn drop(self) {
+        let List { held: _held } = self;
+    }
 }
 
 impl<T> Model for List<T> {
@@ -70,7 +77,8 @@ impl<T> List<T> {
     pub fn into_vec(self) -> Vec<T>
         ensures { result.items ≡ self }
     {
-        self.held
+        let List { held } = self;
+        held
     }
 
     /// The items in order.

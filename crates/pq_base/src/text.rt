@@ -6,9 +6,15 @@ use std::alloc::Global;
 use std::marker::Model;
 
 /// A text of UTF-8 bytes.
-#[derive(Drop)]
 pub struct PText {
     text: String,
+}
+
+// Written out, so that whoever drops a text makes one call for it.
+impl Drop for PText {
+    fn drop(self) {
+        let PText { text: _text } = self;
+    }
 }
 
 impl Model for PText {

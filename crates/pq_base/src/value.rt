@@ -9,12 +9,23 @@ use std::alloc::Global;
 use std::cmp::Ordering;
 
 /// A value of a column.
-#[derive(Drop)]
 pub enum Value {
     Null,
     Int(i64),
     Bool(bool),
     Text(PText),
+}
+
+// Written out, so that whoever drops a value makes one call for it.
+impl Drop for Value {
+    fn drop(self) {
+        match self {
+            Value::Null => {}
+            Value::Int(_number) => {}
+            Value::Bool(_truth) => {}
+            Value::Text(_text) => {}
+        }
+    }
 }
 
 /// The values of a row, or of the columns that something names.

@@ -14,7 +14,6 @@ use std::alloc::Global;
 
 /// An index that is filled: the table's number and its own, from 1, the types of the table's columns and
 /// the defaults of those that were added, and the index's sequence.
-#[derive(Drop)]
 pub struct Target {
     pub table: u8,
     pub index: u8,
@@ -23,12 +22,35 @@ pub struct Target {
     pub parts: List<KeyPart>,
 }
 
+// Written out, so that whoever drops a target makes one call for it.
+impl Drop for Target {
+    fn drop(self) {
+        let Target {
+            table: _table,
+            index: _index,
+            types: _types,
+            fillers: _fillers,
+            parts: _parts,
+        } = self;
+    }
+}
+
 /// The definition whose index is filled: its key in the store, its format, and its canonical text.
-#[derive(Drop)]
 pub struct NewQuery {
     pub key: Bytes,
     pub format: u8,
     pub text: Bytes,
+}
+
+// Written out, so that whoever drops a definition makes one call for it.
+impl Drop for NewQuery {
+    fn drop(self) {
+        let NewQuery {
+            key: _key,
+            format: _format,
+            text: _text,
+        } = self;
+    }
 }
 
 /// A copy of the default of a column.

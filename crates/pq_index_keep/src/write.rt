@@ -12,7 +12,6 @@ pub struct SetCol {
 }
 
 /// An INSERT, UPDATE or DELETE of one row.
-#[derive(Drop)]
 pub enum Write {
     /// The row, with a value for each column.
     Insert {
@@ -30,6 +29,27 @@ pub enum Write {
         table: u8,
         key: Row,
     },
+}
+
+// Written out, so that whoever drops a write makes one call for it.
+impl Drop for Write {
+    fn drop(self) {
+        match self {
+            Write::Insert {
+                table: _table,
+                row: _row,
+            } => {}
+            Write::Update {
+                table: _table,
+                key: _key,
+                sets: _sets,
+            } => {}
+            Write::Delete {
+                table: _table,
+                key: _key,
+            } => {}
+        }
+    }
 }
 
 /// The columns that a write gives values: all of them, or those of a set.

@@ -7,9 +7,15 @@ use std::alloc::Global;
 use std::marker::Model;
 
 /// One row for each of the first relations of a query.
-#[derive(Drop)]
 pub struct Combo {
     pub rows: List<Row>,
+}
+
+// Written out, so that whoever drops a combination makes one call for it.
+impl Drop for Combo {
+    fn drop(self) {
+        let Combo { rows: _rows } = self;
+    }
 }
 
 impl Model for Combo {

@@ -9,10 +9,19 @@ use pq_base::Bound;
 use std::marker::Model;
 
 /// A tree and the sum over its nodes, seen as the tree.
-#[derive(Drop)]
 pub struct BoundedPlan {
     tree: Physical,
     bound: Bound,
+}
+
+// Written out, so that whoever drops a plan makes one call for it.
+impl Drop for BoundedPlan {
+    fn drop(self) {
+        let BoundedPlan {
+            tree: _tree,
+            bound: _bound,
+        } = self;
+    }
 }
 
 impl Model for BoundedPlan {

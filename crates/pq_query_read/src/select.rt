@@ -60,11 +60,23 @@ pub enum Selected {
 }
 
 /// A query.
-#[derive(Drop)]
 pub struct SelectDef {
     pub selected: Selected,
     pub relations: List<RelationDef>,
     pub preds: List<PredDef>,
     pub order: List<ItemDef>,
     pub stop: StopDef,
+}
+
+// Written out, so that whoever drops a query makes one call for it.
+impl Drop for SelectDef {
+    fn drop(self) {
+        let SelectDef {
+            selected: _selected,
+            relations: _relations,
+            preds: _preds,
+            order: _order,
+            stop: _stop,
+        } = self;
+    }
 }

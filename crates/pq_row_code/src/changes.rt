@@ -12,10 +12,19 @@ use pq_base::{Bytes, List, NoMem};
 use std::alloc::Global;
 
 /// A key of the store and what it is to hold: a new value, or nothing.
-#[derive(Drop)]
 pub struct Change {
     pub key: Bytes,
     pub new: Option<Bytes>,
+}
+
+// Written out, so that whoever drops a change makes one call for it.
+impl Drop for Change {
+    fn drop(self) {
+        let Change {
+            key: _key,
+            new: _new,
+        } = self;
+    }
 }
 
 fn put_sized(alloc: Global, out: &mut Bytes, bytes: &[u8]) -> Result<(), NoMem>

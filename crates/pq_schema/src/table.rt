@@ -56,7 +56,6 @@ pub struct Index {
 
 /// A table, with the indexes that it has by now. `fillers` has a place for each column: the default of an
 /// added one, and None at the columns of the definition.
-#[derive(Drop)]
 pub struct Table {
     pub name: PText,
     pub columns: List<Column>,
@@ -65,6 +64,21 @@ pub struct Table {
     pub limits: List<Limit>,
     pub foreign: List<Foreign>,
     pub indexes: List<Index>,
+}
+
+// Written out, so that whoever drops a table makes one call for it.
+impl Drop for Table {
+    fn drop(self) {
+        let Table {
+            name: _name,
+            columns: _columns,
+            fillers: _fillers,
+            key: _key,
+            limits: _limits,
+            foreign: _foreign,
+            indexes: _indexes,
+        } = self;
+    }
 }
 
 /// The place of the column of this name, from 0; None exactly where there is none.

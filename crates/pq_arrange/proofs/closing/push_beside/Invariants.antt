@@ -1,5 +1,4 @@
 use Rattle.std.proofs.Common.{◌≡◌, ◌++◌, map, filter, take, not}
-use Rattle.pq_schema.specs.declared.query.Operand.{Operand}
 use Rattle.pq_schema.specs.declared.query.Operand.TheVariants as operand
 use Rattle.pq_arrange.specs.Classes.{equality_of, is_later}
 use Rattle.pq_arrange.proofs.closing.push_beside.Given as goal

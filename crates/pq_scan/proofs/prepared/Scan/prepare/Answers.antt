@@ -19,7 +19,7 @@ returns-clause-sound c =
       front_is = c.truncate.ensures ∙ (λ i. take ((c.count.ensures ∙ ap count_ones c.fixed-fixed.ensures) i) ((c.in_ok-front.ensures ∙ ap columns_of c.items.ensures) i));
       dirs_is = c.in_ok-dirs.ensures ∙ ap dirs_of c.items-2.ensures;
       items_is = c.in_ok-items.ensures;
-      position_dirs_is = c.in_ok-position_dirs.ensures ∙ ap item_directions c.items-4.ensures;
+      position_dirs_is = c.in_ok-position_dirs.ensures ∙ ap item_directions c.items-3.ensures;
       columns = each_by_in _ preds (λ pred here. all_member (λ (pred : Pred). pred.left.col < 32) preds refs.preds pred here);
       item_columns = λ item here. item_small c.args.catalog.now.tables c.args.query.now c.requires.query item (subst (λ items. In item items) c.in_ok-items.ensures here);
     }
