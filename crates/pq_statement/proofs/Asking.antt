@@ -1,6 +1,6 @@
 -- What was read asks for what its statement spells.
 use Rattle.std.proofs.Common.{◌≡◌, ℕ, List, Option, Some, None, Result, Ok, Err, refl, sym, ap, ◌∙◌, subst}
-use Rattle.pq_base.specs.Answers.{Answers, Passes, Refuses}
+use Rattle.pq_base.specs.Answers.{Passes, Refuses}
 use Rattle.pq_base.specs.declared.refusal.Refusal.{Refusal}
 use Rattle.pq_base.specs.declared.refusal.Stopped.{Stopped}
 use Rattle.pq_base.specs.declared.refusal.Stopped.TheVariants.{Refused, NoMem}
@@ -12,7 +12,6 @@ use Rattle.pq_text.specs.declared.token.Token.{Token}
 use Rattle.pq_def_read.specs.declared.statement.Statement.{Statement}
 use Rattle.pq_def_read.specs.declared.statement.Statement.TheVariants as statement
 use Rattle.pq_index_keep.specs.Checking.{IsWriting, checked_write}
-use Rattle.pq_index_keep.specs.declared.write.Write.{Write}
 use Rattle.pq_query_read.specs.Trying.{◌>>=◌, passed_unless}
 use Rattle.pq_statement.specs.Actions.{Action, Explains, Prepares, Writes, asked_by, action_from}
 use Rattle.pq_statement.specs.Planned.{IsPlanned}
@@ -39,10 +38,6 @@ writes_asked schema text tokens (statement.Run name params after) is = absurd is
 writes_asked schema text tokens (statement.Counter def) is = absurd is
 writes_asked schema text tokens (statement.Read name values) is = absurd is
 writes_asked schema text tokens statement.Show is = absurd is
-
-pub answer_refused : (stopped : Stopped) (said : Result Write Refusal) → Answers {A = Write} (Err stopped) said → Refuses stopped said
-answer_refused (Refused why) said is = is
-answer_refused NoMem said is = tt
 
 -- ---- queries
 

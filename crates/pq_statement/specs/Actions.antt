@@ -17,7 +17,7 @@ use Rattle.pq_shape.specs.Faults.{offset_at}
 use Rattle.pq_def_read.specs.Reading.{statement_of}
 use Rattle.pq_def_read.specs.declared.statement.Statement.{Statement}
 use Rattle.pq_def_read.specs.declared.statement.Statement.TheVariants as statement
-use Rattle.pq_builds.specs.Bounds.{bound, build_bound, fixed_bound as prepare_bound}
+use Rattle.pq_builds.specs.Bounds.{bound, fixed_bound as prepare_bound}
 use Rattle.pq_counters.specs.Bounds.{whole_bound}
 use Rattle.pq_index_keep.specs.Checking.{checked_write}
 use Rattle.pq_index_keep.specs.declared.write.Write.{Write}

@@ -1,13 +1,14 @@
 //! What a piece of a script asks for, as far as the definitions decide it.
 ghost use Rattle.std.specs.Prelude.{◌≡◌, ◌≤◌, None, Ok, length, map, option_copied, IfOk, IfErr};
 ghost use Rattle.pq_base.specs.Answers.{Passes, Refuses};
+ghost use Rattle.pq_index_keep.specs.Checking.{IsWriting, checked_write};
 ghost use Rattle.pq_pages.specs.Running.{running_of};
 ghost use Rattle.pq_schema.specs.Counters.{IsCounterNumber};
 ghost use Rattle.pq_schema.specs.Definitions.{definition_refusal};
 ghost use Rattle.pq_schema.specs.Resolved.{param_type};
 ghost use Rattle.pq_schema.specs.Tables.{types_at};
 ghost use Rattle.pq_text.specs.Tokens.{tokens_of};
-ghost use Rattle.pq_statement.specs.Actions.{action_of, asked_by, asked_text};
+ghost use Rattle.pq_statement.specs.Actions.{Writes, action_from, action_of, asked_by, asked_text};
 ghost use Rattle.pq_statement.specs.Names.{IsNamedStatement};
 ghost use Rattle.pq_statement.specs.Planned.{IsPlanned};
 ghost use Rattle.pq_statement.specs.Planning.{arranged_from, explained_name, prepared_from};
@@ -28,18 +29,37 @@ use std::alloc::Global;
 const STATEMENT_BYTES: usize = 65536;
 
 /// A defined query, by its number, with parameters and the position behind which its page begins.
-#[derive(Drop)]
 pub struct RunRequest {
     pub query: u16,
     pub params: Row,
     pub after: Option<Row>,
 }
 
+// Written out, so that whoever drops a request makes one call for it.
+impl Drop for RunRequest {
+    fn drop(self) {
+        let RunRequest {
+            query: _query,
+            params: _params,
+            after: _after,
+        } = self;
+    }
+}
+
 /// A counter, by the number of its definition, and the values of a group.
-#[derive(Drop)]
 pub struct ReadRequest {
     pub counter: u16,
     pub values: Row,
+}
+
+// Written out, so that whoever drops a request makes one call for it.
+impl Drop for ReadRequest {
+    fn drop(self) {
+        let ReadRequest {
+            counter: _counter,
+            values: _values,
+        } = self;
+    }
 }
 
 /// What a piece asks for.
@@ -136,11 +156,20 @@ fn asked_by(
         Statement::Show => Ok(Request::Show),
         written @ (Statement::Insert { .. }
         | Statement::Update { .. }
-        | Statement::Delete { .. }) => {
-            let write = check_write(alloc, catalog, &written)?;
-            Ok(Request::Write(write))
-        }
+        | Statement::Delete { .. }) => asked_write(alloc, catalog, &written),
     }
+}
+
+/// What an INSERT, UPDATE or DELETE asks for.
+fn asked_write(alloc: Global, catalog: &Catalog, statement: &Statement) -> Result<Request, Stopped>
+    requires { IsWriting statement.now }
+    ensures asks { IfOk result
+        (λ request. Asks catalog.now request (action_from Writes (checked_write catalog.now statement.now))) }
+    ensures refused { IfErr result
+        (λ stopped. Refuses stopped (action_from Writes (checked_write catalog.now statement.now))) }
+{
+    let write = check_write(alloc, catalog, statement)?;
+    Ok(Request::Write(write))
 }
 
 /// The query of this name that the tokens from a place on spell, arranged, with its plan, where it may be

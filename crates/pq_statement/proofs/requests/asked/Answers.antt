@@ -1,9 +1,3 @@
-use Rattle.std.proofs.Common.{sym, subst}
-use Rattle.std.proofs.lemmas.Result.{IfOk-weaker, IfErr-weaker}
-use Rattle.pq_base.specs.Answers.{Refuses}
-use Rattle.pq_base.specs.declared.refusal.Refusal.{Refusal}
-use Rattle.pq_statement.specs.Actions.{Action}
-use Rattle.pq_statement.specs.Requests.{Asks}
 use Rattle.pq_statement.proofs.Statements.{text_piece, other_piece, long_piece}
 use Rattle.pq_statement.proofs.requests.asked.Goals as goal
 

@@ -1,15 +1,15 @@
-use Rattle.std.proofs.Common.{◌≡◌, ℕ, List, Option, Result, Err, Ok, ap, ◌∙◌, sym, subst, refl, inl, inr, option_copied}
+use Rattle.std.proofs.Common.{◌≡◌, ℕ, List, Option, Ok, ap, sym, subst, refl, inl, inr}
 use Rattle.std.proofs.lemmas.Result.{err_from_is_err_and}
 use Rattle.pq_base.specs.Answers.{Refuses}
-use Rattle.pq_index_keep.specs.Checking.{IsWriting, checked_write}
+use Rattle.pq_index_keep.specs.Checking.{IsWriting}
 use Rattle.pq_pages.specs.Running.{Running, running_of}
-use Rattle.pq_statement.specs.Actions.{Creates, Explains, Prepares, Reads, Runs, Writes, action_from}
+use Rattle.pq_statement.specs.Actions.{Explains, Prepares, Reads, Runs, action_from}
 use Rattle.pq_statement.specs.Names.{IsNamedStatement}
 use Rattle.pq_statement.specs.Planned.{IsPlanned}
 use Rattle.pq_statement.specs.Planning.{PlannedDefinition, arranged_from, explained_name}
 use Rattle.pq_statement.specs.Readings.{reading_of}
 use Rattle.pq_statement.specs.Requests.{RunsAs, reading_asked}
-use Rattle.pq_statement.proofs.Asking.{answer_refused, asking_refused, explains, may_be_defined, prepares, stopped_explained, writes_asked}
+use Rattle.pq_statement.proofs.Asking.{asking_refused, explains, may_be_defined, prepares, stopped_explained, writes_asked}
 use Rattle.pq_statement.proofs.requests.asked_by.Goals as goal
 
 pub returns-in-Create-clause-asks : goal.returns-in-Create-clause-asks
@@ -68,19 +68,17 @@ returns-in_ok-run-in-Run-clause-asks c =
     let found = running_of c.args.catalog.now c.in-Run.name c.in-Run.values c.in-Run.after in
     rw c.in-Run.is (found, subst (λ (o : Option (List ℕ)). RunsAs c.args.catalog.now c.in_ok-run-in-Run.run' (running_of c.args.catalog.now c.in-Run.name c.in-Run.values o)) c.as_ref.ensures.value c.in_ok-run-in-Run.ensures.runs, refl)
 
-pub check_write-requires : goal.check_write-requires
-check_write-requires c =
-    let writing : IsWriting c.args.statement = elim c.in-Insert.is [
-      | inl i ↦ subst IsWriting (sym i.3) tt
-      | inr rest ↦ elim rest [
-        | inl u ↦ subst IsWriting (sym u.3) tt
-        | inr d ↦ subst IsWriting (sym d.2) tt
-      ]
-    ] in
-    record { writing = writing }
+pub asked_write-requires : goal.asked_write-requires
+asked_write-requires c = elim c.in-Insert.is [
+  | inl i ↦ subst IsWriting (sym i.3) tt
+  | inr rest ↦ elim rest [
+    | inl u ↦ subst IsWriting (sym u.3) tt
+    | inr d ↦ subst IsWriting (sym d.2) tt
+  ]
+]
 
-pub returns-in_err-write-in-Insert-clause-refused : goal.returns-in_err-write-in-Insert-clause-refused
-returns-in_err-write-in-Insert-clause-refused c =
+pub returns-in-Insert-clause-refused : goal.returns-in-Insert-clause-refused
+returns-in-Insert-clause-refused c =
     let writing : IsWriting c.args.statement = elim c.in-Insert.is [
       | inl i ↦ subst IsWriting (sym i.3) tt
       | inr rest ↦ elim rest [
@@ -88,13 +86,10 @@ returns-in_err-write-in-Insert-clause-refused c =
         | inr d ↦ subst IsWriting (sym d.2) tt
       ]
     ] in
-    let p = err_from_is_err_and c.from_residual-in_err-write-in-Insert.result c.from_residual-in_err-write-in-Insert.ensures.1 in
-    rw (p.1, p.2, writes_asked c.args.catalog.now c.args.text.now c.args.tokens.now c.args.statement writing)
-    (asking_refused Writes _ _ (answer_refused _ (checked_write c.args.catalog.now c.args.statement) c.in_err-write-in-Insert.ensures.answer))
+    rw (writes_asked c.args.catalog.now c.args.text.now c.args.tokens.now c.args.statement writing) c.asked_write.ensures.refused
 
-pub returns-in_ok-write-in-Insert-clause-asks : goal.returns-in_ok-write-in-Insert-clause-asks
-returns-in_ok-write-in-Insert-clause-asks c =
-    let answered : checked_write c.args.catalog.now c.args.statement ≡ Ok c.in_ok-write-in-Insert.write = c.in_ok-write-in-Insert.ensures.answer in
+pub returns-in-Insert-clause-asks : goal.returns-in-Insert-clause-asks
+returns-in-Insert-clause-asks c =
     let writing : IsWriting c.args.statement = elim c.in-Insert.is [
       | inl i ↦ subst IsWriting (sym i.3) tt
       | inr rest ↦ elim rest [
@@ -102,7 +97,4 @@ returns-in_ok-write-in-Insert-clause-asks c =
         | inr d ↦ subst IsWriting (sym d.2) tt
       ]
     ] in
-    rw (writes_asked c.args.catalog.now c.args.text.now c.args.tokens.now c.args.statement writing) (
-      c.in_ok-write-in-Insert.ensures.write,
-      ap (action_from Writes) answered,
-    )
+    rw (writes_asked c.args.catalog.now c.args.text.now c.args.tokens.now c.args.statement writing) c.asked_write.ensures.asks
