@@ -3,7 +3,7 @@
 #![tactic(auto)]
 
 ghost use Rattle.std.specs.Prelude.{◌≤◌, ◌+◌, length, IfOk};
-ghost use Rattle.pq_shell.specs.Reading.{script_limit};
+ghost use Rattle.pq_console.specs.Reading.{script_limit};
 
 use pq_base::{Bytes, List, NoMem};
 use pq_plan_report::{Told, tell_script};

@@ -1,7 +1,6 @@
 -- How a run of clients ends.
-use Rattle.std.proofs.Common.{◌≡◌, ℕ, ◌+◌, ◌≤◌, ◌⊎◌, inl, inr, Bool, true, false, ◌||◌, Option, Some, None, Result, Ok, Err, IfOk, IfErr, List, [], ◌∷◌, ◌++◌, length, take, refl, sym, ap, ◌∙◌, subst, arith, length-append}
-use Rattle.std.specs.List.{slice_get, list_any}
-use Rattle.std.specs.Io.KnownBytes.{append_known, prepend_known}
+use Rattle.std.proofs.Common.{◌≡◌, ℕ, ◌+◌, ◌⊎◌, inl, inr, Bool, true, false, ◌||◌, Option, Some, Result, Ok, Err, IfOk, IfErr, List, [], ◌∷◌, ◌++◌, length, take, refl, sym, ap, ◌∙◌, subst, arith, length-append}
+use Rattle.std.specs.Io.KnownBytes.{append_known}
 use Rattle.std.proofs.Math.Seq.{take-append_seam}
 use Rattle.pq_base.specs.Members.{In}
 use Rattle.pq_fill.specs.declared.words.Form.TheVariants.{Run}
@@ -16,11 +15,10 @@ use Rattle.pq_store.specs.declared.damage.Damage.{Damage}
 use Rattle.pq_text.specs.declared.piece.Piece.{Piece}
 use Rattle.pq_content.specs.Pairs.{Pair}
 use Rattle.pq_content.specs.Tables.{Rows}
-use Rattle.pq_print.specs.Report.{damage_line, is_refusal}
+use Rattle.pq_print.specs.Report.{damage_line}
 use Rattle.pq_clients.specs.Clients.{View}
 use Rattle.pq_clients.specs.Promised.{RunsAsPromised}
 use Rattle.pq_clients.specs.Promises.{HoldsThroughout, HasReason, reached}
-use Rattle.pq_clients.specs.Runs.{Event}
 use Rattle.pq_clients.specs.declared.outcome.Outcome.{Outcome}
 use Rattle.pq_clients.specs.declared.outcome.Outcome.TheVariants as outcome
 use Rattle.pq_clients.specs.declared.outcome.Told.{Told}
@@ -31,22 +29,22 @@ use Rattle.pq_step.proofs.Standing.{settled_opens}
 use Rattle.pq_shell.specs.Fold.{Moment, MadeReports, ServedItems, StoppedItem, after}
 use Rattle.pq_shell.specs.Items.{cut_items}
 use Rattle.pq_shell.specs.Making.{moment}
-use Rattle.pq_shell.specs.Reading.{TookBytes, script_limit}
+use Rattle.pq_console.specs.Reading.{TookBytes}
 use Rattle.pq_shell.specs.Run.{RunWorld, EndsDamaged, Closes, IsPlain, IsScript, status_of, run_world, written_world}
-use Rattle.pq_shell.specs.Stops.{CutsOff, stop_of_broke}
-use Rattle.pq_shell.specs.declared.reading.Ending.{Ending}
-use Rattle.pq_shell.specs.declared.reading.Ending.TheVariants.{Whole, Faulted, TooLong}
+use Rattle.pq_console.specs.Stops.{CutsOff, stop_of_broke}
+use Rattle.pq_console.specs.declared.reading.Ending.{Ending}
+use Rattle.pq_console.specs.declared.reading.Ending.TheVariants.{Whole, Faulted, TooLong}
 use Rattle.pq_shell.specs.declared.serving.Ended.{Ended}
 use Rattle.pq_shell.specs.declared.status.Status.{Status}
 use Rattle.pq_shell.specs.declared.status.Status.TheVariants as status
-use Rattle.pq_shell.specs.declared.stop.Stop.{Stop}
-use Rattle.pq_shell.specs.declared.stop.Stop.TheVariants as stops
-use Rattle.pq_shell.proofs.Known.{append_known-none, known-length}
+use Rattle.pq_console.specs.declared.stop.Stop.{Stop}
+use Rattle.pq_console.specs.declared.stop.Stop.TheVariants as stops
+use Rattle.pq_console.proofs.Known.{append_known-none, known-length}
 use Rattle.pq_client_shell.specs.Lines.{between_text, told_text}
-use Rattle.pq_client_shell.specs.Runs.{OpensStore, StopsOpening, IsRead, RanClients, Stepped, MadeGathered, StopsBetween, StopsTelling, HaltsGathered, MadeRead, HaltsBehind, HaltsRead, Opened, FinishedClients, StopsEarly, StopsAmong, BrokenClients, NamesDamage, Ends, Suffices}
+use Rattle.pq_client_shell.specs.Runs.{OpensStore, StopsOpening, IsRead, MadeGathered, HaltsGathered, MadeRead, HaltsRead, Opened, FinishedClients, BrokenClients, Ends, Suffices}
 use Rattle.pq_client_shell.specs.Runs.BrokenClients.{Early, Among}
 use Rattle.pq_client_shell.specs.Telling.{fault_of, first_fault}
-use Rattle.pq_client_shell.proofs.Outcomes.{HasFault, fault_in, none_some, same_stop, IsSoundStop}
+use Rattle.pq_client_shell.proofs.Outcomes.{fault_in, none_some, same_stop, IsSoundStop}
 use Rattle.pq_client_shell.specs.Writes.{front_count, front_of}
 use Rattle.pq_client_shell.specs.declared.script.Script.{Script}
 

@@ -1,15 +1,15 @@
 -- How many bytes are counted of a source where a run of clients ended so.
 use Rattle.std.proofs.Common.{◌≡◌, ℕ, ◌+◌, Bool, true, false, Option, List, Result, Ok, Err, IfOk, sym, subst}
 use Rattle.std.proofs.lemmas.Result.{IfOk-weaker}
-use Rattle.pq_shell.specs.Reading.{CountsBytes, script_limit}
+use Rattle.pq_console.specs.Reading.{CountsBytes, script_limit}
 use Rattle.pq_shell.specs.Run.{Closes, status_of}
-use Rattle.pq_shell.specs.declared.reading.Ending.{Ending}
-use Rattle.pq_shell.specs.declared.reading.Ending.TheVariants.{Whole, Faulted, TooLong}
+use Rattle.pq_console.specs.declared.reading.Ending.{Ending}
+use Rattle.pq_console.specs.declared.reading.Ending.TheVariants.{Whole, Faulted, TooLong}
 use Rattle.pq_shell.specs.declared.serving.Ended.{Ended}
 use Rattle.pq_shell.specs.declared.status.Status.{Status}
 use Rattle.pq_shell.specs.declared.status.Status.TheVariants as status
-use Rattle.pq_shell.specs.declared.stop.Stop.{Stop}
-use Rattle.pq_shell.specs.declared.stop.Stop.TheVariants as stops
+use Rattle.pq_console.specs.declared.stop.Stop.{Stop}
+use Rattle.pq_console.specs.declared.stop.Stop.TheVariants as stops
 use Rattle.pq_shell.proofs.Counting.{IsTooLong}
 
 long_status : (ending : Ending) (refused : Bool) (count count_now : ℕ) → CountsBytes ending count count_now → IsTooLong (status_of ending refused) → count_now ≡ count + (script_limit + 1)

@@ -1,5 +1,5 @@
 -- The writes behind the front: what is written, and where it stops.
-use Rattle.std.proofs.Common.{◌≡◌, ℕ, ◌+◌, ◌⊎◌, inl, inr, Bool, true, false, ◌||◌, Option, Some, None, Result, Ok, Err, IfOk, IfErr, IfSome, OnErr, List, [], ◌∷◌, ◌++◌, length, drop, refl, sym, ap, ◌∙◌, subst}
+use Rattle.std.proofs.Common.{◌≡◌, ℕ, ◌+◌, inl, inr, Bool, ◌||◌, Option, List, [], ◌++◌, length, drop, refl, ap, ◌∙◌, subst}
 use Rattle.std.specs.List.{list_any}
 use Rattle.std.specs.Io.KnownBytes.{append_known}
 use Rattle.pq_schema.specs.Schema.{Schema}
@@ -7,17 +7,14 @@ use Rattle.pq_store.specs.Content.{Content}
 use Rattle.pq_store.specs.Counts.{Counts}
 use Rattle.pq_text.specs.declared.piece.Piece.{Piece}
 use Rattle.pq_index_keep.specs.declared.write.Write.{Write}
-use Rattle.pq_clients.specs.declared.outcome.Told.{Told}
-use Rattle.pq_shell.specs.Fold.{Moment}
 use Rattle.pq_shell.specs.Making.{moment}
 use Rattle.pq_shell.specs.Serving.{rest_text}
-use Rattle.pq_shell.specs.Stops.{CutsOff}
-use Rattle.pq_shell.specs.declared.stop.Stop.{Stop}
-use Rattle.pq_shell.specs.declared.stop.Stop.TheVariants as stops
-use Rattle.pq_client_shell.specs.Lines.{between_text, skipped_text, told_text}
+use Rattle.pq_console.specs.Stops.{CutsOff}
+use Rattle.pq_console.specs.declared.stop.Stop.{Stop}
+use Rattle.pq_console.specs.declared.stop.Stop.TheVariants as stops
+use Rattle.pq_client_shell.specs.Lines.{between_text, skipped_text}
 use Rattle.pq_client_shell.specs.Runs.{HaltsGathered, MadeGathered, RanClients, TellsAll, TellsPart}
 use Rattle.pq_client_shell.specs.Runs.TellsPart.{Undealt, Cut}
-use Rattle.pq_client_shell.specs.Telling.{first_fault, is_undone}
 use Rattle.pq_client_shell.specs.Writes.{front_count, gathered_of, is_skipped, writes_of}
 use Rattle.pq_client_shell.specs.declared.script.Script.{Script}
 

@@ -2,7 +2,7 @@
 use Rattle.std.proofs.Common.{◌≡◌, ℕ, zero, suc, ◌+◌, ◌*◌, ◌^◌, ◌≤◌, ◌<◌, ◌==◌, Bool, true, false, cond, List, [], ◌∷◌, ◌++◌, length, take, get_or, All, refl, sym, ap, ◌∙◌, subst, arith, append_assoc, append-nil}
 use Rattle.std.proofs.lemmas.Bool.{ne_eqb}
 use Rattle.std.proofs.lemmas.List.{take_more, take_all}
-use Rattle.std.proofs.lemmas.List.Sums.{sum_by-append, sum_by-cons, count_by-le-length}
+use Rattle.std.proofs.lemmas.List.Sums.{sum_by-append, sum_by-cons}
 use Rattle.std.specs.List.{AllByRecursion, sum_by, count_by}
 use Rattle.pq_schema.specs.declared.table.Foreign.{Foreign}
 use Rattle.pq_schema.specs.declared.table.Limit.{Limit}
@@ -10,13 +10,13 @@ use Rattle.pq_schema.specs.declared.table.Table.{Table}
 use Rattle.pq_schema.specs.Tables.{table_at}
 use Rattle.pq_schema.specs.Valid.{IsValid}
 use Rattle.pq_schema.specs.Schema.{Schema}
-use Rattle.pq_index_keep.specs.Bounds.{write_bound, write_tests, most_changes}
+use Rattle.pq_index_keep.specs.Bounds.{write_bound}
 use Rattle.pq_index_keep.specs.Sound.{IsWrite}
 use Rattle.pq_index_keep.specs.Tested.{touches, touches_index, scope_of}
 use Rattle.pq_index_keep.specs.declared.write.Scope.TheVariants as scope
 use Rattle.pq_index_keep.specs.declared.write.Write.{Write}
 use Rattle.pq_index_keep.specs.declared.write.Write.TheVariants as write
-use Rattle.pq_index_keep.proofs.Few.{IsFew, few_of}
+use Rattle.pq_index_keep.proofs.Few.{few_of}
 use Rattle.pq_index_keep.proofs.Narrow.{valid_writable}
 use Rattle.pq_content.specs.Standing.{write_ops}
 use Rattle.pq_clients.specs.Promised.{places_below, by_turns}

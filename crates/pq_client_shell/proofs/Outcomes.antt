@@ -1,16 +1,15 @@
 -- What is told, and the first fault of it.
-use Rattle.std.proofs.Common.{◌≡◌, ℕ, ◌+◌, ◌≤◌, ◌<◌, List, [], ◌∷◌, ◌++◌, length, take, get_or, Bool, Result, IsErrOf, Option, Some, None, inl, inr, refl, sym, ap, ◌∙◌, subst, arith, append_assoc, append-nil}
+use Rattle.std.proofs.Common.{◌≡◌, ℕ, ◌+◌, ◌≤◌, ◌<◌, List, [], ◌∷◌, ◌++◌, length, take, get_or, Bool, Result, IsErrOf, Option, Some, None, inl, inr, refl, sym, ap, ◌∙◌, subst, append_assoc, append-nil}
 use Rattle.std.proofs.lemmas.Grind.{flat_map-append}
 use Rattle.std.proofs.lemmas.List.{take_more, take_all}
-use Rattle.std.specs.List.{flat_map}
 use Rattle.pq_base.specs.Members.{In}
 use Rattle.pq_store.specs.Content.{HasRisen}
 use Rattle.pq_clients.specs.declared.outcome.Outcome.{Outcome}
 use Rattle.pq_clients.specs.declared.outcome.Outcome.TheVariants as outcome
 use Rattle.pq_clients.specs.declared.outcome.Told.{Told}
-use Rattle.pq_shell.specs.Stops.{Causes}
-use Rattle.pq_shell.specs.declared.stop.Stop.{Stop}
-use Rattle.pq_shell.specs.declared.stop.Stop.TheVariants as stops
+use Rattle.pq_console.specs.Stops.{Causes}
+use Rattle.pq_console.specs.declared.stop.Stop.{Stop}
+use Rattle.pq_console.specs.declared.stop.Stop.TheVariants as stops
 use Rattle.pq_client_shell.specs.Lines.{told_part, told_text}
 use Rattle.pq_client_shell.specs.Runs.{TellsCause}
 use Rattle.pq_client_shell.specs.Telling.{fault_of, first_of, first_fault}

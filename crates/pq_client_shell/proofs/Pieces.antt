@@ -1,10 +1,10 @@
 -- How many pieces a script has.
-use Rattle.std.proofs.Common.{◌≡◌, ℕ, ◌+◌, ◌≤◌, Bool, true, false, cond, List, [], ◌∷◌, ◌++◌, length, Option, Some, None, refl, sym, ap, ◌∙◌, arith, length-append}
-use Rattle.pq_text.specs.Pieces.{Place, Plain, Split, behind, is_cut, joined_split, after_front, after_piece, split_from, told_piece, piece_list, all_told, pieces_of}
+use Rattle.std.proofs.Common.{◌≡◌, ℕ, ◌≤◌, Bool, true, false, cond, List, [], ◌∷◌, length, Option, Some, None, refl, arith, length-append}
+use Rattle.pq_text.specs.Pieces.{Place, Plain, behind, is_cut, joined_split, after_front, after_piece, split_from, told_piece, piece_list, all_told, pieces_of}
 use Rattle.pq_text.specs.declared.piece.Piece.{Piece}
-use Rattle.pq_shell.specs.Reading.{TookBytes, script_limit}
-use Rattle.pq_shell.specs.declared.reading.Ending.{Ending}
-use Rattle.pq_shell.specs.declared.reading.Ending.TheVariants.{Whole, Faulted, TooLong}
+use Rattle.pq_console.specs.Reading.{TookBytes, script_limit}
+use Rattle.pq_console.specs.declared.reading.Ending.{Ending}
+use Rattle.pq_console.specs.declared.reading.Ending.TheVariants.{Whole, Faulted, TooLong}
 
 joined_few : (front : List ℕ) (ws : List (List ℕ)) (rest : List ℕ) → length (joined_split front ws rest).pieces ≡ length ws
 joined_few front [] rest = refl

@@ -1,12 +1,12 @@
 -- The pieces before the first write, made one after the other.
-use Rattle.std.proofs.Common.{◌≡◌, ℕ, ◌+◌, ◌≤◌, ◌<◌, Bool, List, [], ◌∷◌, ◌++◌, map, length, take, drop, get_or, refl, sym, ap, ◌∙◌, subst, arith, append_assoc, length-append}
-use Rattle.std.proofs.lemmas.List.{take_more, take_all, drop_more, take-append-drop, map-append, length-map, length-take-le}
+use Rattle.std.proofs.Common.{◌≡◌, ℕ, ◌+◌, ◌≤◌, ◌<◌, Bool, List, [], ◌∷◌, ◌++◌, length, take, drop, get_or, sym, ap, ◌∙◌, subst, arith}
+use Rattle.std.proofs.lemmas.List.{take_more, take_all, take-append-drop, map-append, length-map, length-take-le}
 use Rattle.pq_fill.specs.declared.words.Form.TheVariants.{Run}
 use Rattle.pq_schema.specs.Schema.{Schema}
 use Rattle.pq_text.specs.declared.piece.Piece.{Piece}
 use Rattle.pq_shell.specs.Fold.{Moment, ServedItems, StoppedItem}
 use Rattle.pq_shell.specs.Items.{Cut, cut_items}
-use Rattle.pq_shell.specs.declared.stop.Stop.{Stop}
+use Rattle.pq_console.specs.declared.stop.Stop.{Stop}
 use Rattle.pq_shell.proofs.Folding.{Served-append, Stopped-before, Stopped-after}
 
 cut_long : (ps : List Piece) (i : ℕ) → i < length ps → length (cut_items (take i ps)) ≡ i

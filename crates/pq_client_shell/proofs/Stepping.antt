@@ -1,5 +1,5 @@
 -- Clients to whom writes are dealt, and their steps.
-use Rattle.std.proofs.Common.{◌≡◌, ℕ, ◌+◌, ◌^◌, ◌≤◌, ◌<◌, ◌⊎◌, IfSome, List, [], ◌∷◌, ◌++◌, map, length, All, Option, Some, refl, sym, ap, ◌∙◌, subst, arith, inl, inr}
+use Rattle.std.proofs.Common.{◌≡◌, ℕ, ◌+◌, ◌^◌, ◌≤◌, ◌<◌, ◌⊎◌, IfSome, List, [], ◌∷◌, map, length, All, Option, Some, refl, sym, ap, ◌∙◌, subst, arith, inl, inr}
 use Rattle.std.proofs.lemmas.List.{length-map}
 use Rattle.std.specs.FinMap.{get}
 use Rattle.std.specs.List.{AllByRecursion, sum_by}
@@ -16,7 +16,7 @@ use Rattle.pq_content.specs.Tables.{Rows, AllOfKinds, Keeps}
 use Rattle.pq_content.proofs.Keys.{both_beside, counters_beside}
 use Rattle.pq_index_keep.specs.Sound.{IsWrite}
 use Rattle.pq_index_keep.specs.declared.write.Write.{Write}
-use Rattle.pq_index_keep.proofs.Inserting.{each_is, each_by}
+use Rattle.pq_index_keep.proofs.Inserting.{each_is}
 use Rattle.pq_index_keep.proofs.Narrow.{valid_writable}
 use Rattle.pq_tallies.specs.Counters.{AreFewRows, all_pairs, counter_key, stored_count, tally}
 use Rattle.pq_tallies.specs.Defined.{IsCounter, NumberedCounter, counters_in, group_types}

@@ -1,5 +1,5 @@
 -- Writes that are dealt to clients in turn, and the order of the clients' steps.
-use Rattle.std.specs.Prelude.{◌≡◌, ℕ, ◌+◌, ◌==◌, List, [], ◌∷◌, ◌++◌, map, if◌then◌else◌}
+use Rattle.std.specs.Prelude.{ℕ, ◌+◌, ◌==◌, List, [], ◌∷◌, ◌++◌, map, if◌then◌else◌}
 use Rattle.std.specs.List.{range_with_len}
 use Rattle.pq_index_keep.specs.declared.write.Write.{Write}
 use Rattle.pq_clients.specs.Clients.{View, new_view}

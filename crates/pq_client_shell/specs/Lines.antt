@@ -1,5 +1,5 @@
 -- The lines of a run of clients.
-use Rattle.std.specs.Prelude.{ℕ, ◌+◌, Bool, true, false, List, [], ◌∷◌, ◌++◌, length, flat_map, codes, decimal, Option, Some, None, if◌then◌else◌}
+use Rattle.std.specs.Prelude.{ℕ, ◌+◌, Bool, false, List, [], ◌∷◌, ◌++◌, length, flat_map, codes, decimal, Option, Some, None, if◌then◌else◌}
 use Rattle.pq_schema.specs.Schema.{Schema}
 use Rattle.pq_text.specs.Pieces.{rest_of, is_unfinished}
 use Rattle.pq_text.specs.declared.piece.Piece.{Piece}
@@ -10,8 +10,8 @@ use Rattle.pq_clients.specs.declared.outcome.Outcome.{Outcome}
 use Rattle.pq_clients.specs.declared.outcome.Outcome.TheVariants as outcome
 use Rattle.pq_clients.specs.declared.outcome.Told.{Told}
 use Rattle.pq_shell.specs.Serving.{rest_text}
-use Rattle.pq_shell.specs.declared.reading.Ending.{Ending}
-use Rattle.pq_shell.specs.declared.reading.Ending.TheVariants.{Whole, Faulted, TooLong}
+use Rattle.pq_console.specs.declared.reading.Ending.{Ending}
+use Rattle.pq_console.specs.declared.reading.Ending.TheVariants.{Whole, Faulted, TooLong}
 use Rattle.pq_client_shell.specs.Writes.{write_of, front_count, gathered_of}
 
 -- a piece with this number is skipped

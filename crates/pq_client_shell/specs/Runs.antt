@@ -1,5 +1,5 @@
 -- How a run of clients ends: what stands at each status.
-use Rattle.std.specs.Prelude.{◌≡◌, ℕ, ◌+◌, ◌≤◌, ◌⊎◌, Bool, true, false, ◌||◌, Option, Some, None, IfSome, List, [], ◌++◌, length, All}
+use Rattle.std.specs.Prelude.{◌≡◌, ℕ, ◌≤◌, ◌⊎◌, Bool, true, false, ◌||◌, Option, Some, None, IfSome, List, [], All}
 use Rattle.std.specs.List.{AllByRecursion, list_any}
 use Rattle.std.specs.Io.KnownBytes.{append_known}
 use Rattle.pq_base.specs.Members.{In}
@@ -29,17 +29,17 @@ use Rattle.pq_step.specs.Stands.{Opens, Stands, content_of, others_of}
 use Rattle.pq_shell.specs.Fold.{Moment, MadeReports, StoppedItem}
 use Rattle.pq_shell.specs.Items.{cut_items}
 use Rattle.pq_shell.specs.Making.{moment}
-use Rattle.pq_shell.specs.Outside.{IsCut}
-use Rattle.pq_shell.specs.Reading.{TookBytes}
+use Rattle.pq_console.specs.Outside.{IsCut}
+use Rattle.pq_console.specs.Reading.{TookBytes}
 use Rattle.pq_shell.specs.Run.{RunWorld, written_world, IsScript}
-use Rattle.pq_shell.specs.Stops.{CutsOff}
-use Rattle.pq_shell.specs.declared.reading.Ending.{Ending}
-use Rattle.pq_shell.specs.declared.reading.Ending.TheVariants.{Whole, Faulted, TooLong}
+use Rattle.pq_console.specs.Stops.{CutsOff}
+use Rattle.pq_console.specs.declared.reading.Ending.{Ending}
+use Rattle.pq_console.specs.declared.reading.Ending.TheVariants.{Whole, Faulted, TooLong}
 use Rattle.pq_shell.specs.declared.serving.Ended.{Ended}
 use Rattle.pq_shell.specs.declared.status.Status.{Status}
 use Rattle.pq_shell.specs.declared.status.Status.TheVariants as status
-use Rattle.pq_shell.specs.declared.stop.Stop.{Stop}
-use Rattle.pq_shell.specs.declared.stop.Stop.TheVariants as stops
+use Rattle.pq_console.specs.declared.stop.Stop.{Stop}
+use Rattle.pq_console.specs.declared.stop.Stop.TheVariants as stops
 use Rattle.pq_client_shell.specs.Writes.{front_of, gathered_of, writes_of, is_skipped}
 use Rattle.pq_client_shell.specs.Dealing.{dealt}
 use Rattle.pq_client_shell.specs.Lines.{between_text, leaves_rest, told_text}

@@ -3,8 +3,8 @@ use Rattle.std.specs.Prelude.{Bool, true, false, not, List, [], ◌∷◌, Optio
 use Rattle.pq_clients.specs.declared.outcome.Outcome.{Outcome}
 use Rattle.pq_clients.specs.declared.outcome.Outcome.TheVariants as outcome
 use Rattle.pq_clients.specs.declared.outcome.Told.{Told}
-use Rattle.pq_shell.specs.declared.stop.Stop.{Stop}
-use Rattle.pq_shell.specs.declared.stop.Stop.TheVariants as stops
+use Rattle.pq_console.specs.declared.stop.Stop.{Stop}
+use Rattle.pq_console.specs.declared.stop.Stop.TheVariants as stops
 
 -- the fault by which a client ended
 abbrev pub fault_of : Outcome → Option Stop

@@ -4,7 +4,7 @@ ghost use Rattle.pq_fill.specs.declared.words.Form.TheVariants as Form;
 ghost use Rattle.pq_shell.specs.Fold.{ServedItems, StoppedItem};
 ghost use Rattle.pq_shell.specs.Items.{cut_items};
 ghost use Rattle.pq_shell.specs.Making.{moment};
-ghost use Rattle.pq_shell.specs.Stops.{Causes};
+ghost use Rattle.pq_console.specs.Stops.{Causes};
 
 use pq_fill::Form;
 use pq_session::Session;

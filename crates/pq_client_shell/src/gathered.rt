@@ -4,7 +4,7 @@ ghost use Rattle.std.specs.List.{AllByRecursion, list_any};
 ghost use Rattle.pq_index_keep.specs.Sound.{IsWrite};
 ghost use Rattle.pq_shell.specs.Making.{moment};
 ghost use Rattle.pq_shell.specs.Serving.{rest_text};
-ghost use Rattle.pq_shell.specs.Stops.{Causes};
+ghost use Rattle.pq_console.specs.Stops.{Causes};
 ghost use Rattle.pq_client_shell.specs.Lines.{between_text, skipped_text, unless_found};
 ghost use Rattle.pq_client_shell.specs.Runs.{RanClients, TellsCause, TellsAll, TellsPart, MadeGathered, HaltsGathered};
 ghost use Rattle.pq_client_shell.specs.Writes.{IsUncounted, front_count, gathered_of, is_skipped, one_write, writes_of};

@@ -3,12 +3,12 @@ ghost use Rattle.std.specs.Prelude.{◌≡◌, ◌≤◌, ◌+◌, ◌^◌, ℕ,
 ghost use Rattle.std.specs.Io.KnownBytes.{prepend_known};
 ghost use Rattle.pq_store.specs.Content.{HasRisen};
 ghost use Rattle.pq_text.specs.Pieces.{rest_of, is_unfinished};
-ghost use Rattle.pq_shell.specs.Reading.{CountsBytes, TookBytes, script_limit};
+ghost use Rattle.pq_console.specs.Reading.{CountsBytes, TookBytes, script_limit};
 ghost use Rattle.pq_client_shell.specs.Lines.{leaves_rest};
 ghost use Rattle.pq_client_shell.specs.Runs.{IsRead};
 
 use pq_base::{List, NoMem};
-use pq_shell::reading::{Ending, LIMIT, read_past_limit};
+use pq_console::{Ending, LIMIT, read_past_limit};
 use pq_shell::{Failed, Source};
 use pq_text::{Piece, cut_script};
 use std::alloc::Global;

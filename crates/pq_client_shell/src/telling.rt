@@ -3,7 +3,7 @@ ghost use Rattle.std.specs.Prelude.{◌≡◌, ◌≤◌, ◌⊎◌, None, Some,
 ghost use Rattle.std.specs.List.{list_any};
 ghost use Rattle.std.specs.Io.KnownBytes.{append_known};
 ghost use Rattle.pq_store.specs.Content.{HasRisen};
-ghost use Rattle.pq_shell.specs.Stops.{CutsOff};
+ghost use Rattle.pq_console.specs.Stops.{CutsOff};
 ghost use Rattle.pq_client_shell.specs.Lines.{told_text};
 ghost use Rattle.pq_client_shell.specs.Telling.{fault_of, first_fault, first_of, is_undone};
 

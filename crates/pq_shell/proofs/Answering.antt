@@ -5,7 +5,8 @@ use Rattle.pq_store.specs.Breaks.{IsAnsweredBut}
 use Rattle.pq_store.specs.declared.damage.Broke.{Broke}
 use Rattle.pq_store.specs.declared.damage.Broke.TheVariants as broke
 use Rattle.pq_step.specs.Stands.{next_key}
-use Rattle.pq_shell.specs.Stops.{stop_of_broke, IsAnsweredStop}
+use Rattle.pq_console.specs.Stops.{stop_of_broke}
+use Rattle.pq_shell.specs.Answered.{IsAnsweredStop}
 
 pub step_answered : (answers : List ℕ → Option (List ℕ) → Type 0) (schema : Schema) (why : Broke) → IsAnsweredBut answers (next_key schema) why → IsAnsweredStop answers (stop_of_broke why)
 step_answered answers schema broke.Failed told = tt

@@ -1,17 +1,17 @@
 -- How many bytes are counted of a source where a run ended so.
 use Rattle.std.proofs.Common.{◌≡◌, ◌↔◌, ℕ, ◌+◌, ◌≤◌, Bool, true, false, Option, List, Result, Ok, Err, IfOk, IfErr, OnErr, true≢false, refl, sym, subst, arith}
 use Rattle.std.proofs.lemmas.Result.{IfOk-weaker}
-use Rattle.pq_shell.specs.Reading.{CountsBytes, script_limit}
+use Rattle.pq_console.specs.Reading.{CountsBytes, script_limit}
 use Rattle.pq_shell.specs.Run.{Closes, status_of}
 use Rattle.pq_shell.specs.Serving.{ReportsRest, StoppedAtRest}
-use Rattle.pq_shell.specs.declared.reading.Ending.{Ending}
-use Rattle.pq_shell.specs.declared.reading.Ending.TheVariants.{Whole, Faulted, TooLong}
+use Rattle.pq_console.specs.declared.reading.Ending.{Ending}
+use Rattle.pq_console.specs.declared.reading.Ending.TheVariants.{Whole, Faulted, TooLong}
 use Rattle.pq_shell.specs.declared.serving.Ended.{Ended}
 use Rattle.pq_shell.specs.declared.serving.Progress.{Progress}
 use Rattle.pq_shell.specs.declared.status.Status.{Status}
 use Rattle.pq_shell.specs.declared.status.Status.TheVariants as status
-use Rattle.pq_shell.specs.declared.stop.Stop.{Stop}
-use Rattle.pq_shell.specs.declared.stop.Stop.TheVariants as stops
+use Rattle.pq_console.specs.declared.stop.Stop.{Stop}
+use Rattle.pq_console.specs.declared.stop.Stop.TheVariants as stops
 
 abbrev pub IsTooLong : Status → Type 0
 IsTooLong status.TooLong = Unit {0}

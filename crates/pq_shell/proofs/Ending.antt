@@ -1,8 +1,7 @@
 -- How a run ends.
-use Rattle.std.proofs.Common.{◌≡◌, ℕ, ◌+◌, inl, inr, Bool, true, false, ◌||◌, Option, Some, Result, Ok, Err, IfOk, IfErr, List, [], ◌∷◌, ◌++◌, length, flat_map, refl, sym, ap, ◌∙◌, subst, arith, lit≤, true≢false, ◌≤◌, add-zero, append-nil, length-append}
+use Rattle.std.proofs.Common.{◌≡◌, ℕ, ◌+◌, inl, inr, Bool, true, false, ◌||◌, Option, Some, Result, Ok, Err, IfOk, IfErr, List, [], ◌∷◌, ◌++◌, length, refl, sym, ap, ◌∙◌, subst, arith, lit≤, true≢false, ◌≤◌, append-nil, length-append}
 use Rattle.std.proofs.lemmas.List.{length-map}
 use Rattle.std.specs.Io.KnownBytes.{append_known, prepend_known}
-use Rattle.pq_base.specs.declared.number.Used.{Used}
 use Rattle.pq_fill.specs.declared.words.Form.{Form}
 use Rattle.pq_fill.specs.declared.words.Form.TheVariants.{Run, Check, Fill}
 use Rattle.pq_schema.specs.Schema.{Schema}
@@ -13,35 +12,32 @@ use Rattle.pq_text.specs.declared.piece.Piece.{Piece}
 use Rattle.pq_text.specs.Pieces.{pieces_of, rest_of, is_unfinished}
 use Rattle.pq_text.specs.Summaries.{start_summary, pieces_from, unfinished_from, Summary}
 use Rattle.pq_text.proofs.Cuts.{pieces_from-start, unfinished_from-start}
-use Rattle.pq_print.specs.Report.{damage_line, is_refusal, printed_report}
+use Rattle.pq_print.specs.Report.{damage_line, printed_report}
 use Rattle.pq_print.specs.declared.report.Opened.{Opened}
 use Rattle.pq_print.specs.declared.report.Report.{Report}
 use Rattle.pq_step.specs.Checks.{without_rows}
 use Rattle.pq_step.specs.Model.{Model}
-use Rattle.pq_step.specs.Matches.{Matches}
-use Rattle.pq_step.specs.Stands.{Opens}
 use Rattle.pq_step.proofs.Standing.{settled_opens}
-use Rattle.pq_shell.specs.Fold.{Moment, MadeReports, ServedItems, StoppedItem}
+use Rattle.pq_shell.specs.Fold.{Moment, ServedItems, StoppedItem}
 use Rattle.pq_shell.specs.Forms.{HasItems, HasOpening, OpensAt, StandsIn, close, shown_report}
 use Rattle.pq_shell.specs.Items.{Item, Cut, Rest, cut_items, rest_items, items_of}
 use Rattle.pq_shell.specs.Making.{ReadsSource, MakesItem, moment}
-use Rattle.pq_shell.specs.Openings.{Opening, OpensWith, StoppedOpening}
-use Rattle.pq_shell.specs.Reading.{TookBytes, script_limit}
-use Rattle.pq_shell.specs.Run.{RunWorld, RanItems, FinishedRun, BrokenRun, StopsOpening, StopsLater, HasRead, IsReadInParts, NamesDamage, Ends, EndsDamaged, Closes, IsPlain, IsScript, Suffices, status_of, run_world, written_world}
+use Rattle.pq_shell.specs.Openings.{Opening, StoppedOpening}
+use Rattle.pq_console.specs.Reading.{TookBytes}
+use Rattle.pq_shell.specs.Run.{RunWorld, FinishedRun, BrokenRun, HasRead, IsReadInParts, Ends, EndsDamaged, Closes, IsPlain, IsScript, Suffices, status_of, written_world}
 use Rattle.pq_shell.specs.Run.BrokenRun.{AtOpening, AtItem, AtClose}
 use Rattle.pq_shell.specs.Serving.{FedPieces, ConsumedSource, StoppedAmong, ReportsRest, StoppedAtRest, has_rest, rest_report, rest_text}
-use Rattle.pq_shell.specs.Stops.{CutsOff}
-use Rattle.pq_shell.specs.declared.reading.Ending.{Ending}
-use Rattle.pq_shell.specs.declared.reading.Ending.TheVariants.{Whole, Faulted, TooLong}
-use Rattle.pq_shell.specs.declared.run.Begun.{Begun}
+use Rattle.pq_console.specs.Stops.{CutsOff}
+use Rattle.pq_console.specs.declared.reading.Ending.{Ending}
+use Rattle.pq_console.specs.declared.reading.Ending.TheVariants.{Whole, Faulted, TooLong}
 use Rattle.pq_shell.specs.declared.serving.Ended.{Ended}
 use Rattle.pq_shell.specs.declared.serving.Progress.{Progress}
 use Rattle.pq_shell.specs.declared.status.Status.{Status}
 use Rattle.pq_shell.specs.declared.status.Status.TheVariants as status
-use Rattle.pq_shell.specs.declared.stop.Stop.{Stop}
-use Rattle.pq_shell.specs.declared.stop.Stop.TheVariants as stops
-use Rattle.pq_shell.proofs.Known.{append_known-append, append_known-none, known-length}
-use Rattle.pq_shell.proofs.Folding.{Made-append, Made-none, Made-one, Served-append, Served-none, Served-one, Stopped-after, Stopped-writing, Rises-none, among_items, from_done, from_number, length_after}
+use Rattle.pq_console.specs.declared.stop.Stop.{Stop}
+use Rattle.pq_console.specs.declared.stop.Stop.TheVariants as stops
+use Rattle.pq_console.proofs.Known.{append_known-none, known-length}
+use Rattle.pq_shell.proofs.Folding.{Made-one, Served-append, Served-one, Stopped-after, Stopped-writing, Rises-none, from_done, from_number, length_after}
 
 -- what stands opens
 pub stands_opens : (f : Form) (content : Option Content) (s : Schema) (m : Model) → StandsIn f content s m → OpensAt f content m

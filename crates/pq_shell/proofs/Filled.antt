@@ -1,5 +1,5 @@
 -- The statements of the generated script, made one after the other.
-use Rattle.std.proofs.Common.{◌≡◌, ℕ, ◌+◌, ◌-◌, ◌*◌, ◌≤◌, ◌<◌, suc, Bool, true, false, ◌||◌, List, [], ◌∷◌, ◌++◌, length, map, take, drop, Option, Some, None, inl, inr, refl, sym, ap, ◌∙◌, subst, arith, append-nil, length-append}
+use Rattle.std.proofs.Common.{◌≡◌, ℕ, ◌+◌, ◌-◌, ◌*◌, ◌≤◌, ◌<◌, suc, Bool, true, false, ◌||◌, List, [], ◌∷◌, ◌++◌, length, map, take, drop, Option, Some, None, inl, inr, refl, sym, ap, ◌∙◌, subst, arith, length-append}
 use Rattle.std.specs.Prelude.{fold, option_map, slice_get, zip}
 use Rattle.std.specs.List.{list_any}
 use Rattle.std.specs.Io.KnownBytes.{append_known}
@@ -11,7 +11,7 @@ use Rattle.std.proofs.lemmas.List.Sums.{fold-append}
 use Rattle.std.proofs.lemmas.Option.{get_or_from_slice_get, none-some, slice_get-map, slice_get_cases, slice_get_within}
 use Rattle.pq_base.specs.declared.number.Used.{Used}
 use Rattle.std.proofs.lemmas.Nat.{mul-le}
-use Rattle.pq_fill.proofs.Places.{kinds_long, statements_long}
+use Rattle.pq_fill.proofs.Places.{statements_long}
 use Rattle.pq_fill.specs.Script.{fill_kinds, fill_script, followed_user}
 use Rattle.pq_fill.specs.Summary.{no_reports, summary_of, summary_text, with_report}
 use Rattle.pq_fill.specs.declared.item.Kind.{Kind}
@@ -27,21 +27,21 @@ use Rattle.pq_print.specs.declared.report.Report.{Report}
 use Rattle.pq_shell.specs.Filling.{Fills}
 use Rattle.pq_shell.specs.Fold.{Moment, MadeReports, StoppedItem}
 use Rattle.pq_shell.specs.Forms.{fill_items}
-use Rattle.pq_shell.specs.Items.{Item, Cut, cut_items}
+use Rattle.pq_shell.specs.Items.{Item, Cut}
 use Rattle.pq_shell.specs.Making.{BreaksAt, MakesItem, moment}
 use Rattle.pq_shell.specs.Openings.{OpensWith}
-use Rattle.pq_shell.specs.Outside.{IsCut}
+use Rattle.pq_console.specs.Outside.{IsCut}
 use Rattle.pq_shell.specs.Run.{BrokenRun, FinishedRun, RanItems}
 use Rattle.pq_shell.specs.Run.BrokenRun.{AtItem, AtClose}
-use Rattle.pq_shell.specs.Stops.{CutsOff}
+use Rattle.pq_console.specs.Stops.{CutsOff}
 use Rattle.pq_shell.specs.declared.filling.Filled.{Filled}
-use Rattle.pq_shell.specs.declared.reading.Ending.TheVariants.{Whole}
+use Rattle.pq_console.specs.declared.reading.Ending.TheVariants.{Whole}
 use Rattle.pq_shell.specs.declared.run.Begun.{Begun}
-use Rattle.pq_shell.specs.declared.stop.Stop.{Stop}
-use Rattle.pq_shell.specs.declared.stop.Stop.TheVariants as stops
+use Rattle.pq_console.specs.declared.stop.Stop.{Stop}
+use Rattle.pq_console.specs.declared.stop.Stop.TheVariants as stops
 use Rattle.pq_shell.proofs.Ending.{at_end, stands_opens, with_held}
 use Rattle.pq_shell.proofs.Folding.{Made-append, Made-none, Made-one, Stopped-after, Stopped-before, Stopped-between, among_items, from_number}
-use Rattle.pq_shell.proofs.Known.{append_known-none}
+use Rattle.pq_console.proofs.Known.{append_known-none}
 
 -- ---- lists
 

@@ -18,12 +18,12 @@ use Rattle.pq_step.specs.declared.format.Mark.TheVariants.{Building}
 use Rattle.pq_opening.specs.Opening.{SchemaAndMark, none_added, added_from, catalog_in, TellsSchema, ShowsFlaw, NamesFlaw}
 use Rattle.pq_shell.specs.Flaw.{IsFlaw, HaltsAtFlaw, StopsAtFlaw, EndsAtFlaw}
 use Rattle.pq_shell.specs.Run.{Closes}
-use Rattle.pq_shell.specs.Stops.{stop_of_broke}
+use Rattle.pq_console.specs.Stops.{stop_of_broke}
 use Rattle.pq_shell.specs.declared.serving.Ended.{Ended}
 use Rattle.pq_shell.specs.declared.status.Status.{Status}
 use Rattle.pq_shell.specs.declared.status.Status.TheVariants as status
-use Rattle.pq_shell.specs.declared.stop.Stop.{Stop}
-use Rattle.pq_shell.specs.declared.stop.Stop.TheVariants as stops
+use Rattle.pq_console.specs.declared.stop.Stop.{Stop}
+use Rattle.pq_console.specs.declared.stop.Stop.TheVariants as stops
 
 abbrev Flaw : Type 0
 Flaw = List ℕ × List ℕ

@@ -1,10 +1,9 @@
 -- Items that were made, one after the other, and stops among them.
-use Rattle.std.proofs.Common.{◌≡◌, ℕ, ◌+◌, ◌≤◌, ◌⊎◌, Bool, true, false, ◌||◌, List, [], ◌∷◌, ◌++◌, length, Option, Some, None, inl, inr, refl, sym, ap, ◌∙◌, subst, arith, add-zero, append_assoc, append-nil, length-append}
+use Rattle.std.proofs.Common.{◌≡◌, ℕ, ◌+◌, Bool, true, false, ◌||◌, List, [], ◌∷◌, ◌++◌, length, Option, inl, inr, refl, sym, ap, ◌∙◌, subst, arith, add-zero, append_assoc, append-nil, length-append}
 use Rattle.std.proofs.lemmas.Grind.{common_steps, flat_map-append}
 use Rattle.std.proofs.lemmas.List.Folds.{list_any-append}
 use Rattle.std.specs.List.{flat_map, sum_by, list_any}
 use Rattle.std.specs.Io.KnownBytes.{append_known}
-use Rattle.pq_base.specs.declared.number.Bound.{Bound}
 use Rattle.pq_fill.specs.declared.words.Form.{Form}
 use Rattle.pq_schema.specs.Schema.{Schema}
 use Rattle.pq_store.specs.Content.{Content}
@@ -18,14 +17,13 @@ use Rattle.pq_step.specs.Matches.{Matches}
 use Rattle.pq_step.specs.Promise.{IsWithinFixed}
 use Rattle.pq_step.proofs.Promises.{within_none, within_reported}
 use Rattle.pq_shell.specs.Fold.{Moment, IsReport, Reports, RisesBy, IsWithinItem, IsWithinStep, IsPart, AreStill, KeepsItem, after, ReportedItems, Halts, MadeReports, ServedItems, ShowsDamage, StoppedItem, schema_behind}
-use Rattle.pq_shell.specs.Forms.{HasOpening, StandsIn, OpensAt, asked_item, item_step, shown_report}
+use Rattle.pq_shell.specs.Forms.{StandsIn, OpensAt, asked_item, item_step, shown_report}
 use Rattle.pq_shell.specs.Items.{Item}
 use Rattle.pq_shell.specs.Making.{MakesItem, moment}
-use Rattle.pq_shell.specs.Outside.{IsCut}
-use Rattle.pq_shell.specs.Stops.{CutsOff}
-use Rattle.pq_shell.specs.declared.stop.Stop.{Stop}
-use Rattle.pq_shell.specs.declared.stop.Stop.TheVariants as stops
-use Rattle.pq_shell.proofs.Known.{append_known-append, append_known-none}
+use Rattle.pq_console.specs.Stops.{CutsOff}
+use Rattle.pq_console.specs.declared.stop.Stop.{Stop}
+use Rattle.pq_console.specs.declared.stop.Stop.TheVariants as stops
+use Rattle.pq_console.proofs.Known.{append_known-append, append_known-none}
 
 -- a number goes on by one more item
 goes_on : (n : ℕ) (item : Item) (items : List Item) → n + length (item ∷ items) ≡ (n + 1) + length items

@@ -4,9 +4,7 @@ pub mod Ending
 pub mod Filled
 pub mod Flaws
 pub mod Folding
-pub mod Known
 pub mod Making
 pub mod Opening
 pub mod Parts
 pub mod SoFar
-pub mod Taking

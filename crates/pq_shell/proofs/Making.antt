@@ -2,7 +2,6 @@
 use Rattle.std.proofs.Common.{◌≡◌, ℕ, false, true, ◌+◌, ◌≤◌, ◌⊎◌, List, [], ◌∷◌, Option, refl, sym, ap, ◌∙◌, subst, arith, inl, inr}
 use Rattle.std.specs.Prelude.{IfErr, IfSome}
 use Rattle.std.specs.Io.KnownBytes.{append_known}
-use Rattle.pq_base.specs.declared.number.Bound.{Bound}
 use Rattle.pq_base.specs.declared.number.Used.{Used}
 use Rattle.pq_fill.specs.declared.words.Form.{Form}
 use Rattle.pq_fill.specs.declared.words.Form.TheVariants.{Run, Check, Fill}
@@ -36,12 +35,11 @@ use Rattle.pq_shell.specs.Fold.{DefinesAsWritten, IsStill}
 use Rattle.pq_shell.specs.Forms.{HasOpening, StandsIn, OpensAt, item_step, shown_report}
 use Rattle.pq_shell.specs.Items.{Cut}
 use Rattle.pq_shell.specs.Making.{BreaksAt, ReadsSource, MakesItem, moment}
-use Rattle.pq_shell.specs.Stops.{CutsOff, stop_of_broke}
-use Rattle.pq_shell.specs.declared.stop.Stop.{Stop}
-use Rattle.pq_shell.specs.declared.stop.Stop.TheVariants as stops
-use Rattle.pq_shell.proofs.Ending.{stands_opens}
+use Rattle.pq_console.specs.Stops.{CutsOff, stop_of_broke}
+use Rattle.pq_console.specs.declared.stop.Stop.{Stop}
+use Rattle.pq_console.specs.declared.stop.Stop.TheVariants as stops
 use Rattle.pq_shell.proofs.Folding.{Stopped-at}
-use Rattle.pq_shell.proofs.Known.{append_known-none}
+use Rattle.pq_console.proofs.Known.{append_known-none}
 
 -- ---- what is written of a report
 

@@ -21,12 +21,12 @@ use Rattle.pq_opening.specs.Within.{IsBounded, IsWithinOpening, StopsWithin}
 use Rattle.pq_shell.specs.Fold.{Moment}
 use Rattle.pq_shell.specs.Forms.{HasOpening}
 use Rattle.pq_shell.specs.Making.{moment}
-use Rattle.pq_shell.specs.Openings.{Opening, OpensWith, StoppedOpening}
-use Rattle.pq_shell.specs.Stops.{CutsOff, stop_of_broke}
+use Rattle.pq_shell.specs.Openings.{OpensWith, StoppedOpening}
+use Rattle.pq_console.specs.Stops.{CutsOff, stop_of_broke}
 use Rattle.pq_shell.specs.declared.run.Begun.{Begun}
-use Rattle.pq_shell.specs.declared.stop.Stop.{Stop}
-use Rattle.pq_shell.specs.declared.stop.Stop.TheVariants as stops
-use Rattle.pq_shell.proofs.Known.{append_known-none}
+use Rattle.pq_console.specs.declared.stop.Stop.{Stop}
+use Rattle.pq_console.specs.declared.stop.Stop.TheVariants as stops
+use Rattle.pq_console.proofs.Known.{append_known-none}
 
 -- a store that was opened
 pub begun_store : (f : Form) → HasOpening f → (begun : Begun) (old now : Option Content) (h h' : Option (List ℕ)) (before after : Counts) (opened : Opened) → opened.used ≡ begun.used → IsValid begun.session

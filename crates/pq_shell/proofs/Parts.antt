@@ -10,7 +10,7 @@ use Rattle.pq_shell.specs.Fold.{Moment, ServedItems, StoppedItem}
 use Rattle.pq_shell.specs.Items.{Cut, cut_items}
 use Rattle.pq_shell.specs.Serving.{FedPieces, ProgressedRun}
 use Rattle.pq_shell.specs.declared.serving.Progress.{Progress}
-use Rattle.pq_shell.specs.declared.stop.Stop.{Stop}
+use Rattle.pq_console.specs.declared.stop.Stop.{Stop}
 use Rattle.pq_shell.proofs.Folding.{Served-none, Served-append, Stopped-after, Stopped-before, among_done, among_items, from_number, length_after}
 
 pub Fed-none : (s : Summary) → FedPieces s [] [] s

@@ -1,19 +1,18 @@
 -- The loop over the reads of a source.
-use Rattle.std.proofs.Common.{◌≡◌, ℕ, ◌+◌, ◌≤◌, List, [], ◌++◌, length, take, Option, refl, sym, ap, ◌∙◌, subst, arith, length-append}
-use Rattle.std.proofs.lemmas.List.{length-map}
+use Rattle.std.proofs.Common.{◌≡◌, ℕ, ◌+◌, ◌≤◌, List, [], ◌++◌, length, take, Option, refl, sym, ap, ◌∙◌, arith, length-append}
 use Rattle.std.specs.Io.KnownBytes.{prepend_known, IsAtEnd}
 use Rattle.pq_fill.specs.declared.words.Form.{Form}
 use Rattle.pq_schema.specs.Schema.{Schema}
 use Rattle.pq_text.specs.Summaries.{pieces_from}
 use Rattle.pq_shell.specs.Fold.{Moment, StoppedItem}
-use Rattle.pq_shell.specs.Items.{Cut, cut_items}
-use Rattle.pq_shell.specs.Reading.{TookBytes, script_limit}
+use Rattle.pq_shell.specs.Items.{cut_items}
+use Rattle.pq_console.specs.Reading.{TookBytes, script_limit}
 use Rattle.pq_shell.specs.Serving.{ProgressedRun, ConsumedSource, StoppedAmong}
-use Rattle.pq_shell.specs.declared.reading.Ending.{Ending}
-use Rattle.pq_shell.specs.declared.reading.Ending.TheVariants.{Whole, Faulted}
+use Rattle.pq_console.specs.declared.reading.Ending.{Ending}
+use Rattle.pq_console.specs.declared.reading.Ending.TheVariants.{Whole, Faulted}
 use Rattle.pq_shell.specs.declared.serving.Progress.{Progress}
-use Rattle.pq_shell.specs.declared.stop.Stop.{Stop}
-use Rattle.pq_shell.proofs.Known.{prepend_known-append, prepend_known-none}
+use Rattle.pq_console.specs.declared.stop.Stop.{Stop}
+use Rattle.pq_console.proofs.Known.{prepend_known-append, prepend_known-none}
 use Rattle.pq_shell.proofs.Parts.{Progressed-none, Progressed-append, stopped_later}
 
 -- so many bytes were read, and all of them were fed

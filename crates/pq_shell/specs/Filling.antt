@@ -1,5 +1,5 @@
 -- The generated script, made, and what was noted of its reports.
-use Rattle.std.specs.Prelude.{◌≡◌, ℕ, List, fold, zip, length, Option}
+use Rattle.std.specs.Prelude.{◌≡◌, ℕ, List, fold, zip}
 use Rattle.std.specs.List.{list_any}
 use Rattle.pq_base.specs.declared.number.Used.{Used}
 use Rattle.pq_fill.specs.Script.{fill_kinds}

@@ -6,8 +6,8 @@ use Rattle.pq_print.specs.Report.{damage_line}
 use Rattle.pq_opening.specs.Opening.{ShowsFlaw}
 use Rattle.pq_shell.specs.declared.status.Status.{Status}
 use Rattle.pq_shell.specs.declared.status.Status.TheVariants as status
-use Rattle.pq_shell.specs.declared.stop.Stop.{Stop}
-use Rattle.pq_shell.specs.declared.stop.Stop.TheVariants as stops
+use Rattle.pq_console.specs.declared.stop.Stop.{Stop}
+use Rattle.pq_console.specs.declared.stop.Stop.TheVariants as stops
 
 -- the key of the content's first flaw
 abbrev pub IsFlaw : Content → List ℕ → Type 0

@@ -1,6 +1,6 @@
 -- The three forms of a run: the step of an item, what is written of its report, what a run begins with and
 -- what then stands.
-use Rattle.std.specs.Prelude.{◌≡◌, ℕ, List, [], map, Option, IfSome, Result, Err}
+use Rattle.std.specs.Prelude.{◌≡◌, ℕ, List, [], map, Option, Result, Err}
 use Rattle.pq_base.specs.declared.refusal.Refusal.{Refusal}
 use Rattle.pq_base.specs.declared.refusal.Refusal.TheVariants.{Unfinished}
 use Rattle.pq_fill.specs.Script.{fill_script}
@@ -20,9 +20,9 @@ use Rattle.pq_step.specs.Step.{Step, refused_unread, step}
 use Rattle.pq_store.specs.Content.{Content}
 use Rattle.pq_text.specs.declared.piece.Piece.TheVariants as piece
 use Rattle.pq_shell.specs.Items.{Item, Cut, Rest, cut_items, items_of}
-use Rattle.pq_shell.specs.Reading.{TookBytes}
-use Rattle.pq_shell.specs.declared.reading.Ending.{Ending}
-use Rattle.pq_shell.specs.declared.reading.Ending.TheVariants.{Whole}
+use Rattle.pq_console.specs.Reading.{TookBytes}
+use Rattle.pq_console.specs.declared.reading.Ending.{Ending}
+use Rattle.pq_console.specs.declared.reading.Ending.TheVariants.{Whole}
 
 -- ---- the step of an item
 

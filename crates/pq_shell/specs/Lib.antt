@@ -1,13 +1,10 @@
+pub mod Answered
 pub mod Filling
 pub mod Flaw
 pub mod Fold
 pub mod Forms
 pub mod Items
 pub mod Making
-pub mod Memory
 pub mod Openings
-pub mod Outside
-pub mod Reading
 pub mod Run
 pub mod Serving
-pub mod Stops

@@ -11,7 +11,7 @@ use Rattle.pq_step.specs.Model.{Model}
 use Rattle.pq_shell.specs.Fold.{Moment, IsReport, IsStill, RisesBy, StoppedItem, schema_behind}
 use Rattle.pq_shell.specs.Forms.{item_step, StandsIn}
 use Rattle.pq_shell.specs.Items.{Item}
-use Rattle.pq_shell.specs.declared.stop.Stop.{Stop}
+use Rattle.pq_console.specs.declared.stop.Stop.{Stop}
 
 -- the script is read from a source, and each report is written
 abbrev pub ReadsSource : Form → Type 0

@@ -1,5 +1,5 @@
 -- The opening of a store at the start of a run, and what is written of it. A check opens none.
-use Rattle.std.specs.Prelude.{◌≡◌, ◌⊎◌, ℕ, ◌+◌, ◌≤◌, length, Option, Some, IfSome, List, []}
+use Rattle.std.specs.Prelude.{◌≡◌, ◌⊎◌, ℕ, ◌+◌, length, Option, Some, IfSome, List, []}
 use Rattle.std.specs.Io.KnownBytes.{append_known}
 use Rattle.pq_fill.specs.declared.words.Form.{Form}
 use Rattle.pq_schema.specs.Schema.{Schema}
@@ -14,10 +14,10 @@ use Rattle.pq_step.specs.Stands.{Opens}
 use Rattle.pq_opening.specs.Within.{IsBounded, IsWithinOpening, StopsWithin}
 use Rattle.pq_shell.specs.Fold.{Moment}
 use Rattle.pq_shell.specs.Forms.{HasOpening, Starts, IsOpened, StandsIn, front}
-use Rattle.pq_shell.specs.Outside.{IsCut}
+use Rattle.pq_console.specs.Outside.{IsCut}
 use Rattle.pq_shell.specs.declared.run.Begun.{Begun}
-use Rattle.pq_shell.specs.declared.stop.Stop.{Stop}
-use Rattle.pq_shell.specs.declared.stop.Stop.TheVariants as stops
+use Rattle.pq_console.specs.declared.stop.Stop.{Stop}
+use Rattle.pq_console.specs.declared.stop.Stop.TheVariants as stops
 
 -- the run was begun with these definitions, and the opening's line is out
 pub record Opening (form : Form) (first : Schema) (from to : Moment) : Type 0 where

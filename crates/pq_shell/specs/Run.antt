@@ -1,6 +1,6 @@
 -- How a run of each form ends: what stands at each status.
-use Rattle.std.specs.Prelude.{◌≡◌, ℕ, ◌≤◌, ◌⊎◌, Bool, true, false, Option, Some, Result, Ok, Err, List, [], ◌++◌, length, flat_map}
-use Rattle.std.specs.List.{list_any, sum_by}
+use Rattle.std.specs.Prelude.{◌≡◌, ℕ, ◌≤◌, ◌⊎◌, Bool, true, false, Option, Some, Result, Ok, Err, List, [], ◌++◌, length}
+use Rattle.std.specs.List.{list_any}
 use Rattle.std.specs.Io.KnownBytes.{append_known, prepend_known}
 use Rattle.pq_fill.specs.declared.words.Form.{Form}
 use Rattle.pq_fill.specs.declared.words.Form.TheVariants.{Run, Check, Fill}
@@ -13,19 +13,19 @@ use Rattle.pq_print.specs.Report.{damage_line, is_refusal}
 use Rattle.pq_print.specs.declared.report.Report.{Report}
 use Rattle.pq_step.specs.Model.{Model}
 use Rattle.pq_step.specs.Stands.{Opens}
-use Rattle.pq_shell.specs.Fold.{Moment, MadeReports, ReportedItems, StoppedItem, after}
-use Rattle.pq_shell.specs.Forms.{HasItems, HasOpening, OpensAt, Starts, close}
+use Rattle.pq_shell.specs.Fold.{Moment, MadeReports, StoppedItem}
+use Rattle.pq_shell.specs.Forms.{HasItems, HasOpening, close}
 use Rattle.pq_shell.specs.Items.{Item}
 use Rattle.pq_shell.specs.Openings.{Opening, StoppedOpening}
-use Rattle.pq_shell.specs.Outside.{IsCut}
-use Rattle.pq_shell.specs.Reading.{script_limit}
-use Rattle.pq_shell.specs.declared.reading.Ending.{Ending}
-use Rattle.pq_shell.specs.declared.reading.Ending.TheVariants.{Whole, Faulted, TooLong}
+use Rattle.pq_console.specs.Outside.{IsCut}
+use Rattle.pq_console.specs.Reading.{script_limit}
+use Rattle.pq_console.specs.declared.reading.Ending.{Ending}
+use Rattle.pq_console.specs.declared.reading.Ending.TheVariants.{Whole, Faulted, TooLong}
 use Rattle.pq_shell.specs.declared.serving.Ended.{Ended}
 use Rattle.pq_shell.specs.declared.status.Status.{Status}
 use Rattle.pq_shell.specs.declared.status.Status.TheVariants as status
-use Rattle.pq_shell.specs.declared.stop.Stop.{Stop}
-use Rattle.pq_shell.specs.declared.stop.Stop.TheVariants as stops
+use Rattle.pq_console.specs.declared.stop.Stop.{Stop}
+use Rattle.pq_console.specs.declared.stop.Stop.TheVariants as stops
 
 -- what the source has left and what store and sink hold, where they tell, and what the meter counts
 pub record RunWorld : Type 0 where

@@ -1,11 +1,10 @@
 -- A part of a script that was fed to the splitter, and what was made of its pieces.
 use Rattle.std.specs.Prelude.{◌≡◌, ℕ, ◌+◌, ◌≤◌, ◌||◌, Bool, true, false, Option, List, [], ◌++◌, length}
-use Rattle.std.specs.Io.KnownBytes.{append_known, prepend_known}
+use Rattle.std.specs.Io.KnownBytes.{append_known}
 use Rattle.pq_base.specs.declared.refusal.Refusal.TheVariants.{Unfinished}
 use Rattle.pq_builds.specs.Bounds.{bound}
 use Rattle.pq_fill.specs.declared.words.Form.{Form}
 use Rattle.pq_schema.specs.Schema.{Schema}
-use Rattle.pq_text.specs.Pieces.{pieces_of}
 use Rattle.pq_text.specs.declared.piece.Piece.{Piece}
 use Rattle.pq_text.specs.Summaries.{Summary, pieces_from, unfinished_from}
 use Rattle.pq_print.specs.Report.{printed_report}
@@ -13,13 +12,13 @@ use Rattle.pq_print.specs.declared.report.Report.{Report}
 use Rattle.pq_step.specs.Step.{refusal_report}
 use Rattle.pq_shell.specs.Fold.{Moment, ServedItems, StoppedItem}
 use Rattle.pq_shell.specs.Items.{cut_items}
-use Rattle.pq_shell.specs.Reading.{TookBytes}
-use Rattle.pq_shell.specs.Stops.{CutsOff}
-use Rattle.pq_shell.specs.declared.reading.Ending.{Ending}
-use Rattle.pq_shell.specs.declared.reading.Ending.TheVariants.{Whole, Faulted, TooLong}
+use Rattle.pq_console.specs.Reading.{TookBytes}
+use Rattle.pq_console.specs.Stops.{CutsOff}
+use Rattle.pq_console.specs.declared.reading.Ending.{Ending}
+use Rattle.pq_console.specs.declared.reading.Ending.TheVariants.{Whole, Faulted, TooLong}
 use Rattle.pq_shell.specs.declared.serving.Ended.{Ended}
 use Rattle.pq_shell.specs.declared.serving.Progress.{Progress}
-use Rattle.pq_shell.specs.declared.stop.Stop.{Stop}
+use Rattle.pq_console.specs.declared.stop.Stop.{Stop}
 
 -- between these states a splitter tells these pieces of these bytes, whatever comes next
 pub record FedPieces (from : Summary) (bytes : List ℕ) (told : List Piece) (to : Summary) : Type 0 where

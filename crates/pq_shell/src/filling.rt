@@ -7,11 +7,12 @@ ghost use Rattle.pq_shell.specs.Filling.{Fills};
 ghost use Rattle.pq_shell.specs.Fold.{StoppedItem};
 ghost use Rattle.pq_shell.specs.Forms.{fill_items};
 ghost use Rattle.pq_shell.specs.Making.{moment};
-ghost use Rattle.pq_shell.specs.Stops.{Causes, IsAnsweredStop};
+ghost use Rattle.pq_console.specs.Stops.{Causes};
+ghost use Rattle.pq_shell.specs.Answered.{IsAnsweredStop};
 
 use crate::serving::make;
-use crate::stop::Stop;
 use pq_base::{NoMem, Used};
+use pq_console::Stop;
 use pq_fill::{Form, Kind, Summary, fill_count, fill_kind, fill_statement};
 use pq_print::Report;
 use pq_session::Session;

@@ -10,19 +10,20 @@ ghost use Rattle.pq_shell.specs.Flaw.{IsFlaw, StopsAtFlaw, EndsAtFlaw};
 ghost use Rattle.pq_shell.specs.Forms.{HasOpening};
 ghost use Rattle.pq_shell.specs.Making.{ReadsSource, moment};
 ghost use Rattle.pq_shell.specs.Openings.{OpensWith, StoppedOpening};
-ghost use Rattle.pq_shell.specs.Reading.{CountsBytes, script_limit};
+ghost use Rattle.pq_console.specs.Reading.{CountsBytes, script_limit};
 ghost use Rattle.pq_shell.specs.Run.{BrokenRun, Closes, Ends, EndsDamaged, FinishedRun, IsMeant, IsPlain, Suffices, status_of, run_world};
 ghost use Rattle.pq_shell.specs.Serving.{ConsumedSource, StoppedAmong};
-ghost use Rattle.pq_shell.specs.Stops.{Causes, IsAnsweredStop, EndsAnswered};
+ghost use Rattle.pq_console.specs.Stops.{Causes};
+ghost use Rattle.pq_shell.specs.Answered.{IsAnsweredStop, EndsAnswered};
 
 use crate::filling::fill_store;
-use crate::outside::{Failed, Sink, Source};
-use crate::reading::{Ending, LIMIT, read_past_limit};
 use crate::serving::{Ended, Progress, finish, run_part};
 use crate::status::Status;
-use crate::stop::Stop;
-use crate::writing::{write_damage, write_opening, write_summary};
 use pq_base::{PText, Used};
+use pq_console::{
+    Ending, Failed, LIMIT, Sink, Source, Stop, read_past_limit, write_damage, write_opening,
+    write_summary,
+};
 use pq_fill::{Form, form_of};
 use pq_print::Opened;
 use pq_session::Session;

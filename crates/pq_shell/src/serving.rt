@@ -6,13 +6,11 @@ ghost use Rattle.pq_shell.specs.Fold.{ServedItems, StoppedItem};
 ghost use Rattle.pq_shell.specs.Items.{Cut, cut_items};
 ghost use Rattle.pq_shell.specs.Making.{BreaksAt, ReadsSource, MakesItem, moment};
 ghost use Rattle.pq_shell.specs.Serving.{ProgressedRun, ReportsRest, StoppedAtRest, has_rest, rest_report};
-ghost use Rattle.pq_shell.specs.Stops.{Causes, IsAnsweredStop};
+ghost use Rattle.pq_console.specs.Stops.{Causes};
+ghost use Rattle.pq_shell.specs.Answered.{IsAnsweredStop};
 
-use crate::outside::Sink;
-use crate::reading::Ending;
-use crate::stop::Stop;
-use crate::writing::write_report;
 use pq_base::{Bound, List, NoMem, Refusal, Used};
+use pq_console::{Ending, Sink, Stop, write_report};
 use pq_fill::Form;
 use pq_print::{End, Report};
 use pq_session::Session;

@@ -1,5 +1,5 @@
 use Rattle.std.proofs.Common.{◌≡◌, ◌+◌, ◌-◌, ◌≤◌, length}
-use Rattle.pq_shell.specs.Reading.{script_limit}
+use Rattle.pq_console.specs.Reading.{script_limit}
 use Rattle.piql_plan.proofs.read_script.Given as goal
 
 abbrev pub invariant-script : goal.invariant-script

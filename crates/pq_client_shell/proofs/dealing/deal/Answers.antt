@@ -1,7 +1,7 @@
-use Rattle.std.proofs.Common.{◌≡◌, ◌≤◌, ◌<◌, ◌+◌, ◌==◌, ℕ, Bool, true, false, cond, List, [], ◌∷◌, ◌++◌, length, get_or, set, rules, ap, sym, ◌∙◌, subst, arith}
+use Rattle.std.proofs.Common.{◌+◌, List, [], ◌∷◌, ◌++◌, length, get_or, set, rules, ap, sym, ◌∙◌, arith}
 use Rattle.pq_index_keep.specs.declared.write.Write.{Write}
-use Rattle.pq_client_shell.specs.Dealing.{following, hands, picked}
-use Rattle.pq_client_shell.proofs.Dealt.{behind, behind_more, hands_more, hand_at, hands_length, following_within}
+use Rattle.pq_client_shell.specs.Dealing.{following, hands}
+use Rattle.pq_client_shell.proofs.Dealt.{behind_more, hands_more, hand_at, hands_length, following_within}
 use Rattle.pq_client_shell.proofs.dealing.deal.Goals as goal
 
 pub index_mut-requires : goal.index_mut-requires

@@ -1,6 +1,4 @@
-use Rattle.std.proofs.Common.{◌≡◌, map, []}
-use Rattle.std.specs.List.{range_with_len}
-use Rattle.pq_index_keep.specs.declared.write.Write.{Write}
+use Rattle.std.proofs.Common.{◌≡◌, []}
 use Rattle.pq_client_shell.specs.Dealing.{hands}
 use Rattle.pq_client_shell.proofs.dealing.empty_hands.Given as goal
 

@@ -1,4 +1,4 @@
-use Rattle.std.proofs.Common.{◌+◌, refl, arith}
+use Rattle.std.proofs.Common.{refl, arith}
 use Rattle.std.proofs.lemmas.Result.{err_from_is_err_and}
 use Rattle.pq_shell.proofs.Folding.{Served-none}
 use Rattle.pq_client_shell.proofs.Served.{served_more, served_all, stopped_among}

@@ -1,7 +1,6 @@
-use Rattle.std.proofs.Common.{◌≡◌, ◌+◌, ◌++◌, List, length, drop, ap, ◌∙◌, arith}
+use Rattle.std.proofs.Common.{◌+◌, ◌++◌, length, drop, ap, ◌∙◌}
 use Rattle.std.specs.Prelude.{string_bytes}
 use Rattle.std.specs.List.{list_any}
-use Rattle.pq_text.specs.declared.piece.Piece.{Piece}
 use Rattle.pq_shell.specs.Serving.{rest_text}
 use Rattle.pq_client_shell.specs.Lines.{skipped_text}
 use Rattle.pq_client_shell.specs.Writes.{is_skipped, writes_of}

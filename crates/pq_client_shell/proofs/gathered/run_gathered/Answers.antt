@@ -1,4 +1,3 @@
-use Rattle.std.proofs.Common.{refl}
 use Rattle.std.proofs.lemmas.Result.{err_from_is_err_and}
 use Rattle.pq_client_shell.proofs.Gathering.{halts_lost, halts_cut, halts_stepping, made_gathered}
 use Rattle.pq_client_shell.proofs.gathered.run_gathered.Goals as goal

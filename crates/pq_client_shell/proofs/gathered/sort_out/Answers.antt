@@ -1,4 +1,4 @@
-use Rattle.std.proofs.Common.{rules, refl}
+use Rattle.std.proofs.Common.{rules}
 use Rattle.pq_index_keep.specs.Sound.{IsWrite}
 use Rattle.pq_client_shell.specs.Writes.{IsUncounted}
 use Rattle.pq_client_shell.proofs.Sorting.{writes_more, lines_more, skips_more, writes_end, lines_end, skips_end, made_more, few_more}

@@ -1,8 +1,7 @@
-use Rattle.std.proofs.Common.{◌≡◌, ℕ, ◌+◌, ◌≤◌, List, [], ◌++◌, rules, arith, length, take, drop, length-take, length-append, Option, refl, sym, ap, ◌∙◌}
+use Rattle.std.proofs.Common.{◌≡◌, ℕ, ◌+◌, ◌≤◌, List, [], ◌++◌, rules, arith, length, take, drop, length-take, length-append, Option, sym, ap, ◌∙◌}
 use Rattle.std.proofs.lemmas.List.{length-take-le}
 use Rattle.std.specs.Io.KnownBytes.{prepend_known}
-use Rattle.pq_shell.specs.Reading.{script_limit}
-use Rattle.pq_shell.proofs.Known.{prepend_known-append, prepend_known-none, room_front, room_long}
+use Rattle.pq_console.proofs.Known.{prepend_known-append, prepend_known-none, room_front, room_long}
 use Rattle.pq_client_shell.proofs.script.read_bytes.Goals as goal
 
 none_read : (left : Option (List ℕ)) (bytes : List ℕ) → bytes ≡ [] → left ≡ prepend_known bytes left

@@ -1,6 +1,6 @@
 use Rattle.std.proofs.Common.{◌≡◌, ◌+◌, ◌-◌, ◌≤◌, length}
 use Rattle.std.specs.Io.KnownBytes.{prepend_known}
-use Rattle.pq_shell.specs.Reading.{script_limit}
+use Rattle.pq_console.specs.Reading.{script_limit}
 use Rattle.pq_client_shell.proofs.script.read_bytes.Given as goal
 
 abbrev pub invariant-loop-taken : goal.invariant-loop-taken

@@ -1,7 +1,5 @@
-use Rattle.std.proofs.Common.{◌≡◌, ℕ, ◌≤◌, ◌^◌, List, [], ◌∷◌, ◌++◌, length, rules, arith, sym, ap, ◌∙◌, append-nil, subst}
+use Rattle.std.proofs.Common.{ℕ, List, [], length, rules, arith, ap, ◌∙◌, append-nil}
 use Rattle.pq_text.specs.Pieces.{pieces_of, rest_of, is_unfinished}
-use Rattle.pq_text.specs.declared.piece.Piece.{Piece}
-use Rattle.pq_shell.specs.Reading.{TookBytes, script_limit}
 use Rattle.pq_client_shell.proofs.Pieces.{pieces_few, took_few}
 use Rattle.pq_client_shell.proofs.script.read_script.Goals as goal
 

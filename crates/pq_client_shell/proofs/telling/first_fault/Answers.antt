@@ -1,5 +1,4 @@
-use Rattle.std.proofs.Common.{◌≡◌, Option, ap, ap₂, sym, ◌∙◌}
-use Rattle.pq_shell.specs.declared.stop.Stop.{Stop}
+use Rattle.std.proofs.Common.{ap₂, sym, ◌∙◌}
 use Rattle.pq_client_shell.specs.Telling.{fault_of, first_of}
 use Rattle.pq_client_shell.proofs.Outcomes.{first_more}
 use Rattle.pq_client_shell.proofs.telling.first_fault.Goals as goal

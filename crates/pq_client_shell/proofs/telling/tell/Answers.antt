@@ -1,5 +1,5 @@
 use Rattle.std.proofs.Common.{◌≡◌, Result, Err, Some, Bool, ap, sym, ◌∙◌}
-use Rattle.pq_shell.specs.declared.stop.Stop.{Stop}
+use Rattle.pq_console.specs.declared.stop.Stop.{Stop}
 use Rattle.pq_client_shell.proofs.Outcomes.{never_written}
 use Rattle.pq_client_shell.proofs.telling.tell.Goals as goal
 

@@ -1,4 +1,4 @@
-use Rattle.std.proofs.Common.{◌≡◌, ℕ, ◌<◌, ◌^◌, ap, arith}
+use Rattle.std.proofs.Common.{ap, arith}
 use Rattle.pq_base.specs.declared.number.Bound.{Bound}
 use Rattle.pq_client_shell.proofs.Orders.{calls_within, few_ops}
 use Rattle.pq_client_shell.proofs.turns.most_calls.Goals as goal

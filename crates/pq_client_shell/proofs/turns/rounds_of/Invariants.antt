@@ -1,4 +1,4 @@
-use Rattle.std.proofs.Common.{◌≡◌, ◌≤◌, take}
+use Rattle.std.proofs.Common.{◌≤◌, take}
 use Rattle.std.specs.List.{AllByRecursion, sum_by}
 use Rattle.pq_clients.specs.Promises.{calls_of_write}
 use Rattle.pq_client_shell.proofs.turns.rounds_of.Given as goal

@@ -1,4 +1,4 @@
-use Rattle.std.proofs.Common.{◌≡◌, ◌≤◌, ◌<◌, ◌+◌, ◌^◌, Some, None, rules, refl, arith, length, sym, ◌∙◌}
+use Rattle.std.proofs.Common.{◌≡◌, Some, None, rules, refl, arith, sym, ◌∙◌}
 use Rattle.std.specs.Prelude.{slice_get}
 use Rattle.std.proofs.lemmas.Result.{err_from_is_err_and}
 use Rattle.pq_fill.proofs.Places.{kinds_long}

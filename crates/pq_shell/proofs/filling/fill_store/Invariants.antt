@@ -1,5 +1,4 @@
-use Rattle.std.proofs.Common.{◌≡◌, ◌-◌, ◌≤◌, List, ℕ, Option, length}
-use Rattle.pq_fill.specs.Script.{fill_script}
+use Rattle.std.proofs.Common.{◌-◌, ◌≤◌, List, ℕ, Option}
 use Rattle.pq_shell.specs.Making.{moment}
 use Rattle.pq_shell.proofs.Filled.{FillsSoFar}
 use Rattle.pq_shell.proofs.filling.fill_store.Given as goal

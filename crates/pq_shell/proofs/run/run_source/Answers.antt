@@ -2,8 +2,8 @@ use Rattle.std.proofs.Common.{◌+◌, ◌≤◌, ◌++◌, rules, arith, length
 use Rattle.std.proofs.lemmas.List.{length-take-le}
 use Rattle.std.proofs.lemmas.Result.{err_from_is_err_and}
 use Rattle.std.specs.Io.KnownBytes.{prepend_known}
-use Rattle.pq_shell.specs.Reading.{script_limit}
-use Rattle.pq_shell.proofs.Known.{room_front, room_long}
+use Rattle.pq_console.specs.Reading.{script_limit}
+use Rattle.pq_console.proofs.Known.{room_front, room_long}
 use Rattle.pq_shell.proofs.SoFar.{SoFar-start, SoFar-more, SoFar-taken, SoFar-faulted, SoFar-whole, SoFar-past, SoFar-stopped}
 use Rattle.pq_shell.proofs.run.run_source.Goals as goal
 

@@ -1,7 +1,7 @@
 use Rattle.std.proofs.Common.{◌≡◌, ◌+◌, ◌-◌, ◌≤◌}
 use Rattle.pq_fill.specs.declared.words.Form.TheVariants.{Check}
 use Rattle.pq_shell.specs.Making.{moment}
-use Rattle.pq_shell.specs.Reading.{script_limit}
+use Rattle.pq_console.specs.Reading.{script_limit}
 use Rattle.pq_shell.proofs.SoFar.{ReadSoFar}
 use Rattle.pq_shell.proofs.run.run_source.Given as goal
 

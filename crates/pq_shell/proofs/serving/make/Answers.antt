@@ -1,4 +1,4 @@
-use Rattle.std.proofs.Common.{◌≡◌, rules, sym, subst, inl, inr}
+use Rattle.std.proofs.Common.{rules, sym, subst, inl, inr}
 use Rattle.pq_shell.specs.Forms.{HasOpening}
 use Rattle.pq_shell.proofs.Answering.{step_answered}
 use Rattle.pq_shell.proofs.Making.{made_over, broke_over, made_checked, lost_checked}

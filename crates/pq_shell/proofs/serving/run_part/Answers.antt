@@ -4,7 +4,7 @@ use Rattle.std.proofs.lemmas.List.{take-append-drop}
 use Rattle.pq_text.specs.Pieces.{piece_list}
 use Rattle.pq_shell.proofs.Ending.{stands_opens}
 use Rattle.pq_shell.specs.Serving.{FedPieces}
-use Rattle.pq_shell.proofs.Known.{take_two, length_part}
+use Rattle.pq_console.proofs.Known.{take_two, length_part}
 use Rattle.pq_shell.proofs.Folding.{Stopped-between}
 use Rattle.pq_shell.proofs.Parts.{Progressed-none, Progressed-more, Progressed-piece, Progressed-at, Stopped-later, Stopped-at_piece, Fed-told, three_parts}
 use Rattle.pq_shell.proofs.serving.run_part.Goals as goal

@@ -1,6 +1,5 @@
-use Rattle.std.proofs.Common.{rules, ◌+◌, sym, ap, ◌∙◌}
+use Rattle.std.proofs.Common.{rules, ◌+◌}
 use Rattle.std.proofs.lemmas.Result.{err_from_is_err_and}
-use Rattle.std.specs.Io.KnownBytes.{append_known}
 use Rattle.pq_shell.specs.Items.{Cut}
 use Rattle.pq_shell.proofs.Ending.{stands_opens}
 use Rattle.pq_shell.proofs.Folding.{Made-one, Served-one, Stopped-writing}

@@ -2,9 +2,9 @@
 use Rattle.std.proofs.Common.{◌≡◌, ℕ, zero, suc, ◌<◌, List, [], ◌∷◌, ◌++◌, take, length, get_or, Option, sym, ap, ◌∙◌, arith}
 use Rattle.std.proofs.lemmas.Grind.{common_steps}
 use Rattle.std.specs.Io.KnownBytes.{prepend_known}
-use Rattle.pq_shell.specs.Reading.{TookBytes, script_limit}
-use Rattle.pq_shell.specs.declared.reading.Ending.TheVariants.{TooLong}
-use Rattle.pq_shell.proofs.Known.{prepend_known-append}
+use Rattle.pq_console.specs.Reading.{TookBytes, script_limit}
+use Rattle.pq_console.specs.declared.reading.Ending.TheVariants.{TooLong}
+use Rattle.pq_console.proofs.Known.{prepend_known-append}
 
 -- of a room of one byte, one was taken
 one_byte : (room : List ℕ) (n : ℕ) → length room ≡ 1 → 0 < n → take n room ≡ get_or room 0 0 ∷ []

@@ -3,7 +3,7 @@ ghost use Rattle.std.specs.Prelude.{◌≡◌, OnOk, IfErr};
 ghost use Rattle.std.specs.Io.KnownBytes.{append_known};
 ghost use Rattle.pq_fill.specs.Summary.{summary_text};
 ghost use Rattle.pq_print.specs.Report.{printed_report, opening_line, damage_line};
-ghost use Rattle.pq_shell.specs.Stops.{CutsOff, Causes};
+ghost use Rattle.pq_console.specs.Stops.{CutsOff, Causes};
 
 use crate::outside::{Failed, Sink, write_all};
 use crate::stop::Stop;

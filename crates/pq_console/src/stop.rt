@@ -1,6 +1,6 @@
 //! Why a run stops before the end of its script.
 ghost use Rattle.std.specs.Prelude.{◌≡◌};
-ghost use Rattle.pq_shell.specs.Stops.{stop_of_broke};
+ghost use Rattle.pq_console.specs.Stops.{stop_of_broke};
 
 use pq_store::{Broke, Damage};
 

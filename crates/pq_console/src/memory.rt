@@ -1,8 +1,8 @@
 //! A source and a sink in memory, whose listed calls fail.
 ghost use Rattle.std.specs.Prelude.{◌≡◌, ◌≤◌, ◌<◌, ◌+◌, ◌-◌, ◌↔◌, ◌++◌, [], List, min, take, drop, length, OnErr, IfOk, IsTrue, IsErr};
 ghost use Rattle.pq_store.specs.Content.{HasRisen};
-ghost use Rattle.pq_shell.specs.Outside.{HasFaultCause};
-ghost use Rattle.pq_shell.specs.Memory.{is_listed, calls_after, is_refusing};
+ghost use Rattle.pq_console.specs.Outside.{HasFaultCause};
+ghost use Rattle.pq_console.specs.Memory.{is_listed, calls_after, is_refusing};
 
 use crate::outside::{Failed, Sink, Source};
 use pq_base::{Bytes, List, NoMem};
@@ -18,7 +18,7 @@ struct Calls {
 }
 
 impl Model for Calls {
-    ghost use Rattle.pq_shell.specs.Memory.{Calls};
+    ghost use Rattle.pq_console.specs.Memory.{Calls};
 
     ghost Value = { Calls };
 
@@ -72,7 +72,7 @@ pub struct MemSource {
 
 impl Model for MemSource {
     ghost use Rattle.std.specs.Prelude.{drop, length, ◌≤◌};
-    ghost use Rattle.pq_shell.specs.Memory.{GivenBytes};
+    ghost use Rattle.pq_console.specs.Memory.{GivenBytes};
 
     ghost Value = { GivenBytes };
 
@@ -153,7 +153,7 @@ pub struct MemSink {
 
 impl Model for MemSink {
     ghost use Rattle.std.specs.Prelude.{take, length, ◌≤◌};
-    ghost use Rattle.pq_shell.specs.Memory.{TakenBytes};
+    ghost use Rattle.pq_console.specs.Memory.{TakenBytes};
 
     ghost Value = { TakenBytes };
 

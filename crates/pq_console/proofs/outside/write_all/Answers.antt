@@ -1,7 +1,7 @@
 use Rattle.std.proofs.Common.{rules, ◌-◌, take, drop, length, ap, ◌∙◌}
 use Rattle.std.specs.Io.KnownBytes.{append_known}
-use Rattle.pq_shell.proofs.Known.{append_known-append, take_two}
-use Rattle.pq_shell.proofs.outside.write_all.Goals as goal
+use Rattle.pq_console.proofs.Known.{append_known-append, take_two}
+use Rattle.pq_console.proofs.outside.write_all.Goals as goal
 
 pub loop-at-preserved : goal.loop-at-preserved
 loop-at-preserved g c =

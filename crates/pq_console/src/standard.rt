@@ -2,7 +2,7 @@
 //! counts its bytes too.
 ghost use Rattle.std.specs.Prelude.{◌≡◌, ◌≤◌, ◌+◌, ◌<◌, length, IfOk, OnErr};
 ghost use Rattle.std.specs.Io.KnownBytes.{ReadConsumes};
-ghost use Rattle.pq_shell.specs.Outside.{HasFaultCause};
+ghost use Rattle.pq_console.specs.Outside.{HasFaultCause};
 
 use crate::outside::{Failed, Sink, Source};
 use std::io::{Read, Write};

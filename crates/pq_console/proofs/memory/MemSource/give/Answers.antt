@@ -1,6 +1,6 @@
 use Rattle.std.proofs.Common.{rules, ◌+◌, ◌-◌, take, drop, sym, ap, ◌∙◌}
-use Rattle.pq_shell.proofs.Known.{given_front}
-use Rattle.pq_shell.proofs.memory.MemSource.give.Goals as goal
+use Rattle.pq_console.proofs.Known.{given_front}
+use Rattle.pq_console.proofs.memory.MemSource.give.Goals as goal
 
 pub returns-clause-taken : goal.returns-clause-taken
 returns-clause-taken c =

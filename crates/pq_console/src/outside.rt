@@ -1,7 +1,7 @@
 //! What a script is read from and what its reports are written to.
 ghost use Rattle.std.specs.Prelude.{◌≡◌, ℕ, ◌+◌, ◌<◌, ◌≤◌, List, Option, length, take, IfOk, OnOk, OnErr};
 ghost use Rattle.std.specs.Io.KnownBytes.{append_known, prepend_known, IsAtEnd};
-ghost use Rattle.pq_shell.specs.Outside.{HasFaultCause, IsCut};
+ghost use Rattle.pq_console.specs.Outside.{HasFaultCause, IsCut};
 
 use thiserror::Error;
 

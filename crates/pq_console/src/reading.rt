@@ -2,7 +2,7 @@
 ghost use Rattle.std.specs.Prelude.{◌≡◌, ◌≤◌, ◌+◌, ℕ, List, Option, length};
 ghost use Rattle.std.specs.Io.KnownBytes.{prepend_known};
 ghost use Rattle.pq_store.specs.Content.{HasRisen};
-ghost use Rattle.pq_shell.specs.Reading.{TookBytes, bytes_past, script_limit};
+ghost use Rattle.pq_console.specs.Reading.{TookBytes, bytes_past, script_limit};
 
 use crate::outside::{Failed, Source};
 
