@@ -1,6 +1,6 @@
 -- Values that fit types.
-use Rattle.std.proofs.Common.{◌≡◌, T, suc, Bool, true, false, List, [], ◌∷◌, length, refl, ap, subst, sym}
-use Rattle.std.specs.Prelude.{◌&&◌, Some}
+use Rattle.std.proofs.Common.{◌≡◌, T, suc, Bool, true, false, List, [], ◌∷◌, length, refl, ap}
+use Rattle.std.specs.Prelude.{Some}
 use Rattle.std.proofs.lemmas.Bool.{leb-true, le-leb, false≢true, and_from, and_parts}
 use Rattle.pq_base.specs.declared.value.ColType.{ColType}
 use Rattle.pq_base.specs.declared.value.DataKind.{DataKind}

@@ -1,5 +1,5 @@
 -- The code of values is bytes.
-use Rattle.std.proofs.Common.{◌≡◌, ◌<◌, List, [], ◌∷◌, arith}
+use Rattle.std.proofs.Common.{◌<◌, List, [], ◌∷◌, arith}
 use Rattle.pq_base.specs.declared.value.Dir.{Dir}
 use Rattle.pq_base.specs.declared.value.Dir.TheVariants.{Asc, Desc}
 use Rattle.pq_base.specs.declared.value.Value.{Value}

@@ -1,5 +1,5 @@
 -- The range of a group's sequence under the tied values has just the rows that match, and ranges of all inputs what is ranged.
-use Rattle.std.proofs.Common.{◌≡◌, ℕ, ◌-◌, Bool, true, false, cond, ◌||◌, inl, inr, refl, List, [], ◌∷◌, ◌++◌, length, map, take, flat_map, count_ones, IsPermutation, sym, ap, ◌∙◌, subst, arith}
+use Rattle.std.proofs.Common.{◌≡◌, ℕ, ◌-◌, true, false, cond, ◌||◌, inl, inr, refl, List, [], ◌∷◌, ◌++◌, length, map, take, flat_map, count_ones, IsPermutation, sym, ap, ◌∙◌, subst, arith}
 use Rattle.std.specs.Prelude.{unwrap_or}
 use Rattle.std.specs.List.{AllByRecursion}
 use Rattle.std.proofs.lemmas.Bool.{eqb-true, false≢true, or_right}

@@ -18,7 +18,7 @@ use Rattle.pq_schema.specs.declared.query.Query.{Query}
 use Rattle.pq_schema.specs.declared.table.Table.{Table}
 use Rattle.pq_schema.specs.Relations.{relation_at, table_of, is_equality, is_null_test, is_before, ties, tied_set}
 use Rattle.pq_schema.specs.Resolved.{IsOperand, IsPredicate, IsResolved, ref_type, param_type}
-use Rattle.pq_schema.specs.Rows.{Rows, rows_of, no_value, value_of, types_of, same_value, agrees, row_at, group_of, KeepsSchema}
+use Rattle.pq_schema.specs.Rows.{Rows, rows_of, no_value, value_of, types_of, same_value, agrees, row_at, KeepsSchema}
 use Rattle.pq_schema.specs.Tables.{type_at}
 use Rattle.pq_schema.proofs.TypeKinds.{kind_as, kind_from_fit, kind_from_param}
 use Rattle.pq_plan.specs.Answer.{Question, row_of, side, compares}

@@ -16,7 +16,7 @@ use Rattle.pq_schema.specs.declared.query.Query.{Query}
 use Rattle.pq_schema.specs.Sound.{IsQuery}
 use Rattle.pq_schema.specs.Costs.{ReachedCost, start, bound, plus, limit_cost, read_each, read_stop}
 use Rattle.pq_schema.specs.Sequences.{primary_sequence, index_sequence, begins_with, group_access, secondary, serves}
-use Rattle.pq_schema.specs.Tables.{table_at, is_lookup, limit_place, least_limit, data_bound}
+use Rattle.pq_schema.specs.Tables.{table_at, is_lookup, limit_place, least_limit}
 use Rattle.pq_schema.specs.Tables as tables_of
 use Rattle.pq_schema.specs.Relations.{table_of, relation_at, tied_set, order_rest, is_total}
 use Rattle.pq_schema.specs.Candidates.{no_limit, bound_at, read_next, reached_after, are_bounded, is_served, stop_cost, stop_size}

@@ -2,7 +2,7 @@
 use Rattle.std.proofs.Common.{◌≡◌, ℕ, ◌+◌, ◌≤◌, ◌<◌, Bool, true, false, ◌||◌, List, [], ◌∷◌, ◌++◌, Option, Some, None, if◌then◌else◌, drop, get_or, length, length-append, append_assoc, refl, sym, ap, subst, ◌∙◌, arith}
 use Rattle.std.proofs.lemmas.List.{append-nil, drop_more, drop_all}
 use Rattle.pq_schema.specs.Schema.{Schema, empty_schema}
-use Rattle.pq_text.specs.Pieces.{Place, Plain, Split, after_front, after_piece, all_told, behind, is_cut, joined_split, is_unfinished, piece_list, pieces_of, rest_of, split_from, told_piece as piece_of}
+use Rattle.pq_text.specs.Pieces.{Place, Plain, after_front, after_piece, all_told, behind, is_cut, joined_split, is_unfinished, piece_list, pieces_of, rest_of, split_from, told_piece as piece_of}
 use Rattle.pq_text.specs.declared.piece.Piece.{Piece}
 use Rattle.pq_print.specs.Report.{is_refusal}
 use Rattle.pq_statement.specs.Actions.{action_of}

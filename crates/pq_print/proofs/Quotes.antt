@@ -1,7 +1,7 @@
 -- Quotes that are written twice, character by character.
 use Rattle.std.proofs.Common.{◌≡◌, ◌≢◌, ◌∙◌, sym, lit<, ℕ, suc, ◌<◌, List, [], ◌∷◌, ◌++◌, length, get_or, flat_map, codes, refl, arith, encode_utf8, encode_utf8_all, append_assoc, append-nil}
 use Rattle.std.proofs.lemmas.Str.{inside_one, encodes-append, encode_ascii}
-use Rattle.std.proofs.lemmas.Grind.{common_steps, flat_map-append}
+use Rattle.std.proofs.lemmas.Grind.{flat_map-append}
 use Rattle.std.proofs.lemmas.Bool.{ne_eqb}
 use Rattle.pq_print.specs.Values.{doubled_quotes}
 

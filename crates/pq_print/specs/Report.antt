@@ -5,7 +5,6 @@ use Rattle.pq_base.specs.declared.number.Bound.{Bound}
 use Rattle.pq_base.specs.declared.number.Used.{Used}
 use Rattle.pq_base.specs.declared.number.Choice.{Choice}
 use Rattle.pq_base.specs.declared.number.Choice.TheVariants as choice
-use Rattle.pq_base.specs.declared.value.Value.{Value}
 use Rattle.pq_base.specs.declared.value.Dir.{Dir}
 use Rattle.pq_base.specs.declared.value.Dir.TheVariants.{Asc, Desc}
 use Rattle.pq_print.specs.declared.report.IndexCol.{IndexCol}

@@ -2,7 +2,7 @@
 use Rattle.std.proofs.Common.{◌≡◌, ℕ, zero, suc, ◌+◌, ◌-◌, ◌<◌, ◌≤◌, max, true, not, ◌&&◌, ◌⊎◌, inl, inr, List, [], ◌∷◌, length, map, fold, filter_map, option_map, Option, Some, None, Ok, refl, sym, ap, ◌∙◌, subst, arith}
 use Rattle.std.specs.Prelude.{nat_lt, ◌==◌, unwrap_or}
 use Rattle.std.specs.List.{list_any, list_all, range_with_len, cons_option}
-use Rattle.std.proofs.lemmas.Bool.{and_parts, or_cases, not-true, not-false, ltb-true, eqb-true, eq-eqb, false≢true, true≢false}
+use Rattle.std.proofs.lemmas.Bool.{and_parts, or_cases, not-true, not-false, ltb-true, eqb-true, eq-eqb}
 use Rattle.std.proofs.lemmas.List.FromFn.{length-map-range_with_len, get_or-map-range_with_len}
 use Rattle.std.proofs.lemmas.Option.{none-some}
 use Rattle.pq_base.specs.declared.refusal.Refusal.TheVariants as refusal

@@ -1,6 +1,5 @@
 -- The canonical text of a counter over a valid schema is read back.
-use Rattle.std.proofs.Common.{◌≡◌, ℕ, ◌+◌, ◌-◌, ◌<◌, List, [], ◌∷◌, ◌++◌, length, get_or, None, refl, sym, ap, subst, ◌∙◌, arith}
-use Rattle.std.specs.List.{AllByRecursion}
+use Rattle.std.proofs.Common.{◌≡◌, ◌+◌, ◌-◌, List, [], ◌∷◌, ◌++◌, length, get_or, None, refl, sym, ap, subst, ◌∙◌, arith}
 use Rattle.std.proofs.Math.Seq.{get_or-append_seam}
 use Rattle.std.proofs.lemmas.List.{length-map}
 use Rattle.pq_schema.specs.declared.counter.Counter.{Counter}
@@ -8,7 +7,6 @@ use Rattle.pq_schema.specs.declared.definition.CounterDef.{CounterDef}
 use Rattle.pq_schema.specs.declared.made.Definition.{Definition}
 use Rattle.pq_schema.specs.declared.made.Definition.TheVariants.{OfCounter}
 use Rattle.pq_schema.specs.declared.table.Column.{Column}
-use Rattle.pq_schema.specs.declared.table.Table.{Table}
 use Rattle.pq_schema.specs.ColumnNames.{place_of}
 use Rattle.pq_schema.specs.Definitions.{counter_refusal, counted_table, counter_of_def, counted_schema, new_counter}
 use Rattle.pq_schema.specs.Schema.{Schema, no_definition}

@@ -1,5 +1,5 @@
 -- What a stop scan asks of a sequence for one input, and what it answers.
-use Rattle.std.specs.Prelude.{ℕ, Bool, true, false, cond, not, ◌&&◌, ◌==◌, List, [], ◌∷◌, ◌++◌, map, filter, flat_map, take, drop, count_ones, unwrap_or, slice_index_or, Option, Some, None}
+use Rattle.std.specs.Prelude.{ℕ, Bool, false, cond, not, ◌&&◌, ◌==◌, List, [], ◌∷◌, ◌++◌, map, filter, flat_map, take, drop, count_ones, unwrap_or, slice_index_or, Option, Some, None}
 use Rattle.std.specs.Ordering.{is_eq}
 use Rattle.std.specs.List.{list_all}
 use Rattle.pq_base.specs.declared.value.Dir.{Dir}

@@ -1,5 +1,5 @@
 -- RUN after RUN, each with the cursor that the report before it has, gives the pages of a query.
-use Rattle.std.proofs.Common.{◌≡◌, ◌⊎◌, ℕ, zero, suc, ◌+◌, ◌<◌, ◌≤◌, ◌==◌, Bool, true, false, cond, inl, inr, List, [], ◌∷◌, ◌++◌, length, map, filter, flat_map, take, Option, Some, None, Result, Ok, Err, option_map, refl, sym, ap, ◌∙◌, subst, arith}
+use Rattle.std.proofs.Common.{◌≡◌, ◌⊎◌, ℕ, zero, suc, ◌+◌, ◌<◌, ◌≤◌, Bool, cond, inl, inr, List, [], ◌∷◌, ◌++◌, length, map, flat_map, take, Option, Some, None, Result, Ok, Err, option_map, refl, sym, ap, ◌∙◌, subst, arith}
 use Rattle.std.specs.Prelude.{is_some}
 use Rattle.std.specs.Ordering.{is_lt}
 use Rattle.std.specs.List.{AllByRecursion, list_all}
@@ -18,7 +18,7 @@ use Rattle.pq_nodes.specs.Combos.{IsCombo, position_types}
 use Rattle.pq_nodes.proofs.Fitting.{combo_fits, position_fits}
 use Rattle.pq_nodes.proofs.Making.{combo_push, no_rows_combo}
 use Rattle.pq_plan.specs.Answer.{Question, answered, by_position, combos, holds, past, position, product, rows_at, stopped, whole}
-use Rattle.pq_pages.specs.Running.{Running, running_with, running_as, running_of, begins_after, cursor_of, cursor_start, next_of, or_begins, page_size, params_refusal, position_dirs}
+use Rattle.pq_pages.specs.Running.{Running, running_with, running_of, begins_after, cursor_of, cursor_start, next_of, or_begins, page_size, params_refusal}
 use Rattle.pq_pages.proofs.Begins.{begins_behind, begins_passed}
 use Rattle.pq_runnable.proofs.Staying.{err_not_ok}
 use Rattle.pq_exec.specs.Execution.{last_of}

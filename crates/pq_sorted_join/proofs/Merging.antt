@@ -1,5 +1,5 @@
 -- The merge of lists by the codes of positions is their order by position.
-use Rattle.std.proofs.Common.{◌≡◌, ◌++◌, ℕ, List, [], ◌∷◌, map, flat_map, Option, Some, None, slice_get, refl, sym, ap, ◌∙◌, subst, append-nil}
+use Rattle.std.proofs.Common.{◌≡◌, ◌++◌, ℕ, List, [], ◌∷◌, map, flat_map, Option, Some, None, slice_get, refl, ap, ◌∙◌, subst, append-nil}
 use Rattle.std.specs.Prelude.{IsSomeAnd, unwrap_or, slice_index_or}
 use Rattle.std.specs.List.{AllByRecursion}
 use Rattle.std.proofs.lemmas.List.{map-append}
@@ -17,11 +17,10 @@ use Rattle.pq_schema.specs.declared.query.Query.{Query}
 use Rattle.pq_schema.specs.declared.table.Table.{Table}
 use Rattle.pq_schema.specs.Relations.{position_columns}
 use Rattle.pq_schema.specs.Resolved.{IsResolved, ref_type}
-use Rattle.pq_schema.specs.Rows.{Rows, no_value}
+use Rattle.pq_schema.specs.Rows.{no_value}
 use Rattle.pq_schema.specs.Sound.{IsQuery}
 use Rattle.pq_store.specs.Content.{key_cmp}
-use Rattle.pq_plan.specs.Answer.{cell, row_of, values_at, position, by_position, in_order, question}
-use Rattle.pq_nodes.specs.Combos.{position_types}
+use Rattle.pq_plan.specs.Answer.{row_of, values_at, position, by_position, question}
 use Rattle.pq_serving.proofs.Scans.{sort_alike, sort_by-map}
 use Rattle.pq_local_ops.specs.Codes.{code_at}
 use Rattle.pq_local_ops.specs.Lists.{AreOrdered}

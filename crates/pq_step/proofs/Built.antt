@@ -1,5 +1,5 @@
 -- What a build shows of a content is evidence.
-use Rattle.std.proofs.Common.{◌≡◌, ℕ, ◌+◌, ◌<◌, true, false, inl, inr, ◌⊎◌, List, [], ◌∷◌, length, map, replicate, Option, Some, None, refl, sym, ap, ◌∙◌, subst, arith}
+use Rattle.std.proofs.Common.{◌≡◌, ℕ, ◌+◌, ◌<◌, true, false, inl, inr, ◌⊎◌, List, [], ◌∷◌, length, replicate, Option, Some, None, refl, sym, ap, ◌∙◌, subst, arith}
 use Rattle.std.specs.Prelude.{IfSome, nat_le}
 use Rattle.std.specs.FinMap.{entries, get}
 use Rattle.std.proofs.lemmas.Bool.{leb-true, leb-false}
@@ -10,7 +10,7 @@ use Rattle.pq_base.specs.Values.{AreValues}
 use Rattle.pq_base.specs.declared.value.Dir.TheVariants.{Asc}
 use Rattle.pq_base.specs.declared.value.Value.{Value}
 use Rattle.pq_base.proofs.Members.{in_filter, in_from_contains}
-use Rattle.pq_key_code.specs.KeyCode.{IsBytes, catalog_key, code_of, row_key}
+use Rattle.pq_key_code.specs.KeyCode.{IsBytes, catalog_key, row_key}
 use Rattle.pq_key_code.proofs.CodeBytes.{code_bytes}
 use Rattle.pq_schema.specs.Rows.{IsTableNumber, shape_of}
 use Rattle.pq_schema.specs.Schema.{Schema}

@@ -1,5 +1,5 @@
 -- The counters' pairs, which stand in front of the catalog's.
-use Rattle.std.proofs.Common.{◌≡◌, ℕ, false, List, [], ◌++◌, length, Option, Some, None, sym, ap, ◌∙◌, subst, arith}
+use Rattle.std.proofs.Common.{◌≡◌, ℕ, false, List, [], length, Option, None, sym, ap, ◌∙◌, subst, arith}
 use Rattle.std.specs.FinMap.{find}
 use Rattle.pq_base.proofs.Members.{keep_all}
 use Rattle.pq_base.specs.declared.value.Value.{Value}

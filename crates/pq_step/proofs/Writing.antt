@@ -19,7 +19,6 @@ use Rattle.pq_intent.specs.Changing.{IfDamagedSame}
 use Rattle.pq_step.specs.Evidence.{TellsEvidence}
 use Rattle.pq_intent.specs.Settling.{IsSettled, Settles}
 use Rattle.pq_intent.specs.Spending.{TakesAtMost, Spends}
-use Rattle.pq_print.specs.declared.report.Report.{Report}
 use Rattle.pq_index_keep.specs.declared.plan.Planned.{Planned}
 use Rattle.pq_index_keep.specs.declared.plan.Planned.TheVariants as planned
 use Rattle.pq_index_keep.specs.declared.write.Write.{Write}

@@ -1,5 +1,5 @@
 -- What is defined in place of the query that a PREPARE has as it is written.
-use Rattle.std.proofs.Common.{◌≡◌, ℕ, ◌+◌, ◌-◌, ◌<◌, Bool, true, false, List, [], ◌∷◌, ◌++◌, length, Option, Some, None, Result, Ok, Err, refl, sym, ap, subst, ◌∙◌, arith, length-append}
+use Rattle.std.proofs.Common.{◌≡◌, ℕ, ◌+◌, ◌-◌, Bool, true, false, List, [], ◌∷◌, ◌++◌, length, Option, Some, None, Result, Ok, Err, refl, sym, ap, subst, ◌∙◌, arith, length-append}
 use Rattle.std.specs.Prelude.{nat_le, if◌then◌else◌, slice_index_or, IfOk, IfErr}
 use Rattle.std.proofs.lemmas.Bool.{leb-true, leb-false, false≢true}
 use Rattle.std.proofs.Math.Seq.{get_or-append_seam}
@@ -12,7 +12,6 @@ use Rattle.pq_schema.specs.Wanted.{ChosenCandidate, chosen_candidate}
 use Rattle.pq_schema.specs.declared.made.Definition.{Definition}
 use Rattle.pq_schema.specs.declared.made.Definition.TheVariants.{OfQuery}
 use Rattle.pq_schema.specs.declared.query.Query.{Query}
-use Rattle.pq_schema.specs.declared.table.NewIndex.{NewIndex}
 use Rattle.pq_store.specs.Content.{Content}
 use Rattle.pq_store.specs.Counts.{Counts}
 use Rattle.pq_store.specs.declared.damage.Broke.{Broke}
@@ -37,7 +36,7 @@ use Rattle.pq_statement.specs.Actions.{Action, Creates, Adds, Writes, Prepares, 
 use Rattle.pq_step.specs.Checks.{IsChecked, checked_as}
 use Rattle.pq_step.specs.Model.{Model}
 use Rattle.pq_step.specs.Promise.{Promises}
-use Rattle.pq_statement.specs.Planning.{PlannedDefinition, as_it_is, with_chosen, definable, arranged_plan, arranged_from, prepared_from}
+use Rattle.pq_statement.specs.Planning.{as_it_is, with_chosen, definable, arranged_plan, arranged_from, prepared_from}
 use Rattle.pq_step.specs.Step.{unread_report}
 use Rattle.pq_step.specs.Written.{IsPrepareOf, AnswersAs, IsDefinedAs}
 use Rattle.pq_step.proofs.Checked.{is_check_step}

@@ -1,7 +1,6 @@
 use Rattle.std.proofs.Common.{◌<◌, [], length, refl}
-use Rattle.std.proofs.lemmas.List.{get_or-map, length-map}
+use Rattle.std.proofs.lemmas.List.{get_or-map}
 use Rattle.std.proofs.lemmas.Option.{slice_get-get_or, slice_get-map}
-use Rattle.pq_base.specs.Words.{texts}
 use Rattle.pq_base.proofs.word_table.text_at.Goals as goal
 
 pub returns-clause-text : goal.returns-clause-text

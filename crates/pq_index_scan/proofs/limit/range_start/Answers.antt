@@ -6,7 +6,6 @@ use Rattle.pq_schema.specs.Relations.{table_of}
 use Rattle.pq_schema.specs.Sequences.{sequence_of}
 use Rattle.pq_schema.proofs.Soundness.{valid_query}
 use Rattle.pq_calls.specs.Keys.{sequence_key}
-use Rattle.pq_operands.specs.Ties.{cells_tied}
 use Rattle.pq_index_scan.proofs.Ranging.{start_short}
 use Rattle.pq_index_scan.proofs.limit.range_start.Goals as goal
 

@@ -1,8 +1,6 @@
-use Rattle.std.proofs.Common.{◌≡◌, sym, subst, inl, inr, string_bytes}
+use Rattle.std.proofs.Common.{sym, subst, inl, inr, string_bytes}
 use Rattle.std.proofs.lemmas.Result.{IfOk-weaker, IfErr-weaker}
-use Rattle.pq_base.specs.Answers.{Refuses}
 use Rattle.pq_statement.specs.Actions.{Explains, Prepares}
-use Rattle.pq_statement.specs.Planning.{PlannedDefinition, arranged_from, explained_name}
 use Rattle.pq_statement.proofs.Asking.{asking_refused, stopped_explained, stopped_plan}
 use Rattle.pq_plan_report.proofs.Plans.{IsOther, explained_told, other_told, prepared_told}
 use Rattle.pq_plan_report.proofs.plan.statement_plan.Goals as goal

@@ -1,8 +1,6 @@
-use Rattle.std.proofs.Common.{◌≡◌, Result, Ok, ap, ◌∙◌, sym, subst, refl}
+use Rattle.std.proofs.Common.{ap, ◌∙◌, subst, refl}
 use Rattle.std.proofs.lemmas.Result.{err_from_is_err_and}
-use Rattle.pq_base.specs.declared.refusal.Refusal.{Refusal}
-use Rattle.pq_pages.specs.Running.{Running}
-use Rattle.pq_statement.specs.Actions.{Action, Runs, action_from}
+use Rattle.pq_statement.specs.Actions.{Runs, action_from}
 use Rattle.pq_statement.specs.Requests.{Asks}
 use Rattle.pq_statement.specs.declared.requests.Request.{Request}
 use Rattle.pq_step.proofs.Defining.{explained_lines}

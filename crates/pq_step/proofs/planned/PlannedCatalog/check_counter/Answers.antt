@@ -1,4 +1,4 @@
-use Rattle.std.proofs.Common.{ℕ, List, Result, subst, sym, ap, ◌∙◌}
+use Rattle.std.proofs.Common.{ℕ, List, Result, subst, ap, ◌∙◌}
 use Rattle.pq_base.specs.declared.refusal.Refusal.{Refusal}
 use Rattle.pq_builds.specs.Bounds.{bound}
 use Rattle.pq_print.specs.declared.report.End.TheVariants.{Done}

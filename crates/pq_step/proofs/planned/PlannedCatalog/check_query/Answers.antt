@@ -1,11 +1,9 @@
-use Rattle.std.proofs.Common.{◌≡◌, ◌∙◌, refl, sym, subst}
+use Rattle.std.proofs.Common.{◌≡◌, refl, sym, subst}
 use Rattle.pq_plan.specs.Cost.{cost}
 use Rattle.pq_schema.specs.Schema.{Schema}
 use Rattle.pq_statement.specs.Lines.{planned_lines}
 use Rattle.pq_statement.specs.Planned.{IsComputed}
 use Rattle.pq_step.proofs.Checked.{prepared_checked}
-use Rattle.pq_step.proofs.Defining.{computed_defined}
-use Rattle.pq_step.proofs.Kept.{computed_wanting}
 use Rattle.pq_statement.proofs.Shown.{is_lined}
 use Rattle.pq_step.proofs.planned.PlannedCatalog.check_query.Goals as goal
 

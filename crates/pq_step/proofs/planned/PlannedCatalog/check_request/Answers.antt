@@ -1,6 +1,4 @@
-use Rattle.std.proofs.Common.{◌≡◌, Result, subst}
-use Rattle.pq_base.specs.declared.refusal.Refusal.{Refusal}
-use Rattle.pq_statement.specs.Actions.{Action}
+use Rattle.std.proofs.Common.{subst}
 use Rattle.pq_statement.specs.Requests.{Asks}
 use Rattle.pq_statement.specs.declared.requests.Request.{Request}
 use Rattle.pq_step.proofs.Checked.{explained_checked}

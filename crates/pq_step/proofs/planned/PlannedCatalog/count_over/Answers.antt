@@ -1,13 +1,9 @@
-use Rattle.std.proofs.Common.{◌≡◌, ℕ, ◌≤◌, true, None, arith, sym, subst}
-use Rattle.std.specs.Prelude.{IfSome, min, length}
+use Rattle.std.proofs.Common.{◌≡◌, true, None, arith, subst}
+use Rattle.std.specs.Prelude.{IfSome}
 use Rattle.std.proofs.lemmas.Result.{err_from_is_err_and}
 use Rattle.std.specs.FinMap.{get}
-use Rattle.pq_builds.specs.Filling.{row_pairs_in}
-use Rattle.pq_intent.specs.Spending.{TakesAtMost}
-use Rattle.pq_builds.specs.Bounds.{bound}
 use Rattle.pq_schema.specs.Schema.{Schema}
 use Rattle.pq_store.specs.Breaks.{IfDamaged, IsPresent, IsUndamaged}
-use Rattle.pq_store.specs.Content.{Content}
 use Rattle.pq_store.specs.declared.damage.Broke.TheVariants.{NoMem}
 use Rattle.pq_step.specs.Calls.{MayPut, PutsNew}
 use Rattle.pq_step.specs.Stands.{last_key, last_value}

@@ -1,5 +1,3 @@
-use Rattle.std.proofs.Common.{ℕ, Option, ap}
-use Rattle.std.specs.Prelude.{unwrap_or}
 use Rattle.pq_step.proofs.planned.PlannedCatalog.counted_table.Goals as goal
 
 pub returns-clause-passes : goal.returns-clause-passes

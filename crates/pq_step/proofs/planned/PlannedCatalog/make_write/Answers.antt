@@ -1,4 +1,4 @@
-use Rattle.std.proofs.Common.{◌≡◌, ◌≤◌, length, subst, arith}
+use Rattle.std.proofs.Common.{◌≤◌, length, subst, arith}
 use Rattle.std.proofs.lemmas.Result.{err_from_is_err_and}
 use Rattle.pq_content.specs.Standing.{write_ops}
 use Rattle.pq_counters.specs.Whole.{AreWhole, IsWholeWithin, whole_changes}
