@@ -7,6 +7,7 @@ import subprocess
 import sys
 import tempfile
 import time
+from typing import BinaryIO
 
 from tools.repository import TOP, Repository
 from tools.statuses import NO_PROGRAM, USAGE
@@ -35,8 +36,9 @@ def bytes_of(repository: Repository, crate: str) -> int:
 
 
 def alone(repository: Repository, program: str) -> list[str]:
-    """The crates that are proved one by one, by all processors. Side by side with others a proof gets one processor, and
-    a large one then takes longer than all that could be proved beside it, while most of the crates wait for it."""
+    """The crates that are proved one by one, by several processors each. Side by side with others a proof gets one
+    processor, and a large one then takes longer than all that could be proved beside it, while most of the crates wait
+    for it."""
     crates = closure(repository, program)
     awaited = {name: sum(name in repository.below(other) for other in crates) for name in crates}
     return [
@@ -44,6 +46,38 @@ def alone(repository: Repository, program: str) -> list[str]:
         for name in crates
         if awaited[name] >= AWAITED * (len(crates) - 1) and bytes_of(repository, name) >= LARGE
     ]
+
+
+def beside(repository: Repository, program: str, first: str) -> list[str]:
+    """The crates that can be proved beside one that the others wait for: those that don't stand on it."""
+    return [
+        name
+        for name in closure(repository, program)
+        if name != first and first not in repository.below(name) and name not in repository.below(first)
+    ]
+
+
+def start(names: list[str], room: pathlib.Path, log: BinaryIO, processors: int | None = None) -> subprocess.Popen[bytes]:
+    """Has the toolchain prove these crates of the copy, or all where none is named."""
+    env = None if processors is None else {**os.environ, "RT_JOBS": str(processors)}
+    how = {"stdin": subprocess.DEVNULL, "stdout": log, "stderr": subprocess.STDOUT, "env": env}
+    return subprocess.Popen(["rt", "ci", *names], cwd=room, **how)
+
+
+def run_all(repository: Repository, program: str, room: pathlib.Path, log: BinaryIO) -> bool:
+    """Proves the crates of the copy. What a run comes to while another one proves it, it takes from there."""
+    half = max(1, (os.cpu_count() or 1) // 2)
+    others = []
+    try:
+        for first in alone(repository, program):
+            if names := beside(repository, program, first):
+                others.append(start(names, room, log, half))
+            if start([first], room, log).wait() != 0:
+                return False
+        return start([], room, log).wait() == 0
+    finally:
+        for run in others:
+            run.wait()
 
 
 def copy_crates(repository: Repository, program: str, room: pathlib.Path) -> None:
@@ -78,9 +112,7 @@ def build(repository: Repository, program: str) -> bool:
     with tempfile.TemporaryDirectory(prefix="prove-") as name, (out / f"{program}.log").open("wb") as log:
         begun, room = time.time(), pathlib.Path(name)
         copy_crates(repository, program, room)
-        how = {"stdin": subprocess.DEVNULL, "stdout": log, "stderr": subprocess.STDOUT}
-        stages = [[name] for name in alone(repository, program)] + [[]]
-        proved = all(subprocess.run(["rt", "ci", *names], cwd=room, **how).returncode == 0 for names in stages)
+        proved = run_all(repository, program, room, log)
         made = room / "crates" / program / "out" / program
         if not proved or not os.access(made, os.X_OK):
             return False

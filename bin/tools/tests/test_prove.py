@@ -65,6 +65,19 @@ class ProveTest(unittest.TestCase):
         self.prove(FAILED, "one")
         self.assertEqual(self.program().with_suffix(".log").read_text(), "rt: one NOT PROVED\n")
 
+    def test_a_large_crate_that_most_wait_for_is_proved_first_and_others_beside_it(self) -> None:
+        (self.top / "crates.txt").write_text("low:\nside:\nmid: low\none: mid side\n")
+        (self.top / "crates/low/src/lib.rt").write_bytes(bytes(100_000))
+        for name in ("side", "mid"):
+            (self.top / "crates" / name / "src").mkdir(parents=True)
+        noted = f'echo "${{RT_JOBS:-all}} $*" >>{self.top}/runs\n'
+        built = "[ $# = 1 ] || exit 0\nmkdir crates/one/out && echo >crates/one/out/one && chmod 755 crates/one/out/one\n"
+        self.assertEqual(self.prove(noted + built, "one").returncode, 0)
+        half = max(1, (os.cpu_count() or 1) // 2)
+        runs = (self.top / "runs").read_text().splitlines()
+        self.assertEqual(sorted(runs), sorted(["all ci low", f"{half} ci side", "all ci"]))
+        self.assertLess(runs.index("all ci low"), runs.index("all ci"))
+
     def test_what_is_no_program_is_told(self) -> None:
         for words in (["low"], ["nothing"], ["../one"], [""], [], ["one", "low"]):
             run = self.prove(BUILT, *words)
