@@ -187,7 +187,10 @@ fn first_unlike<L: Ledger>(
 #[test]
 fn a_join_stops_at_the_call_that_fails(rt: HostRuntime) -> Result<(), test::Fail> {
     let catalog = catalog_of(rt.alloc()).map_err(failure)?;
-    let planned = plan_of(rt.alloc(), &catalog, TEXT).map_err(failure)?;
+    let planned = match plan_of(rt.alloc(), &catalog, TEXT) {
+        Ok(planned) => planned,
+        Err(stopped) => return Err(failure(stopped)),
+    };
     let unlike = first_unlike::<Brand>(rt.alloc(), Blank::new(2), &catalog, &planned)?;
     assert_eq!(rt; unlike, None);
     Ok(())
