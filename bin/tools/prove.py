@@ -20,8 +20,9 @@ def tell(line: str) -> None:
     print(f"prove: {line}", file=sys.stderr, flush=True)
 
 
-# A crate that so large a part of the others stand on, and that has so many bytes of sources, is proved before them.
-AWAITED, LARGE = 2 / 3, 100_000
+# A crate that so large a part of the others stand on, and that has so many bytes of sources, is proved before them; one
+# that stands on so large a part of them is proved after the others.
+MOST, LARGE = 2 / 3, 100_000
 
 
 def closure(repository: Repository, program: str) -> list[str]:
@@ -44,8 +45,17 @@ def alone(repository: Repository, program: str) -> list[str]:
     return [
         name
         for name in crates
-        if awaited[name] >= AWAITED * (len(crates) - 1) and bytes_of(repository, name) >= LARGE
+        if awaited[name] >= MOST * (len(crates) - 1) and bytes_of(repository, name) >= LARGE
     ]
+
+
+def others_first(repository: Repository, program: str) -> list[str]:
+    """What is proved before the crates that stand on most of the others. Those wait for one another, so that each has the
+    processors to itself, but for the first of them where it is ready together with one of the others. Empty where only the
+    program itself is such a crate: it waits for all."""
+    crates = closure(repository, program)
+    others = [name for name in crates if len(repository.below(name)) < MOST * (len(crates) - 1)]
+    return others if len(others) + 1 < len(crates) else []
 
 
 def beside(repository: Repository, program: str, first: str) -> list[str]:
@@ -74,6 +84,8 @@ def run_all(repository: Repository, program: str, room: pathlib.Path, log: Binar
                 others.append(start(names, room, log, half))
             if start([first], room, log).wait() != 0:
                 return False
+        if (names := others_first(repository, program)) and start(names, room, log).wait() != 0:
+            return False
         return start([], room, log).wait() == 0
     finally:
         for run in others:

@@ -78,6 +78,18 @@ class ProveTest(unittest.TestCase):
         self.assertEqual(sorted(runs), sorted(["all ci low", f"{half} ci side", "all ci"]))
         self.assertLess(runs.index("all ci low"), runs.index("all ci"))
 
+    def test_crates_that_stand_on_most_others_are_proved_after_them(self) -> None:
+        (self.top / "crates.txt").write_text("low:\nside:\nmid: low side\nhigh: mid\none: high\n")
+        for name in ("side", "mid", "high"):
+            (self.top / "crates" / name / "src").mkdir(parents=True)
+        noted = f'echo "$*" >>{self.top}/runs\n'
+        built = "[ $# = 1 ] || exit 0\nmkdir crates/one/out && echo >crates/one/out/one && chmod 755 crates/one/out/one\n"
+        self.assertEqual(self.prove(noted + built, "one").returncode, 0)
+        self.assertEqual((self.top / "runs").read_text().splitlines(), ["ci low side mid", "ci"])
+        (self.top / "runs").unlink()
+        self.assertEqual(self.prove(f"{noted}exit 1\n", "one").returncode, 70)
+        self.assertEqual((self.top / "runs").read_text().splitlines(), ["ci low side mid"])
+
     def test_what_is_no_program_is_told(self) -> None:
         for words in (["low"], ["nothing"], ["../one"], [""], [], ["one", "low"]):
             run = self.prove(BUILT, *words)
