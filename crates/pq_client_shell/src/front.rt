@@ -7,8 +7,8 @@ ghost use Rattle.pq_shell.specs.Making.{moment};
 ghost use Rattle.pq_console.specs.Stops.{Causes};
 
 use pq_fill::Form;
-use pq_session::Session;
 use pq_shell::{Sink, Stop, Tally, serve};
+use pq_step::PlannedCatalog;
 use pq_store::{Meter, Store};
 use pq_text::Piece;
 use std::alloc::Global;
@@ -17,14 +17,14 @@ use std::sync::ledger::Ledger;
 /// What the pieces before the first write leave: the session, and whether one of them was refused.
 #[derive(Drop)]
 pub struct Front {
-    pub session: Session,
+    pub session: PlannedCatalog,
     pub refused: bool,
 }
 
 /// Makes these pieces over the store and reports each of them.
 pub fn run_front<S: Store<L>, O: Sink, L: Ledger>(
     alloc: Global,
-    session: Session,
+    session: PlannedCatalog,
     pieces: &[Piece],
     store: &mut S,
     meter: &mut Meter<L>,

@@ -17,8 +17,9 @@ use crate::words::clients_of;
 use crate::writes::front_count;
 use pq_base::PText;
 use pq_console::Ending;
-use pq_session::Session;
+use pq_opening::start;
 use pq_shell::{Ended, Sink, Source, Status, Stop, close};
+use pq_step::PlannedCatalog;
 use pq_store::{Meter, Store};
 use std::alloc::Global;
 use std::sync::ledger::Ledger;
@@ -28,13 +29,13 @@ fn open<S: Store<L>, L: Ledger>(
     alloc: Global,
     store: &mut S,
     meter: &mut Meter<L>,
-) -> Result<Session, Stop>
+) -> Result<PlannedCatalog, Stop>
     ensures ok { IfOk result (λ session. OpensStore (S.content store.old) (S.content store.new) session) }
     ensures err { IfErr result (λ stop. StopsOpening stop (S.content store.old) (S.content store.new)) }
     ensures causes { Causes (S.faults store.old) (S.faults store.new) 0 0 result }
 {
-    match Session::start(alloc, store, meter) {
-        Ok(started) => Ok(started.session),
+    match start(alloc, store, meter) {
+        Ok(started) => Ok(started.planned),
         Err(broke) => Err(Stop::of(broke)),
     }
 }
@@ -43,7 +44,7 @@ fn open<S: Store<L>, L: Ledger>(
 fn run_read<S: Store<L>, O: Sink, L: Ledger>(
     alloc: Global,
     k: u32,
-    session: Session,
+    session: PlannedCatalog,
     script: &Script,
     count: usize,
     store: &mut S,

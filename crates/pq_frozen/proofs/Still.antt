@@ -12,12 +12,11 @@ use Rattle.pq_store.specs.Content.{Content, HasRisen, HasBrokeCause}
 use Rattle.pq_store.specs.Breaks.{IsUndamaged}
 use Rattle.pq_store.specs.declared.damage.Broke.{Broke}
 use Rattle.pq_store.specs.declared.damage.Broke.TheVariants.{Failed, NoMem, Damaged}
-use Rattle.pq_session.specs.declared.session.Started.{Started}
+use Rattle.pq_opening.specs.declared.begun.Begun.{Begun}
 use Rattle.pq_statement.specs.Actions.{Action, Creates, Adds, Writes, Prepares, Explains, Runs, Counts, Reads, Shows, action_of}
 use Rattle.pq_step.specs.Matches.{Matches}
 use Rattle.pq_step.specs.Model.{Model}
-use Rattle.pq_opening.specs.Opening.{IsOpening}
-use Rattle.pq_session.specs.Opening.{opening_of}
+use Rattle.pq_opening.specs.Opening.{IsOpening, opening_of}
 use Rattle.pq_step.specs.Promise.{OnlyReads}
 use Rattle.pq_step.specs.Stands.{HoldsModel, Opens, Stands}
 use Rattle.pq_step.specs.Step.{acted_as, read_step, step}
@@ -62,10 +61,10 @@ no_memory P Q leads (Err broke) cause sound = λ m holds. told_no_memory broke (
 
 -- ---- an opening, and a statement
 
-pub opened : (old now : Content) (result : Result Started Broke)
+pub opened : (old now : Content) (result : Result Begun Broke)
     → IfOk result (λ s. (m : Model) → Opens (Some old) m → IsOpening (Some old) m (opening_of s))
-    → IfOk result (λ s. (m : Model) → Opens (Some old) m → Stands (Some now) s.session m)
-    → IfOk result (λ s. (m : Model) → HoldsModel (Some old) m → IsOpening (Some old) m (opening_of s) × Stands (Some now) s.session m)
+    → IfOk result (λ s. (m : Model) → Opens (Some old) m → Stands (Some now) s.planned m)
+    → IfOk result (λ s. (m : Model) → HoldsModel (Some old) m → IsOpening (Some old) m (opening_of s) × Stands (Some now) s.planned m)
 opened old now (Ok s) line stands = λ m holds. (line m (settled_opens holds), stands m (settled_opens holds))
 opened old now (Err broke) line stands = tt
 
@@ -79,7 +78,7 @@ answered old now session number piece (Ok p) matches made = λ m s reads.
     (matches m s, subst (λ (n : Model). Stands (Some now) p.0 n) (step_stays m number piece known) (made m s))
 answered old now session number piece (Err broke) matches made = tt
 
-pub open_no_memory : (old : Content) (result : Result Started Broke) → HasBrokeCause 0 0 result
+pub open_no_memory : (old : Content) (result : Result Begun Broke) → HasBrokeCause 0 0 result
     → IfErr result (λ broke. (m : Model) → Opens (Some old) m → IsUndamaged broke)
     → IfErr result (λ broke. (m : Model) → HoldsModel (Some old) m → broke ≡ NoMem)
 open_no_memory old = no_memory (λ m. Opens (Some old) m) (λ m. HoldsModel (Some old) m) (λ m holds. settled_opens holds)

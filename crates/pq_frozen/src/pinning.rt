@@ -5,7 +5,7 @@ ghost use Rattle.pq_step.specs.Model.{Model as Tables};
 ghost use Rattle.pq_step.specs.Stands.{HoldsModel, Opens};
 
 use crate::frozen::Frozen;
-use pq_session::Session;
+use pq_opening::start;
 use pq_store::{Broke, MemStore, Meter};
 use pq_text::Piece;
 use std::alloc::Global;
@@ -24,8 +24,8 @@ pub fn pinned_behind<L: Ledger>(
     ensures { IfOk result (λ pinned. (m : Tables) → Opens (Some store.old) m
         → HoldsModel (Some pinned.held) (model_behind m 1 pieces.now)) }
 {
-    let started = Session::start(alloc, store, meter)?;
-    let mut session = started.session;
+    let started = start(alloc, store, meter)?;
+    let mut session = started.planned;
     let mut number = 1;
     for piece in pieces {
         let (next, _) = session.statement(alloc, number, piece, store, meter)?;

@@ -4,16 +4,16 @@ ghost use Rattle.pq_frozen.specs.Reading.{AllRead, AreAnswers};
 ghost use Rattle.pq_statement.specs.Actions.{action_of};
 ghost use Rattle.pq_step.specs.Matches.{Matches};
 ghost use Rattle.pq_step.specs.Model.{Model as Tables};
-ghost use Rattle.pq_opening.specs.Opening.{IsOpening, IsQuiet};
-ghost use Rattle.pq_session.specs.Opening.{opening_of};
+ghost use Rattle.pq_opening.specs.Opening.{IsOpening, IsQuiet, opening_of};
 ghost use Rattle.pq_step.specs.Promise.{OnlyReads};
 ghost use Rattle.pq_step.specs.Stands.{HoldsModel, Stands};
 ghost use Rattle.pq_step.specs.Step.{step};
 
 use crate::frozen::Frozen;
 use pq_base::List;
+use pq_opening::{Begun, start};
 use pq_print::Report;
-use pq_session::{Session, Started};
+use pq_step::PlannedCatalog;
 use pq_store::{Broke, Meter};
 use pq_text::Piece;
 use std::alloc::Global;
@@ -25,27 +25,27 @@ pub fn open_frozen<L: Ledger>(
     alloc: Global,
     store: &mut Frozen,
     meter: &mut Meter<L>,
-) -> Result<Started, Broke>
+) -> Result<Begun, Broke>
     ensures still { IsQuiet store.old.held → store.new.held ≡ store.old.held }
     ensures opened { IfOk result (λ s. (m : Tables) → HoldsModel (Some store.old.held) m
-        → IsOpening (Some store.old.held) m (opening_of s) × Stands (Some store.new.held) s.session m) }
+        → IsOpening (Some store.old.held) m (opening_of s) × Stands (Some store.new.held) s.planned m) }
     ensures no_memory { IfErr result (λ broke. (m : Tables) → HoldsModel (Some store.old.held) m
         → broke ≡ Broke.NoMem) }
 {
-    Session::start(alloc, store, meter)
+    start(alloc, store, meter)
 }
 
 /// Answers a statement. One that writes nothing leaves what the store holds, has the report of the model's step
 /// but for what it used, and the model stays what it was. Want of memory alone can keep it from that; it is what
 /// a statement is told, too, that would write.
 pub fn answer<L: Ledger>(
-    session: Session,
+    session: PlannedCatalog,
     alloc: Global,
     number: u32,
     piece: &Piece,
     store: &mut Frozen,
     meter: &mut Meter<L>,
-) -> Result<(Session, Report), Broke>
+) -> Result<(PlannedCatalog, Report), Broke>
     ensures still { OnlyReads (action_of session piece.now) → store.new.held ≡ store.old.held }
     ensures answered { IfOk result (λ p. (m : Tables) → Stands (Some store.old.held) session m
         → OnlyReads (action_of session piece.now) → Matches (step m number piece.now).report p.1
@@ -74,7 +74,7 @@ pub fn read_all<L: Ledger>(
         → AllRead m.schema pieces.now → broke ≡ Broke.NoMem) }
 {
     let started = open_frozen(alloc, store, meter)?;
-    let mut session = started.session;
+    let mut session = started.planned;
     let mut reports = List::new(alloc);
     let mut number = 1;
     for piece in pieces {

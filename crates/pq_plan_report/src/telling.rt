@@ -12,7 +12,7 @@ ghost use Rattle.pq_plan_report.specs.Told.{AreSummed, is_refused, report_of, re
 use crate::plan::piece_plan;
 use pq_base::{Bound, Bytes, List, NoMem, Refusal, Used};
 use pq_print::{End, Report, print_report};
-use pq_session::Session;
+use pq_step::PlannedCatalog;
 use pq_text::{Piece, cut_script};
 use std::alloc::Global;
 
@@ -27,7 +27,7 @@ pub struct Told {
 /// What is told of the pieces so far, with the definitions behind them and the number of the next one.
 #[derive(Drop)]
 struct Telling {
-    session: Session,
+    session: PlannedCatalog,
     number: u32,
     told: Told,
 }
@@ -54,11 +54,11 @@ fn put_report(alloc: Global, plan: String, report: &Report, text: &mut Bytes) ->
 /// Puts what is told of a piece behind what is told so far. Gives the definitions behind it, and whether it is refused.
 fn put_piece(
     alloc: Global,
-    session: Session,
+    session: PlannedCatalog,
     number: u32,
     piece: &Piece,
     text: &mut Bytes,
-) -> Result<(Session, bool), NoMem>
+) -> Result<(PlannedCatalog, bool), NoMem>
     ensures session { IfOk result (λ next. next.0 ≡ schema_behind session number piece.now) }
     ensures refused { IfOk result (λ next. next.1 ≡ is_refusal (report_of session number piece.now)) }
     ensures text { OnOk result (text.new ≡ text.old ++ told_piece session number piece.now) }
@@ -99,7 +99,7 @@ impl Telling {
         ensures refused { result.told.refused ≡ false }
     {
         Telling {
-            session: Session::blank(alloc),
+            session: PlannedCatalog::blank(alloc),
             number: 1,
             told: Told {
                 text: List::new(alloc),

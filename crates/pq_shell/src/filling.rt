@@ -15,7 +15,7 @@ use pq_base::{NoMem, Used};
 use pq_console::Stop;
 use pq_fill::{Form, Kind, Summary, fill_count, fill_kind, fill_statement};
 use pq_print::Report;
-use pq_session::Session;
+use pq_step::PlannedCatalog;
 use pq_store::{Meter, Store};
 use pq_text::Piece;
 use std::alloc::Global;
@@ -44,7 +44,7 @@ impl Filled {
 pub fn fill_store<S: Store<L>, L: Ledger>(
     alloc: Global,
     n: u32,
-    session: Session,
+    session: PlannedCatalog,
     used: Used,
     store: &mut S,
     meter: &mut Meter<L>,

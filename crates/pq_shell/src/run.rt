@@ -25,8 +25,9 @@ use pq_console::{
     write_summary,
 };
 use pq_fill::{Form, form_of};
+use pq_opening::start;
 use pq_print::Opened;
-use pq_session::Session;
+use pq_step::PlannedCatalog;
 use pq_store::{Meter, Store};
 use std::alloc::Global;
 use std::sync::ledger::Ledger;
@@ -37,7 +38,7 @@ const ROOM: usize = 4096;
 /// What a run begins with: the session, and what its opening used.
 #[derive(Drop)]
 struct Begun {
-    session: Session,
+    session: PlannedCatalog,
     used: Used,
 }
 
@@ -60,7 +61,7 @@ fn open<S: Store<L>, O: Sink, L: Ledger>(
     ensures causes { Causes (S.faults store.old) (S.faults store.new) (O.faults sink.old) (O.faults sink.new) result }
     ensures answered { IfErr result (IsAnsweredStop S.answers) }
 {
-    let started = match Session::start(alloc, store, meter) {
+    let started = match start(alloc, store, meter) {
         Ok(started) => started,
         Err(broke) => return Err(Stop::of(broke)),
     };
@@ -71,7 +72,7 @@ fn open<S: Store<L>, O: Sink, L: Ledger>(
     };
     write_opening(alloc, &opened, sink)?;
     Ok(Begun {
-        session: started.session,
+        session: started.planned,
         used: started.used,
     })
 }
@@ -100,7 +101,7 @@ fn begin<S: Store<L>, O: Sink, L: Ledger>(
     match form {
         Form::Run | Form::Fill(_) => open(alloc, store, meter, sink),
         Form::Check => Ok(Begun {
-            session: Session::blank(alloc),
+            session: PlannedCatalog::blank(alloc),
             used: Used { ops: 0, entries: 0 },
         }),
     }
@@ -110,7 +111,7 @@ fn begin<S: Store<L>, O: Sink, L: Ledger>(
 fn run_source<S: Store<L>, I: Source, O: Sink, L: Ledger>(
     alloc: Global,
     form: Form,
-    session: Session,
+    session: PlannedCatalog,
     progress: &mut Progress,
     source: &mut I,
     store: &mut S,

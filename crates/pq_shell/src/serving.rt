@@ -13,7 +13,7 @@ use pq_base::{Bound, List, NoMem, Refusal, Used};
 use pq_console::{Ending, Sink, Stop, write_report};
 use pq_fill::Form;
 use pq_print::{End, Report};
-use pq_session::Session;
+use pq_step::PlannedCatalog;
 use pq_store::{Meter, Store};
 use pq_text::{Piece, Splitter};
 use std::alloc::Global;
@@ -75,12 +75,12 @@ impl Progress {
 pub fn make<S: Store<L>, L: Ledger>(
     alloc: Global,
     form: Form,
-    session: Session,
+    session: PlannedCatalog,
     number: u32,
     piece: &Piece,
     store: &mut S,
     meter: &mut Meter<L>,
-) -> Result<(Session, Report), Stop>
+) -> Result<(PlannedCatalog, Report), Stop>
     ensures ok { IfOk result (λ p. MakesItem form (Cut piece.now) number session p.0 (S.content store.old)
         (S.content store.new) meter.old meter.new p.1) }
     ensures err { IfErr result (λ stop. BreaksAt form stop (Cut piece.now) number session (S.content store.old)
@@ -105,13 +105,13 @@ pub fn make<S: Store<L>, L: Ledger>(
 pub fn serve<S: Store<L>, O: Sink, L: Ledger>(
     alloc: Global,
     form: Form,
-    session: Session,
+    session: PlannedCatalog,
     piece: &Piece,
     tally: &mut Tally,
     store: &mut S,
     meter: &mut Meter<L>,
     sink: &mut O,
-) -> Result<Session, Stop>
+) -> Result<PlannedCatalog, Stop>
     requires few { tally.old.count + 1 < 2 ^ 32 }
     requires read { ReadsSource form }
     ensures ok { IfOk result (λ next. ServedItems form session next
@@ -138,13 +138,13 @@ pub fn serve<S: Store<L>, O: Sink, L: Ledger>(
 pub fn run_part<S: Store<L>, O: Sink, L: Ledger>(
     alloc: Global,
     form: Form,
-    session: Session,
+    session: PlannedCatalog,
     bytes: &[u8],
     progress: &mut Progress,
     store: &mut S,
     meter: &mut Meter<L>,
     sink: &mut O,
-) -> Result<Session, Stop>
+) -> Result<PlannedCatalog, Stop>
     requires few { progress.old.tally.count + length bytes.now < 2 ^ 32 }
     requires read { ReadsSource form }
     ensures ok { IfOk result (λ next. ProgressedRun form session next

@@ -1,6 +1,6 @@
 use Rattle.std.proofs.Common.{refl}
 use Rattle.std.proofs.lemmas.Result.{err_from_is_err_and}
-use Rattle.pq_session.specs.Opening.{opening_of}
+use Rattle.pq_opening.specs.Opening.{opening_of}
 use Rattle.pq_shell.proofs.Opening.{begun_store, broke_opening, cut_opening}
 use Rattle.pq_shell.proofs.Flaws.{broke_at_flaw, told_at_flaw}
 use Rattle.pq_shell.proofs.run.open.Goals as goal

@@ -32,8 +32,8 @@ ghost use Rattle.pq_statement.specs.Actions.{asked_text};
 ghost use Rattle.pq_step.specs.Model.{Model};
 ghost use Rattle.pq_opening.specs.Opening.{IsQuiet, text_defines};
 ghost use Rattle.pq_statement.specs.Planning.{HasNoCandidate, PlannedDefinition, arranged_from, arranged_plan, plan_from, plan_of};
-ghost use Rattle.pq_session.specs.Pages.{ArePages, AreRuns, IsPaged, line_of, question_of};
-ghost use Rattle.pq_session.specs.Spelling.{asked_whole, SpellsNone};
+ghost use Rattle.pq_laws.specs.Pages.{ArePages, AreRuns, IsPaged, line_of, question_of};
+ghost use Rattle.pq_laws.specs.Spelling.{asked_whole, SpellsNone};
 ghost use Rattle.pq_step.specs.Stands.{HoldsModel, Opens};
 
 /// What a text asks for is decided by what its tokens spell: no rule of reading plays a part.

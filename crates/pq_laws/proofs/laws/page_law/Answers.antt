@@ -1,6 +1,6 @@
-use Rattle.pq_session.proofs.Paging.{pages_all, pages_end}
-use Rattle.pq_session.proofs.RunPages.{runs_all, runs_end}
-use Rattle.pq_session.proofs.laws.page_law.Goals as goal
+use Rattle.pq_laws.proofs.Paging.{pages_all, pages_end}
+use Rattle.pq_laws.proofs.RunPages.{runs_all, runs_end}
+use Rattle.pq_laws.proofs.laws.page_law.Goals as goal
 
 pub returns-clause-all : goal.returns-clause-all
 returns-clause-all c m query params k pages paged are = pages_all m query params k paged pages are

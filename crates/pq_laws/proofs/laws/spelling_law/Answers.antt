@@ -1,5 +1,5 @@
-use Rattle.pq_session.proofs.Spelling.{spelled_asks, none_asks}
-use Rattle.pq_session.proofs.laws.spelling_law.Goals as goal
+use Rattle.pq_laws.proofs.Spelling.{spelled_asks, none_asks}
+use Rattle.pq_laws.proofs.laws.spelling_law.Goals as goal
 
 pub returns-clause-spelled : goal.returns-clause-spelled
 returns-clause-spelled c schema text whole few spells = spelled_asks schema text whole few spells

@@ -1,7 +1,7 @@
 use Rattle.pq_opening.proofs.Leaving.{held_quiet, quiet_own}
 use Rattle.pq_step.proofs.Standing.{empty_opens}
-use Rattle.pq_session.proofs.Unique.{opened_schema, opened_rows}
-use Rattle.pq_session.proofs.laws.standing_law.Goals as goal
+use Rattle.pq_laws.proofs.Unique.{opened_schema, opened_rows}
+use Rattle.pq_laws.proofs.laws.standing_law.Goals as goal
 
 pub returns-clause-empty : goal.returns-clause-empty
 returns-clause-empty c = empty_opens

@@ -1,5 +1,5 @@
-use Rattle.pq_session.proofs.Arranging.{planned_kept, no_bound_told, none_has, defined_own, stored_own, planned_alike}
-use Rattle.pq_session.proofs.laws.arranging_law.Goals as goal
+use Rattle.pq_laws.proofs.Arranging.{planned_kept, no_bound_told, none_has, defined_own, stored_own, planned_alike}
+use Rattle.pq_laws.proofs.laws.arranging_law.Goals as goal
 
 pub returns : goal.returns
 returns c = record {

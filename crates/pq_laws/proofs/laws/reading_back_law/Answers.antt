@@ -1,5 +1,5 @@
 use Rattle.pq_opening.proofs.Rereading.{table_read, query_read, column_read, counter_read}
-use Rattle.pq_session.proofs.laws.reading_back_law.Goals as goal
+use Rattle.pq_laws.proofs.laws.reading_back_law.Goals as goal
 
 pub returns-clause-tables : goal.returns-clause-tables
 returns-clause-tables c schema def table valid is made = (table_read schema def table valid is made).defines

@@ -22,7 +22,7 @@ use Rattle.pq_reread.specs.WholeStatements.{WholeStatement, Prepares as Prepares
 use Rattle.pq_reread.proofs.WholeStatements.{whole_is_spelled, spelled_is_whole, whole_stops}
 use Rattle.pq_statement.specs.Actions.{Action, Prepares, Explains, action_from, asked_by, asked_text}
 use Rattle.pq_statement.specs.Planning.{arranged_plan, definable, arranged_from, prepared_from, explained_from, explained_name}
-use Rattle.pq_session.specs.Spelling.{asked_whole, SpellsNone}
+use Rattle.pq_laws.specs.Spelling.{asked_whole, SpellsNone}
 use Rattle.pq_statement.proofs.Statements.{asked_read, not_read}
 
 module _ (schema : Schema) (text : List ℕ) where
