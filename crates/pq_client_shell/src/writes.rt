@@ -71,7 +71,7 @@ fn has_counters(alloc: Global, catalog: &Catalog, table: u8) -> Result<bool, NoM
     ensures { IfOk result (λ has. has ≡ has_counters catalog.now table) }
 {
     let counters = catalog.counters_of(alloc, table)?;
-    Ok(!counters.is_empty())
+    Ok(!counters.items().is_empty())
 }
 
 /// The write, where its table has no counters.

@@ -254,5 +254,5 @@ pub(crate) fn plan_moves<S: Store<L>, L: Ledger>(
 {
     catalog.known();
     let numbers = catalog.counters_of(alloc, table)?;
-    plan_each(alloc, catalog, table, old, new, numbers.as_slice(), calls)
+    plan_each(alloc, catalog, table, old, new, numbers.items(), calls)
 }

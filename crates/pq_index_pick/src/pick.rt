@@ -6,14 +6,15 @@ ghost use Rattle.pq_index_pick.specs.Needs.{IsNeed};
 ghost use Rattle.pq_schema.specs.Sequences.{then_key, columns_of, same_dir, same_parts, serves_with, serves, primary_sequence, index_sequence, serving_access};
 
 use pq_base::{ColSet, Dir};
-use pq_schema::{Access, Index, KeyPart, KeyParts, Table, begins, columns_in, part_at};
+use pq_schema::{Access, Index, KeyPart, Table, begins, columns_in, part_at};
+use smallvec::SmallVec;
 
 /// What a stop asks of a sequence: the fixed columns first, and then the order parts, of which there are
 /// at most four.
 #[derive(Drop)]
 pub struct Need {
     pub fixed: ColSet,
-    pub order: KeyParts,
+    pub order: SmallVec<KeyPart, 4>,
 }
 
 fn same_part(a: KeyPart, b: KeyPart) -> bool

@@ -5,7 +5,7 @@ ghost use Rattle.pq_schema.specs.Sound.{AreRefs};
 ghost use Rattle.pq_schema.specs.Relations.{belongs_to, ties, tied_set, is_rest, order_rest, part_of, first_column, is_column_at, keeps_range, is_range, range_on};
 
 use pq_base::ColSet;
-use pq_schema::{KeyPart, KeyParts, Op, Operand, OrderItem, Pred, Query};
+use pq_schema::{KeyPart, Op, Operand, OrderItem, Pred, Query};
 use smallvec::SmallVec;
 use std::alloc::Global;
 
@@ -53,12 +53,12 @@ fn is_rest(item: &OrderItem, rel: u8, set: ColSet) -> bool
 }
 
 /// The ORDER BY columns of the relation that are not fixed.
-pub fn order_rest(alloc: Global, query: &Query, rel: u8) -> KeyParts
+pub fn order_rest(alloc: Global, query: &Query, rel: u8) -> SmallVec<KeyPart, 4>
     requires { AreRefs query.now }
     ensures parts { result.items ≡ order_rest query.now rel }
 {
     let set = fixed(query, rel);
-    let mut parts: KeyParts = SmallVec::new(alloc);
+    let mut parts = SmallVec::new(alloc);
     for item in query.order.items() {
         if is_rest(item, rel, set) {
             parts.push_reserved(KeyPart {

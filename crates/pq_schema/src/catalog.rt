@@ -2,18 +2,19 @@
 ghost use Rattle.std.specs.Prelude.{◌≡◌, ◌≤◌, ◌<◌, ◌++◌, ◌∷◌, [], length, option_map, position, false, string_bytes, vec_capacity, Some, None, IfOk, IfSome, OnOk, OnErr};
 ghost use Rattle.pq_schema.specs.Counters.{IsCounterNumber};
 ghost use Rattle.pq_schema.specs.Schema.{empty_schema, definition_at, def_of, find_table, find_query, find_counter, is_taken, IsQueryDefinition, query_at, query_of, IsCounterDefinition, counter_at, counter_of, is_counter, is_counter_of, counters_of, with_table, with_query, with_column, with_counter, with_wanted, with_new_column, with_added, made_of};
-ghost use Rattle.indexmap.specs.IndexMap.{get_by_text, spare};
+ghost use Rattle.std.specs.HashMap.{spare};
+ghost use Rattle.pq_schema.specs.Numbered.{HasSameNumbers, PutsNumber};
 ghost use Rattle.pq_schema.specs.Tables.{table_at, referring_limits, foreign_to};
 ghost use Rattle.pq_schema.specs.Valid.{IsValid, IsDefined};
 ghost use Rattle.pq_schema.specs.declared.made.Definition.TheVariants.{OfTable};
 
-use crate::counter::{Counter, CounterNumbers};
+use crate::counter::Counter;
 use crate::made::{Def, Definition, Made};
 use crate::query::Query;
 use crate::table::{Column, Foreign, NewIndex, Referring, Table};
-use indexmap::IndexMap;
 use pq_base::{List, NoMem, PText, Value};
 use std::alloc::Global;
+use std::collections::HashMap;
 use std::marker::Model;
 
 /// The tables, queries, added columns and counters that are defined: at most 64 tables and 256 definitions.
@@ -21,9 +22,9 @@ pub struct Catalog {
     tables: Vec<Table>,
     definitions: Vec<Definition>,
     /// The numbers of the tables by their names.
-    table_numbers: IndexMap<String, u8>,
+    table_numbers: HashMap<String, u8>,
     /// The numbers of the queries among the definitions, by their names.
-    query_numbers: IndexMap<String, u16>,
+    query_numbers: HashMap<String, u16>,
 }
 
 // Written out, so that whoever drops a catalog makes one call for it.
@@ -156,10 +157,10 @@ fn put_last<T: Drop>(items: &mut Vec<T>, item: T)
 /// Makes room for an item more and for the number of a name more.
 fn make_room<T: Drop, N: Drop>(
     items: &mut Vec<T>,
-    numbers: &mut IndexMap<String, N>,
+    numbers: &mut HashMap<String, N>,
 ) -> Result<(), NoMem>
     ensures items { items.new.items ≡ items.old.items }
-    ensures numbers { numbers.new.entries ≡ numbers.old.entries }
+    ensures numbers { HasSameNumbers numbers.old.entries numbers.new.entries }
     ensures item { OnOk result (length items.new.items < vec_capacity items.new) }
     ensures number { OnOk result (0 < spare numbers.new) }
 {
@@ -168,11 +169,10 @@ fn make_room<T: Drop, N: Drop>(
     Ok(())
 }
 
-/// Puts a number under a name that has none, where there is room for it.
-fn put_number<N: Drop>(numbers: &mut IndexMap<String, N>, name: String, number: N)
-    requires room { 0 < spare numbers.old }
-    requires free { get_by_text numbers.old (string_bytes name) ≡ None }
-    ensures { numbers.new.entries ≡ numbers.old.entries ++ (name, number) ∷ [] }
+/// Puts a number under a name, where there is room for it.
+fn put_number<N: Drop>(numbers: &mut HashMap<String, N>, name: String, number: N)
+    requires { 0 < spare numbers.old }
+    ensures { PutsNumber (string_bytes name) number numbers.old.entries numbers.new.entries }
 {
     match numbers.insert(name, number) {
         Ok(_) => {}
@@ -282,8 +282,8 @@ impl Catalog {
         Catalog {
             tables: Vec::new(alloc),
             definitions: Vec::new(alloc),
-            table_numbers: IndexMap::new(alloc),
-            query_numbers: IndexMap::new(alloc),
+            table_numbers: HashMap::new(alloc),
+            query_numbers: HashMap::new(alloc),
         }
     }
 
@@ -382,13 +382,13 @@ impl Catalog {
     }
 
     /// The numbers of the counters of this table, in the order of their definitions.
-    pub fn counters_of(&self, alloc: Global, table: u8) -> Result<CounterNumbers, NoMem>
-        ensures { IfOk result (λ found. found.items ≡ counters_of self.now table) }
+    pub fn counters_of(&self, alloc: Global, table: u8) -> Result<List<u16>, NoMem>
+        ensures { IfOk result (λ found. found ≡ counters_of self.now table) }
     {
-        let mut found = CounterNumbers::new(alloc);
+        let mut found = List::new(alloc);
         for (place, definition) in self.definitions.iter().enumerate() {
             if definition.is_counter_of(table) {
-                found.push(place as u16 + 1)?;
+                found.push(alloc, place as u16 + 1)?;
             }
         }
         Ok(found)

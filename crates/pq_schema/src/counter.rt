@@ -1,7 +1,6 @@
 //! Counters: of each group of a table's rows the number.
 
 use pq_base::{List, PText};
-use smallvec::SmallVec;
 
 /// A counter has of each group of its table's rows, those with the same values at its columns, the number.
 /// The table is by its number from 1, and the columns by their places from 0.
@@ -11,6 +10,3 @@ pub struct Counter {
     pub table: u8,
     pub cols: List<u8>,
 }
-
-/// The numbers of a table's counters among the definitions, from 1: at most four, which lie in place.
-pub type CounterNumbers = SmallVec<u16, 4>;

@@ -22,7 +22,7 @@ impl Catalog {
         ensures { Passes result (counted_refusal self.now def.now table) }
     {
         let counters = self.counters_of(alloc, table)?;
-        if counters.len() >= COUNTERS {
+        if counters.items().len() >= COUNTERS {
             return Err(counted(count_word::COUNTERS));
         }
         check_names(alloc, self.table(table).columns.items(), def.cols.items())?;

@@ -19,7 +19,7 @@ mod table_checks;
 
 pub use catalog::Catalog;
 pub use column_names::{check_known, check_names, check_repeated, names_of, place_of, places_of};
-pub use counter::{Counter, CounterNumbers};
+pub use counter::Counter;
 pub use definition::{AlterDef, ColumnDef, CounterDef, ForeignDef, LimitDef, TableDef};
 pub use made::{Def, Definition, Made};
 pub use names::{NAME_BYTES, is_name};
@@ -29,7 +29,7 @@ pub use sequences::{
     primary_begins, sequence,
 };
 pub use table::{
-    Access, Column, Foreign, Index, KeyPart, KeyParts, Limit, NewIndex, Referring, Table,
-    find_column, same_kind, type_at,
+    Access, Column, Foreign, Index, KeyPart, Limit, NewIndex, Referring, Table, find_column,
+    same_kind, type_at,
 };
 pub use table_checks::{DEFINITIONS, TABLES};

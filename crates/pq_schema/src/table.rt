@@ -6,7 +6,6 @@ ghost use Rattle.pq_base.specs.Values.{same_kind};
 ghost use Rattle.pq_schema.specs.Tables.{type_at};
 
 use pq_base::{ColType, Dir, List, PText, Value};
-use smallvec::SmallVec;
 
 /// A column of a table.
 #[derive(Drop)]
@@ -44,9 +43,6 @@ impl Default for KeyPart {
         }
     }
 }
-
-/// At most four parts, which lie in place.
-pub type KeyParts = SmallVec<KeyPart, 4>;
 
 /// A secondary index. Its sequence goes on with the key columns that are not among its own.
 #[derive(Drop)]

@@ -7,28 +7,28 @@ use Rattle.pq_counters.proofs.Own.{own_numbers, own_sum, plans_own}
 use Rattle.pq_counters.proofs.steps.plan_moves.Goals as goal
 
 pub plan_each-requires-clause-numbers : goal.plan_each-requires-clause-numbers
-plan_each-requires-clause-numbers g c = rw (c.as_slice.ensures, c.in_ok-numbers.ensures) (own_numbers c.args.catalog.now c.args.table)
+plan_each-requires-clause-numbers g c = rw (c.items.ensures, c.in_ok-numbers.ensures) (own_numbers c.args.catalog.now c.args.table)
 
 pub plan_each-requires-clause-small : goal.plan_each-requires-clause-small
 plan_each-requires-clause-small g c =
     let schema = c.args.catalog.now in
-    rw (c.as_slice.ensures, c.in_ok-numbers.ensures)
+    rw (c.items.ensures, c.in_ok-numbers.ensures)
     (small_moves schema c.args.table (option_copied c.args.old) (option_copied c.args.new) (counters_of schema c.args.table) c.known.ensures (valid_writable c.known.ensures) c.requires.number c.requires.rows (own_numbers schema c.args.table))
 
 pub plan_each-requires-clause-share : goal.plan_each-requires-clause-share
 plan_each-requires-clause-share g c =
     let schema = c.args.catalog.now in
-    rw (c.as_slice.ensures, c.in_ok-numbers.ensures, own_sum schema c.args.table (option_copied c.args.old) (option_copied c.args.new)) c.requires.share
+    rw (c.items.ensures, c.in_ok-numbers.ensures, own_sum schema c.args.table (option_copied c.args.old) (option_copied c.args.new)) c.requires.share
 
 pub returns-clause-uses : goal.returns-clause-uses
 returns-clause-uses g c =
-    rw (c.as_slice.ensures, c.in_ok-numbers.ensures, own_sum c.args.catalog.now c.args.table (option_copied c.args.old) (option_copied c.args.new)) at c.plan_each.ensures.uses
+    rw (c.items.ensures, c.in_ok-numbers.ensures, own_sum c.args.catalog.now c.args.table (option_copied c.args.old) (option_copied c.args.new)) at c.plan_each.ensures.uses
 
 pub returns-clause-plan : goal.returns-clause-plan
 returns-clause-plan g c =
-    rw (c.as_slice.ensures, c.in_ok-numbers.ensures, own_sum c.args.catalog.now c.args.table (option_copied c.args.old) (option_copied c.args.new)) at c.plan_each.ensures.plan
+    rw (c.items.ensures, c.in_ok-numbers.ensures, own_sum c.args.catalog.now c.args.table (option_copied c.args.old) (option_copied c.args.new)) at c.plan_each.ensures.plan
 
 pub returns-clause-answer : goal.returns-clause-answer
 returns-clause-answer g c =
     IfOk-weaker c.plan_each.result _ _ (λ planned plans rows others s is. plans_own c.args.catalog.now c.args.table (option_copied c.args.old) (option_copied c.args.new) rows planned (plans rows others s is))
-    (rw (c.as_slice.ensures, c.in_ok-numbers.ensures) at c.plan_each.ensures.answer)
+    (rw (c.items.ensures, c.in_ok-numbers.ensures) at c.plan_each.ensures.answer)

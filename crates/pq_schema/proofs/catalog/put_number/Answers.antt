@@ -1,6 +1,7 @@
-use Rattle.std.proofs.Common.{◌∙◌}
-use Rattle.indexmap.proofs.CallerLemmas.{insert_entry-new}
+use Rattle.std.specs.Prelude.{Some}
+use Rattle.std.specs.String.{string_bytes}
+use Rattle.std.proofs.lemmas.Map.Text.{hash_map_updates_text}
 use Rattle.pq_schema.proofs.catalog.put_number.Goals as goal
 
 pub returns : goal.returns
-returns g c = c.in-Ok.ensures.entries ∙ insert_entry-new _ c.args.numbers.now c.args.name c.args.number c.requires.free
+returns g c = hash_map_updates_text (string_bytes c.args.name) c.args.numbers.now c.insert.new.self (Some c.args.number) c.in-Ok.ensures.updates

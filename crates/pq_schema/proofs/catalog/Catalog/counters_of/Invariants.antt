@@ -4,4 +4,4 @@ use Rattle.pq_schema.proofs.catalog.Catalog.counters_of.Given as goal
 
 abbrev pub invariant-loop-place : goal.invariant-loop-place
 invariant-loop-place l =
-    l.found.items ++ counters_from l.table (l.place + 1) (drop l.place l.self.definitions) ≡ counters_of l.self l.table
+    l.found ++ counters_from l.table (l.place + 1) (drop l.place l.self.definitions) ≡ counters_of l.self l.table

@@ -18,10 +18,8 @@ invariant_of-self-2 c =
     let qns = inside.query_numbers.entries in
     let tables : c.put_column.new.tables.items ≡ with_added inside.tables.items number column filler = search rules in
     let definitions : c.put_last.new.items.items ≡ inside.definitions.items ++ OfColumn number (length (table_at now.tables number).columns) ∷ [] = search rules in
-    catalog_as (with_column now number column filler) _ _ _ tns _ qns
+    catalog_as (with_column now number column filler) _ _ tns qns
     (tables ∙ ap (λ (s : Schema). with_added s.tables number column filler) c.self.view_is)
     (definitions ∙ ap (λ (s : Schema). s.definitions ++ OfColumn number (length (table_at now.tables number).columns) ∷ []) c.self.view_is)
-    (λ _. tns)
-    (λ _. qns)
     (valid_sound c.requires.next)
     (column_numbered now tns qns (subst (λ (s : Schema). AreNumbered s tns qns) c.self.view_is c.self.invariant.1) number column filler)

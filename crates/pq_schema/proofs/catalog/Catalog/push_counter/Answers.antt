@@ -14,10 +14,8 @@ invariant_of-self-2 c =
     let tns = inside.table_numbers.entries in
     let qns = inside.query_numbers.entries in
     let definitions : c.put_last.new.items.items ≡ inside.definitions.items ++ OfCounter counter ∷ [] = search rules in
-    catalog_as (with_counter now counter) _ _ _ tns _ qns
+    catalog_as (with_counter now counter) _ _ tns qns
     (ap (λ (s : Schema). s.tables) c.self.view_is)
     (definitions ∙ ap (λ (s : Schema). s.definitions ++ OfCounter counter ∷ []) c.self.view_is)
-    (λ _. tns)
-    (λ _. qns)
     (valid_sound c.requires)
     (counter_numbered now tns qns (subst (λ (s : Schema). AreNumbered s tns qns) c.self.view_is c.self.invariant.1) counter)
