@@ -23,9 +23,9 @@ use Rattle.pq_clients.specs.declared.outcome.Outcome.{Outcome}
 use Rattle.pq_clients.specs.declared.outcome.Outcome.TheVariants as outcome
 use Rattle.pq_clients.specs.declared.outcome.Told.{Told}
 use Rattle.pq_clients.specs.declared.outcome.Wrote.{Wrote}
-use Rattle.pq_step.specs.Model.{Model}
-use Rattle.pq_step.specs.Stands.{Opens, Stands}
-use Rattle.pq_step.proofs.Standing.{settled_opens}
+use Rattle.pq_catalog.specs.Model.{Model}
+use Rattle.pq_catalog.specs.Stands.{Opens, Stands}
+use Rattle.pq_catalog.proofs.Standing.{settled_opens}
 use Rattle.pq_shell.specs.Fold.{Moment, MadeReports, ServedItems, StoppedItem, after}
 use Rattle.pq_shell.specs.Items.{cut_items}
 use Rattle.pq_shell.specs.Making.{moment}

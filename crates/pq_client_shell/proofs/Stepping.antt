@@ -32,9 +32,9 @@ use Rattle.pq_clients.specs.Stepping.{IsClient, view_of}
 use Rattle.pq_clients.specs.declared.client.Client.{Client}
 use Rattle.pq_clients.specs.declared.outcome.Told.{Told}
 use Rattle.pq_clients.specs.declared.outcome.Wrote.{Wrote}
-use Rattle.pq_step.specs.Model.{Model}
-use Rattle.pq_step.specs.Stands.{Stands, catalog_pairs, content_of, others_of, pairs_counted}
-use Rattle.pq_step.proofs.Catalogs.{are_beside}
+use Rattle.pq_catalog.specs.Model.{Model}
+use Rattle.pq_catalog.specs.Stands.{Stands, catalog_pairs, content_of, others_of, pairs_counted}
+use Rattle.pq_catalog.proofs.Catalogs.{are_beside}
 use Rattle.pq_client_shell.specs.Dealing.{hands, seated, dealt}
 use Rattle.pq_client_shell.specs.Runs.{HoldsPresent, RanClients, TellsCause}
 use Rattle.pq_client_shell.specs.Writes.{IsUncounted}

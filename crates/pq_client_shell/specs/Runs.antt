@@ -24,8 +24,8 @@ use Rattle.pq_clients.specs.Running.{Turns, moment as clients_moment}
 use Rattle.pq_clients.specs.declared.outcome.Outcome.TheVariants as outcome
 use Rattle.pq_clients.specs.declared.outcome.Told.{Told}
 use Rattle.pq_clients.specs.declared.outcome.Wrote.{Wrote}
-use Rattle.pq_step.specs.Model.{Model}
-use Rattle.pq_step.specs.Stands.{Opens, Stands, content_of, others_of}
+use Rattle.pq_catalog.specs.Model.{Model}
+use Rattle.pq_catalog.specs.Stands.{Opens, Stands, content_of, others_of}
 use Rattle.pq_shell.specs.Fold.{Moment, MadeReports, StoppedItem}
 use Rattle.pq_shell.specs.Items.{cut_items}
 use Rattle.pq_shell.specs.Making.{moment}

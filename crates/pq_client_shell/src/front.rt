@@ -6,9 +6,9 @@ ghost use Rattle.pq_shell.specs.Items.{cut_items};
 ghost use Rattle.pq_shell.specs.Making.{moment};
 ghost use Rattle.pq_console.specs.Stops.{Causes};
 
+use pq_catalog::PlannedCatalog;
 use pq_fill::Form;
 use pq_shell::{Sink, Stop, Tally, serve};
-use pq_step::PlannedCatalog;
 use pq_store::{Meter, Store};
 use pq_text::Piece;
 use std::alloc::Global;

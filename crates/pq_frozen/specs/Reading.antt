@@ -5,7 +5,7 @@ use Rattle.pq_text.specs.declared.piece.Piece.{Piece}
 use Rattle.pq_print.specs.declared.report.Report.{Report}
 use Rattle.pq_statement.specs.Actions.{action_of}
 use Rattle.pq_step.specs.Matches.{Matches}
-use Rattle.pq_step.specs.Model.{Model}
+use Rattle.pq_catalog.specs.Model.{Model}
 use Rattle.pq_step.specs.Promise.{OnlyReads}
 use Rattle.pq_step.specs.Step.{step}
 

@@ -1,11 +1,12 @@
 //! What a writer holds behind some of its statements.
 ghost use Rattle.std.specs.Prelude.{◌+◌, ◌<◌, ◌^◌, Some, IfOk, length};
 ghost use Rattle.pq_frozen.specs.Reading.{model_behind};
-ghost use Rattle.pq_step.specs.Model.{Model as Tables};
-ghost use Rattle.pq_step.specs.Stands.{HoldsModel, Opens};
+ghost use Rattle.pq_catalog.specs.Model.{Model as Tables};
+ghost use Rattle.pq_catalog.specs.Stands.{HoldsModel, Opens};
 
 use crate::frozen::Frozen;
 use pq_opening::start;
+use pq_step::statement;
 use pq_store::{Broke, MemStore, Meter};
 use pq_text::Piece;
 use std::alloc::Global;
@@ -28,7 +29,7 @@ pub fn pinned_behind<L: Ledger>(
     let mut session = started.planned;
     let mut number = 1;
     for piece in pieces {
-        let (next, _) = session.statement(alloc, number, piece, store, meter)?;
+        let (next, _) = statement(alloc, session, number, piece, store, meter)?;
         session = next;
         number += 1;
     }

@@ -3,17 +3,18 @@ ghost use Rattle.std.specs.Prelude.{◌≡◌, ◌+◌, ◌<◌, ◌^◌, Some, 
 ghost use Rattle.pq_frozen.specs.Reading.{AllRead, AreAnswers};
 ghost use Rattle.pq_statement.specs.Actions.{action_of};
 ghost use Rattle.pq_step.specs.Matches.{Matches};
-ghost use Rattle.pq_step.specs.Model.{Model as Tables};
+ghost use Rattle.pq_catalog.specs.Model.{Model as Tables};
 ghost use Rattle.pq_opening.specs.Opening.{IsOpening, IsQuiet, opening_of};
 ghost use Rattle.pq_step.specs.Promise.{OnlyReads};
-ghost use Rattle.pq_step.specs.Stands.{HoldsModel, Stands};
+ghost use Rattle.pq_catalog.specs.Stands.{HoldsModel, Stands};
 ghost use Rattle.pq_step.specs.Step.{step};
 
 use crate::frozen::Frozen;
 use pq_base::List;
+use pq_catalog::PlannedCatalog;
 use pq_opening::{Begun, start};
 use pq_print::Report;
-use pq_step::PlannedCatalog;
+use pq_step::statement;
 use pq_store::{Broke, Meter};
 use pq_text::Piece;
 use std::alloc::Global;
@@ -53,7 +54,7 @@ pub fn answer<L: Ledger>(
     ensures no_memory { IfErr result (λ broke. (m : Tables) → Stands (Some store.old.held) session m
         → broke ≡ Broke.NoMem) }
 {
-    session.statement(alloc, number, piece, store, meter)
+    statement(alloc, session, number, piece, store, meter)
 }
 
 /// Opens a store that stands still and answers statements over it, which are numbered from 1. Where each of them

@@ -22,7 +22,7 @@ use Rattle.pq_query_read.specs.Trying.{◌>>=◌}
 use Rattle.pq_runnable.proofs.Staying.{err_not_ok, query_chosen}
 use Rattle.pq_arrange.specs.Arrange.{rearranged_query, arranged_query}
 use Rattle.pq_arrange.proofs.Arranges.{by_cases, leaves_planned}
-use Rattle.pq_statement.specs.Planning.{HasNoCandidate, PlannedDefinition, with_chosen, plan_of, plan_from, arranged_plan, arranged_from}
+use Rattle.pq_planning.specs.Planning.{HasNoCandidate, PlannedDefinition, with_chosen, plan_of, plan_from, arranged_plan, arranged_from}
 
 -- ---- what has a plan has a candidate
 

@@ -24,7 +24,7 @@ use Rattle.pq_runnable.proofs.Staying.{err_not_ok}
 use Rattle.pq_exec.specs.Execution.{last_of}
 use Rattle.pq_print.specs.declared.report.Line.{Line}
 use Rattle.pq_print.specs.declared.report.Report.{Report}
-use Rattle.pq_step.specs.Model.{Model}
+use Rattle.pq_catalog.specs.Model.{Model}
 use Rattle.pq_laws.specs.Pages.{ArePages, AreRuns, IsPaged, last, last_run, line_of, next, next_in, next_run, question_of}
 use Rattle.pq_step.specs.Step.{page_of}
 use Rattle.pq_laws.proofs.Paging.{in_last, pages_each, pages_end, some, some_last, sound, taken}

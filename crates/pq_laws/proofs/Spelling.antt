@@ -21,7 +21,7 @@ use Rattle.pq_query_read.specs.declared.select.SelectDef.{SelectDef}
 use Rattle.pq_reread.specs.WholeStatements.{WholeStatement, Prepares as PreparesQuery, Explains as ExplainsQuery, SpellsWhole, with_query_read, whole_of}
 use Rattle.pq_reread.proofs.WholeStatements.{whole_is_spelled, spelled_is_whole, whole_stops}
 use Rattle.pq_statement.specs.Actions.{Action, Prepares, Explains, action_from, asked_by, asked_text}
-use Rattle.pq_statement.specs.Planning.{arranged_plan, definable, arranged_from, prepared_from, explained_from, explained_name}
+use Rattle.pq_planning.specs.Planning.{arranged_plan, definable, arranged_from, prepared_from, explained_from, explained_name}
 use Rattle.pq_laws.specs.Spelling.{asked_whole, SpellsNone}
 use Rattle.pq_statement.proofs.Statements.{asked_read, not_read}
 

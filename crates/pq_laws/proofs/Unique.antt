@@ -12,12 +12,12 @@ use Rattle.pq_content.proofs.Keys.{both_beside, catalog_beside, counters_beside}
 use Rattle.pq_content.proofs.Settling.{settles_once}
 use Rattle.pq_content.proofs.Unique.{one_table}
 use Rattle.pq_store.specs.Content.{Content}
-use Rattle.pq_step.specs.Model.{Model}
+use Rattle.pq_catalog.specs.Model.{Model}
 use Rattle.pq_opening.specs.Opening.{SchemaAndMark}
-use Rattle.pq_step.specs.Stands.{Holds, Opens, IsFillingLast, content_of, others_of, pairs_counted, earlier_pairs, earlier_others, last_query}
-use Rattle.pq_step.proofs.Counted.{counted_space, others_beside}
+use Rattle.pq_catalog.specs.Stands.{Holds, Opens, IsFillingLast, content_of, others_of, pairs_counted, earlier_pairs, earlier_others, last_query}
+use Rattle.pq_catalog.proofs.Counted.{counted_space, others_beside}
 use Rattle.pq_opening.proofs.Lefts.{earlier_catalog}
-use Rattle.pq_step.proofs.Made.{types_at}
+use Rattle.pq_catalog.proofs.Made.{types_at}
 use Rattle.pq_opening.proofs.Reopening.{schema_in, mark_in, mark_held, held_tells}
 
 -- the rows of a model over a schema

@@ -14,7 +14,7 @@ use Rattle.pq_print.specs.declared.report.End.TheVariants.{Done, Refused, Rows}
 use Rattle.pq_print.specs.declared.report.Line.{Line}
 use Rattle.pq_print.specs.declared.report.Line.TheVariants.{Row}
 use Rattle.pq_print.specs.declared.report.Report.{Report}
-use Rattle.pq_step.specs.Model.{Model}
+use Rattle.pq_catalog.specs.Model.{Model}
 use Rattle.pq_step.specs.Step.{page_of}
 
 -- a query with PAGINATE k over valid definitions, which the rows keep

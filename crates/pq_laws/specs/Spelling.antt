@@ -8,7 +8,7 @@ use Rattle.pq_query_read.specs.Trying.{◌>>=◌}
 use Rattle.pq_query_read.specs.declared.select.SelectDef.{SelectDef}
 use Rattle.pq_reread.specs.WholeStatements.{WholeStatement, Plain, Prepares as PreparesQuery, Explains as ExplainsQuery, SpellsWhole}
 use Rattle.pq_statement.specs.Actions.{Action, Prepares, Explains, action_from, asked_by}
-use Rattle.pq_statement.specs.Planning.{PlannedDefinition, arranged_plan, definable, explained_name}
+use Rattle.pq_planning.specs.Planning.{PlannedDefinition, arranged_plan, definable, explained_name}
 
 -- the query of this name, arranged, with its plan
 abbrev pub planned_select : Schema → List ℕ → SelectDef → Result PlannedDefinition Refusal

@@ -29,12 +29,12 @@ ghost use Rattle.pq_pages.specs.Running.{params_refusal};
 ghost use Rattle.pq_plan.specs.Answer.{selected_values, whole};
 ghost use Rattle.pq_print.specs.declared.report.Report.{Report};
 ghost use Rattle.pq_statement.specs.Actions.{asked_text};
-ghost use Rattle.pq_step.specs.Model.{Model};
+ghost use Rattle.pq_catalog.specs.Model.{Model};
 ghost use Rattle.pq_opening.specs.Opening.{IsQuiet, text_defines};
-ghost use Rattle.pq_statement.specs.Planning.{HasNoCandidate, PlannedDefinition, arranged_from, arranged_plan, plan_from, plan_of};
+ghost use Rattle.pq_planning.specs.Planning.{HasNoCandidate, PlannedDefinition, arranged_from, arranged_plan, plan_from, plan_of};
 ghost use Rattle.pq_laws.specs.Pages.{ArePages, AreRuns, IsPaged, line_of, question_of};
 ghost use Rattle.pq_laws.specs.Spelling.{asked_whole, SpellsNone};
-ghost use Rattle.pq_step.specs.Stands.{HoldsModel, Opens};
+ghost use Rattle.pq_catalog.specs.Stands.{HoldsModel, Opens};
 
 /// What a text asks for is decided by what its tokens spell: no rule of reading plays a part.
 pub fn spelling_law()

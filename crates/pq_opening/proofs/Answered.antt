@@ -9,9 +9,9 @@ use Rattle.pq_key_code.specs.KeyCode.{catalog_key}
 use Rattle.pq_schema.specs.Schema.{Schema}
 use Rattle.pq_content.specs.Pairs.{Pair}
 use Rattle.pq_store.specs.declared.damage.Damage.{Damage}
-use Rattle.pq_step.specs.Format.{marked_text}
-use Rattle.pq_step.specs.Stands.{last_key}
-use Rattle.pq_step.specs.declared.format.Mark.TheVariants.{Ready, Building}
+use Rattle.pq_catalog.specs.Format.{marked_text}
+use Rattle.pq_catalog.specs.Stands.{last_key}
+use Rattle.pq_catalog.specs.declared.format.Mark.TheVariants.{Ready, Building}
 use Rattle.pq_opening.specs.Opened.{TellsOpened}
 use Rattle.pq_opening.specs.Opening.{SchemaAndMark, none_added, value_adds, pair_adds, goes_on, opened_by, added_from, HasAnswer}
 use Rattle.pq_opening.proofs.Openings.{adds_one, added_in}

@@ -20,13 +20,13 @@ use Rattle.pq_store.specs.Breaks.{IfDamaged, IsUndamaged}
 use Rattle.pq_store.specs.Content.{Content}
 use Rattle.pq_store.specs.declared.damage.Broke.{Broke}
 use Rattle.pq_store.specs.declared.damage.Broke.TheVariants.{Failed, NoMem, Damaged}
-use Rattle.pq_step.specs.declared.format.Mark.{Mark}
-use Rattle.pq_step.specs.declared.format.Mark.TheVariants.{Ready, Building}
-use Rattle.pq_step.specs.Model.{Model}
+use Rattle.pq_catalog.specs.declared.format.Mark.{Mark}
+use Rattle.pq_catalog.specs.declared.format.Mark.TheVariants.{Ready, Building}
+use Rattle.pq_catalog.specs.Model.{Model}
 use Rattle.pq_opening.specs.Opening.{IsLeft, IsQuiet, GoesOnLeft, LeavesFlawed, LeavesMarked, LeavesRead, added_from, catalog_in, none_added}
-use Rattle.pq_step.specs.Stands.{HoldsModel, Opens, Holds, content_of}
+use Rattle.pq_catalog.specs.Stands.{HoldsModel, Opens, Holds, content_of}
 use Rattle.pq_opening.proofs.Reopening.{mark_in, catalog_tells, held_tells}
-use Rattle.pq_step.proofs.Standing.{no_intent_in}
+use Rattle.pq_catalog.proofs.Standing.{no_intent_in}
 
 -- ---- what the completion of a build leaves
 

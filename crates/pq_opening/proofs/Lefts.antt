@@ -42,14 +42,14 @@ use Rattle.pq_builds.specs.Bounds.{left_bound}
 use Rattle.pq_builds.specs.Standing.{Origin, HoldsFilling, IsFilling, FillsIndex, IsMarkedOrReady, Makes, rows_in}
 use Rattle.pq_builds.specs.Targets.{target_of}
 use Rattle.pq_builds.proofs.Filled.{catalog_filling, intent_filling}
-use Rattle.pq_step.specs.Model.{Model}
+use Rattle.pq_catalog.specs.Model.{Model}
 use Rattle.pq_opening.specs.Opening.{catalog_in, target_left, IsLeft, IsFillingIn, rows_of_made, rows_left}
-use Rattle.pq_step.specs.Stands.{HoldsModel, Opens, IsFillingLast, catalog_pairs, pairs_counted, others_of, made_by, last_made, last_key, last_query, earlier_pairs, earlier_others}
-use Rattle.pq_step.proofs.Building.{next_schema, origin_of, target_for, at_end, there, pairs_next, earlier_next, last_made_next, target_is, new_in, marked_opens, whole_holds}
-use Rattle.pq_step.proofs.Catalogs.{are_catalog, catalog_rises, pairs_length, sorted_alike}
-use Rattle.pq_step.proofs.Counted.{counted_space}
-use Rattle.pq_step.proofs.Made.{small_of}
-use Rattle.pq_statement.proofs.Shown.{wanted_next}
+use Rattle.pq_catalog.specs.Stands.{HoldsModel, Opens, IsFillingLast, catalog_pairs, pairs_counted, others_of, made_by, last_made, last_key, last_query, earlier_pairs, earlier_others}
+use Rattle.pq_catalog.proofs.Building.{next_schema, origin_of, target_for, at_end, there, pairs_next, earlier_next, last_made_next, target_is, new_in, marked_opens, whole_holds}
+use Rattle.pq_catalog.proofs.Catalogs.{are_catalog, catalog_rises, pairs_length, sorted_alike}
+use Rattle.pq_catalog.proofs.Counted.{counted_space}
+use Rattle.pq_catalog.proofs.Made.{small_of}
+use Rattle.pq_planning.proofs.Shown.{wanted_next}
 
 -- ---- how the schema came to be
 

@@ -24,15 +24,15 @@ use Rattle.pq_text.specs.Tokens.{tokens_of}
 use Rattle.pq_def_read.specs.declared.statement.Statement.{Statement}
 use Rattle.pq_def_read.specs.declared.statement.Statement.TheVariants as statement
 use Rattle.pq_def_read.specs.Reading.{statement_of}
-use Rattle.pq_step.specs.declared.format.Mark.{Mark}
-use Rattle.pq_step.specs.declared.format.Mark.TheVariants.{Ready, Building}
-use Rattle.pq_step.specs.Format.{marked_text, has_format}
+use Rattle.pq_catalog.specs.declared.format.Mark.{Mark}
+use Rattle.pq_catalog.specs.declared.format.Mark.TheVariants.{Ready, Building}
+use Rattle.pq_catalog.specs.Format.{marked_text, has_format}
 use Rattle.pq_opening.specs.Opened.{TellsOpened}
 use Rattle.pq_opening.specs.Opening.{SchemaAndMark, none_added, with_made, with_planned, defined_by, defined_as, text_defines, has_last_text, if_canonical, text_adds, if_formatted, value_adds, pair_adds, goes_on, opened_by, added_from}
-use Rattle.pq_statement.specs.Planned.{IsPlanned}
-use Rattle.pq_statement.specs.Planning.{PlannedDefinition, plan_from}
-use Rattle.pq_step.specs.Stands.{last_made}
-use Rattle.pq_statement.specs.declared.planning.PlannedQuery.{PlannedQuery}
+use Rattle.pq_planning.specs.Planned.{IsPlanned}
+use Rattle.pq_planning.specs.Planning.{PlannedDefinition, plan_from}
+use Rattle.pq_catalog.specs.Stands.{last_made}
+use Rattle.pq_planning.specs.declared.planning.PlannedQuery.{PlannedQuery}
 use Rattle.pq_opening.proofs.Reopening.{schema_in}
 
 -- what a text defines is one definition more

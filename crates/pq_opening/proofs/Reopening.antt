@@ -16,20 +16,20 @@ use Rattle.pq_key_code.specs.KeyCode.{catalog_key}
 use Rattle.pq_print.specs.Canonical.{definition_text}
 use Rattle.pq_content.specs.Pairs.{Pair}
 use Rattle.pq_content.proofs.Others.{rising_catalog_range}
-use Rattle.pq_step.specs.Format.{format_of, has_format}
-use Rattle.pq_step.specs.Model.{Model}
+use Rattle.pq_catalog.specs.Format.{format_of, has_format}
+use Rattle.pq_catalog.specs.Model.{Model}
 use Rattle.pq_store.specs.Content.{Content}
 use Rattle.pq_builds.specs.Stages.{ready_value, building_value}
 use Rattle.pq_builds.specs.declared.target.NewQuery.{NewQuery}
-use Rattle.pq_step.specs.declared.format.Mark.{Mark}
-use Rattle.pq_step.specs.declared.format.Mark.TheVariants.{Ready, Building}
+use Rattle.pq_catalog.specs.declared.format.Mark.{Mark}
+use Rattle.pq_catalog.specs.declared.format.Mark.TheVariants.{Ready, Building}
 use Rattle.pq_opening.specs.Opening.{SchemaAndMark, none_added, has_last_text, if_formatted, text_adds, pair_adds, opened_by, added_from, catalog_in}
-use Rattle.pq_step.specs.Stands.{Holds, content_of, value_at, catalog_pairs, pairs_counted, last_made, last_query, earlier_pairs}
-use Rattle.pq_step.proofs.Catalogs.{are_catalog, catalog_rises, pairs_length}
-use Rattle.pq_step.proofs.Counted.{counted_space}
-use Rattle.pq_step.proofs.Definitions.{table_pairs, query_pairs, column_pairs, counted_pairs}
+use Rattle.pq_catalog.specs.Stands.{Holds, content_of, value_at, catalog_pairs, pairs_counted, last_made, last_query, earlier_pairs}
+use Rattle.pq_catalog.proofs.Catalogs.{are_catalog, catalog_rises, pairs_length}
+use Rattle.pq_catalog.proofs.Counted.{counted_space}
+use Rattle.pq_catalog.proofs.Definitions.{table_pairs, query_pairs, column_pairs, counted_pairs}
 use Rattle.pq_opening.proofs.Lefts.{catalog_of_filling, last_pairs}
-use Rattle.pq_step.proofs.Made.{made_of, small_of}
+use Rattle.pq_catalog.proofs.Made.{made_of, small_of}
 use Rattle.pq_opening.proofs.Rereading.{IsRead, table_read, query_read, column_read, counter_read}
 
 -- ---- one more pair

@@ -37,7 +37,7 @@ use Rattle.pq_reread.proofs.Orders.{valid_orderly, keys_of}
 use Rattle.pq_reread.proofs.ReadBack.{defined_back}
 use Rattle.pq_reread.proofs.Tables.{table_utf8}
 use Rattle.pq_opening.specs.Opening.{with_made, with_planned, defined_as, text_defines}
-use Rattle.pq_statement.specs.Planning.{with_chosen, plan_of, plan_from}
+use Rattle.pq_planning.specs.Planning.{with_chosen, plan_of, plan_from}
 
 -- ---- a text that is read as what was added
 

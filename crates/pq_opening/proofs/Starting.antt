@@ -26,15 +26,15 @@ use Rattle.pq_intent.specs.declared.settles.Settled.{Settled}
 use Rattle.pq_store.specs.Counts.{Counts}
 use Rattle.pq_store.specs.declared.damage.Broke.{Broke}
 use Rattle.pq_store.specs.declared.damage.Broke.TheVariants.{Failed, NoMem, Damaged}
-use Rattle.pq_step.specs.declared.format.Mark.{Mark}
-use Rattle.pq_step.specs.declared.format.Mark.TheVariants.{Ready, Building}
+use Rattle.pq_catalog.specs.declared.format.Mark.{Mark}
+use Rattle.pq_catalog.specs.declared.format.Mark.TheVariants.{Ready, Building}
 use Rattle.pq_opening.specs.declared.begun.Begun.{Begun}
-use Rattle.pq_step.specs.Model.{Model}
+use Rattle.pq_catalog.specs.Model.{Model}
 use Rattle.pq_opening.specs.Opening.{SchemaAndMark, none_added, opening_of, started_of, completion_bound, added_from, catalog_in, IsStarted, IsLeft, IsAsMarked, rows_of_made, rows_left, rows_of_mark, TellsSchema, NamesPair, NamesFlaw, HasFewLeft, ShowsMarked, intent_ops, HasBuild, IsOpeningBound, IsOpening}
-use Rattle.pq_step.specs.Stands.{HoldsModel, Stands, Opens, Holds, IsFillingLast, content_of}
+use Rattle.pq_catalog.specs.Stands.{HoldsModel, Stands, Opens, Holds, IsFillingLast, content_of}
 use Rattle.pq_opening.proofs.Lefts.{filling_in_opens}
 use Rattle.pq_opening.proofs.Reopening.{schema_in, mark_in, mark_held, held_tells}
-use Rattle.pq_step.proofs.Standing.{settled_opens}
+use Rattle.pq_catalog.proofs.Standing.{settled_opens}
 
 -- ---- a content at rest
 

@@ -17,13 +17,13 @@ use Rattle.pq_intent.specs.Spending.{TakesAtMost, settling_bound, IsWithinSettli
 use Rattle.pq_intent.specs.declared.settles.Settled.{Settled}
 use Rattle.pq_builds.specs.Bounds.{bound}
 use Rattle.pq_builds.specs.Stages.{Takes, IsWithinBuild as BuildsWithin, left_ops}
-use Rattle.pq_step.specs.declared.format.Mark.{Mark}
+use Rattle.pq_catalog.specs.declared.format.Mark.{Mark}
 use Rattle.pq_opening.specs.declared.begun.Begun.{Begun}
-use Rattle.pq_step.specs.Model.{Model}
+use Rattle.pq_catalog.specs.Model.{Model}
 use Rattle.pq_opening.specs.Opening.{none_added, opening_of, completion_bound, opening_bound, intent_ops, catalog_in, AreFewRows, IsStarted, IsAsMarked, rows_of_mark, HasBuild, IsOpeningBound}
-use Rattle.pq_step.specs.Stands.{Opens, Holds}
+use Rattle.pq_catalog.specs.Stands.{Opens, Holds}
 use Rattle.pq_opening.specs.Within.{IsSomeOpeningBound, IsBounded, StopsWithin, IsWithinOpening}
-use Rattle.pq_step.proofs.Made.{small_of}
+use Rattle.pq_catalog.proofs.Made.{small_of}
 use Rattle.pq_opening.proofs.Openings.{opened_length}
 use Rattle.pq_opening.proofs.Reopening.{mark_held, held_tells}
 use Rattle.pq_opening.proofs.Starting.{opens_rests, changes_of, bound_as, few_settled}

@@ -41,12 +41,12 @@ use Rattle.pq_builds.specs.Targets.{target_of}
 use Rattle.pq_builds.specs.declared.target.NewQuery.{NewQuery}
 use Rattle.pq_builds.specs.declared.target.Target.{Target}
 use Rattle.pq_opening.specs.declared.begun.Begun.{Begun}
-use Rattle.pq_step.specs.declared.format.Mark.{Mark}
-use Rattle.pq_step.specs.declared.format.Mark.TheVariants.{Ready, Building}
-use Rattle.pq_step.specs.Format.{marked_text, has_format}
-use Rattle.pq_step.specs.Model.{Model}
-use Rattle.pq_step.specs.Stands.{HoldsModel, IsFillingLast, content_of, last_made, last_query}
-use Rattle.pq_statement.specs.Planning.{PlannedDefinition, plan_from}
+use Rattle.pq_catalog.specs.declared.format.Mark.{Mark}
+use Rattle.pq_catalog.specs.declared.format.Mark.TheVariants.{Ready, Building}
+use Rattle.pq_catalog.specs.Format.{marked_text, has_format}
+use Rattle.pq_catalog.specs.Model.{Model}
+use Rattle.pq_catalog.specs.Stands.{HoldsModel, IsFillingLast, content_of, last_made, last_query}
+use Rattle.pq_planning.specs.Planning.{PlannedDefinition, plan_from}
 
 -- the line of an opening
 abbrev pub opening_of : Begun → Opened

@@ -6,7 +6,7 @@ use Rattle.pq_store.specs.Content.{Content}
 use Rattle.pq_store.specs.Counts.{Counts}
 use Rattle.pq_intent.specs.Counting.{AreFewChanges}
 use Rattle.pq_intent.specs.Spending.{TakesAtMost}
-use Rattle.pq_step.specs.Model.{Model}
+use Rattle.pq_catalog.specs.Model.{Model}
 use Rattle.pq_opening.specs.Opening.{AreFewRows, opening_bound, IsOpeningBound}
 
 -- the bound of an opening, for changes that an intent may hold and rows that an index is filled over, or for none

@@ -3,20 +3,20 @@ ghost use Rattle.std.specs.Prelude.{◌≡◌, ◌≤◌, ◌<◌, ◌+◌, ◌^
 ghost use Rattle.pq_builds.specs.Stages.{Takes, IsWithinBuild as BuildsWithin, left_ops};
 ghost use Rattle.pq_intent.specs.Spending.{TakesAtMost};
 ghost use Rattle.pq_store.specs.Content.{HasBrokeCause};
-ghost use Rattle.pq_step.specs.Model.{Model as Tables};
+ghost use Rattle.pq_catalog.specs.Model.{Model as Tables};
 ghost use Rattle.pq_opening.specs.Opening.{HasAnswer, IsAnsweredFlaw, opening_of, started_of, none_added, added_from, catalog_in, completion_bound, AreFewRows, HasFewLeft, IsOpening, IsQuiet, IsStarted, IsAsMarked, LeavesFlawed, LeavesMarked, LeavesRead, rows_of_mark, TellsSchema, NamesPair, NamesFlaw, ShowsMarked};
 ghost use Rattle.pq_schema.specs.Valid.{IsValid};
 ghost use Rattle.pq_opening.specs.Within.{IsBounded, StopsWithin, IsWithinOpening};
 ghost use Rattle.pq_store.specs.Breaks.{IfDamaged, IsUndamaged, IsAnswered};
-ghost use Rattle.pq_step.specs.Stands.{HoldsModel, Stands, Opens, last_key, last_made};
+ghost use Rattle.pq_catalog.specs.Stands.{HoldsModel, Stands, Opens, last_key, last_made};
 ghost use Rattle.pq_builds.specs.Bounds.{bound};
 
 use crate::last::complete;
 use crate::opening::with_pairs;
 use pq_base::{Bound, Used};
 use pq_builds::left_ops;
+use pq_catalog::{Mark, PlannedCatalog};
 use pq_intent::{Settled, settle};
-use pq_step::{Mark, PlannedCatalog};
 use pq_store::{Broke, Meter, Store};
 use std::alloc::Global;
 use std::sync::ledger::Ledger;

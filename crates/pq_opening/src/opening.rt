@@ -3,23 +3,23 @@ ghost use Rattle.std.specs.Prelude.{◌≡◌, ◌≤◌, length, map, option_ma
 ghost use Rattle.std.specs.Result.{result_ok};
 ghost use Rattle.pq_store.specs.Content.{entry};
 ghost use Rattle.pq_schema.specs.Definitions.{new_table, new_query, new_column, new_counter};
-ghost use Rattle.pq_statement.specs.Planned.{IsComputed};
+ghost use Rattle.pq_planning.specs.Planned.{IsComputed};
 ghost use Rattle.pq_schema.specs.Names.{IsName, IsTableDef, IsAlterDef, IsCounterDef};
 ghost use Rattle.pq_text.specs.Tokens.{tokens_of};
-ghost use Rattle.pq_statement.specs.Planning.{plan_from};
+ghost use Rattle.pq_planning.specs.Planning.{plan_from};
 ghost use Rattle.pq_opening.specs.Opening.{has_last_text, with_made, with_planned, defined_by, text_defines, text_adds, if_formatted, pair_adds, goes_on, added_from};
 ghost use Rattle.pq_opening.specs.Opened.{TellsOpened};
-ghost use Rattle.pq_statement.specs.Names.{IsNamedStatement};
+ghost use Rattle.pq_planning.specs.Names.{IsNamedStatement};
 
 use crate::last::last_made;
 use pq_base::{Bytes, List, NoMem, PText, Stopped};
+use pq_catalog::{Mark, PlannedCatalog, has_format, marked_text};
 use pq_compile::Compiled;
 use pq_def_read::{Statement, read_statement};
 use pq_key_code::catalog_key;
+use pq_planning::{PlannedQuery, plan_query};
 use pq_print::print_definition;
 use pq_schema::{AlterDef, Catalog, CounterDef, TableDef};
-use pq_statement::{PlannedQuery, plan_query};
-use pq_step::{Mark, PlannedCatalog, has_format, marked_text};
 use pq_store::{Damage, Pair};
 use pq_text::{Token, tokens};
 use std::alloc::Global;

@@ -8,7 +8,7 @@ use Rattle.pq_plan_lines.specs.Lines.{plan_lines, sum_of}
 use Rattle.pq_plan_lines.specs.Texts.{line_text}
 use Rattle.pq_plan_lines.specs.declared.node_line.NodeLine.{NodeLine}
 use Rattle.pq_statement.specs.Actions.{Action, Creates, Adds, Writes, Prepares, Explains, Runs, Counts, Reads, Shows}
-use Rattle.pq_statement.specs.Planning.{PlannedDefinition}
+use Rattle.pq_planning.specs.Planning.{PlannedDefinition}
 
 -- the nodes of the plan, from the innermost on, with what each costs and gives
 abbrev pub lines_of : List Table → PlannedDefinition → List NodeLine

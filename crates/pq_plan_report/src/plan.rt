@@ -7,8 +7,8 @@ ghost use Rattle.pq_plan_lines.specs.Lines.{plan_lines, sum_of};
 ghost use Rattle.pq_plan_lines.specs.Texts.{line_text};
 ghost use Rattle.pq_text.specs.Tokens.{tokens_of};
 ghost use Rattle.pq_statement.specs.Actions.{action_of, asked_by, asked_text};
-ghost use Rattle.pq_statement.specs.Names.{IsNamedStatement};
-ghost use Rattle.pq_statement.specs.Planning.{arranged_from, explained_name};
+ghost use Rattle.pq_planning.specs.Names.{IsNamedStatement};
+ghost use Rattle.pq_planning.specs.Planning.{arranged_from, explained_name};
 ghost use Rattle.pq_plan_report.specs.Plans.{TellsAsked, TellsFound};
 
 use pq_arrange::arranged;

@@ -11,8 +11,9 @@ ghost use Rattle.pq_plan_report.specs.Told.{AreSummed, is_refused, report_of, re
 
 use crate::plan::piece_plan;
 use pq_base::{Bound, Bytes, List, NoMem, Refusal, Used};
+use pq_catalog::PlannedCatalog;
 use pq_print::{End, Report, print_report};
-use pq_step::PlannedCatalog;
+use pq_step::check;
 use pq_text::{Piece, cut_script};
 use std::alloc::Global;
 
@@ -65,7 +66,7 @@ fn put_piece(
     ensures summed { IfOk result (λ _. IsSummed session (action_of session piece.now)) }
 {
     let plan = piece_plan(alloc, session.catalog(), piece)?;
-    let (session, report) = session.check(alloc, number, piece)?;
+    let (session, report) = check(alloc, session, number, piece)?;
     put_report(alloc, plan, &report, text)?;
     Ok((session, report.is_refusal()))
 }

@@ -4,7 +4,7 @@ use Rattle.pq_schema.specs.Schema.{Schema}
 use Rattle.pq_store.specs.Breaks.{IsAnsweredBut}
 use Rattle.pq_store.specs.declared.damage.Broke.{Broke}
 use Rattle.pq_store.specs.declared.damage.Broke.TheVariants as broke
-use Rattle.pq_step.specs.Stands.{next_key}
+use Rattle.pq_catalog.specs.Stands.{next_key}
 use Rattle.pq_console.specs.Stops.{stop_of_broke}
 use Rattle.pq_shell.specs.Answered.{IsAnsweredStop}
 

@@ -16,8 +16,8 @@ use Rattle.pq_print.specs.Report.{damage_line, printed_report}
 use Rattle.pq_print.specs.declared.report.Opened.{Opened}
 use Rattle.pq_print.specs.declared.report.Report.{Report}
 use Rattle.pq_step.specs.Checks.{without_rows}
-use Rattle.pq_step.specs.Model.{Model}
-use Rattle.pq_step.proofs.Standing.{settled_opens}
+use Rattle.pq_catalog.specs.Model.{Model}
+use Rattle.pq_catalog.proofs.Standing.{settled_opens}
 use Rattle.pq_shell.specs.Fold.{Moment, ServedItems, StoppedItem}
 use Rattle.pq_shell.specs.Forms.{HasItems, HasOpening, OpensAt, StandsIn, close, shown_report}
 use Rattle.pq_shell.specs.Items.{Item, Cut, Rest, cut_items, rest_items, items_of}

@@ -14,7 +14,7 @@ use Rattle.pq_key_code.specs.KeyCode.{intent_key}
 use Rattle.pq_content.proofs.Settling.{settles_once}
 use Rattle.pq_intent.specs.Settling.{IsNoIntent}
 use Rattle.pq_intent.proofs.Ends.{no_settling}
-use Rattle.pq_step.specs.declared.format.Mark.TheVariants.{Building}
+use Rattle.pq_catalog.specs.declared.format.Mark.TheVariants.{Building}
 use Rattle.pq_opening.specs.Opening.{SchemaAndMark, none_added, added_from, catalog_in, TellsSchema, ShowsFlaw, NamesFlaw}
 use Rattle.pq_shell.specs.Flaw.{IsFlaw, HaltsAtFlaw, StopsAtFlaw, EndsAtFlaw}
 use Rattle.pq_shell.specs.Run.{Closes}

@@ -12,7 +12,7 @@ use Rattle.pq_intent.specs.Spending.{TakesAtMost}
 use Rattle.pq_print.specs.declared.report.Report.{Report}
 use Rattle.pq_print.specs.Report.{is_refusal}
 use Rattle.pq_statement.specs.Actions.{asked_bound}
-use Rattle.pq_step.specs.Model.{Model}
+use Rattle.pq_catalog.specs.Model.{Model}
 use Rattle.pq_step.specs.Matches.{Matches}
 use Rattle.pq_step.specs.Promise.{IsWithinFixed}
 use Rattle.pq_step.proofs.Promises.{within_none, within_reported}

@@ -23,9 +23,9 @@ use Rattle.pq_statement.specs.Actions.{action_of, schema_after, statement_bound}
 use Rattle.pq_step.specs.Checks.{checked_as, check_step, without_rows}
 use Rattle.pq_step.specs.Evidence.{TellsEvidence}
 use Rattle.pq_step.specs.Matches.{Matches}
-use Rattle.pq_step.specs.Model.{Model}
+use Rattle.pq_catalog.specs.Model.{Model}
 use Rattle.pq_step.specs.Promise.{IsBound, IsRefusal, IsWithinFixed, KeepsDamaged, OnlyReads}
-use Rattle.pq_step.specs.Stands.{Opens, Stands}
+use Rattle.pq_catalog.specs.Stands.{Opens, Stands}
 use Rattle.pq_step.specs.Refusing.{CanEnd}
 use Rattle.pq_step.specs.Step.{Step, step, unread_report}
 use Rattle.pq_step.specs.Written.{IsPrepareOf, IsDefinedAs}

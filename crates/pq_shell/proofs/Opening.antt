@@ -14,9 +14,9 @@ use Rattle.pq_store.specs.declared.damage.Broke.TheVariants as broke
 use Rattle.pq_print.specs.Report.{opening_line}
 use Rattle.pq_print.specs.declared.report.Opened.{Opened}
 use Rattle.pq_step.specs.Checks.{without_rows}
-use Rattle.pq_step.specs.Model.{Model}
+use Rattle.pq_catalog.specs.Model.{Model}
 use Rattle.pq_opening.specs.Opening.{IsOpeningBound, IsQuiet, LeavesFlawed, LeavesRead, NamesFlaw, IsOpening}
-use Rattle.pq_step.specs.Stands.{Opens, Stands}
+use Rattle.pq_catalog.specs.Stands.{Opens, Stands}
 use Rattle.pq_opening.specs.Within.{IsBounded, IsWithinOpening, StopsWithin}
 use Rattle.pq_shell.specs.Fold.{Moment}
 use Rattle.pq_shell.specs.Forms.{HasOpening}

@@ -12,7 +12,7 @@ use Rattle.pq_print.specs.declared.report.Report.{Report}
 use Rattle.pq_print.specs.Report.{is_refusal}
 use Rattle.pq_statement.specs.Actions.{asked_bound, asked_schema}
 use Rattle.pq_step.specs.Evidence.{IsEvidence}
-use Rattle.pq_step.specs.Model.{Model}
+use Rattle.pq_catalog.specs.Model.{Model}
 use Rattle.pq_step.specs.Matches.{Matches}
 use Rattle.pq_step.specs.Promise.{IsBound, IsWithinFixed, OnlyReads, StopsAsked}
 use Rattle.pq_step.specs.Refusing.{CanEnd}

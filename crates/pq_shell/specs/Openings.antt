@@ -8,9 +8,9 @@ use Rattle.pq_store.specs.Content.{Content}
 use Rattle.pq_store.specs.Counts.{Counts}
 use Rattle.pq_print.specs.Report.{opening_line}
 use Rattle.pq_print.specs.declared.report.Opened.{Opened}
-use Rattle.pq_step.specs.Model.{Model}
+use Rattle.pq_catalog.specs.Model.{Model}
 use Rattle.pq_opening.specs.Opening.{IsQuiet, LeavesFlawed, LeavesRead, ShowsBuildLeft, ShowsFlaw, IsOpening}
-use Rattle.pq_step.specs.Stands.{Opens}
+use Rattle.pq_catalog.specs.Stands.{Opens}
 use Rattle.pq_opening.specs.Within.{IsBounded, IsWithinOpening, StopsWithin}
 use Rattle.pq_shell.specs.Fold.{Moment}
 use Rattle.pq_shell.specs.Forms.{HasOpening, Starts, IsOpened, StandsIn, front}

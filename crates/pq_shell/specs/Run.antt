@@ -11,8 +11,8 @@ use Rattle.pq_store.specs.declared.damage.Damage.{Damage}
 use Rattle.pq_text.specs.Pieces.{pieces_of}
 use Rattle.pq_print.specs.Report.{damage_line, is_refusal}
 use Rattle.pq_print.specs.declared.report.Report.{Report}
-use Rattle.pq_step.specs.Model.{Model}
-use Rattle.pq_step.specs.Stands.{Opens}
+use Rattle.pq_catalog.specs.Model.{Model}
+use Rattle.pq_catalog.specs.Stands.{Opens}
 use Rattle.pq_shell.specs.Fold.{Moment, MadeReports, StoppedItem}
 use Rattle.pq_shell.specs.Forms.{HasItems, HasOpening, close}
 use Rattle.pq_shell.specs.Items.{Item}

@@ -12,10 +12,10 @@ ghost use Rattle.pq_shell.specs.Answered.{IsAnsweredStop};
 
 use crate::serving::make;
 use pq_base::{NoMem, Used};
+use pq_catalog::PlannedCatalog;
 use pq_console::Stop;
 use pq_fill::{Form, Kind, Summary, fill_count, fill_kind, fill_statement};
 use pq_print::Report;
-use pq_step::PlannedCatalog;
 use pq_store::{Meter, Store};
 use pq_text::Piece;
 use std::alloc::Global;

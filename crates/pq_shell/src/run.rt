@@ -20,6 +20,7 @@ use crate::filling::fill_store;
 use crate::serving::{Ended, Progress, finish, run_part};
 use crate::status::Status;
 use pq_base::{PText, Used};
+use pq_catalog::PlannedCatalog;
 use pq_console::{
     Ending, Failed, LIMIT, Sink, Source, Stop, read_past_limit, write_damage, write_opening,
     write_summary,
@@ -27,7 +28,6 @@ use pq_console::{
 use pq_fill::{Form, form_of};
 use pq_opening::start;
 use pq_print::Opened;
-use pq_step::PlannedCatalog;
 use pq_store::{Meter, Store};
 use std::alloc::Global;
 use std::sync::ledger::Ledger;

@@ -10,10 +10,11 @@ ghost use Rattle.pq_console.specs.Stops.{Causes};
 ghost use Rattle.pq_shell.specs.Answered.{IsAnsweredStop};
 
 use pq_base::{Bound, List, NoMem, Refusal, Used};
+use pq_catalog::PlannedCatalog;
 use pq_console::{Ending, Sink, Stop, write_report};
 use pq_fill::Form;
 use pq_print::{End, Report};
-use pq_step::PlannedCatalog;
+use pq_step::{check, statement};
 use pq_store::{Meter, Store};
 use pq_text::{Piece, Splitter};
 use std::alloc::Global;
@@ -90,11 +91,11 @@ pub fn make<S: Store<L>, L: Ledger>(
     ensures answered { IfErr result (IsAnsweredStop S.answers) }
 {
     match form {
-        Form::Check => match session.check(alloc, number, piece) {
+        Form::Check => match check(alloc, session, number, piece) {
             Ok(made) => Ok(made),
             Err(NoMem) => Err(Stop::NoMem),
         },
-        Form::Run | Form::Fill(_) => match session.statement(alloc, number, piece, store, meter) {
+        Form::Run | Form::Fill(_) => match statement(alloc, session, number, piece, store, meter) {
             Ok(made) => Ok(made),
             Err(broke) => Err(Stop::of(broke)),
         },

@@ -14,10 +14,10 @@ use Rattle.pq_def_read.specs.declared.statement.Statement.TheVariants as stateme
 use Rattle.pq_index_keep.specs.Checking.{IsWriting, checked_write}
 use Rattle.pq_query_read.specs.Trying.{◌>>=◌, passed_unless}
 use Rattle.pq_statement.specs.Actions.{Action, Explains, Prepares, Writes, asked_by, action_from}
-use Rattle.pq_statement.specs.Planned.{IsPlanned}
-use Rattle.pq_statement.specs.Planning.{PlannedDefinition, arranged_from, as_it_is, definable, prepared_from, explained_name, explained_from}
+use Rattle.pq_planning.specs.Planned.{IsPlanned}
+use Rattle.pq_planning.specs.Planning.{PlannedDefinition, arranged_from, as_it_is, definable, prepared_from, explained_name, explained_from}
 use Rattle.pq_statement.specs.Requests.{IsDefinable, IsPlannedAs}
-use Rattle.pq_statement.specs.declared.planning.PlannedQuery.{PlannedQuery}
+use Rattle.pq_planning.specs.declared.planning.PlannedQuery.{PlannedQuery}
 
 -- what is refused is not asked for
 pub asking_refused : {A : Type 0} (action : A → Action) (stopped : Stopped) (said : Result A Refusal) → Refuses stopped said → Refuses stopped (action_from action said)

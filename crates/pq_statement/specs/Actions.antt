@@ -24,7 +24,7 @@ use Rattle.pq_index_keep.specs.declared.write.Write.{Write}
 use Rattle.pq_pages.specs.Running.{Running, running_of, query_bound}
 use Rattle.pq_print.specs.Report.{is_refusal}
 use Rattle.pq_print.specs.declared.report.Report.{Report}
-use Rattle.pq_statement.specs.Planning.{PlannedDefinition, prepared_from, explained_from}
+use Rattle.pq_planning.specs.Planning.{PlannedDefinition, prepared_from, explained_from}
 use Rattle.pq_statement.specs.Readings.{Reading, reading_of}
 
 pub data Action : Type 0 where

@@ -9,14 +9,14 @@ use Rattle.pq_index_keep.specs.Sound.{IsWrite}
 use Rattle.pq_nodes.specs.Operators.{IsCursor}
 use Rattle.pq_pages.specs.Running.{IsQueryNumber, Running, running_with}
 use Rattle.pq_statement.specs.Actions.{Action, Creates, Adds, Writes, Prepares, Explains, Runs, Counts, Reads, Shows, action_from}
-use Rattle.pq_statement.specs.Planned.{IsComputed, IsPlanOf}
-use Rattle.pq_statement.specs.Planning.{PlannedDefinition}
+use Rattle.pq_planning.specs.Planned.{IsComputed, IsPlanOf}
+use Rattle.pq_planning.specs.Planning.{PlannedDefinition}
 use Rattle.pq_statement.specs.Readings.{Reading, IsReading}
 use Rattle.pq_statement.specs.declared.requests.Request.{Request}
 use Rattle.pq_statement.specs.declared.requests.Request.TheVariants as request
 use Rattle.pq_statement.specs.declared.requests.RunRequest.{RunRequest}
 use Rattle.pq_statement.specs.declared.requests.ReadRequest.{ReadRequest}
-use Rattle.pq_statement.specs.declared.planning.PlannedQuery.{PlannedQuery}
+use Rattle.pq_planning.specs.declared.planning.PlannedQuery.{PlannedQuery}
 
 -- the plan is one for the action
 pub record IsPlannedAs (action : PlannedDefinition → Action) (asked : Result Action Refusal) (computed : PlannedQuery) :

@@ -15,13 +15,13 @@ use Rattle.pq_schema.specs.Definitions.{counted_schema, new_counter}
 use Rattle.pq_schema.specs.declared.definition.CounterDef.{CounterDef}
 use Rattle.pq_statement.specs.Actions.{Action, Creates, Adds, Writes, Prepares, Explains, Runs, Counts, Reads, Shows, action_from, action_of, asked_bound, asked_schema}
 use Rattle.pq_step.specs.Checks.{IsChecked, action_check, checked_as, check_step, without_rows}
-use Rattle.pq_statement.specs.Lines.{planned_lines}
-use Rattle.pq_statement.specs.Planning.{PlannedDefinition, planned_definition}
+use Rattle.pq_planning.specs.Lines.{planned_lines}
+use Rattle.pq_planning.specs.Planning.{PlannedDefinition, planned_definition}
 use Rattle.pq_step.specs.Promise.{IsBound}
 use Rattle.pq_step.specs.Refusing.{CanEnd}
 use Rattle.pq_statement.specs.Requests.{IsPlannedAs}
 use Rattle.pq_step.specs.Step.{Step, counted_over, counter_step, crowding_refusal, prepared_over, report_of, unread_report}
-use Rattle.pq_statement.specs.declared.planning.PlannedQuery.{PlannedQuery}
+use Rattle.pq_planning.specs.declared.planning.PlannedQuery.{PlannedQuery}
 use Rattle.pq_step.proofs.Defining.{explained_lines, lines_are, plan_is}
 
 -- what a step of a check is, whatever it is a step of

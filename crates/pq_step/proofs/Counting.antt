@@ -28,15 +28,15 @@ use Rattle.pq_store.specs.Counts.{Counts, charged_counts}
 use Rattle.pq_store.specs.declared.damage.Broke.{Broke}
 use Rattle.pq_step.specs.Calls.{MayPut, PutsNew}
 use Rattle.pq_step.specs.Matches.{Matches}
-use Rattle.pq_step.specs.Model.{Model}
+use Rattle.pq_catalog.specs.Model.{Model}
 use Rattle.pq_step.specs.Promise.{BrokenStatement, DoneStatement}
 use Rattle.pq_step.specs.Reports.{counter_report, crowded_report, used_numbers}
-use Rattle.pq_step.specs.Stands.{HoldsModel, Stands, content_of, last_key, last_value, value_at}
+use Rattle.pq_catalog.specs.Stands.{HoldsModel, Stands, content_of, last_key, last_value, value_at}
 use Rattle.pq_step.specs.Step.{Step, counted_over, counter_step, refused_step, report_of}
-use Rattle.pq_step.proofs.Counted.{rows_found}
+use Rattle.pq_catalog.proofs.Counted.{rows_found}
 use Rattle.pq_step.proofs.Defining.{Defines, define_broken, define_done, one_more}
-use Rattle.pq_step.proofs.Definitions.{few_counter, next_absent, put_counter}
-use Rattle.pq_step.proofs.Made.{small_of}
+use Rattle.pq_catalog.proofs.Definitions.{few_counter, next_absent, put_counter}
+use Rattle.pq_catalog.proofs.Made.{small_of}
 use Rattle.pq_step.proofs.Promises.{broken_kept, sound_shown, within_step}
 
 -- ---- the definition

@@ -36,27 +36,27 @@ use Rattle.pq_schema.proofs.Valid.{column_parts}
 use Rattle.pq_step.specs.Calls.{PutsNew, MayPut}
 use Rattle.pq_store.specs.Breaks.{IfDamaged, IsPresent, IsUndamaged}
 use Rattle.pq_step.specs.Matches.{Matches}
-use Rattle.pq_step.specs.Model.{Model}
+use Rattle.pq_catalog.specs.Model.{Model}
 use Rattle.pq_print.specs.declared.report.Report.{Report}
 use Rattle.pq_schema.specs.Tables.{table_at, no_table}
-use Rattle.pq_step.specs.Extends.{Extends}
+use Rattle.pq_catalog.specs.Extends.{Extends}
 use Rattle.pq_intent.specs.Spending.{TakesAtMost}
 use Rattle.pq_step.specs.Promise.{OnlyReads, DoneStatement as Promised, BrokenStatement, Promises, IsBound, IsWithinFixed}
 use Rattle.pq_step.specs.Reports.{define_report, used_numbers}
-use Rattle.pq_step.specs.Stands.{HoldsModel, Stands, content_of, value_at, last_key, last_value}
+use Rattle.pq_catalog.specs.Stands.{HoldsModel, Stands, content_of, value_at, last_key, last_value}
 use Rattle.pq_builds.specs.Bounds.{bound}
 use Rattle.pq_statement.specs.Actions.{Action, Creates, Adds, Prepares, action_bound, action_schema, action_from}
-use Rattle.pq_statement.specs.Planning.{PlannedDefinition, planned_definition}
+use Rattle.pq_planning.specs.Planning.{PlannedDefinition, planned_definition}
 use Rattle.pq_step.specs.Step.{Step, report_of, action_step, table_step, alter_step, prepared_over, explanation}
-use Rattle.pq_statement.specs.Lines.{table_lines, query_lines, planned_lines}
-use Rattle.pq_statement.specs.Planned.{IsComputed, IsPlanOf}
-use Rattle.pq_statement.specs.declared.planning.PlannedQuery.{PlannedQuery}
+use Rattle.pq_planning.specs.Lines.{table_lines, query_lines, planned_lines}
+use Rattle.pq_planning.specs.Planned.{IsComputed, IsPlanOf}
+use Rattle.pq_planning.specs.declared.planning.PlannedQuery.{PlannedQuery}
 use Rattle.pq_plan.specs.Cost.{cost}
 use Rattle.pq_tallies.specs.Counters.{AreFewRows}
 use Rattle.pq_tallies.specs.Defined.{counters_in}
-use Rattle.pq_step.proofs.Definitions.{few_column, few_query, few_table, keeps_column, next_absent, put_column, put_table, put_query}
-use Rattle.pq_step.proofs.Standing.{settled_opens}
-use Rattle.pq_step.proofs.Made.{made_of, made_room, small_of}
+use Rattle.pq_catalog.proofs.Definitions.{few_column, few_query, few_table, keeps_column, next_absent, put_column, put_table, put_query}
+use Rattle.pq_catalog.proofs.Standing.{settled_opens}
+use Rattle.pq_catalog.proofs.Made.{made_of, made_room, small_of}
 use Rattle.pq_step.proofs.Promises.{damaged_kept, shown_still, within_step}
 
 -- one write makes the step, which leads to these definitions and has this bound

@@ -38,20 +38,20 @@ use Rattle.pq_store.specs.Counts.{Counts}
 use Rattle.pq_store.specs.declared.damage.Broke.{Broke}
 use Rattle.pq_store.specs.declared.damage.Broke.TheVariants as broke
 use Rattle.pq_step.specs.Evidence.{TellsEvidence}
-use Rattle.pq_step.specs.Format.{format_of, last_definition}
-use Rattle.pq_statement.specs.Lines.{query_lines}
+use Rattle.pq_catalog.specs.Format.{format_of, last_definition}
+use Rattle.pq_planning.specs.Lines.{query_lines}
 use Rattle.pq_step.specs.Matches.{Matches}
-use Rattle.pq_step.specs.Model.{Model}
-use Rattle.pq_statement.specs.Planning.{PlannedDefinition, planned_definition}
+use Rattle.pq_catalog.specs.Model.{Model}
+use Rattle.pq_planning.specs.Planning.{PlannedDefinition, planned_definition}
 use Rattle.pq_step.specs.Promise.{DoneStatement, BrokenStatement, KeepsDamaged}
 use Rattle.pq_step.specs.Reports.{build_report, too_many_report, used_numbers}
-use Rattle.pq_step.specs.Stands.{Stands, Opens, last_query, new_query_of}
+use Rattle.pq_catalog.specs.Stands.{Stands, Opens, last_query, new_query_of}
 use Rattle.pq_builds.specs.Bounds.{bound, build_bound}
 use Rattle.pq_statement.specs.Actions.{Prepares}
 use Rattle.pq_step.specs.Step.{Step, report_of, refusal_report, crowding_refusal, prepared_over}
-use Rattle.pq_step.proofs.Building.{next_schema, next_model, origin_of, target_for, at_end, holds_origin, new_in, target_is, leaves_opens, makes_next, before_holds}
+use Rattle.pq_catalog.proofs.Building.{next_schema, next_model, origin_of, target_for, at_end, holds_origin, new_in, target_is, leaves_opens, makes_next, before_holds}
 use Rattle.pq_step.proofs.Promises.{broken_kept, sound_kept, sound_shown, within_prepared}
-use Rattle.pq_step.proofs.Standing.{settled_opens}
+use Rattle.pq_catalog.proofs.Standing.{settled_opens}
 
 -- ---- the pair of the definition
 

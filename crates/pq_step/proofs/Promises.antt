@@ -27,19 +27,19 @@ use Rattle.pq_intent.specs.Changing.{IfDamagedSame}
 use Rattle.pq_statement.specs.Actions as action
 use Rattle.pq_statement.specs.Actions.{Action, Creates, Adds, Writes, Prepares, Explains, Runs, Shows, action_bound, action_schema, action_of, asked_bound, asked_schema, schema_after, statement_bound}
 use Rattle.pq_step.specs.Evidence.{TellsEvidence}
-use Rattle.pq_step.specs.Model.{Model}
-use Rattle.pq_step.specs.Stands.{HoldsModel, Stands, Opens}
-use Rattle.pq_statement.specs.Planning.{PlannedDefinition}
+use Rattle.pq_catalog.specs.Model.{Model}
+use Rattle.pq_catalog.specs.Stands.{HoldsModel, Stands, Opens}
+use Rattle.pq_planning.specs.Planning.{PlannedDefinition}
 use Rattle.pq_step.specs.Step.{Step, action_step, acted_as, step, refusal_report, report_of, report_step, explanation, unread_report, crowded_refusal, crowding_refusal, counted_over, counter_step, effected_as, prepared_over, read_step, write_step}
 use Rattle.pq_statement.specs.Readings.{Reading}
 use Rattle.pq_text.specs.declared.piece.Piece.{Piece}
-use Rattle.pq_statement.specs.Lines.{show_lines}
+use Rattle.pq_planning.specs.Lines.{show_lines}
 use Rattle.pq_store.specs.Breaks.{IsUndamaged}
 use Rattle.pq_step.specs.Matches.{Matches}
 use Rattle.pq_intent.specs.Spending.{TakesAtMost}
 use Rattle.pq_step.specs.Promise.{DoneStatement, BrokenStatement, Promises, IsBound, IsRefusal, IsWithinFixed, KeepsDamaged, OnlyReads, StopsAction, StopsAsked, StopsIndex}
 use Rattle.pq_step.specs.Refusing.{CanEnd}
-use Rattle.pq_step.proofs.Standing.{settled_opens}
+use Rattle.pq_catalog.proofs.Standing.{settled_opens}
 
 -- a statement that is refused before any call of the store changes nothing and uses nothing
 pub unread_done : (number : ℕ) (why : Refusal) (old : Option Content) (schema : Schema) (counts : Counts)

@@ -21,11 +21,11 @@ use Rattle.pq_pages.specs.Running.{IsPageOf, IsPageOver, Running, next_of, page_
 use Rattle.pq_pages.specs.declared.page.Page.{Page}
 use Rattle.pq_step.specs.Evidence.{TellsEvidence}
 use Rattle.pq_step.specs.Matches.{Matches}
-use Rattle.pq_step.specs.Model.{Model}
+use Rattle.pq_catalog.specs.Model.{Model}
 use Rattle.pq_intent.specs.Spending.{TakesAtMost}
 use Rattle.pq_step.specs.Promise.{BrokenStatement, DoneStatement}
 use Rattle.pq_step.specs.Reports.{page_report}
-use Rattle.pq_step.specs.Stands.{Stands, others_of}
+use Rattle.pq_catalog.specs.Stands.{Stands, others_of}
 use Rattle.pq_statement.specs.Actions.{Runs}
 use Rattle.pq_step.specs.Step.{page_of}
 use Rattle.pq_step.proofs.Promises.{broken_kept, within_step}

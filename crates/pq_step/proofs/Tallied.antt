@@ -27,12 +27,12 @@ use Rattle.pq_tallies.specs.Defined.{counter_numbered}
 use Rattle.pq_tallies.proofs.Defined.{numbered_in}
 use Rattle.pq_step.specs.Evidence.{TellsEvidence}
 use Rattle.pq_step.specs.Matches.{Matches}
-use Rattle.pq_step.specs.Model.{Model}
+use Rattle.pq_catalog.specs.Model.{Model}
 use Rattle.pq_step.specs.Promise.{BrokenStatement, DoneStatement}
 use Rattle.pq_step.specs.Reports.{count_report}
-use Rattle.pq_step.specs.Stands.{Stands, catalog_pairs}
+use Rattle.pq_catalog.specs.Stands.{Stands, catalog_pairs}
 use Rattle.pq_step.specs.Step.{Step, count_line, read_step, report_of, report_step}
-use Rattle.pq_step.proofs.Counted.{settled_counted}
+use Rattle.pq_catalog.proofs.Counted.{settled_counted}
 use Rattle.pq_step.proofs.Promises.{broken_kept, sound_shown, within_step}
 
 -- values that fit parameters for columns are of the columns' kinds

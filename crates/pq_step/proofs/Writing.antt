@@ -33,13 +33,13 @@ use Rattle.pq_key_code.specs.KeyCode.{intent_key}
 use Rattle.pq_nodes.specs.Operators.{no_row}
 use Rattle.pq_schema.specs.Valid.{IsValid}
 use Rattle.pq_step.specs.Matches.{Matches}
-use Rattle.pq_step.specs.Model.{Model}
+use Rattle.pq_catalog.specs.Model.{Model}
 use Rattle.pq_statement.specs.Actions.{Writes}
 use Rattle.pq_step.specs.Promise.{DoneStatement, BrokenStatement, KeepsDamaged}
-use Rattle.pq_step.specs.Stands.{HoldsModel, Stands, Opens, content_of, catalog_pairs, others_of}
+use Rattle.pq_catalog.specs.Stands.{HoldsModel, Stands, Opens, content_of, catalog_pairs, others_of}
 use Rattle.pq_step.specs.Step.{Step, report_of, refusal_report, refused_step, write_step, effected_as}
-use Rattle.pq_step.proofs.Counted.{others_beside, settled_counted}
-use Rattle.pq_step.proofs.Standing.{no_intent_in, settled_opens}
+use Rattle.pq_catalog.proofs.Counted.{others_beside, settled_counted}
+use Rattle.pq_catalog.proofs.Standing.{no_intent_in, settled_opens}
 use Rattle.pq_step.proofs.Promises.{damaged_kept, same_kept, shown_still, within_step}
 
 -- ---- the operations of a commit

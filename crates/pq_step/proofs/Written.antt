@@ -34,9 +34,9 @@ use Rattle.pq_arrange.proofs.Answers.{same_answers}
 use Rattle.pq_statement.specs.Actions as action
 use Rattle.pq_statement.specs.Actions.{Action, Creates, Adds, Writes, Prepares, Explains, Runs, Shows, action_from, action_of, asked_schema, asked_text, schema_after}
 use Rattle.pq_step.specs.Checks.{IsChecked, checked_as}
-use Rattle.pq_step.specs.Model.{Model}
+use Rattle.pq_catalog.specs.Model.{Model}
 use Rattle.pq_step.specs.Promise.{Promises}
-use Rattle.pq_statement.specs.Planning.{as_it_is, with_chosen, definable, arranged_plan, arranged_from, prepared_from}
+use Rattle.pq_planning.specs.Planning.{as_it_is, with_chosen, definable, arranged_plan, arranged_from, prepared_from}
 use Rattle.pq_step.specs.Step.{unread_report}
 use Rattle.pq_step.specs.Written.{IsPrepareOf, AnswersAs, IsDefinedAs}
 use Rattle.pq_step.proofs.Checked.{is_check_step}

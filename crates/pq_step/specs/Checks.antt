@@ -10,7 +10,7 @@ use Rattle.pq_builds.specs.Bounds.{bound}
 use Rattle.pq_counters.specs.Bounds.{whole_bound}
 use Rattle.pq_pages.specs.Running.{query_bound}
 use Rattle.pq_statement.specs.Actions.{Action, Creates, Adds, Writes, Prepares, Explains, Runs, Counts, Reads, Shows, action_of}
-use Rattle.pq_step.specs.Model.{Model}
+use Rattle.pq_catalog.specs.Model.{Model}
 use Rattle.pq_step.specs.Step.{Step, action_step, refused_unread, report_of, report_step}
 
 -- these definitions, and no rows

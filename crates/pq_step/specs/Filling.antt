@@ -14,7 +14,7 @@ use Rattle.pq_schema.specs.declared.query.Query.{Query}
 use Rattle.pq_schema.specs.declared.table.NewIndex.{NewIndex}
 use Rattle.pq_store.specs.Content.{Content}
 use Rattle.pq_store.specs.Counts.{Counts}
-use Rattle.pq_step.specs.Stands.{new_query_of}
+use Rattle.pq_catalog.specs.Stands.{new_query_of}
 
 -- the index that a query wants, as it is filled
 abbrev pub wanted_target : Schema → NewIndex → Target

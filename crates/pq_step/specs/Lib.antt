@@ -1,15 +1,10 @@
 pub mod Calls
 pub mod Checks
 pub mod Evidence
-pub mod Extends
 pub mod Filling
-pub mod Format
-pub mod Kept
 pub mod Matches
-pub mod Model
 pub mod Promise
 pub mod Refusing
 pub mod Reports
-pub mod Stands
 pub mod Step
 pub mod Written

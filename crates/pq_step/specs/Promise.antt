@@ -19,9 +19,9 @@ use Rattle.pq_store.specs.declared.damage.Broke.{Broke}
 use Rattle.pq_statement.specs.Actions as action
 use Rattle.pq_statement.specs.Actions.{Action, Creates, Adds, Writes, Prepares, Explains, Runs, Reads, Shows, asked_bound, asked_schema}
 use Rattle.pq_step.specs.Evidence.{TellsEvidence}
-use Rattle.pq_step.specs.Model.{Model}
+use Rattle.pq_catalog.specs.Model.{Model}
 use Rattle.pq_step.specs.Refusing.{CanEnd}
-use Rattle.pq_step.specs.Stands.{Stands, Opens, new_query_of}
+use Rattle.pq_catalog.specs.Stands.{Stands, Opens, new_query_of}
 use Rattle.pq_step.specs.Step.{acted_as, unread_report}
 use Rattle.pq_step.specs.Matches.{Matches}
 use Rattle.pq_store.specs.Breaks.{IfDamaged, IsUndamaged}

@@ -23,8 +23,8 @@ use Rattle.pq_schema.specs.declared.table.NewIndex.{NewIndex}
 use Rattle.pq_plan.specs.Answer.{selected_values}
 use Rattle.pq_text.specs.declared.piece.Piece.{Piece}
 use Rattle.pq_statement.specs.Actions.{Action, Creates, Adds, Writes, Prepares, Explains, Runs, Counts, Reads, Shows, action_of}
-use Rattle.pq_statement.specs.Lines.{table_lines, show_lines, query_lines}
-use Rattle.pq_statement.specs.Planning.{PlannedDefinition}
+use Rattle.pq_planning.specs.Lines.{table_lines, show_lines, query_lines}
+use Rattle.pq_planning.specs.Planning.{PlannedDefinition}
 use Rattle.pq_statement.specs.Readings.{Reading}
 use Rattle.pq_pages.specs.Running.{Running, query_bound, page_combos, page_size, next_of}
 use Rattle.pq_index_keep.specs.declared.write.Write.{Write}
@@ -32,7 +32,7 @@ use Rattle.pq_counters.specs.Bounds.{whole_bound}
 use Rattle.pq_tallies.specs.Counters.{tally}
 use Rattle.pq_tallies.specs.Defined.{counter_numbered}
 use Rattle.pq_tallies.specs.Writes.{counted_effect}
-use Rattle.pq_step.specs.Model.{Model}
+use Rattle.pq_catalog.specs.Model.{Model}
 
 pub record Step : Type 0 where
   pub model : Model

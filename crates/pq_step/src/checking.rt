@@ -11,15 +11,18 @@ ghost use Rattle.pq_step.specs.Written.{IsPrepareOf, IsDefinedAs};
 ghost use Rattle.pq_print.specs.Report.{is_refusal};
 ghost use Rattle.pq_schema.specs.declared.query.Query.{Query};
 
-use crate::planned::PlannedCatalog;
+use crate::define::{lines_of, plan_report};
 use crate::read::READ_BOUND;
 use crate::reports::{COUNTER_BOUND, NOTHING_USED, done_report, unpaid_report, unread_report};
+use crate::stepping::{request_of, show};
 use pq_base::{Bound, List, NoMem, Stopped};
+use pq_catalog::PlannedCatalog;
 use pq_compile::Compiled;
 use pq_counters::whole_bound;
+use pq_planning::{PlannedQuery, planned_lines};
 use pq_print::Report;
 use pq_schema::{AlterDef, CounterDef, NewIndex, TableDef};
-use pq_statement::{PlannedQuery, Request, planned_lines};
+use pq_statement::Request;
 use pq_text::Piece;
 use std::alloc::Global;
 
@@ -34,144 +37,145 @@ fn prepare_bound(wanted: &Option<NewIndex>) -> Bound
     Bound { ops, entries: 0 }
 }
 
-impl PlannedCatalog {
-    /// Makes one step of a check: the statement of a piece of the script, with its number, as far as the
-    /// definitions decide it. What is reported as used is nothing.
-    pub fn check(
-        self,
-        alloc: Global,
-        number: u32,
-        piece: &Piece,
-    ) -> Result<(PlannedCatalog, Report), NoMem>
-        ensures report { IfOk result (λ p. p.1 ≡ (check_step (without_rows self) number piece.now).report) }
-        ensures next { IfOk result (λ p. p.0 ≡ (check_step (without_rows self) number piece.now).model.schema) }
-        ensures arranged { IfOk result (λ p. (written : Query) → IsPrepareOf self written piece.now
-            → is_refusal p.1 ≡ false → IsDefinedAs self.tables written p.0) }
-    {
-        self.known();
-        match self.asked(alloc, piece) {
-            Err(Stopped::NoMem) => Err(NoMem),
-            Err(Stopped::Refused(why)) => Ok((self, unread_report(alloc, number, why))),
-            Ok(request) => self.check_request(alloc, number, request),
+/// Makes one step of a check: the statement of a piece of the script, with its number, as far as the
+/// definitions decide it. What is reported as used is nothing.
+pub fn check(
+    alloc: Global,
+    planned: PlannedCatalog,
+    number: u32,
+    piece: &Piece,
+) -> Result<(PlannedCatalog, Report), NoMem>
+    ensures report { IfOk result (λ p. p.1 ≡ (check_step (without_rows planned) number piece.now).report) }
+    ensures next { IfOk result (λ p. p.0 ≡ (check_step (without_rows planned) number piece.now).model.schema) }
+    ensures arranged { IfOk result (λ p. (written : Query) → IsPrepareOf planned written piece.now
+        → is_refusal p.1 ≡ false → IsDefinedAs planned.tables written p.0) }
+{
+    planned.known();
+    match request_of(alloc, &planned, piece) {
+        Err(Stopped::NoMem) => Err(NoMem),
+        Err(Stopped::Refused(why)) => Ok((planned, unread_report(alloc, number, why))),
+        Ok(request) => check_request(alloc, planned, number, request),
+    }
+}
+
+/// Makes of what was asked for what needs no store.
+fn check_request(
+    alloc: Global,
+    planned: PlannedCatalog,
+    number: u32,
+    request: Request,
+) -> Result<(PlannedCatalog, Report), NoMem>
+    requires { IsRequest planned request }
+    ensures { IfOk result (λ p. (asked : Result Action Refusal) → Asks planned request asked
+        → IsChecked planned number asked p.0 p.1) }
+{
+    match request {
+        Request::Create(def) => check_table(alloc, planned, number, def),
+        Request::Alter(def) => check_column(alloc, planned, number, def),
+        Request::Write(write) => {
+            let bound = whole_bound(planned.catalog(), &write);
+            Ok((planned, done_report(alloc, number, bound, NOTHING_USED)))
+        }
+        Request::Prepare(plan) => check_query(alloc, planned, number, plan),
+        Request::Explain(plan) => {
+            let report = plan_report(alloc, &planned, number, &plan)?;
+            Ok((planned, report))
+        }
+        Request::Run(run) => {
+            let bound = planned.kept_plan(run.query).bound();
+            Ok((planned, done_report(alloc, number, bound, NOTHING_USED)))
+        }
+        Request::Count(def) => check_counter(alloc, planned, number, def),
+        Request::Read(_) => Ok((
+            planned,
+            done_report(alloc, number, READ_BOUND, NOTHING_USED),
+        )),
+        Request::Show => show(alloc, planned, number),
+    }
+}
+
+/// Defines a table, where nothing refuses it.
+fn check_table(
+    alloc: Global,
+    planned: PlannedCatalog,
+    number: u32,
+    def: TableDef,
+) -> Result<(PlannedCatalog, Report), NoMem>
+    requires { IsTableDef def }
+    ensures { IfOk result (λ p. IsChecked planned number (action_from Creates (new_table planned def)) p.0 p.1) }
+{
+    let (planned, made) = planned.with_table_of(alloc, def)?;
+    match made {
+        Err(why) => Ok((planned, unread_report(alloc, number, why))),
+        Ok(table) => {
+            let lines = lines_of(alloc, &planned, table)?;
+            let bound = Bound { ops: 1, entries: 0 };
+            Ok((planned, unpaid_report(number, lines, bound)))
         }
     }
+}
 
-    /// Makes of what was asked for what needs no store.
-    fn check_request(
-        self,
-        alloc: Global,
-        number: u32,
-        request: Request,
-    ) -> Result<(PlannedCatalog, Report), NoMem>
-        requires { IsRequest self request }
-        ensures { IfOk result (λ p. (asked : Result Action Refusal) → Asks self request asked
-            → IsChecked self number asked p.0 p.1) }
-    {
-        match request {
-            Request::Create(def) => self.check_table(alloc, number, def),
-            Request::Alter(def) => self.check_column(alloc, number, def),
-            Request::Write(write) => {
-                let bound = whole_bound(&self.catalog, &write);
-                Ok((self, done_report(alloc, number, bound, NOTHING_USED)))
-            }
-            Request::Prepare(plan) => self.check_query(alloc, number, plan),
-            Request::Explain(plan) => {
-                let report = self.plan_report(alloc, number, &plan)?;
-                Ok((self, report))
-            }
-            Request::Run(run) => {
-                let bound = self.kept_plan(run.query).bound();
-                Ok((self, done_report(alloc, number, bound, NOTHING_USED)))
-            }
-            Request::Count(def) => self.check_counter(alloc, number, def),
-            Request::Read(_) => Ok((self, done_report(alloc, number, READ_BOUND, NOTHING_USED))),
-            Request::Show => self.show(alloc, number),
+/// Adds a column to a table, where nothing refuses it.
+fn check_column(
+    alloc: Global,
+    planned: PlannedCatalog,
+    number: u32,
+    def: AlterDef,
+) -> Result<(PlannedCatalog, Report), NoMem>
+    requires { IsAlterDef def }
+    ensures { IfOk result (λ p. IsChecked planned number (action_from (λ next. Adds def) (new_column planned def))
+        p.0 p.1) }
+{
+    let (planned, made) = planned.with_column_of(alloc, def)?;
+    match made {
+        Err(why) => Ok((planned, unread_report(alloc, number, why))),
+        Ok(_) => {
+            let bound = Bound { ops: 1, entries: 0 };
+            Ok((planned, unpaid_report(number, List::new(alloc), bound)))
         }
     }
+}
 
-    /// Defines a table, where nothing refuses it.
-    fn check_table(
-        self,
-        alloc: Global,
-        number: u32,
-        def: TableDef,
-    ) -> Result<(PlannedCatalog, Report), NoMem>
-        requires { IsTableDef def }
-        ensures { IfOk result (λ p. IsChecked self number (action_from Creates (new_table self def)) p.0 p.1) }
-    {
-        let (planned, made) = self.with_table_of(alloc, def)?;
-        match made {
-            Err(why) => Ok((planned, unread_report(alloc, number, why))),
-            Ok(table) => {
-                let lines = planned.lines_of(alloc, table)?;
-                let bound = Bound { ops: 1, entries: 0 };
-                Ok((planned, unpaid_report(number, lines, bound)))
-            }
-        }
+/// Defines a counter, where nothing refuses it: over no store its table has no rows.
+fn check_counter(
+    alloc: Global,
+    planned: PlannedCatalog,
+    number: u32,
+    def: CounterDef,
+) -> Result<(PlannedCatalog, Report), NoMem>
+    requires { IsCounterDef def }
+    ensures { IfOk result (λ p. IsChecked planned number
+        (action_from (λ next. Counts def) (new_counter planned def)) p.0 p.1) }
+{
+    let (planned, made) = planned.with_counter_of(alloc, def)?;
+    match made {
+        Err(why) => Ok((planned, unread_report(alloc, number, why))),
+        Ok(_) => Ok((
+            planned,
+            unpaid_report(number, List::new(alloc), COUNTER_BOUND),
+        )),
     }
+}
 
-    /// Adds a column to a table, where nothing refuses it.
-    fn check_column(
-        self,
-        alloc: Global,
-        number: u32,
-        def: AlterDef,
-    ) -> Result<(PlannedCatalog, Report), NoMem>
-        requires { IsAlterDef def }
-        ensures { IfOk result (λ p. IsChecked self number (action_from (λ next. Adds def) (new_column self def))
-            p.0 p.1) }
-    {
-        let (planned, made) = self.with_column_of(alloc, def)?;
-        match made {
-            Err(why) => Ok((planned, unread_report(alloc, number, why))),
-            Ok(_) => {
-                let bound = Bound { ops: 1, entries: 0 };
-                Ok((planned, unpaid_report(number, List::new(alloc), bound)))
-            }
-        }
-    }
-
-    /// Defines a counter, where nothing refuses it: over no store its table has no rows.
-    fn check_counter(
-        self,
-        alloc: Global,
-        number: u32,
-        def: CounterDef,
-    ) -> Result<(PlannedCatalog, Report), NoMem>
-        requires { IsCounterDef def }
-        ensures { IfOk result (λ p. IsChecked self number
-            (action_from (λ next. Counts def) (new_counter self def)) p.0 p.1) }
-    {
-        let (planned, made) = self.with_counter_of(alloc, def)?;
-        match made {
-            Err(why) => Ok((planned, unread_report(alloc, number, why))),
-            Ok(_) => Ok((
-                planned,
-                unpaid_report(number, List::new(alloc), COUNTER_BOUND),
-            )),
-        }
-    }
-
-    /// Defines a query that was planned.
-    fn check_query(
-        self,
-        alloc: Global,
-        number: u32,
-        plan: PlannedQuery,
-    ) -> Result<(PlannedCatalog, Report), NoMem>
-        requires { IsDefinable self plan }
-        ensures { IfOk result (λ p. (asked : Result Action Refusal) → IsPlannedAs Prepares asked plan
-            → IsChecked self number asked p.0 p.1) }
-    {
-        let lines = planned_lines(alloc, &self.catalog, &plan)?;
-        let PlannedQuery { query, compiled } = plan;
-        let Compiled {
-            plan: kept,
-            wanted,
-            ..
-        } = compiled;
-        let bound = prepare_bound(&wanted);
-        let planned = self.with_defined(alloc, query, kept, wanted)?;
-        Ok((planned, unpaid_report(number, lines, bound)))
-    }
+/// Defines a query that was planned.
+fn check_query(
+    alloc: Global,
+    planned: PlannedCatalog,
+    number: u32,
+    plan: PlannedQuery,
+) -> Result<(PlannedCatalog, Report), NoMem>
+    requires { IsDefinable planned plan }
+    ensures { IfOk result (λ p. (asked : Result Action Refusal) → IsPlannedAs Prepares asked plan
+        → IsChecked planned number asked p.0 p.1) }
+{
+    let lines = planned_lines(alloc, planned.catalog(), &plan)?;
+    let PlannedQuery { query, compiled } = plan;
+    let Compiled {
+        plan: kept,
+        wanted,
+        ..
+    } = compiled;
+    let bound = prepare_bound(&wanted);
+    let planned = planned.with_defined(alloc, query, kept, wanted)?;
+    Ok((planned, unpaid_report(number, lines, bound)))
 }

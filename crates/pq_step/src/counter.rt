@@ -9,14 +9,13 @@ ghost use Rattle.pq_schema.specs.Names.{IsCounterDef};
 ghost use Rattle.pq_store.specs.Breaks.{IsAnswered, IsUndamaged};
 ghost use Rattle.pq_store.specs.Content.{HasBrokeCause};
 ghost use Rattle.pq_statement.specs.Actions.{Counts, action_from};
-ghost use Rattle.pq_step.specs.Extends.{ExtendsCounting};
 ghost use Rattle.pq_step.specs.Promise.{Promises};
 
-use crate::define::{Defined, keep_plan};
-use crate::planned::PlannedCatalog;
+use crate::define::put_last;
 use crate::reports::{counter_report, crowded_report, unread_report};
-use pq_base::{NoMem, Refusal, Stopped};
+use pq_base::{Refusal, Stopped};
 use pq_builds::{first_key, past_key};
+use pq_catalog::PlannedCatalog;
 use pq_print::Report;
 use pq_schema::CounterDef;
 use pq_store::{Broke, Meter, Store};
@@ -56,91 +55,59 @@ fn not_empty(def: CounterDef) -> Refusal
     Refusal::NotEmpty { table }
 }
 
-impl PlannedCatalog {
-    /// The catalog with the counter that is defined, and the number of its definition; or as it was, where
-    /// it is refused.
-    pub fn with_counter_of(
-        self,
-        alloc: Global,
-        def: CounterDef,
-    ) -> Result<(PlannedCatalog, Defined), NoMem>
-        requires { IsCounterDef def }
-        ensures { IfOk result (λ made. ExtendsCounting self def made.0 made.1) }
-    {
-        let PlannedCatalog { catalog, plans } = self;
-        let mut catalog = catalog;
-        let mut plans = plans;
-        let added = catalog.add_counter(alloc, def);
-        let made = keep_plan(alloc, &mut plans, None, added)?;
-        Ok((PlannedCatalog { catalog, plans }, made))
-    }
+/// The number of the table whose rows are counted, where nothing refuses the counter.
+fn counted_table(alloc: Global, planned: &PlannedCatalog, def: &CounterDef) -> Result<u8, Stopped>
+    ensures passes { Passes result (counter_refusal planned.now def.now) }
+    ensures table { IfOk result (λ table. counted_table planned.now def.now ≡ table) }
+{
+    planned.catalog().check_counter(alloc, def)
+}
 
-    /// The catalog with a counter that nothing refuses.
-    fn with_counted(self, alloc: Global, def: CounterDef) -> Result<PlannedCatalog, NoMem>
-        requires names { IsCounterDef def }
-        requires accepted { new_counter self def ≡ Ok (counted_schema self def) }
-        ensures { IfOk result (λ next. next ≡ counted_schema self def) }
-    {
-        match self.with_counter_of(alloc, def)? {
-            (planned, Ok(_)) => Ok(planned),
-            (_, Err(_)) => unreachable!(),
-        }
+/// Defines a counter, where nothing refuses it.
+pub(crate) fn create_counter<S: Store<L>, L: Ledger>(
+    alloc: Global,
+    planned: PlannedCatalog,
+    number: u32,
+    def: CounterDef,
+    store: &mut S,
+    meter: &mut Meter<L>,
+) -> Result<(PlannedCatalog, Report), Broke>
+    requires { IsCounterDef def }
+    ensures step { Promises number (action_from (λ next. Counts def) (new_counter planned def))
+        (S.content store.old) (S.content store.new) planned meter.old meter.new result }
+    ensures cause { HasBrokeCause (S.faults store.old) (S.faults store.new) result }
+    ensures answered { IfErr result (IsAnswered S.answers) }
+{
+    match counted_table(alloc, &planned, &def) {
+        Err(Stopped::NoMem) => Err(Broke::NoMem),
+        Err(Stopped::Refused(why)) => Ok((planned, unread_report(alloc, number, why))),
+        Ok(table) => count_over(alloc, planned, number, table, def, store, meter),
     }
+}
 
-    /// The number of the table whose rows are counted, where nothing refuses the counter.
-    fn counted_table(&self, alloc: Global, def: &CounterDef) -> Result<u8, Stopped>
-        ensures passes { Passes result (counter_refusal self.now def.now) }
-        ensures table { IfOk result (λ table. counted_table self.now def.now ≡ table) }
-    {
-        self.catalog.check_counter(alloc, def)
+/// Defines a counter that only its table's rows can refuse.
+fn count_over<S: Store<L>, L: Ledger>(
+    alloc: Global,
+    planned: PlannedCatalog,
+    number: u32,
+    table: u8,
+    def: CounterDef,
+    store: &mut S,
+    meter: &mut Meter<L>,
+) -> Result<(PlannedCatalog, Report), Broke>
+    requires names { IsCounterDef def }
+    requires accepted { new_counter planned def ≡ Ok (counted_schema planned def) }
+    requires table { counted_table planned def ≡ table }
+    ensures step { Promises number (Ok (Counts def)) (S.content store.old) (S.content store.new) planned
+        meter.old meter.new result }
+    ensures cause { HasBrokeCause (S.faults store.old) (S.faults store.new) result }
+    ensures answered { IfErr result (IsAnswered S.answers) }
+{
+    let count = count_one(alloc, table, store, meter)?;
+    if count > 0 {
+        return Ok((planned, crowded_report(alloc, number, not_empty(def))));
     }
-
-    /// Defines a counter, where nothing refuses it.
-    pub(crate) fn create_counter<S: Store<L>, L: Ledger>(
-        self,
-        alloc: Global,
-        number: u32,
-        def: CounterDef,
-        store: &mut S,
-        meter: &mut Meter<L>,
-    ) -> Result<(PlannedCatalog, Report), Broke>
-        requires { IsCounterDef def }
-        ensures step { Promises number (action_from (λ next. Counts def) (new_counter self def))
-            (S.content store.old) (S.content store.new) self meter.old meter.new result }
-        ensures cause { HasBrokeCause (S.faults store.old) (S.faults store.new) result }
-        ensures answered { IfErr result (IsAnswered S.answers) }
-    {
-        match self.counted_table(alloc, &def) {
-            Err(Stopped::NoMem) => Err(Broke::NoMem),
-            Err(Stopped::Refused(why)) => Ok((self, unread_report(alloc, number, why))),
-            Ok(table) => self.count_over(alloc, number, table, def, store, meter),
-        }
-    }
-
-    /// Defines a counter that only its table's rows can refuse.
-    fn count_over<S: Store<L>, L: Ledger>(
-        self,
-        alloc: Global,
-        number: u32,
-        table: u8,
-        def: CounterDef,
-        store: &mut S,
-        meter: &mut Meter<L>,
-    ) -> Result<(PlannedCatalog, Report), Broke>
-        requires names { IsCounterDef def }
-        requires accepted { new_counter self def ≡ Ok (counted_schema self def) }
-        requires table { counted_table self def ≡ table }
-        ensures step { Promises number (Ok (Counts def)) (S.content store.old) (S.content store.new) self
-            meter.old meter.new result }
-        ensures cause { HasBrokeCause (S.faults store.old) (S.faults store.new) result }
-        ensures answered { IfErr result (IsAnswered S.answers) }
-    {
-        let count = count_one(alloc, table, store, meter)?;
-        if count > 0 {
-            return Ok((self, crowded_report(alloc, number, not_empty(def))));
-        }
-        let planned = self.with_counted(alloc, def)?;
-        planned.put_last(alloc, store, meter)?;
-        Ok((planned, counter_report(alloc, number)))
-    }
+    let planned = planned.with_counted(alloc, def)?;
+    put_last(alloc, &planned, store, meter)?;
+    Ok((planned, counter_report(alloc, number)))
 }

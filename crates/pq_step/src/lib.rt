@@ -5,12 +5,11 @@ mod alter;
 mod checking;
 mod counter;
 mod define;
-mod format;
-mod planned;
 mod read;
 mod reports;
 mod run;
+mod stepping;
 mod write;
 
-pub use format::{Mark, has_format, last_format, marked_text};
-pub use planned::PlannedCatalog;
+pub use checking::check;
+pub use stepping::statement;

@@ -9,8 +9,8 @@ ghost use Rattle.pq_step.specs.Promise.{Promises};
 ghost use Rattle.pq_step.specs.Reports.{count_report};
 ghost use Rattle.pq_tallies.specs.Counters.{most_count};
 
-use crate::planned::PlannedCatalog;
 use pq_base::{Bound, List, NoMem, Row, Used, Value};
+use pq_catalog::PlannedCatalog;
 use pq_counters::read_counter;
 use pq_print::{End, Line, Report};
 use pq_statement::ReadRequest;
@@ -42,33 +42,31 @@ fn count_report(alloc: Global, number: u32, count: u64, used: Used) -> Result<Re
     })
 }
 
-impl PlannedCatalog {
-    /// Reads how many rows a group has.
-    pub(crate) fn read_count<S: Store<L>, L: Ledger>(
-        self,
-        alloc: Global,
-        number: u32,
-        read: &ReadRequest,
-        store: &mut S,
-        meter: &mut Meter<L>,
-    ) -> Result<(PlannedCatalog, Report), Broke>
-        requires { IsReading self (reading_asked read.now) }
-        ensures step { Promises number (Ok (Reads (reading_asked read.now))) (S.content store.old)
-            (S.content store.new) self meter.old meter.new result }
-        ensures cause { HasBrokeCause (S.faults store.old) (S.faults store.new) result }
-        ensures answered { IfErr result (IsAnswered S.answers) }
-    {
-        let mut allowance = Allowance::grant(READ_BOUND);
-        let count = read_counter(
-            alloc,
-            &self.catalog,
-            read.counter,
-            &read.values,
-            store,
-            &mut allowance,
-            meter,
-        )?;
-        let report = count_report(alloc, number, count, allowance.used())?;
-        Ok((self, report))
-    }
+/// Reads how many rows a group has.
+pub(crate) fn read_count<S: Store<L>, L: Ledger>(
+    alloc: Global,
+    planned: PlannedCatalog,
+    number: u32,
+    read: &ReadRequest,
+    store: &mut S,
+    meter: &mut Meter<L>,
+) -> Result<(PlannedCatalog, Report), Broke>
+    requires { IsReading planned (reading_asked read.now) }
+    ensures step { Promises number (Ok (Reads (reading_asked read.now))) (S.content store.old)
+        (S.content store.new) planned meter.old meter.new result }
+    ensures cause { HasBrokeCause (S.faults store.old) (S.faults store.new) result }
+    ensures answered { IfErr result (IsAnswered S.answers) }
+{
+    let mut allowance = Allowance::grant(READ_BOUND);
+    let count = read_counter(
+        alloc,
+        planned.catalog(),
+        read.counter,
+        &read.values,
+        store,
+        &mut allowance,
+        meter,
+    )?;
+    let report = count_report(alloc, number, count, allowance.used())?;
+    Ok((planned, report))
 }

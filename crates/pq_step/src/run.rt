@@ -7,14 +7,12 @@ ghost use Rattle.pq_store.specs.Content.{HasBrokeCause};
 ghost use Rattle.pq_nodes.specs.Operators.{IsCursor};
 ghost use Rattle.pq_pages.specs.Running.{IsQueryNumber, running_with};
 ghost use Rattle.pq_statement.specs.Actions.{Runs};
-ghost use Rattle.pq_step.specs.Kept.{IsKeptPlan};
 ghost use Rattle.pq_step.specs.Promise.{Promises};
 ghost use Rattle.pq_step.specs.Reports.{page_report};
 
-use crate::planned::PlannedCatalog;
 use pq_base::{List, NoMem, Row};
+use pq_catalog::PlannedCatalog;
 use pq_pages::{Page, run_page};
-use pq_plan::BoundedPlan;
 use pq_print::{End, Line, Report};
 use pq_store::{Broke, Meter, Store};
 use std::alloc::Global;
@@ -52,50 +50,37 @@ fn page_report(alloc: Global, number: u32, page: Page) -> Result<Report, NoMem>
     })
 }
 
-impl PlannedCatalog {
-    /// The plan of the query of this definition's number.
-    pub(crate) fn kept_plan(&self, query: u16) -> &BoundedPlan
-        requires { IsQueryNumber self.now query }
-        ensures { IsKeptPlan self.now.tables (query_at self.now query) result.now }
-    {
-        match &self.plans.items()[query as usize - 1] {
-            Some(plan) => plan,
-            None => unreachable!(),
-        }
-    }
-
-    /// Runs the query of this definition's number, whose parameters fit, behind a position.
-    pub(crate) fn run_query<S: Store<L>, L: Ledger>(
-        self,
-        alloc: Global,
-        number: u32,
-        query: u16,
-        params: &Row,
-        after: Option<&Row>,
-        store: &mut S,
-        meter: &mut Meter<L>,
-    ) -> Result<(PlannedCatalog, Report), Broke>
-        requires number { IsQueryNumber self query }
-        requires fits { AllFit (query_at self query).params params.now }
-        requires cursor { IsCursor self.tables (query_at self query) (option_copied after) }
-        ensures step { Promises number
-            (Ok (Runs (running_with query (query_at self query) params.now (option_copied after.entry))))
-            (S.content store.old) (S.content store.new) self meter.old meter.new result }
-        ensures cause { HasBrokeCause (S.faults store.old) (S.faults store.new) result }
-        ensures answered { IfErr result (IsAnswered S.answers) }
-    {
-        let plan = self.kept_plan(query);
-        let page = run_page(
-            alloc,
-            &self.catalog,
-            query,
-            plan,
-            params,
-            after,
-            store,
-            meter,
-        )?;
-        let report = page_report(alloc, number, page)?;
-        Ok((self, report))
-    }
+/// Runs the query of this definition's number, whose parameters fit, behind a position.
+pub(crate) fn run_query<S: Store<L>, L: Ledger>(
+    alloc: Global,
+    planned: PlannedCatalog,
+    number: u32,
+    query: u16,
+    params: &Row,
+    after: Option<&Row>,
+    store: &mut S,
+    meter: &mut Meter<L>,
+) -> Result<(PlannedCatalog, Report), Broke>
+    requires number { IsQueryNumber planned query }
+    requires fits { AllFit (query_at planned query).params params.now }
+    requires cursor { IsCursor planned.tables (query_at planned query) (option_copied after) }
+    ensures step { Promises number
+        (Ok (Runs (running_with query (query_at planned query) params.now (option_copied after.entry))))
+        (S.content store.old) (S.content store.new) planned meter.old meter.new result }
+    ensures cause { HasBrokeCause (S.faults store.old) (S.faults store.new) result }
+    ensures answered { IfErr result (IsAnswered S.answers) }
+{
+    let plan = planned.kept_plan(query);
+    let page = run_page(
+        alloc,
+        planned.catalog(),
+        query,
+        plan,
+        params,
+        after,
+        store,
+        meter,
+    )?;
+    let report = page_report(alloc, number, page)?;
+    Ok((planned, report))
 }

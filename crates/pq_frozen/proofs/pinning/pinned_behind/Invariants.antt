@@ -1,6 +1,6 @@
 use Rattle.std.proofs.Common.{◌≡◌, ◌+◌, Some}
-use Rattle.pq_step.specs.Model.{Model}
-use Rattle.pq_step.specs.Stands.{Opens}
+use Rattle.pq_catalog.specs.Model.{Model}
+use Rattle.pq_catalog.specs.Stands.{Opens}
 use Rattle.pq_frozen.proofs.Still.{IsMade}
 use Rattle.pq_frozen.proofs.pinning.pinned_behind.Given as goal
 

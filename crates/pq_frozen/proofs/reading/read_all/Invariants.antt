@@ -1,6 +1,6 @@
 use Rattle.std.proofs.Common.{◌≡◌, ◌+◌, Some}
-use Rattle.pq_step.specs.Model.{Model}
-use Rattle.pq_step.specs.Stands.{HoldsModel}
+use Rattle.pq_catalog.specs.Model.{Model}
+use Rattle.pq_catalog.specs.Stands.{HoldsModel}
 use Rattle.pq_frozen.specs.Reading.{AllRead}
 use Rattle.pq_frozen.proofs.Still.{IsReading}
 use Rattle.pq_frozen.proofs.reading.read_all.Given as goal

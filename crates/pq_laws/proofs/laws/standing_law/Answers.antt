@@ -1,5 +1,5 @@
 use Rattle.pq_opening.proofs.Leaving.{held_quiet, quiet_own}
-use Rattle.pq_step.proofs.Standing.{empty_opens}
+use Rattle.pq_catalog.proofs.Standing.{empty_opens}
 use Rattle.pq_laws.proofs.Unique.{opened_schema, opened_rows}
 use Rattle.pq_laws.proofs.laws.standing_law.Goals as goal
 

@@ -3,8 +3,8 @@ use Rattle.std.specs.Prelude.{IfSome}
 use Rattle.std.proofs.lemmas.Result.{err_from_is_err_and}
 use Rattle.pq_intent.proofs.Steps.{on_err_holds}
 use Rattle.pq_schema.specs.Schema.{Schema}
-use Rattle.pq_step.specs.declared.format.Mark.{Mark}
-use Rattle.pq_step.specs.declared.format.Mark.TheVariants.{Building}
+use Rattle.pq_catalog.specs.declared.format.Mark.{Mark}
+use Rattle.pq_catalog.specs.declared.format.Mark.TheVariants.{Building}
 use Rattle.pq_opening.specs.Opening.{GoesOnLeft, IsAsMarked, LeavesMarked, ShowsMarked}
 use Rattle.pq_opening.proofs.Leaving.{itself}
 use Rattle.pq_opening.proofs.begun.finish_opening.Goals as goal

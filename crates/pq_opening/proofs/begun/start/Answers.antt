@@ -4,9 +4,9 @@ use Rattle.pq_intent.proofs.Steps.{on_err_holds}
 use Rattle.pq_schema.specs.Schema.{Schema}
 use Rattle.pq_store.specs.Content.{Content}
 use Rattle.pq_opening.specs.declared.begun.Begun.{Begun}
-use Rattle.pq_step.specs.Stands.{Opens}
+use Rattle.pq_catalog.specs.Stands.{Opens}
 use Rattle.pq_opening.proofs.Leaving.{if_err_holds, left_flawed, left_quiet, left_read, on_ok_holds, read_flawed, read_quiet, settled_flawed, settled_quiet}
-use Rattle.pq_step.proofs.Standing.{settled_opens}
+use Rattle.pq_catalog.proofs.Standing.{settled_opens}
 use Rattle.pq_opening.proofs.Starting.{opens_kept, opens_rests, rests_opens, rests_sound, read_mid, read_now, finished_stands, opens_as, tells_schema, settle_flaw, read_flaw, build_flaw, both_ok, either_way}
 use Rattle.pq_opening.proofs.Within.{is_bounded, settle_within, read_within, finish_within, settle_own, read_own, finish_own}
 use Rattle.pq_opening.proofs.begun.start.Goals as goal

@@ -1,5 +1,5 @@
 use Rattle.std.proofs.Common.{refl}
-use Rattle.pq_step.proofs.Kept.{computed_wanting}
+use Rattle.pq_catalog.proofs.Kept.{computed_wanting}
 use Rattle.pq_opening.proofs.opening.add_planned.Goals as goal
 
 pub with_query-requires-clause-compiled : goal.with_query-requires-clause-compiled

@@ -1,4 +1,4 @@
-use Rattle.pq_statement.proofs.Names.{named_statement}
+use Rattle.pq_planning.proofs.Names.{named_statement}
 use Rattle.pq_opening.proofs.opening.define_text.Goals as goal
 
 pub define-requires-clause-named : goal.define-requires-clause-named

@@ -1,8 +1,8 @@
 use Rattle.std.proofs.Common.{◌∙◌, sym, subst}
 use Rattle.std.proofs.lemmas.Result.{IfOk-weaker}
 use Rattle.pq_schema.specs.Schema.{Schema}
-use Rattle.pq_statement.specs.Planned.{IsPlanned}
-use Rattle.pq_statement.specs.Planning.{plan_from}
+use Rattle.pq_planning.specs.Planned.{IsPlanned}
+use Rattle.pq_planning.specs.Planning.{plan_from}
 use Rattle.pq_opening.proofs.Openings.{planned_adds}
 use Rattle.pq_opening.proofs.opening.read_query.Goals as goal
 

@@ -1,7 +1,7 @@
 use Rattle.std.proofs.lemmas.Result.{err_from_is_err_and}
 use Rattle.pq_plan.proofs.Choices.{choice_has}
 use Rattle.pq_plan.proofs.PlanTree.{plan_tree}
-use Rattle.pq_statement.proofs.Plans.{arranged_unread, arranged_unchosen, arranged_taken, arranged_chosen}
+use Rattle.pq_planning.proofs.Plans.{arranged_unread, arranged_unchosen, arranged_taken, arranged_chosen}
 use Rattle.pq_plan_report.proofs.Plans.{planned_told}
 use Rattle.pq_plan_report.proofs.plan.query_plan.Goals as goal
 

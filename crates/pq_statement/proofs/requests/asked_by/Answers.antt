@@ -4,9 +4,9 @@ use Rattle.pq_base.specs.Answers.{Refuses}
 use Rattle.pq_index_keep.specs.Checking.{IsWriting}
 use Rattle.pq_pages.specs.Running.{Running, running_of}
 use Rattle.pq_statement.specs.Actions.{Explains, Prepares, Reads, Runs, action_from}
-use Rattle.pq_statement.specs.Names.{IsNamedStatement}
-use Rattle.pq_statement.specs.Planned.{IsPlanned}
-use Rattle.pq_statement.specs.Planning.{PlannedDefinition, arranged_from, explained_name}
+use Rattle.pq_planning.specs.Names.{IsNamedStatement}
+use Rattle.pq_planning.specs.Planned.{IsPlanned}
+use Rattle.pq_planning.specs.Planning.{PlannedDefinition, arranged_from, explained_name}
 use Rattle.pq_statement.specs.Readings.{reading_of}
 use Rattle.pq_statement.specs.Requests.{RunsAs, reading_asked}
 use Rattle.pq_statement.proofs.Asking.{asking_refused, explains, may_be_defined, prepares, stopped_explained, writes_asked}

@@ -1,7 +1,7 @@
 use Rattle.std.proofs.Common.{◌<◌, ◌≤◌, length}
 use Rattle.std.proofs.lemmas.Result.{err_from_is_err_and}
 use Rattle.pq_statement.proofs.Statements.{too_long, asked_read, stopped_reading}
-use Rattle.pq_statement.proofs.Names.{named_statement}
+use Rattle.pq_planning.proofs.Names.{named_statement}
 use Rattle.pq_statement.proofs.requests.asked_text.Goals as goal
 
 pub returns-then-bytes-gt-STATEMENT_BYTES-clause-refused :

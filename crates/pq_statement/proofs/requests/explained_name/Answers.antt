@@ -3,7 +3,7 @@ use Rattle.std.specs.List.{AllByRecursion}
 use Rattle.std.specs.Option.{MatchOption}
 use Rattle.std.specs.Str.{IsUtf8, IsAscii}
 use Rattle.std.proofs.lemmas.Str.{IsUtf8-from_ascii}
-use Rattle.pq_statement.specs.Planning.{explained_name}
+use Rattle.pq_planning.specs.Planning.{explained_name}
 use Rattle.pq_statement.proofs.requests.explained_name.Goals as goal
 
 no_text : (o : Option (List ℕ)) (bytes : List ℕ) (Text : List ℕ → Type 0) → o ≡ None → MatchOption o (IsUtf8 bytes → ⊥) Text → IsUtf8 bytes → ⊥

@@ -1,0 +1,11 @@
+pub mod Building
+pub mod Catalogs
+pub mod Counted
+pub mod Definitions
+pub mod Extending
+pub mod Kept
+pub mod Known
+pub mod Made
+pub mod Next
+pub mod Standing
+pub mod Texts

@@ -1,0 +1,5 @@
+pub mod Extends
+pub mod Format
+pub mod Kept
+pub mod Model
+pub mod Stands

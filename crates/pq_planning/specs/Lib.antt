@@ -1,0 +1,4 @@
+pub mod Lines
+pub mod Names
+pub mod Planned
+pub mod Planning

@@ -1,0 +1,8 @@
+//! A query of a text with its plan, and the lines of a report that tell of definitions and plans.
+#![tactic(auto)]
+
+mod lines;
+mod planning;
+
+pub use lines::{show_lines, table_lines};
+pub use planning::{PlannedQuery, plan_arranged, plan_query, planned_lines};

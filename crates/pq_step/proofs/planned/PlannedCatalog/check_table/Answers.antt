@@ -1,1 +1,0 @@
-use Rattle.pq_step.proofs.planned.PlannedCatalog.check_table.Goals as goal

@@ -1,5 +1,0 @@
-use Rattle.pq_step.proofs.Promises.{broken_same}
-use Rattle.pq_step.proofs.planned.PlannedCatalog.piece.Goals as goal
-
-pub returns-in-Err-NoMem-clause-step : goal.returns-in-Err-NoMem-clause-step
-returns-in-Err-NoMem-clause-step g c = broken_same _ _ _ c.args.self _ _ tt

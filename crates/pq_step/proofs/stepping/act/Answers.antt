@@ -1,0 +1,94 @@
+use Rattle.std.proofs.Common.{ap, ◌∙◌, subst, refl}
+use Rattle.std.proofs.lemmas.Result.{err_from_is_err_and}
+use Rattle.pq_statement.specs.Actions.{Runs, action_from}
+use Rattle.pq_statement.specs.Requests.{Asks}
+use Rattle.pq_statement.specs.declared.requests.Request.{Request}
+use Rattle.pq_step.proofs.Defining.{explained_lines}
+use Rattle.pq_step.proofs.Promises.{broken_same, explained_done, shown_done}
+use Rattle.pq_step.proofs.stepping.act.Goals as goal
+
+pub create-requires : goal.create-requires
+create-requires g c = (subst (λ (r : Request). Asks c.args.planned r c.requires.0) c.in-Create.is c.requires.1).0
+
+pub alter-requires : goal.alter-requires
+alter-requires g c = (subst (λ (r : Request). Asks c.args.planned r c.requires.0) c.in-Alter.is c.requires.1).0
+
+pub make_write-requires : goal.make_write-requires
+make_write-requires g c = (subst (λ (r : Request). Asks c.args.planned r c.requires.0) c.in-Write.is c.requires.1).0
+
+pub define_query-requires : goal.define_query-requires
+define_query-requires g c = (subst (λ (r : Request). Asks c.args.planned r c.requires.0) c.in-Prepare.is c.requires.1).0
+
+pub plan_report-requires : goal.plan_report-requires
+plan_report-requires g c = (subst (λ (r : Request). Asks c.args.planned r c.requires.0) c.in-Explain.is c.requires.1).0
+
+pub run_query-requires-clause-number : goal.run_query-requires-clause-number
+run_query-requires-clause-number g c = (subst (λ (r : Request). Asks c.args.planned r c.requires.0) c.in-Run.is c.requires.1).1.number
+
+pub run_query-requires-clause-fits : goal.run_query-requires-clause-fits
+run_query-requires-clause-fits g c = (subst (λ (r : Request). Asks c.args.planned r c.requires.0) c.in-Run.is c.requires.1).1.fits
+
+pub run_query-requires-clause-cursor : goal.run_query-requires-clause-cursor
+run_query-requires-clause-cursor g c = rw c.as_ref.ensures.value ((subst (λ (r : Request). Asks c.args.planned r c.requires.0) c.in-Run.is c.requires.1).1.cursor)
+
+pub create_counter-requires : goal.create_counter-requires
+create_counter-requires g c = (subst (λ (r : Request). Asks c.args.planned r c.requires.0) c.in-Count.is c.requires.1).0
+
+pub read_count-requires : goal.read_count-requires
+read_count-requires g c = (subst (λ (r : Request). Asks c.args.planned r c.requires.0) c.in-Read.is c.requires.1).0
+
+pub returns-in-Create-clause-step : goal.returns-in-Create-clause-step
+returns-in-Create-clause-step g c asked asks =
+    let a = subst (λ (r : Request). Asks c.args.planned r asked) c.in-Create.is asks in
+    rw a.1 c.create.ensures.step
+
+pub returns-in-Alter-clause-step : goal.returns-in-Alter-clause-step
+returns-in-Alter-clause-step g c asked asks =
+    let a = subst (λ (r : Request). Asks c.args.planned r asked) c.in-Alter.is asks in
+    rw a.1 c.alter.ensures.step
+
+pub returns-in-Write-clause-step : goal.returns-in-Write-clause-step
+returns-in-Write-clause-step g c asked asks =
+    let a = subst (λ (r : Request). Asks c.args.planned r asked) c.in-Write.is asks in
+    rw a.1 c.make_write.ensures.step
+
+pub returns-in-Prepare-clause-step : goal.returns-in-Prepare-clause-step
+returns-in-Prepare-clause-step g c asked asks =
+    let a = subst (λ (r : Request). Asks c.args.planned r asked) c.in-Prepare.is asks in
+    c.define_query.ensures.step asked a.1
+
+pub returns-in_err-report-in-Explain-clause-step : goal.returns-in_err-report-in-Explain-clause-step
+returns-in_err-report-in-Explain-clause-step g c asked asks =
+    let p = err_from_is_err_and c.from_residual.result c.from_residual.ensures.1 in
+    rw (p.1, p.2) (broken_same _ _ _ c.args.planned _ _ tt)
+
+pub returns-in_ok-report-in-Explain-clause-step : goal.returns-in_ok-report-in-Explain-clause-step
+returns-in_ok-report-in-Explain-clause-step g c asked asks =
+    let a = subst (λ (r : Request). Asks c.args.planned r asked) c.in-Explain.is asks in
+    rw (a.1.asks, c.in_ok-report-in-Explain.ensures ∙ explained_lines c.args.planned.tables c.args.number c.in-Explain.plan a.1.plan a.1.plan_is _ refl)
+    (explained_done c.args.number a.1.plan _ c.args.planned _)
+
+pub returns-in-Run-clause-step : goal.returns-in-Run-clause-step
+returns-in-Run-clause-step g c asked asks =
+    let a = subst (λ (r : Request). Asks c.args.planned r asked) c.in-Run.is asks in
+    rw (a.2 ∙ ap (action_from Runs) a.1.is, ← c.as_ref.ensures.value) c.run_query.ensures.step
+
+pub returns-in-Count-clause-step : goal.returns-in-Count-clause-step
+returns-in-Count-clause-step g c asked asks =
+    let a = subst (λ (r : Request). Asks c.args.planned r asked) c.in-Count.is asks in
+    rw a.1 c.create_counter.ensures.step
+
+pub returns-in-Read-clause-step : goal.returns-in-Read-clause-step
+returns-in-Read-clause-step g c asked asks =
+    let a = subst (λ (r : Request). Asks c.args.planned r asked) c.in-Read.is asks in
+    rw a.1 c.read_count.ensures.step
+
+pub returns-in_err-show-in-Show-clause-step : goal.returns-in_err-show-in-Show-clause-step
+returns-in_err-show-in-Show-clause-step g c asked asks =
+    let p = err_from_is_err_and c.from_residual-in_err-show-in-Show.result c.from_residual-in_err-show-in-Show.ensures.1 in
+    rw (p.1, p.2) (broken_same _ _ _ c.args.planned _ _ tt)
+
+pub returns-in_ok-show-in-Show-clause-step : goal.returns-in_ok-show-in-Show-clause-step
+returns-in_ok-show-in-Show-clause-step g c asked asks =
+    let a = subst (λ (r : Request). Asks c.args.planned r asked) c.in-Show.is asks in
+    rw (a, c.in_ok-show-in-Show.ensures) (shown_done c.args.number _ c.args.planned _)

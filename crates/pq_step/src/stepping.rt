@@ -1,0 +1,189 @@
+//! The step of a statement over the definitions of a store.
+ghost use Rattle.std.specs.Prelude.{◌≡◌, ◌≤◌, ◌<◌, ◌+◌, ◌⊎◌, IfOk, IfErr, IfSome, OnErr, Ok, Result, false};
+ghost use Rattle.pq_intent.specs.Spending.{TakesAtMost};
+ghost use Rattle.pq_store.specs.Content.{HasBrokeCause};
+ghost use Rattle.pq_print.specs.declared.report.End.TheVariants as End;
+ghost use Rattle.pq_base.specs.Answers.{Refuses};
+ghost use Rattle.pq_base.specs.declared.refusal.Refusal.{Refusal};
+ghost use Rattle.pq_catalog.specs.Model.{Model as Tables};
+ghost use Rattle.pq_store.specs.Breaks.{IsUndamaged, IsAnsweredBut};
+ghost use Rattle.pq_step.specs.Matches.{Matches};
+ghost use Rattle.pq_step.specs.Evidence.{TellsEvidence};
+ghost use Rattle.pq_statement.specs.Actions.{Action, action_of, schema_after, statement_bound};
+ghost use Rattle.pq_step.specs.Promise.{Promises, IsBound, IsRefusal, IsWithinFixed, KeepsDamaged, OnlyReads};
+ghost use Rattle.pq_step.specs.Refusing.{CanEnd};
+ghost use Rattle.pq_statement.specs.Requests.{Asks, IsRequest};
+ghost use Rattle.pq_catalog.specs.Stands.{Stands, Opens, next_key};
+ghost use Rattle.pq_builds.specs.Bounds.{bound};
+ghost use Rattle.pq_step.specs.Step.{report_of, step, unread_report};
+ghost use Rattle.pq_planning.specs.Lines.{show_lines};
+ghost use Rattle.pq_step.specs.Written.{IsPrepareOf, IsDefinedAs};
+ghost use Rattle.pq_print.specs.Report.{is_refusal};
+ghost use Rattle.pq_schema.specs.declared.query.Query.{Query};
+
+use crate::alter::alter;
+use crate::counter::create_counter;
+use crate::define::{create, define_query, plan_report};
+use crate::read::read_count;
+use crate::reports::{NO_CALLS, unpaid_report, unread_report};
+use crate::run::run_query;
+use crate::write::make_write;
+use pq_base::{NoMem, Stopped};
+use pq_catalog::PlannedCatalog;
+use pq_planning::show_lines;
+use pq_print::Report;
+use pq_statement::{Request, asked};
+use pq_store::{Broke, Meter, Store};
+use pq_text::Piece;
+use std::alloc::Global;
+use std::sync::ledger::Ledger;
+
+/// Shows the definitions, and the indexes that each of them made.
+pub(crate) fn show(
+    alloc: Global,
+    planned: PlannedCatalog,
+    number: u32,
+) -> Result<(PlannedCatalog, Report), NoMem>
+    ensures { IfOk result (λ made. made ≡ (planned, report_of number (show_lines planned) End.Done (bound 0 0))) }
+{
+    planned.known();
+    let lines = show_lines(alloc, planned.catalog())?;
+    Ok((planned, unpaid_report(number, lines, NO_CALLS)))
+}
+
+/// Makes one step of the model: the statement of a piece of the script, with its number. On an
+/// error the catalog is spent, and the store opens to what stood before the step or after it.
+pub fn statement<S: Store<L>, L: Ledger>(
+    alloc: Global,
+    planned: PlannedCatalog,
+    number: u32,
+    piece: &Piece,
+    store: &mut S,
+    meter: &mut Meter<L>,
+) -> Result<(PlannedCatalog, Report), Broke>
+    ensures matches { IfOk result (λ p. (m : Tables) → Stands (S.content store.old) planned m
+        → Matches (step m number piece.now).report p.1) }
+    ensures made { IfOk result (λ p. (m : Tables) → Stands (S.content store.old) planned m
+        → Stands (S.content store.new) p.0 (step m number piece.now).model) }
+    ensures ops { IfOk result (λ p. meter.new.ops ≡ meter.old.ops + p.1.used.ops) }
+    ensures entries { IfOk result (λ p. meter.new.entries ≡ meter.old.entries + p.1.used.entries) }
+    // Over every store, told or not: the bound is fixed by the definitions and the piece alone, what is used
+    // is within it, also where the step breaks off, and a refused statement changes nothing.
+    // Where an index is made, the bound is that of a build over some number of rows.
+    ensures bound { IfOk result (λ p. IsBound (statement_bound planned piece.now) p.1.bound) }
+    ensures within { IfSome (statement_bound planned piece.now) (λ most. TakesAtMost most meter.old meter.new) }
+    ensures building { OnErr result (IsWithinFixed (statement_bound planned piece.now) meter.old meter.new) }
+    // Over a model it is within the bound of its own step, where an index is made too.
+    ensures within_own { (m : Tables) → Stands (S.content store.old) planned m
+        → TakesAtMost (step m number piece.now).report.bound meter.old meter.new }
+    ensures few_ops { IfOk result (λ p. p.1.used.ops ≤ p.1.bound.ops) }
+    ensures few_entries { IfOk result (λ p. p.1.used.entries ≤ p.1.bound.entries) }
+    ensures refused { IfOk result (λ p. IsRefusal p.1.end
+        → (S.content store.new ≡ S.content store.old) × (p.0 ≡ planned)) }
+    // A RUN, a READ, an EXPLAIN, a SHOW and what is refused before any call write nothing, whatever comes.
+    ensures reads { OnlyReads (action_of planned piece.now) → S.content store.new ≡ S.content store.old }
+    // A refusal is one that what the piece asks for can have.
+    ensures can { IfOk result (λ p. CanEnd planned (action_of planned piece.now) p.1.end) }
+    // What is refused before any call is reported as just that; and so are the definitions
+    // behind each report fixed.
+    ensures number { IfOk result (λ p. p.1.number ≡ number) }
+    ensures unread { IfOk result (λ p. IfErr (action_of planned piece.now) (λ why. p.1 ≡ unread_report number why)) }
+    ensures next { IfOk result (λ p. p.0 ≡ schema_after planned piece.now p.1) }
+    // What a PREPARE defines is its query, arranged: without LIMIT and PAGINATE it answers the same rows as the
+    // query as it is written.
+    ensures arranged { IfOk result (λ p. (written : Query) → IsPrepareOf planned written piece.now
+        → is_refusal p.1 ≡ false → IsDefinedAs planned.tables written p.0) }
+    ensures stopped { OnErr result ((m : Tables) → Stands (S.content store.old) planned m
+        → Opens (S.content store.new) m ⊎ Opens (S.content store.new) (step m number piece.now).model) }
+    ensures damage { IfErr result (λ broke. (m : Tables) → Stands (S.content store.old) planned m
+        → IsUndamaged broke) }
+    // Damage leaves the content as it was; but an index that was being made is left as it is, with its mark.
+    ensures kept { IfErr result (KeepsDamaged planned (action_of planned piece.now) (S.content store.old)
+        (S.content store.new)) }
+    // Damage is told with what shows it in the content that was there, and in what is there now.
+    ensures shown { IfErr result (λ broke. IfSome (S.content store.old)
+        (λ content. TellsEvidence planned content broke)) }
+    ensures lasting { IfErr result (λ broke. IfSome (S.content store.new)
+        (λ content. TellsEvidence planned content broke)) }
+    ensures cause { HasBrokeCause (S.faults store.old) (S.faults store.new) result }
+    // Damage is told of what a call answered; or, where an index is made, of its definition's key alone.
+    ensures answered { IfErr result (IsAnsweredBut S.answers (next_key planned)) }
+{
+    planned.known();
+    make_piece(alloc, planned, number, piece, store, meter)
+}
+
+/// What a piece asks for, or the first refusal that needs no call of the store.
+pub(crate) fn request_of(
+    alloc: Global,
+    planned: &PlannedCatalog,
+    piece: &Piece,
+) -> Result<Request, Stopped>
+    ensures asks { IfOk result (λ request. Asks planned.now request (action_of planned.now piece.now)) }
+    ensures refused { IfErr result (λ stopped. Refuses stopped (action_of planned.now piece.now)) }
+{
+    asked(alloc, planned.catalog(), piece)
+}
+
+/// Makes what a piece asks for.
+fn make_piece<S: Store<L>, L: Ledger>(
+    alloc: Global,
+    planned: PlannedCatalog,
+    number: u32,
+    piece: &Piece,
+    store: &mut S,
+    meter: &mut Meter<L>,
+) -> Result<(PlannedCatalog, Report), Broke>
+    ensures step { Promises number (action_of planned piece.now) (S.content store.old) (S.content store.new) planned
+        meter.old meter.new result }
+    ensures cause { HasBrokeCause (S.faults store.old) (S.faults store.new) result }
+    ensures answered { IfErr result (IsAnsweredBut S.answers (next_key planned)) }
+{
+    match request_of(alloc, &planned, piece) {
+        Err(Stopped::NoMem) => Err(Broke::NoMem),
+        Err(Stopped::Refused(why)) => Ok((planned, unread_report(alloc, number, why))),
+        Ok(request) => act(alloc, planned, number, request, store, meter),
+    }
+}
+
+/// Makes what was asked for.
+fn act<S: Store<L>, L: Ledger>(
+    alloc: Global,
+    planned: PlannedCatalog,
+    number: u32,
+    request: Request,
+    store: &mut S,
+    meter: &mut Meter<L>,
+) -> Result<(PlannedCatalog, Report), Broke>
+    requires { IsRequest planned request }
+    ensures step { (asked : Result Action Refusal) → Asks planned request asked
+        → Promises number asked (S.content store.old) (S.content store.new) planned meter.old meter.new result }
+    ensures cause { HasBrokeCause (S.faults store.old) (S.faults store.new) result }
+    ensures answered { IfErr result (IsAnsweredBut S.answers (next_key planned)) }
+{
+    match request {
+        Request::Create(def) => create(alloc, planned, number, def, store, meter),
+        Request::Alter(def) => alter(alloc, planned, number, def, store, meter),
+        Request::Write(write) => make_write(alloc, planned, number, &write, store, meter),
+        Request::Prepare(plan) => define_query(alloc, planned, number, plan, store, meter),
+        Request::Explain(plan) => {
+            let report = plan_report(alloc, &planned, number, &plan)?;
+            Ok((planned, report))
+        }
+        Request::Run(run) => {
+            run_query(
+                alloc,
+                planned,
+                number,
+                run.query,
+                &run.params,
+                run.after.as_ref(),
+                store,
+                meter,
+            )
+        }
+        Request::Count(def) => create_counter(alloc, planned, number, def, store, meter),
+        Request::Read(read) => read_count(alloc, planned, number, &read, store, meter),
+        Request::Show => Ok(show(alloc, planned, number)?),
+    }
+}
