@@ -5,8 +5,9 @@
 ghost use Rattle.std.specs.Prelude.{◌≡◌};
 
 use pq_base::PText;
+use pq_mem_store::MemStore;
 use pq_shell::{Status, StdSink, StdSource, WordsErr, read_words, run_piql};
-use pq_store::{MemStore, Meter, Opening};
+use pq_store::{Meter, Opening};
 use std::marker::Brand;
 use std::process::ExitCode;
 use std::sync::ledger::{Blank, Ledger};

@@ -6,8 +6,9 @@ ghost use Rattle.std.specs.Prelude.{◌≡◌};
 
 use pq_base::{List, PText};
 use pq_client_shell::run_piql_clients;
+use pq_mem_store::MemStore;
 use pq_shell::{Status, StdSink, StdSource, WordsErr, read_words};
-use pq_store::{MemStore, Meter, Opening};
+use pq_store::{Meter, Opening};
 use std::alloc::Global;
 use std::marker::Brand;
 use std::process::ExitCode;

@@ -2,8 +2,9 @@
 use crate::cells::{bytes_of, cell, number_or, small_number_or};
 use crate::texts::Texts;
 use pq_base::{Bytes, List, NoMem, PText};
+use pq_mem_store::MemStore;
 use pq_shell::{MemSink, MemSource, Status};
-use pq_store::{MemStore, Meter};
+use pq_store::Meter;
 use pq_test_tools::{MiscountStore, run_script, run_words};
 use std::alloc::Global;
 use std::sync::ledger::Ledger;

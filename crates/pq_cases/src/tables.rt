@@ -3,6 +3,8 @@ use crate::cells::Cells;
 use crate::put::{named, put_number, put_plain, put_refused, put_stopped, put_word};
 use pq_base::{Bytes, List, NoMem, Refusal, Stopped};
 use pq_def_read::{Statement, read_statement};
+use pq_definitions::add_table;
+use pq_names::is_spelt_table;
 use pq_print::{print_definition, print_table};
 use pq_schema::{Catalog, ColumnDef, TableDef};
 use pq_text::tokens;
@@ -57,10 +59,10 @@ pub fn columns(alloc: Global, cells: &Cells, out: &mut Bytes) -> Result<(), NoMe
 }
 
 fn add(alloc: Global, catalog: &mut Catalog, def: TableDef, out: &mut Bytes) -> Result<(), NoMem> {
-    if !def.is_spelt() {
+    if !is_spelt_table(&def) {
         return put_word(alloc, "not_spelt", out);
     }
-    match catalog.add_table(alloc, def) {
+    match add_table(alloc, catalog, def) {
         Ok(number) => {
             put_word(alloc, "table", out)?;
             put_number(alloc, number as i64, out)

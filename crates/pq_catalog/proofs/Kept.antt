@@ -28,7 +28,7 @@ use Rattle.pq_runnable.specs.Grown.{HaveGrown}
 use Rattle.pq_runnable.proofs.Growing.{grown_altered, grown_table, tables_themselves}
 use Rattle.pq_runnable.proofs.Same.{same_candidates}
 use Rattle.pq_runnable.proofs.Staying.{chosen_parts, query_resolved}
-use Rattle.pq_pages.specs.Running.{IsQueryNumber, query_bound}
+use Rattle.pq_running.specs.Running.{IsQueryNumber, query_bound}
 use Rattle.pq_catalog.specs.Kept.{IsKeptPlan, ArePlans, IsPlanWanting}
 use Rattle.pq_planning.specs.Planned.{IsComputed}
 use Rattle.pq_planning.specs.declared.planning.PlannedQuery.{PlannedQuery}

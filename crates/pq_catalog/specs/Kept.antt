@@ -12,7 +12,7 @@ use Rattle.pq_plan.specs.declared.physical.Physical.{Physical}
 use Rattle.pq_compile.specs.Chosen.{IsCompiled}
 use Rattle.pq_compile.specs.declared.compiler.Compiled.{Compiled}
 use Rattle.pq_runnable.specs.Runnable.{IsRunnablePlan}
-use Rattle.pq_pages.specs.Running.{IsQueryNumber, query_bound}
+use Rattle.pq_running.specs.Running.{IsQueryNumber, query_bound}
 
 -- the plan can be run for the query over these tables, and costs the query's bound
 pub record IsKeptPlan (tables : List Table) (query : Query) (plan : Physical) : Type 0 where

@@ -11,6 +11,7 @@ ghost use Rattle.pq_catalog.specs.Kept.{IsPlanWanting, KeepsPlan};
 
 use crate::planned::PlannedCatalog;
 use pq_base::{List, NoMem, Refusal, Stopped};
+use pq_definitions::{add_column, add_counter, add_query, add_table};
 use pq_plan::BoundedPlan;
 use pq_schema::{AlterDef, CounterDef, NewIndex, Query, TableDef};
 use std::alloc::Global;
@@ -54,7 +55,7 @@ impl PlannedCatalog {
         let PlannedCatalog { catalog, plans } = self;
         let mut catalog = catalog;
         let mut plans = plans;
-        let added = catalog.add_table(alloc, def);
+        let added = add_table(alloc, &mut catalog, def);
         let made = keep_plan(alloc, &mut plans, None, added)?;
         Ok((PlannedCatalog { catalog, plans }, made))
     }
@@ -72,7 +73,7 @@ impl PlannedCatalog {
         let PlannedCatalog { catalog, plans } = self;
         let mut catalog = catalog;
         let mut plans = plans;
-        let added = catalog.add_column(alloc, def);
+        let added = add_column(alloc, &mut catalog, def);
         let made = keep_plan(alloc, &mut plans, None, added)?;
         Ok((PlannedCatalog { catalog, plans }, made))
     }
@@ -90,7 +91,7 @@ impl PlannedCatalog {
         let PlannedCatalog { catalog, plans } = self;
         let mut catalog = catalog;
         let mut plans = plans;
-        let added = catalog.add_counter(alloc, def);
+        let added = add_counter(alloc, &mut catalog, def);
         let made = keep_plan(alloc, &mut plans, None, added)?;
         Ok((PlannedCatalog { catalog, plans }, made))
     }
@@ -125,7 +126,7 @@ impl PlannedCatalog {
         let PlannedCatalog { catalog, plans } = self;
         let mut catalog = catalog;
         let mut plans = plans;
-        let added = catalog.add_query(alloc, query, wanted);
+        let added = add_query(alloc, &mut catalog, query, wanted);
         let made = keep_plan(alloc, &mut plans, Some(plan), added)?;
         Ok((PlannedCatalog { catalog, plans }, made))
     }

@@ -2,7 +2,7 @@
 ghost use Rattle.std.specs.Prelude.{◌≡◌};
 ghost use Rattle.pq_schema.specs.Schema.{empty_schema, query_at};
 ghost use Rattle.pq_schema.specs.Valid.{IsValid};
-ghost use Rattle.pq_pages.specs.Running.{IsQueryNumber};
+ghost use Rattle.pq_running.specs.Running.{IsQueryNumber};
 ghost use Rattle.pq_catalog.specs.Kept.{IsKeptPlan};
 
 use pq_base::List;

@@ -24,7 +24,8 @@ use Rattle.pq_nodes.proofs.Fitting.{selected_fits}
 use Rattle.pq_nodes.proofs.InOrder.{plan_runs}
 use Rattle.pq_runnable.specs.Runnable.{IsRunnablePlan}
 use Rattle.pq_exec.proofs.Few.{few_given}
-use Rattle.pq_exec.specs.Execution.{last_of, AreRun, RunAnswers, IsLastPosition, AnswersQuery, IsPage}
+use Rattle.pq_exec.specs.Execution.{AreRun, RunAnswers, IsLastPosition, AnswersQuery, IsPage}
+use Rattle.pq_running.specs.Running.{last_of}
 use Rattle.pq_exec.specs.declared.executing.Answer.{Answer}
 
 -- ---- lists

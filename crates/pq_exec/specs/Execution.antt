@@ -1,6 +1,6 @@
 -- Running a plan: the nodes of its tree, what is promised of each tree that is run, and of the answer.
 use Rattle.std.specs.Prelude.{◌≡◌, ℕ, ◌+◌, ◌-◌, ◌≤◌, List, [], ◌∷◌, ◌++◌, length}
-use Rattle.std.specs.Prelude.{Option, Some, None, option_map, IfSome, MatchOption}
+use Rattle.std.specs.Prelude.{Option, None, option_map, IfSome, MatchOption}
 use Rattle.std.specs.List.{AllByRecursion}
 use Rattle.pq_base.specs.Values.{AllFit}
 use Rattle.pq_base.specs.declared.number.Bound.{Bound}
@@ -21,6 +21,7 @@ use Rattle.pq_plan.specs.Nodes.{Node, lookup, limit_range, stop_scan, keep, sort
 use Rattle.pq_nodes.specs.Combos.{FitsTables, position_types, selected_types}
 use Rattle.pq_nodes.specs.Ordered.{after_nodes}
 use Rattle.pq_nodes.specs.Paid.{node_size}
+use Rattle.pq_running.specs.Running.{last_of}
 use Rattle.pq_exec.specs.declared.executing.Answer.{Answer}
 
 -- ---- one node of a tree
@@ -98,12 +99,6 @@ RunAnswers told tables query params after list found =
     Gives (record { tables = tables; query = query; rows = rows; params = params }) after ([] ∷ []) list found
 
 -- ---- the answer
-
--- the last item, where there is one
-abbrev pub last_of : {A : Type 0} → List A → Option A
-last_of [] = None
-last_of (x ∷ []) = Some x
-last_of (x ∷ y ∷ rest) = last_of (y ∷ rest)
 
 -- the position of the last combination, where there is one, whatever rows and parameters stand beside
 abbrev pub IsLastPosition : List Table → Query → List (List (List Value)) → Option (List Value) → Type 0

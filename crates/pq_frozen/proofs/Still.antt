@@ -14,12 +14,12 @@ use Rattle.pq_store.specs.declared.damage.Broke.{Broke}
 use Rattle.pq_store.specs.declared.damage.Broke.TheVariants.{Failed, NoMem, Damaged}
 use Rattle.pq_opening.specs.declared.begun.Begun.{Begun}
 use Rattle.pq_statement.specs.Actions.{Action, Creates, Adds, Writes, Prepares, Explains, Runs, Counts, Reads, Shows, action_of}
-use Rattle.pq_step.specs.Matches.{Matches}
+use Rattle.pq_reports.specs.Matches.{Matches}
 use Rattle.pq_catalog.specs.Model.{Model}
 use Rattle.pq_opening.specs.Opening.{IsOpening, opening_of}
-use Rattle.pq_step.specs.Promise.{OnlyReads}
+use Rattle.pq_reports.specs.Promise.{OnlyReads}
 use Rattle.pq_catalog.specs.Stands.{HoldsModel, Opens, Stands}
-use Rattle.pq_step.specs.Step.{acted_as, read_step, step}
+use Rattle.pq_reports.specs.Step.{acted_as, read_step, step}
 use Rattle.pq_catalog.proofs.Standing.{settled_opens}
 use Rattle.pq_frozen.specs.Frozen.{Stilled}
 use Rattle.pq_frozen.specs.Reading.{AllRead, AreAnswers, model_behind}

@@ -4,10 +4,10 @@ use Rattle.pq_schema.specs.Schema.{Schema}
 use Rattle.pq_text.specs.declared.piece.Piece.{Piece}
 use Rattle.pq_print.specs.declared.report.Report.{Report}
 use Rattle.pq_statement.specs.Actions.{action_of}
-use Rattle.pq_step.specs.Matches.{Matches}
+use Rattle.pq_reports.specs.Matches.{Matches}
 use Rattle.pq_catalog.specs.Model.{Model}
-use Rattle.pq_step.specs.Promise.{OnlyReads}
-use Rattle.pq_step.specs.Step.{step}
+use Rattle.pq_reports.specs.Promise.{OnlyReads}
+use Rattle.pq_reports.specs.Step.{step}
 
 -- over these definitions each of the pieces writes nothing
 abbrev pub AllRead : Schema → List Piece → Type 0

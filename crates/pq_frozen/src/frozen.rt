@@ -6,7 +6,8 @@ ghost use Rattle.pq_store.specs.Counts.{charged_counts};
 ghost use Rattle.pq_frozen.specs.Frozen.{refused_once};
 
 use pq_base::{Bytes, List, NoMem};
-use pq_store::{Guard, MemStore, Meter, Pair, Store, StoreErr};
+use pq_mem_store::MemStore;
+use pq_store::{Guard, Meter, Pair, Store, StoreErr};
 use std::alloc::Global;
 use std::marker::Model;
 use std::sync::ledger::Ledger;

@@ -5,9 +5,10 @@ ghost use Rattle.pq_catalog.specs.Model.{Model as Tables};
 ghost use Rattle.pq_catalog.specs.Stands.{HoldsModel, Opens};
 
 use crate::frozen::Frozen;
+use pq_mem_store::MemStore;
 use pq_opening::start;
 use pq_step::statement;
-use pq_store::{Broke, MemStore, Meter};
+use pq_store::{Broke, Meter};
 use pq_text::Piece;
 use std::alloc::Global;
 use std::sync::ledger::Ledger;

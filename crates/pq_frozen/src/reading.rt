@@ -2,12 +2,12 @@
 ghost use Rattle.std.specs.Prelude.{◌≡◌, ◌+◌, ◌<◌, ◌^◌, Some, IfOk, IfErr, length};
 ghost use Rattle.pq_frozen.specs.Reading.{AllRead, AreAnswers};
 ghost use Rattle.pq_statement.specs.Actions.{action_of};
-ghost use Rattle.pq_step.specs.Matches.{Matches};
+ghost use Rattle.pq_reports.specs.Matches.{Matches};
 ghost use Rattle.pq_catalog.specs.Model.{Model as Tables};
 ghost use Rattle.pq_opening.specs.Opening.{IsOpening, IsQuiet, opening_of};
-ghost use Rattle.pq_step.specs.Promise.{OnlyReads};
+ghost use Rattle.pq_reports.specs.Promise.{OnlyReads};
 ghost use Rattle.pq_catalog.specs.Stands.{HoldsModel, Stands};
-ghost use Rattle.pq_step.specs.Step.{step};
+ghost use Rattle.pq_reports.specs.Step.{step};
 
 use crate::frozen::Frozen;
 use pq_base::List;

@@ -24,7 +24,7 @@ use Rattle.pq_plan.proofs.Laws.{Keeps}
 use Rattle.pq_plan.proofs.Orders.{Rises, Rises-sort_by, apart_permuted}
 use Rattle.pq_plan.proofs.Pushing.{by_total, distinct_reads}
 use Rattle.pq_plan.proofs.Unique.{apart_positions, only}
-use Rattle.pq_exec.specs.Execution.{last_of}
+use Rattle.pq_running.specs.Running.{last_of}
 use Rattle.pq_catalog.specs.Model.{Model}
 use Rattle.pq_laws.specs.Pages.{ArePages, IsPaged, question_of, last, next}
 

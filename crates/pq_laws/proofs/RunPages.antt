@@ -18,15 +18,15 @@ use Rattle.pq_nodes.specs.Combos.{IsCombo, position_types}
 use Rattle.pq_nodes.proofs.Fitting.{combo_fits, position_fits}
 use Rattle.pq_nodes.proofs.Making.{combo_push, no_rows_combo}
 use Rattle.pq_plan.specs.Answer.{Question, answered, by_position, combos, holds, past, position, product, rows_at, stopped, whole}
-use Rattle.pq_pages.specs.Running.{Running, running_with, running_of, begins_after, cursor_of, cursor_start, next_of, or_begins, page_size, params_refusal}
-use Rattle.pq_pages.proofs.Begins.{begins_behind, begins_passed}
+use Rattle.pq_running.specs.Running.{Running, running_with, running_of, begins_after, cursor_of, cursor_start, next_of, or_begins, page_size, params_refusal}
+use Rattle.pq_running.proofs.Begins.{begins_behind, begins_passed}
 use Rattle.pq_runnable.proofs.Staying.{err_not_ok}
-use Rattle.pq_exec.specs.Execution.{last_of}
+use Rattle.pq_running.specs.Running.{last_of}
 use Rattle.pq_print.specs.declared.report.Line.{Line}
 use Rattle.pq_print.specs.declared.report.Report.{Report}
 use Rattle.pq_catalog.specs.Model.{Model}
 use Rattle.pq_laws.specs.Pages.{ArePages, AreRuns, IsPaged, last, last_run, line_of, next, next_in, next_run, question_of}
-use Rattle.pq_step.specs.Step.{page_of}
+use Rattle.pq_reports.specs.Step.{page_of}
 use Rattle.pq_laws.proofs.Paging.{in_last, pages_each, pages_end, some, some_last, sound, taken}
 use Rattle.pq_statement.proofs.Found.{of_number}
 

@@ -7,15 +7,15 @@ use Rattle.pq_schema.specs.Resolved.{IsResolved}
 use Rattle.pq_schema.specs.Valid.{IsValid}
 use Rattle.pq_content.specs.Tables.{Keeps}
 use Rattle.pq_plan.specs.Answer.{Question, answered, position, selected_values}
-use Rattle.pq_exec.specs.Execution.{last_of}
-use Rattle.pq_pages.specs.Running.{Running, running_of}
+use Rattle.pq_running.specs.Running.{last_of}
+use Rattle.pq_running.specs.Running.{Running, running_of}
 use Rattle.pq_print.specs.declared.report.End.{End}
 use Rattle.pq_print.specs.declared.report.End.TheVariants.{Done, Refused, Rows}
 use Rattle.pq_print.specs.declared.report.Line.{Line}
 use Rattle.pq_print.specs.declared.report.Line.TheVariants.{Row}
 use Rattle.pq_print.specs.declared.report.Report.{Report}
 use Rattle.pq_catalog.specs.Model.{Model}
-use Rattle.pq_step.specs.Step.{page_of}
+use Rattle.pq_reports.specs.Step.{page_of}
 
 -- a query with PAGINATE k over valid definitions, which the rows keep
 pub record IsPaged (m : Model) (query : Query) (k : ℕ) : Type 0 where

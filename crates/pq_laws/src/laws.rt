@@ -25,7 +25,7 @@ ghost use Rattle.pq_reread.specs.WholeStatements.{WholeStatement, SpellsWhole};
 ghost use Rattle.pq_print.specs.Canonical.{definition_text};
 ghost use Rattle.pq_store.specs.Content.{Content};
 ghost use Rattle.pq_content.specs.Tables.{IsTableNumber, rows_of};
-ghost use Rattle.pq_pages.specs.Running.{params_refusal};
+ghost use Rattle.pq_running.specs.Running.{params_refusal};
 ghost use Rattle.pq_plan.specs.Answer.{selected_values, whole};
 ghost use Rattle.pq_print.specs.declared.report.Report.{Report};
 ghost use Rattle.pq_statement.specs.Actions.{asked_text};

@@ -1,3 +1,1 @@
-pub mod Begins
-pub mod Columns
 pub mod Pages

@@ -18,9 +18,11 @@ use Rattle.pq_plan.specs.declared.physical.Physical.{Physical}
 use Rattle.pq_nodes.specs.Operators.{IsAsked}
 use Rattle.pq_runnable.specs.Runnable.{IsRunnablePlan}
 use Rattle.pq_runnable.proofs.Staying.{query_resolved}
-use Rattle.pq_exec.specs.Execution.{IsAnswer, RisesWithin, last_of}
+use Rattle.pq_exec.specs.Execution.{IsAnswer, RisesWithin}
+use Rattle.pq_running.specs.Running.{last_of}
 use Rattle.pq_exec.specs.declared.executing.Answer.{Answer}
-use Rattle.pq_pages.specs.Running.{Running, running_with, query_bound, position_dirs, page_size, page_combos, over_rows, next_at, next_cursor, next_of, IsPageOver}
+use Rattle.pq_running.specs.Running.{Running, running_with, query_bound, position_dirs, page_size, page_combos, over_rows, next_at, next_cursor, next_of}
+use Rattle.pq_pages.specs.Paging.{IsPageOver}
 use Rattle.pq_pages.specs.declared.page.Page.{Page}
 use Rattle.pq_cursor.specs.Cursors.{cursor_text}
 

@@ -12,13 +12,14 @@ ghost use Rattle.pq_runnable.specs.Runnable.{IsRunnablePlan};
 ghost use Rattle.pq_cursor.specs.Cursors.{cursor_text};
 ghost use Rattle.pq_nodes.specs.Combos.{position_types};
 ghost use Rattle.pq_schema.specs.Resolved.{IsResolved};
-ghost use Rattle.pq_pages.specs.Running.{IsQueryNumber, IsPageOf, next_cursor, position_dirs, query_bound, running_with};
+ghost use Rattle.pq_running.specs.Running.{IsQueryNumber, next_cursor, position_dirs, query_bound, running_with};
+ghost use Rattle.pq_pages.specs.Paging.{IsPageOf};
 
-use crate::beginning::{page_size, position_shape};
 use pq_base::{Bound, List, NoMem, PText, Row, Stopped, Used};
 use pq_cursor::cursor_text;
 use pq_exec::{Answer, execute};
 use pq_plan::BoundedPlan;
+use pq_running::{page_size, position_shape};
 use pq_schema::{Catalog, Query};
 use pq_store::{Broke, Meter, Store};
 use std::alloc::Global;

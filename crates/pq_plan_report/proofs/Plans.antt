@@ -20,7 +20,7 @@ use Rattle.pq_def_read.specs.declared.statement.Statement.{Statement}
 use Rattle.pq_def_read.specs.declared.statement.Statement.TheVariants as statement
 use Rattle.pq_query_read.specs.Trying.{◌>>=◌, passed_unless}
 use Rattle.pq_statement.specs.Actions.{Action, Creates, Adds, Writes, Prepares, Explains, Runs, Counts, Reads, Shows, action_from, action_of, asked_by}
-use Rattle.pq_step.specs.Checks.{check_step, checked_as}
+use Rattle.pq_check.specs.Checks.{check_step, checked_as}
 use Rattle.pq_planning.specs.Planning.{PlannedDefinition, arranged_from, as_it_is, definable, explained_from, explained_name, prepared_from}
 use Rattle.pq_print.specs.Report.{is_refusal, printed_report}
 use Rattle.pq_print.specs.declared.report.Report.{Report}

@@ -8,8 +8,8 @@ use Rattle.pq_text.specs.declared.piece.Piece.{Piece}
 use Rattle.pq_print.specs.Report.{is_refusal, printed_report}
 use Rattle.pq_print.specs.declared.report.Report.{Report}
 use Rattle.pq_statement.specs.Actions.{action_of}
-use Rattle.pq_step.specs.Checks.{check_step, without_rows}
-use Rattle.pq_step.specs.Step.{unread_report}
+use Rattle.pq_check.specs.Checks.{check_step, without_rows}
+use Rattle.pq_reports.specs.Step.{unread_report}
 use Rattle.pq_plan_report.specs.Plans.{IsSummed, asked_plan}
 
 -- ---- a piece of the script

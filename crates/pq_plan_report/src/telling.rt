@@ -3,7 +3,7 @@ ghost use Rattle.std.specs.Prelude.{◌≡◌, ◌<◌, ◌+◌, ◌^◌, ◌++�
 ghost use Rattle.pq_print.specs.Report.{is_refusal, printed_report};
 ghost use Rattle.pq_base.specs.declared.refusal.Refusal.TheVariants as Refusal;
 ghost use Rattle.pq_statement.specs.Actions.{action_of};
-ghost use Rattle.pq_step.specs.Step.{unread_report};
+ghost use Rattle.pq_reports.specs.Step.{unread_report};
 ghost use Rattle.pq_schema.specs.Schema.{empty_schema};
 ghost use Rattle.pq_text.specs.Pieces.{pieces_of};
 ghost use Rattle.pq_plan_report.specs.Plans.{IsSummed};
@@ -12,8 +12,8 @@ ghost use Rattle.pq_plan_report.specs.Told.{AreSummed, is_refused, report_of, re
 use crate::plan::piece_plan;
 use pq_base::{Bound, Bytes, List, NoMem, Refusal, Used};
 use pq_catalog::PlannedCatalog;
+use pq_check::check;
 use pq_print::{End, Report, print_report};
-use pq_step::check;
 use pq_text::{Piece, cut_script};
 use std::alloc::Global;
 

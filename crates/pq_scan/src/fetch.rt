@@ -1,5 +1,5 @@
 //! The rows of candidates, behind their inputs.
-ghost use Rattle.std.specs.Prelude.{◌≡◌, ◌≤◌, ◌<◌, ◌-◌, ◌+◌, length, IfOk, IfErr};
+ghost use Rattle.std.specs.Prelude.{◌≡◌, ◌≤◌, ◌<◌, ◌-◌, ◌+◌, ◌++◌, ◌∷◌, [], length, IfOk, IfErr};
 ghost use Rattle.std.specs.List.{AllByRecursion};
 ghost use Rattle.pq_base.specs.Values.{AllFit};
 ghost use Rattle.pq_schema.specs.Rows.{types_of};
@@ -13,7 +13,7 @@ ghost use Rattle.pq_scan.specs.Prepared.{IsScannable};
 
 use crate::candidates::Candidate;
 use crate::prepared::Scan;
-use pq_base::{List, Row};
+use pq_base::{List, NoMem, Row};
 use pq_calls::Calls;
 use pq_entries::named_row;
 use pq_plan::Combo;
@@ -53,6 +53,15 @@ fn row_of<S: Store<L>, L: Ledger>(
     }
 }
 
+/// A row behind the rows of an input.
+fn behind(alloc: Global, input: &Combo, row: Row) -> Result<Combo, NoMem>
+    ensures { IfOk result (λ combo. combo ≡ input.now ++ row ∷ []) }
+{
+    let mut combo = input.copy(alloc)?;
+    combo.push(alloc, row)?;
+    Ok(combo)
+}
+
 /// The row of a candidate behind its input.
 fn combo_of<S: Store<L>, L: Ledger>(
     alloc: Global,
@@ -74,9 +83,7 @@ fn combo_of<S: Store<L>, L: Ledger>(
     ensures answer { IfOk result (IsComboOf scan.now (S.content calls.old.store.now) inputs.now candidate.now) }
 {
     let row = row_of(alloc, scan, &candidate.item.held, calls)?;
-    let mut combo = inputs[candidate.item.input].copy(alloc)?;
-    combo.push(alloc, row)?;
-    Ok(combo)
+    Ok(behind(alloc, &inputs[candidate.item.input], row)?)
 }
 
 /// The rows of candidates behind their inputs, in the order of the candidates.

@@ -395,7 +395,7 @@ impl Catalog {
     }
 
     /// Puts a table behind the others, and its definition last. After `NoMem` nothing is changed.
-    pub(crate) fn push_table(&mut self, alloc: Global, table: Table) -> Result<(), NoMem>
+    pub fn push_table(&mut self, alloc: Global, table: Table) -> Result<(), NoMem>
         requires next { IsValid (with_table self.old table) }
         requires free { is_taken self.old table.name ≡ false }
         requires columns { length table.columns ≤ 32 }
@@ -415,7 +415,7 @@ impl Catalog {
 
     /// Puts a query's definition last, and the index that it wants behind those of its table. After
     /// `NoMem` nothing is changed.
-    pub(crate) fn push_query(
+    pub fn push_query(
         &mut self,
         alloc: Global,
         query: Query,
@@ -438,7 +438,7 @@ impl Catalog {
 
     /// Puts a column behind the others of its table, and its definition last. After `NoMem` nothing is
     /// changed.
-    pub(crate) fn push_column(
+    pub fn push_column(
         &mut self,
         alloc: Global,
         number: u8,
@@ -463,7 +463,7 @@ impl Catalog {
     }
 
     /// Puts a counter's definition last. After `NoMem` nothing is changed.
-    pub(crate) fn push_counter(&mut self, counter: Counter) -> Result<(), NoMem>
+    pub fn push_counter(&mut self, counter: Counter) -> Result<(), NoMem>
         requires { IsValid (with_counter self.old counter) }
         ensures ok { OnOk result (self.new ≡ with_counter self.old counter) }
         ensures err { OnErr result (self.new ≡ self.old) }

@@ -4,25 +4,18 @@
 mod catalog;
 mod column_names;
 mod counter;
-mod counter_checks;
 mod definition;
 pub mod laws;
 mod made;
-mod names;
-mod new_column;
-mod new_counter;
-mod new_table;
 mod query;
 mod sequences;
 mod table;
-mod table_checks;
 
 pub use catalog::Catalog;
 pub use column_names::{check_known, check_names, check_repeated, names_of, place_of, places_of};
 pub use counter::Counter;
 pub use definition::{AlterDef, ColumnDef, CounterDef, ForeignDef, LimitDef, TableDef};
 pub use made::{Def, Definition, Made};
-pub use names::{NAME_BYTES, is_name};
 pub use query::{ColRef, Op, Operand, OrderItem, Pred, Query, Relation, Stop};
 pub use sequences::{
     begins, columns_in, dirs_of, group_access, index_begins, index_sequence, part_at,
@@ -32,4 +25,3 @@ pub use table::{
     Access, Column, Foreign, Index, KeyPart, Limit, NewIndex, Referring, Table, find_column,
     same_kind, type_at,
 };
-pub use table_checks::{DEFINITIONS, TABLES};

@@ -1,9 +1,9 @@
 //! The sequences of a table, walked without memory.
 
-ghost use Rattle.std.specs.Prelude.{◌≡◌, ◌==◌, ◌&&◌, ◌<◌, ◌≤◌, ◌∷◌, [], All, IfOk, length, map, slice_get, position};
+ghost use Rattle.std.specs.Prelude.{◌≡◌, ◌==◌, ◌<◌, [], IfOk, slice_get, position};
 ghost use Rattle.pq_schema.specs.Keys.{dirs_of};
 ghost use Rattle.pq_schema.specs.Sound.{IsTable, AreColumns, AreParts};
-ghost use Rattle.pq_schema.specs.Sequences.{ascending_part, then_key, begins_with, columns_of, primary_sequence, index_sequence, sequence_of, IsAccess, group_access};
+ghost use Rattle.pq_schema.specs.Sequences.{then_key, begins_with, columns_of, primary_sequence, index_sequence, sequence_of, IsAccess, group_access};
 ghost use Rattle.pq_base.specs.Columns.{set_of};
 
 use crate::table::{Access, Index, KeyPart, Table};

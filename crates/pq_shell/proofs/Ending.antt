@@ -15,7 +15,7 @@ use Rattle.pq_text.proofs.Cuts.{pieces_from-start, unfinished_from-start}
 use Rattle.pq_print.specs.Report.{damage_line, printed_report}
 use Rattle.pq_print.specs.declared.report.Opened.{Opened}
 use Rattle.pq_print.specs.declared.report.Report.{Report}
-use Rattle.pq_step.specs.Checks.{without_rows}
+use Rattle.pq_check.specs.Checks.{without_rows}
 use Rattle.pq_catalog.specs.Model.{Model}
 use Rattle.pq_catalog.proofs.Standing.{settled_opens}
 use Rattle.pq_shell.specs.Fold.{Moment, ServedItems, StoppedItem}

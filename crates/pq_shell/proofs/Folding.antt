@@ -13,9 +13,9 @@ use Rattle.pq_print.specs.declared.report.Report.{Report}
 use Rattle.pq_print.specs.Report.{is_refusal}
 use Rattle.pq_statement.specs.Actions.{asked_bound}
 use Rattle.pq_catalog.specs.Model.{Model}
-use Rattle.pq_step.specs.Matches.{Matches}
-use Rattle.pq_step.specs.Promise.{IsWithinFixed}
-use Rattle.pq_step.proofs.Promises.{within_none, within_reported}
+use Rattle.pq_reports.specs.Matches.{Matches}
+use Rattle.pq_reports.specs.Promise.{IsWithinFixed}
+use Rattle.pq_reports.proofs.Promises.{within_none, within_reported}
 use Rattle.pq_shell.specs.Fold.{Moment, IsReport, Reports, RisesBy, IsWithinItem, IsWithinStep, IsPart, AreStill, KeepsItem, after, ReportedItems, Halts, MadeReports, ServedItems, ShowsDamage, StoppedItem, schema_behind}
 use Rattle.pq_shell.specs.Forms.{StandsIn, OpensAt, asked_item, item_step, shown_report}
 use Rattle.pq_shell.specs.Items.{Item}

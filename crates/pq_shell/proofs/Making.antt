@@ -20,17 +20,17 @@ use Rattle.pq_print.specs.declared.report.End.{End}
 use Rattle.pq_print.specs.declared.report.End.TheVariants as End
 use Rattle.pq_print.specs.declared.report.Report.{Report}
 use Rattle.pq_statement.specs.Actions.{action_of, schema_after, statement_bound}
-use Rattle.pq_step.specs.Checks.{checked_as, check_step, without_rows}
-use Rattle.pq_step.specs.Evidence.{TellsEvidence}
-use Rattle.pq_step.specs.Matches.{Matches}
+use Rattle.pq_check.specs.Checks.{checked_as, check_step, without_rows}
+use Rattle.pq_reports.specs.Evidence.{TellsEvidence}
+use Rattle.pq_reports.specs.Matches.{Matches}
 use Rattle.pq_catalog.specs.Model.{Model}
-use Rattle.pq_step.specs.Promise.{IsBound, IsRefusal, IsWithinFixed, KeepsDamaged, OnlyReads}
+use Rattle.pq_reports.specs.Promise.{IsBound, IsRefusal, IsWithinFixed, KeepsDamaged, OnlyReads}
 use Rattle.pq_catalog.specs.Stands.{Opens, Stands}
-use Rattle.pq_step.specs.Refusing.{CanEnd}
-use Rattle.pq_step.specs.Step.{Step, step, unread_report}
-use Rattle.pq_step.specs.Written.{IsPrepareOf, IsDefinedAs}
-use Rattle.pq_step.proofs.Checked.{check_by, is_check_step}
-use Rattle.pq_step.proofs.Promises.{within_none}
+use Rattle.pq_reports.specs.Refusing.{CanEnd}
+use Rattle.pq_reports.specs.Step.{Step, step, unread_report}
+use Rattle.pq_check.specs.Written.{IsPrepareOf, IsDefinedAs}
+use Rattle.pq_check.proofs.Checked.{check_by, is_check_step}
+use Rattle.pq_reports.proofs.Promises.{within_none}
 use Rattle.pq_shell.specs.Fold.{DefinesAsWritten, IsStill}
 use Rattle.pq_shell.specs.Forms.{HasOpening, StandsIn, OpensAt, item_step, shown_report}
 use Rattle.pq_shell.specs.Items.{Cut}

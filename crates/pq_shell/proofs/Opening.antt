@@ -13,7 +13,7 @@ use Rattle.pq_store.specs.declared.damage.Broke.{Broke}
 use Rattle.pq_store.specs.declared.damage.Broke.TheVariants as broke
 use Rattle.pq_print.specs.Report.{opening_line}
 use Rattle.pq_print.specs.declared.report.Opened.{Opened}
-use Rattle.pq_step.specs.Checks.{without_rows}
+use Rattle.pq_check.specs.Checks.{without_rows}
 use Rattle.pq_catalog.specs.Model.{Model}
 use Rattle.pq_opening.specs.Opening.{IsOpeningBound, IsQuiet, LeavesFlawed, LeavesRead, NamesFlaw, IsOpening}
 use Rattle.pq_catalog.specs.Stands.{Opens, Stands}

@@ -11,13 +11,13 @@ use Rattle.pq_intent.specs.Spending.{TakesAtMost}
 use Rattle.pq_print.specs.declared.report.Report.{Report}
 use Rattle.pq_print.specs.Report.{is_refusal}
 use Rattle.pq_statement.specs.Actions.{asked_bound, asked_schema}
-use Rattle.pq_step.specs.Evidence.{IsEvidence}
+use Rattle.pq_reports.specs.Evidence.{IsEvidence}
 use Rattle.pq_catalog.specs.Model.{Model}
-use Rattle.pq_step.specs.Matches.{Matches}
-use Rattle.pq_step.specs.Promise.{IsBound, IsWithinFixed, OnlyReads, StopsAsked}
-use Rattle.pq_step.specs.Refusing.{CanEnd}
-use Rattle.pq_step.specs.Step.{unread_report}
-use Rattle.pq_step.specs.Written.{IsPrepareOf, IsDefinedAs}
+use Rattle.pq_reports.specs.Matches.{Matches}
+use Rattle.pq_reports.specs.Promise.{IsBound, IsWithinFixed, OnlyReads, StopsAsked}
+use Rattle.pq_reports.specs.Refusing.{CanEnd}
+use Rattle.pq_reports.specs.Step.{unread_report}
+use Rattle.pq_check.specs.Written.{IsPrepareOf, IsDefinedAs}
 use Rattle.pq_shell.specs.Forms.{item_step, asked_item, shown_report, HasOpening, StandsIn, OpensAt}
 use Rattle.pq_shell.specs.Items.{Item, Cut, Rest}
 use Rattle.pq_console.specs.Outside.{IsCut}

@@ -12,11 +12,11 @@ use Rattle.pq_print.specs.declared.report.Opened.{Opened}
 use Rattle.pq_print.specs.declared.report.Report.{Report}
 use Rattle.pq_schema.specs.Schema.{Schema, empty_schema}
 use Rattle.pq_statement.specs.Actions.{Action, action_of}
-use Rattle.pq_step.specs.Checks.{check_step, without_rows}
+use Rattle.pq_check.specs.Checks.{check_step, without_rows}
 use Rattle.pq_opening.specs.Opening.{IsOpening}
 use Rattle.pq_catalog.specs.Model.{Model}
 use Rattle.pq_catalog.specs.Stands.{Opens, Stands}
-use Rattle.pq_step.specs.Step.{Step, refused_unread, step}
+use Rattle.pq_reports.specs.Step.{Step, refused_unread, step}
 use Rattle.pq_store.specs.Content.{Content}
 use Rattle.pq_text.specs.declared.piece.Piece.TheVariants as piece
 use Rattle.pq_shell.specs.Items.{Item, Cut, Rest, cut_items, items_of}

@@ -6,7 +6,7 @@ use Rattle.pq_schema.specs.Schema.{Schema}
 use Rattle.pq_store.specs.Content.{Content}
 use Rattle.pq_store.specs.Counts.{Counts}
 use Rattle.pq_print.specs.declared.report.Report.{Report}
-use Rattle.pq_step.specs.Matches.{Matches}
+use Rattle.pq_reports.specs.Matches.{Matches}
 use Rattle.pq_catalog.specs.Model.{Model}
 use Rattle.pq_shell.specs.Fold.{Moment, IsReport, IsStill, RisesBy, StoppedItem, schema_behind}
 use Rattle.pq_shell.specs.Forms.{item_step, StandsIn}

@@ -9,7 +9,7 @@ use Rattle.pq_text.specs.declared.piece.Piece.{Piece}
 use Rattle.pq_text.specs.Summaries.{Summary, pieces_from, unfinished_from}
 use Rattle.pq_print.specs.Report.{printed_report}
 use Rattle.pq_print.specs.declared.report.Report.{Report}
-use Rattle.pq_step.specs.Step.{refusal_report}
+use Rattle.pq_reports.specs.Step.{refusal_report}
 use Rattle.pq_shell.specs.Fold.{Moment, ServedItems, StoppedItem}
 use Rattle.pq_shell.specs.Items.{cut_items}
 use Rattle.pq_console.specs.Reading.{TookBytes}

@@ -11,10 +11,11 @@ ghost use Rattle.pq_shell.specs.Answered.{IsAnsweredStop};
 
 use pq_base::{Bound, List, NoMem, Refusal, Used};
 use pq_catalog::PlannedCatalog;
+use pq_check::check;
 use pq_console::{Ending, Sink, Stop, write_report};
 use pq_fill::Form;
 use pq_print::{End, Report};
-use pq_step::{check, statement};
+use pq_step::statement;
 use pq_store::{Meter, Store};
 use pq_text::{Piece, Splitter};
 use std::alloc::Global;

@@ -18,7 +18,7 @@ use Rattle.pq_schema.specs.Tables.{type_at, types_at}
 use Rattle.pq_schema.specs.declared.table.Column.{Column}
 use Rattle.pq_schema.specs.declared.made.Definition.{Definition}
 use Rattle.pq_schema.specs.declared.made.Definition.TheVariants.{OfTable, OfQuery, OfColumn, OfCounter}
-use Rattle.pq_pages.specs.Running.{IsQueryNumber, cursor_start, params_refusal, running_as, running_at, running_of}
+use Rattle.pq_running.specs.Running.{IsQueryNumber, cursor_start, params_refusal, running_as, running_at, running_of}
 use Rattle.pq_statement.specs.Readings.{Reading, reading_at, reading_of, reading_types}
 
 -- ---- the query of a number

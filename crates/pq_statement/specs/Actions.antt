@@ -21,7 +21,7 @@ use Rattle.pq_builds.specs.Bounds.{bound, fixed_bound as prepare_bound}
 use Rattle.pq_counters.specs.Bounds.{whole_bound}
 use Rattle.pq_index_keep.specs.Checking.{checked_write}
 use Rattle.pq_index_keep.specs.declared.write.Write.{Write}
-use Rattle.pq_pages.specs.Running.{Running, running_of, query_bound}
+use Rattle.pq_running.specs.Running.{Running, running_of, query_bound}
 use Rattle.pq_print.specs.Report.{is_refusal}
 use Rattle.pq_print.specs.declared.report.Report.{Report}
 use Rattle.pq_planning.specs.Planning.{PlannedDefinition, prepared_from, explained_from}

@@ -9,7 +9,7 @@ use Rattle.pq_schema.specs.Counters.{IsCounterNumber}
 use Rattle.pq_schema.specs.Definitions.{or_ok}
 use Rattle.pq_schema.specs.Resolved.{param_type}
 use Rattle.pq_schema.specs.Schema.{Schema, find_counter}
-use Rattle.pq_pages.specs.Running.{params_refusal}
+use Rattle.pq_running.specs.Running.{params_refusal}
 use Rattle.pq_tallies.specs.Defined.{counter_numbered, group_types}
 
 -- a counter, by the number of its definition, and the values of a group

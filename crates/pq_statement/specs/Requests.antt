@@ -7,7 +7,7 @@ use Rattle.pq_schema.specs.Names.{IsName, IsTableDef, IsAlterDef, IsCounterDef}
 use Rattle.pq_schema.specs.Schema.{Schema, query_at}
 use Rattle.pq_index_keep.specs.Sound.{IsWrite}
 use Rattle.pq_nodes.specs.Operators.{IsCursor}
-use Rattle.pq_pages.specs.Running.{IsQueryNumber, Running, running_with}
+use Rattle.pq_running.specs.Running.{IsQueryNumber, Running, running_with}
 use Rattle.pq_statement.specs.Actions.{Action, Creates, Adds, Writes, Prepares, Explains, Runs, Counts, Reads, Shows, action_from}
 use Rattle.pq_planning.specs.Planned.{IsComputed, IsPlanOf}
 use Rattle.pq_planning.specs.Planning.{PlannedDefinition}

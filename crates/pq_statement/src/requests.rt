@@ -2,7 +2,7 @@
 ghost use Rattle.std.specs.Prelude.{◌≡◌, ◌≤◌, None, Ok, length, map, option_copied, IfOk, IfErr};
 ghost use Rattle.pq_base.specs.Answers.{Passes, Refuses};
 ghost use Rattle.pq_index_keep.specs.Checking.{IsWriting, checked_write};
-ghost use Rattle.pq_pages.specs.Running.{running_of};
+ghost use Rattle.pq_running.specs.Running.{running_of};
 ghost use Rattle.pq_schema.specs.Counters.{IsCounterNumber};
 ghost use Rattle.pq_schema.specs.Definitions.{definition_refusal};
 ghost use Rattle.pq_schema.specs.Resolved.{param_type};
@@ -17,11 +17,12 @@ ghost use Rattle.pq_statement.specs.Requests.{Asks, RunsAs, reading_asked};
 
 use pq_base::{ColType, List, NoMem, PText, Refusal, Row, Stopped, count_word};
 use pq_def_read::{Statement, read_statement};
+use pq_definitions::DEFINITIONS;
 use pq_index_keep::{Write, check_write};
-use pq_pages::{begin, check_params};
 use pq_planning::{PlannedQuery, plan_arranged};
 use pq_query_read::param_type;
-use pq_schema::{AlterDef, Catalog, Column, CounterDef, DEFINITIONS, TableDef, type_at};
+use pq_running::{begin, check_params};
+use pq_schema::{AlterDef, Catalog, Column, CounterDef, TableDef, type_at};
 use pq_text::{Piece, Token, tokens};
 use std::alloc::Global;
 

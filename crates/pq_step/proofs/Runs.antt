@@ -17,19 +17,20 @@ use Rattle.pq_calls.specs.World.{where_told}
 use Rattle.pq_plan.specs.Answer.{selected_values}
 use Rattle.pq_nodes.specs.Operators.{IsSoundOverRows, ShowsRead}
 use Rattle.pq_exec.specs.Execution.{RisesByUsed, RisesWithin}
-use Rattle.pq_pages.specs.Running.{IsPageOf, IsPageOver, Running, next_of, page_combos, page_size, query_bound}
+use Rattle.pq_running.specs.Running.{Running, next_of, page_combos, page_size, query_bound}
+use Rattle.pq_pages.specs.Paging.{IsPageOf, IsPageOver}
 use Rattle.pq_pages.specs.declared.page.Page.{Page}
-use Rattle.pq_step.specs.Evidence.{TellsEvidence}
-use Rattle.pq_step.specs.Matches.{Matches}
+use Rattle.pq_reports.specs.Evidence.{TellsEvidence}
+use Rattle.pq_reports.specs.Matches.{Matches}
 use Rattle.pq_catalog.specs.Model.{Model}
 use Rattle.pq_intent.specs.Spending.{TakesAtMost}
-use Rattle.pq_step.specs.Promise.{BrokenStatement, DoneStatement}
-use Rattle.pq_step.specs.Reports.{page_report}
+use Rattle.pq_reports.specs.Promise.{BrokenStatement, DoneStatement}
+use Rattle.pq_step.specs.Paged.{page_report}
 use Rattle.pq_catalog.specs.Stands.{Stands, others_of}
 use Rattle.pq_statement.specs.Actions.{Runs}
-use Rattle.pq_step.specs.Step.{page_of}
-use Rattle.pq_step.proofs.Promises.{broken_kept, within_step}
-use Rattle.pq_step.proofs.Writing.{settled_rows}
+use Rattle.pq_reports.specs.Step.{page_of}
+use Rattle.pq_reports.proofs.Promises.{broken_kept, within_step}
+use Rattle.pq_write.proofs.Writing.{settled_rows}
 
 -- ---- the page of a query
 

@@ -1,10 +1,1 @@
-pub mod Calls
-pub mod Checks
-pub mod Evidence
-pub mod Filling
-pub mod Matches
-pub mod Promise
-pub mod Refusing
-pub mod Reports
-pub mod Step
-pub mod Written
+pub mod Paged

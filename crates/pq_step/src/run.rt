@@ -5,10 +5,10 @@ ghost use Rattle.pq_schema.specs.Schema.{query_at};
 ghost use Rattle.pq_store.specs.Breaks.{IsAnswered};
 ghost use Rattle.pq_store.specs.Content.{HasBrokeCause};
 ghost use Rattle.pq_nodes.specs.Operators.{IsCursor};
-ghost use Rattle.pq_pages.specs.Running.{IsQueryNumber, running_with};
+ghost use Rattle.pq_running.specs.Running.{IsQueryNumber, running_with};
 ghost use Rattle.pq_statement.specs.Actions.{Runs};
-ghost use Rattle.pq_step.specs.Promise.{Promises};
-ghost use Rattle.pq_step.specs.Reports.{page_report};
+ghost use Rattle.pq_reports.specs.Promise.{Promises};
+ghost use Rattle.pq_step.specs.Paged.{page_report};
 
 use pq_base::{List, NoMem, Row};
 use pq_catalog::PlannedCatalog;

@@ -2,54 +2,35 @@
 ghost use Rattle.std.specs.Prelude.{◌≡◌, ◌≤◌, ◌<◌, ◌+◌, ◌⊎◌, IfOk, IfErr, IfSome, OnErr, Ok, Result, false};
 ghost use Rattle.pq_intent.specs.Spending.{TakesAtMost};
 ghost use Rattle.pq_store.specs.Content.{HasBrokeCause};
-ghost use Rattle.pq_print.specs.declared.report.End.TheVariants as End;
-ghost use Rattle.pq_base.specs.Answers.{Refuses};
 ghost use Rattle.pq_base.specs.declared.refusal.Refusal.{Refusal};
 ghost use Rattle.pq_catalog.specs.Model.{Model as Tables};
 ghost use Rattle.pq_store.specs.Breaks.{IsUndamaged, IsAnsweredBut};
-ghost use Rattle.pq_step.specs.Matches.{Matches};
-ghost use Rattle.pq_step.specs.Evidence.{TellsEvidence};
+ghost use Rattle.pq_reports.specs.Matches.{Matches};
+ghost use Rattle.pq_reports.specs.Evidence.{TellsEvidence};
 ghost use Rattle.pq_statement.specs.Actions.{Action, action_of, schema_after, statement_bound};
-ghost use Rattle.pq_step.specs.Promise.{Promises, IsBound, IsRefusal, IsWithinFixed, KeepsDamaged, OnlyReads};
-ghost use Rattle.pq_step.specs.Refusing.{CanEnd};
+ghost use Rattle.pq_reports.specs.Promise.{Promises, IsBound, IsRefusal, IsWithinFixed, KeepsDamaged, OnlyReads};
+ghost use Rattle.pq_reports.specs.Refusing.{CanEnd};
 ghost use Rattle.pq_statement.specs.Requests.{Asks, IsRequest};
 ghost use Rattle.pq_catalog.specs.Stands.{Stands, Opens, next_key};
 ghost use Rattle.pq_builds.specs.Bounds.{bound};
-ghost use Rattle.pq_step.specs.Step.{report_of, step, unread_report};
-ghost use Rattle.pq_planning.specs.Lines.{show_lines};
-ghost use Rattle.pq_step.specs.Written.{IsPrepareOf, IsDefinedAs};
+ghost use Rattle.pq_reports.specs.Step.{step, unread_report};
+ghost use Rattle.pq_check.specs.Written.{IsPrepareOf, IsDefinedAs};
 ghost use Rattle.pq_print.specs.Report.{is_refusal};
 ghost use Rattle.pq_schema.specs.declared.query.Query.{Query};
 
-use crate::alter::alter;
-use crate::counter::create_counter;
-use crate::define::{create, define_query, plan_report};
-use crate::read::read_count;
-use crate::reports::{NO_CALLS, unpaid_report, unread_report};
+use crate::prepare::define_query;
 use crate::run::run_query;
-use crate::write::make_write;
 use pq_base::{NoMem, Stopped};
 use pq_catalog::PlannedCatalog;
-use pq_planning::show_lines;
+use pq_define::{add_column, create, create_counter};
 use pq_print::Report;
-use pq_statement::{Request, asked};
+use pq_reports::{plan_report, request_of, show, unread_report};
+use pq_statement::Request;
 use pq_store::{Broke, Meter, Store};
 use pq_text::Piece;
+use pq_write::{make_write, read_count};
 use std::alloc::Global;
 use std::sync::ledger::Ledger;
-
-/// Shows the definitions, and the indexes that each of them made.
-pub(crate) fn show(
-    alloc: Global,
-    planned: PlannedCatalog,
-    number: u32,
-) -> Result<(PlannedCatalog, Report), NoMem>
-    ensures { IfOk result (λ made. made ≡ (planned, report_of number (show_lines planned) End.Done (bound 0 0))) }
-{
-    planned.known();
-    let lines = show_lines(alloc, planned.catalog())?;
-    Ok((planned, unpaid_report(number, lines, NO_CALLS)))
-}
 
 /// Makes one step of the model: the statement of a piece of the script, with its number. On an
 /// error the catalog is spent, and the store opens to what stood before the step or after it.
@@ -113,18 +94,6 @@ pub fn statement<S: Store<L>, L: Ledger>(
     make_piece(alloc, planned, number, piece, store, meter)
 }
 
-/// What a piece asks for, or the first refusal that needs no call of the store.
-pub(crate) fn request_of(
-    alloc: Global,
-    planned: &PlannedCatalog,
-    piece: &Piece,
-) -> Result<Request, Stopped>
-    ensures asks { IfOk result (λ request. Asks planned.now request (action_of planned.now piece.now)) }
-    ensures refused { IfErr result (λ stopped. Refuses stopped (action_of planned.now piece.now)) }
-{
-    asked(alloc, planned.catalog(), piece)
-}
-
 /// Makes what a piece asks for.
 fn make_piece<S: Store<L>, L: Ledger>(
     alloc: Global,
@@ -163,7 +132,7 @@ fn act<S: Store<L>, L: Ledger>(
 {
     match request {
         Request::Create(def) => create(alloc, planned, number, def, store, meter),
-        Request::Alter(def) => alter(alloc, planned, number, def, store, meter),
+        Request::Alter(def) => add_column(alloc, planned, number, def, store, meter),
         Request::Write(write) => make_write(alloc, planned, number, &write, store, meter),
         Request::Prepare(plan) => define_query(alloc, planned, number, plan, store, meter),
         Request::Explain(plan) => {

@@ -1,5 +1,5 @@
 //! The meter of store calls. It takes no bytes, and nothing but `charge` changes it.
-ghost use Rattle.std.specs.Prelude.{◌≡◌, ◌+◌, ◌≤◌};
+ghost use Rattle.std.specs.Prelude.{◌≡◌};
 ghost use Rattle.pq_store.specs.Counts.{no_counts, charged_counts};
 
 use std::marker::Model;

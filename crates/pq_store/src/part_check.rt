@@ -19,7 +19,7 @@ fn are_within(low: &[u8], high: &[u8], pairs: &[Pair]) -> bool
 }
 
 /// Whether the keys strictly rise.
-pub(crate) fn rise(pairs: &[Pair]) -> bool
+pub fn rise(pairs: &[Pair]) -> bool
     ensures { result ≡ is_rising (map entry pairs.now) }
 {
     let Some((first, rest)) = pairs.split_first() else {

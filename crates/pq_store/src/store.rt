@@ -16,7 +16,7 @@ pub struct Pair {
 }
 
 /// A pair of copies.
-pub(crate) fn pair_of(alloc: Global, key: &[u8], value: &[u8]) -> Result<Pair, NoMem>
+pub fn pair_of(alloc: Global, key: &[u8], value: &[u8]) -> Result<Pair, NoMem>
     ensures { IfOk result (λ pair. entry pair ≡ (key.now, value.now)) }
 {
     let key = Bytes::of_bytes(alloc, key)?;
@@ -53,7 +53,7 @@ pub enum StoreErr {
 /// answers, and its entries by those that it answers. A store tells its content or doesn't, and no
 /// call changes that. Its count of faults never falls.
 pub trait Store<L: Ledger> {
-    ghost use Rattle.std.specs.Prelude.{◌≡◌, ◌≤◌, ◌⊎◌, ℕ, List, Option, Some, None, false, IfSome, IfOk, OnOk, IsErrOf, map, take, length, min, ⊤};
+    ghost use Rattle.std.specs.Prelude.{◌≡◌, ◌≤◌, ◌⊎◌, ℕ, List, Option, None, false, IfSome, IfOk, OnOk, IsErrOf, map, take, length, min, ⊤};
     ghost use Rattle.std.specs.Option.{option_map, option_copied};
     ghost use Rattle.std.specs.FinMap.{get as value_at};
     ghost use Rattle.pq_store.specs.Counts.{charged_counts};

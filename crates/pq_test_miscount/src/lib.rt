@@ -2,7 +2,8 @@
 #![tactic(auto)]
 
 use pq_base::{Bytes, List};
-use pq_store::{Guard, MemStore, Meter, Pair, Store, StoreErr};
+use pq_mem_store::MemStore;
+use pq_store::{Guard, Meter, Pair, Store, StoreErr};
 use std::alloc::Global;
 use std::sync::ledger::Ledger;
 

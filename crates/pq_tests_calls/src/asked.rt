@@ -11,9 +11,11 @@ use crate::rows::{FALLING, TABLES};
 use pq_base::{NoMem, PText, Refusal, Stopped};
 use pq_compile::{Compiled, compile};
 use pq_def_read::{Statement, read_statement};
+use pq_definitions::{add_query, add_table};
+use pq_names::{is_name, is_spelt_table};
 use pq_plan::Physical;
 use pq_query_read::read_query;
-use pq_schema::{Catalog, Query, TableDef, is_name};
+use pq_schema::{Catalog, Query, TableDef};
 use pq_text::tokens;
 use std::alloc::Global;
 use std::test::Fail;
@@ -76,10 +78,10 @@ fn table_of(alloc: Global, text: &str) -> Result<TableDef, Stopped> {
 
 fn define_table(alloc: Global, catalog: &mut Catalog, text: &str) -> Result<(), Stopped> {
     let def = table_of(alloc, text)?;
-    if !def.is_spelt() {
+    if !is_spelt_table(&def) {
         return Err(Stopped::Refused(Refusal::Syntax { at: 0 }));
     }
-    let _number = catalog.add_table(alloc, def)?;
+    let _number = add_table(alloc, catalog, def)?;
     Ok(())
 }
 
@@ -89,7 +91,7 @@ fn define_query(alloc: Global, catalog: &mut Catalog, text: &str) -> Result<(), 
     if !is_name(&query.name) {
         return Err(Stopped::Refused(Refusal::Syntax { at: 0 }));
     }
-    let _number = catalog.add_query(alloc, query, made.wanted)?;
+    let _number = add_query(alloc, catalog, query, made.wanted)?;
     Ok(())
 }
 

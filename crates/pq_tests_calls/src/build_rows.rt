@@ -6,8 +6,9 @@ use crate::calls::store_of;
 use pq_base::{Bytes, ColType, Dir, List, NoMem, Row, Value};
 use pq_builds::{Built, NewQuery, Target, build_index, complete_index};
 use pq_key_code::{catalog_key, entry_key, row_key};
+use pq_mem_store::MemStore;
 use pq_schema::KeyPart;
-use pq_store::{Broke, MemStore, Meter, Pair, Store};
+use pq_store::{Broke, Meter, Pair, Store};
 use std::alloc::Global;
 use std::sync::ledger::Ledger;
 

@@ -7,7 +7,8 @@ use crate::build_rows::{
 use crate::calls::failing;
 use pq_base::{List, NoMem};
 use pq_builds::Built;
-use pq_store::{Broke, Damage, MemStore, Meter, Opening, Pair};
+use pq_mem_store::MemStore;
+use pq_store::{Broke, Damage, Meter, Opening, Pair};
 use std::alloc::Global;
 use std::marker::Brand;
 use std::sync::ledger::{Blank, Ledger};

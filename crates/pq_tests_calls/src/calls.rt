@@ -1,6 +1,8 @@
 //! Calls of a store with their answers, stores of listed pairs, and stores that fail at one call.
 use pq_base::{Bytes, List, NoMem};
-use pq_store::{Fail, FailingStore, Guard, MemStore, Meter, Pair, Store, StoreErr};
+use pq_mem_store::MemStore;
+use pq_store::{Guard, Meter, Pair, Store, StoreErr};
+use pq_test_faults::{Fail, FailingStore};
 use std::alloc::Global;
 use std::sync::ledger::Ledger;
 

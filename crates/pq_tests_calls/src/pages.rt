@@ -13,10 +13,11 @@ use pq_base::{Bound, Choice, List, NoMem, Row};
 use pq_fk_join::fk_join;
 use pq_index_scan::{index_scan, limit_range};
 use pq_local_ops::{first_k, keep_after, keep_matching, sort_combos};
+use pq_mem_store::MemStore;
 use pq_plan::{Combo, Physical};
 use pq_schema::{Catalog, Query};
 use pq_sorted_join::sorted_join;
-use pq_store::{Allowance, Broke, MemStore, Meter, Store};
+use pq_store::{Allowance, Broke, Meter, Store};
 use std::alloc::Global;
 use std::sync::ledger::Ledger;
 

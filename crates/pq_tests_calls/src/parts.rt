@@ -3,8 +3,10 @@ ghost use Rattle.std.specs.Prelude.{◌≡◌};
 
 use crate::calls::{Call, is_answered};
 use pq_base::{Bytes, List, NoMem};
+use pq_mem_store::MemStore;
 use pq_parts::{Part, PartStore};
-use pq_store::{Fail, FailingStore, Guard, MemStore, Meter, Opening, StoreErr};
+use pq_store::{Guard, Meter, Opening, StoreErr};
+use pq_test_faults::{Fail, FailingStore};
 use std::alloc::Global;
 use std::marker::Brand;
 use std::sync::ledger::{Blank, Ledger};

@@ -3,7 +3,8 @@ ghost use Rattle.std.specs.Prelude.{◌≡◌, length, IfOk};
 
 use pq_base::{Bytes, Dir, List, NoMem, Row, Value};
 use pq_key_code::{entry_key, row_key};
-use pq_store::{Broke, Guard, MemStore, Meter, Store};
+use pq_mem_store::MemStore;
+use pq_store::{Broke, Guard, Meter, Store};
 use std::alloc::Global;
 use std::sync::ledger::Ledger;
 

@@ -3,7 +3,8 @@
 ghost use Rattle.std.specs.Prelude.{◌≡◌, ◌<◌, ◌≤◌, IfOk, IfErr, vec_len};
 
 use pq_base::{Bytes, List, NoMem};
-use pq_store::{Guard, MemStore, Meter, Opening, Pair, Store, StoreErr};
+use pq_mem_store::MemStore;
+use pq_store::{Guard, Meter, Opening, Pair, Store, StoreErr};
 use std::alloc::Global;
 use std::marker::Brand;
 use std::sync::ledger::{Blank, Ledger};

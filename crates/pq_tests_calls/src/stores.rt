@@ -3,9 +3,8 @@ ghost use Rattle.std.specs.Prelude.{◌≡◌};
 
 use crate::calls::{Call, Texts, are_pairs, failing, is_answered, pairs_of};
 use pq_base::{Bound, List, NoMem};
-use pq_store::{
-    Allowance, Broke, Guard, MemStore, Meter, NotPairs, Opening, Pair, Store, StoreErr,
-};
+use pq_mem_store::{MemStore, NotPairs};
+use pq_store::{Allowance, Broke, Guard, Meter, Opening, Pair, Store, StoreErr};
 use std::alloc::Global;
 use std::marker::Brand;
 use std::sync::ledger::{Blank, Ledger};

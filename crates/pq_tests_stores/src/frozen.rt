@@ -3,8 +3,9 @@ ghost use Rattle.std.specs.Prelude.{◌≡◌};
 
 use pq_base::NoMem;
 use pq_frozen::Frozen;
+use pq_mem_store::MemStore;
 use pq_shell::Status;
-use pq_store::{MemStore, Meter, Opening};
+use pq_store::{Meter, Opening};
 use pq_test_tools::{RUNS, run_script, writes};
 use std::alloc::Global;
 use std::marker::Brand;

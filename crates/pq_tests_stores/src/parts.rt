@@ -2,8 +2,9 @@
 ghost use Rattle.std.specs.Prelude.{◌≡◌};
 
 use pq_base::{Bytes, List, NoMem};
+use pq_mem_store::MemStore;
 use pq_parts::{Part, PartStore};
-use pq_store::{MemStore, Meter, Opening};
+use pq_store::{Meter, Opening};
 use pq_test_tools::{RUNS, writes};
 use std::alloc::Global;
 use std::marker::Brand;

@@ -2,7 +2,9 @@
 ghost use Rattle.std.specs.Prelude.{◌≡◌};
 
 use pq_base::{Bytes, List};
-use pq_store::{FailingStore, Guard, MemStore, Meter, Pair, Store, StoreErr};
+use pq_mem_store::MemStore;
+use pq_store::{Guard, Meter, Pair, Store, StoreErr};
+use pq_test_faults::FailingStore;
 use std::alloc::Global;
 use std::sync::ledger::Ledger;
 

@@ -1,4 +1,4 @@
-use Rattle.pq_pages.proofs.Begins.{cursor_long}
+use Rattle.pq_running.proofs.Begins.{cursor_long}
 use Rattle.pq_pages.proofs.page.cursor_at.Goals as goal
 
 pub cursor_text-requires : goal.cursor_text-requires

@@ -1,7 +1,7 @@
 use Rattle.std.proofs.Common.{◌≡◌, length, option_copied, refl, arith}
 use Rattle.pq_schema.specs.Schema.{query_at}
 use Rattle.pq_exec.specs.Execution.{AnswersQuery}
-use Rattle.pq_pages.specs.Running.{next_cursor}
+use Rattle.pq_running.specs.Running.{next_cursor}
 use Rattle.pq_pages.proofs.Pages.{within_bound, defined_asked, defined_resolved, defined_plan, answer_page}
 use Rattle.pq_pages.proofs.page.run_page.Goals as goal
 

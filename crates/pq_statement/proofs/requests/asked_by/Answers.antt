@@ -2,7 +2,7 @@ use Rattle.std.proofs.Common.{◌≡◌, ℕ, List, Option, Ok, ap, sym, subst, 
 use Rattle.std.proofs.lemmas.Result.{err_from_is_err_and}
 use Rattle.pq_base.specs.Answers.{Refuses}
 use Rattle.pq_index_keep.specs.Checking.{IsWriting}
-use Rattle.pq_pages.specs.Running.{Running, running_of}
+use Rattle.pq_running.specs.Running.{Running, running_of}
 use Rattle.pq_statement.specs.Actions.{Explains, Prepares, Reads, Runs, action_from}
 use Rattle.pq_planning.specs.Names.{IsNamedStatement}
 use Rattle.pq_planning.specs.Planned.{IsPlanned}

@@ -1,7 +1,7 @@
 use Rattle.std.proofs.Common.{◌≡◌, Some, None, Err, ◌∙◌, sym}
 use Rattle.std.proofs.lemmas.Result.{err_from_is_err_and}
 use Rattle.pq_base.specs.Answers.{Passes}
-use Rattle.pq_pages.specs.Running.{params_refusal}
+use Rattle.pq_running.specs.Running.{params_refusal}
 use Rattle.pq_schema.specs.Schema.{find_counter}
 use Rattle.pq_statement.specs.Readings.{reading_types}
 use Rattle.pq_statement.proofs.Found.{no_such_counter, read_refused, reads_found}

@@ -1,7 +1,7 @@
 use Rattle.std.proofs.Common.{◌≡◌, Some, None, Ok, ◌∙◌, sym, option_copied}
 use Rattle.std.proofs.lemmas.Result.{err_from_is_err_and}
 use Rattle.pq_schema.specs.Schema.{find_query, query_at}
-use Rattle.pq_pages.specs.Running.{cursor_start}
+use Rattle.pq_running.specs.Running.{cursor_start}
 use Rattle.pq_statement.proofs.Found.{found_query, no_such_query, of_number, run_refused}
 use Rattle.pq_statement.proofs.requests.asked_run.Goals as goal
 

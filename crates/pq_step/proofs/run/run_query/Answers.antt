@@ -2,7 +2,7 @@ use Rattle.std.proofs.Common.{option_copied}
 use Rattle.std.proofs.lemmas.Result.{err_from_is_err_and}
 use Rattle.pq_store.specs.declared.damage.Broke.TheVariants.{NoMem}
 use Rattle.pq_schema.specs.Schema.{query_at}
-use Rattle.pq_pages.specs.Running.{running_with}
+use Rattle.pq_running.specs.Running.{running_with}
 use Rattle.pq_step.proofs.Runs.{page_done, page_broke}
 use Rattle.pq_step.proofs.run.run_query.Goals as goal
 

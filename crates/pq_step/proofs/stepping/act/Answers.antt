@@ -3,15 +3,15 @@ use Rattle.std.proofs.lemmas.Result.{err_from_is_err_and}
 use Rattle.pq_statement.specs.Actions.{Runs, action_from}
 use Rattle.pq_statement.specs.Requests.{Asks}
 use Rattle.pq_statement.specs.declared.requests.Request.{Request}
-use Rattle.pq_step.proofs.Defining.{explained_lines}
-use Rattle.pq_step.proofs.Promises.{broken_same, explained_done, shown_done}
+use Rattle.pq_reports.proofs.Planned.{explained_lines}
+use Rattle.pq_reports.proofs.Promises.{broken_same, explained_done, shown_done}
 use Rattle.pq_step.proofs.stepping.act.Goals as goal
 
 pub create-requires : goal.create-requires
 create-requires g c = (subst (λ (r : Request). Asks c.args.planned r c.requires.0) c.in-Create.is c.requires.1).0
 
-pub alter-requires : goal.alter-requires
-alter-requires g c = (subst (λ (r : Request). Asks c.args.planned r c.requires.0) c.in-Alter.is c.requires.1).0
+pub add_column-requires : goal.add_column-requires
+add_column-requires g c = (subst (λ (r : Request). Asks c.args.planned r c.requires.0) c.in-Alter.is c.requires.1).0
 
 pub make_write-requires : goal.make_write-requires
 make_write-requires g c = (subst (λ (r : Request). Asks c.args.planned r c.requires.0) c.in-Write.is c.requires.1).0
@@ -45,7 +45,7 @@ returns-in-Create-clause-step g c asked asks =
 pub returns-in-Alter-clause-step : goal.returns-in-Alter-clause-step
 returns-in-Alter-clause-step g c asked asks =
     let a = subst (λ (r : Request). Asks c.args.planned r asked) c.in-Alter.is asks in
-    rw a.1 c.alter.ensures.step
+    rw a.1 c.add_column.ensures.step
 
 pub returns-in-Write-clause-step : goal.returns-in-Write-clause-step
 returns-in-Write-clause-step g c asked asks =

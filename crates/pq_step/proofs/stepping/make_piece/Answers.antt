@@ -1,4 +1,4 @@
-use Rattle.pq_step.proofs.Promises.{broken_same}
+use Rattle.pq_reports.proofs.Promises.{broken_same}
 use Rattle.pq_step.proofs.stepping.make_piece.Goals as goal
 
 pub returns-in-Err-NoMem-clause-step : goal.returns-in-Err-NoMem-clause-step

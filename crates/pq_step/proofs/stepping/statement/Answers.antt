@@ -1,5 +1,5 @@
-use Rattle.pq_step.proofs.Promises.{promised_can, promised_kept, promised_own, promised_reads, promised_made, promised_matches, promised_next, promised_shown, promised_lasting, promised_stopped, promised_unread, promised_within}
-use Rattle.pq_step.proofs.Written.{promised_as}
+use Rattle.pq_reports.proofs.Promises.{promised_can, promised_kept, promised_own, promised_reads, promised_made, promised_matches, promised_next, promised_shown, promised_lasting, promised_stopped, promised_unread, promised_within}
+use Rattle.pq_check.proofs.Written.{promised_as}
 use Rattle.pq_step.proofs.stepping.statement.Goals as goal
 
 pub returns-clause-matches : goal.returns-clause-matches

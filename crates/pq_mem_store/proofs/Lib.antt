@@ -1,0 +1,4 @@
+pub mod HeldPairs
+pub mod PairMaps
+pub mod Hashed
+pub mod Split

@@ -1,0 +1,19 @@
+-- The page of a query's answer.
+use Rattle.std.specs.Prelude.{◌≡◌, List, Option, map}
+use Rattle.pq_schema.specs.Rows.{Rows}
+use Rattle.pq_schema.specs.declared.table.Table.{Table}
+use Rattle.pq_store.specs.Content.{Content}
+use Rattle.pq_content.specs.Pairs.{Pair, HoldsRows}
+use Rattle.pq_plan.specs.Answer.{selected_values}
+use Rattle.pq_running.specs.Running.{Running, page_combos, page_size, next_of}
+use Rattle.pq_pages.specs.declared.page.Page.{Page}
+
+-- its rows in order, and the cursor of the next page
+pub record IsPageOver (tables : List Table) (held : Rows) (running : Running) (page : Page) : Type 0 where
+  pub rows : page.rows ≡ map (selected_values running.query) (page_combos tables held running)
+  pub next : page.next ≡ next_of tables held running (page_size running.query.stop) (page_combos tables held running)
+
+-- over a content that holds rows it is the page over these
+abbrev pub IsPageOf : Option Content → List Table → Running → Page → Type 0
+IsPageOf told tables running page =
+    (rows : Rows) (others : List Pair) → HoldsRows told tables rows others → IsPageOver tables rows running page

@@ -1,0 +1,6 @@
+//! PREPARE of a query that wants an index, which is filled.
+#![tactic(auto)]
+
+mod prepare;
+
+pub use prepare::build_query;

@@ -1,6 +1,0 @@
-use Rattle.std.proofs.Common.{◌≡◌, take, map}
-use Rattle.pq_schema.specs.Definitions.{foreign_of_def}
-use Rattle.pq_schema.proofs.catalog.Catalog.foreign_of.Given as goal
-
-abbrev pub invariant-loop-def : goal.invariant-loop-def
-invariant-loop-def l = l.foreign ≡ map (foreign_of_def l.self l.columns) (take l.def-index l.defs)

@@ -1,6 +1,0 @@
-use Rattle.std.proofs.Common.{◌≡◌, drop}
-use Rattle.pq_store.specs.Faults.{listed_fail}
-use Rattle.pq_store.proofs.failing.find_call.Given as goal
-
-abbrev pub invariant-loop-fail : goal.invariant-loop-fail
-invariant-loop-fail l = listed_fail l.number (drop l.fail-index l.fails) ≡ listed_fail l.number l.fails

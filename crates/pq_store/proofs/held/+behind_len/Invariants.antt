@@ -1,5 +1,0 @@
-use Rattle.std.proofs.Common.{length}
-use Rattle.pq_store.proofs.held.+behind_len.Given as goal
-
-abbrev pub decreases-behind_len : goal.decreases-behind_len
-decreases-behind_len l = length l.bytes.now

@@ -1,9 +1,0 @@
-use Rattle.pq_store.specs.Split.{first_number}
-use Rattle.pq_store.proofs.Split.{are_none, both_none}
-use Rattle.pq_store.proofs.late_pairs.LatePairs.new.Goals as goal
-
-pub invariant_of-result : goal.invariant_of-result
-invariant_of-result c = rw (c.new.ensures, c.new-2.ensures) (are_none first_number)
-
-pub returns : goal.returns
-returns c = rw (c.new.ensures, c.new-2.ensures) (both_none first_number)
