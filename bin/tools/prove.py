@@ -1,6 +1,5 @@
 """Proves a program in a copy of the checkout that has its crates alone, and takes the build from there."""
 
-import concurrent.futures
 import os
 import pathlib
 import shutil
@@ -21,8 +20,7 @@ def tell(line: str) -> None:
     print(f"prove: {line}", file=sys.stderr, flush=True)
 
 
-# A crate that so large a part of the others stand on, and that has so many bytes of sources, is proved before them; one
-# that stands on so large a part of them is proved after the others.
+# A crate that so large a part of the others stand on, and that has so many bytes of sources, is proved before them.
 MOST, LARGE = 2 / 3, 100_000
 
 
@@ -50,13 +48,6 @@ def alone(repository: Repository, program: str) -> list[str]:
     ]
 
 
-def last(repository: Repository, program: str) -> list[str]:
-    """The crates that stand on most of the others, lowest first, without the program itself: they are proved after the
-    others, each as soon as those below it are proved."""
-    crates = closure(repository, program)
-    return [name for name in crates if name != program and len(repository.below(name)) >= MOST * (len(crates) - 1)]
-
-
 def beside(repository: Repository, program: str, first: str) -> list[str]:
     """The crates that can be proved beside one that the others wait for: those that don't stand on it."""
     return [
@@ -73,24 +64,6 @@ def start(names: list[str], room: pathlib.Path, log: BinaryIO, processors: int |
     return subprocess.Popen(["rt", "ci", *names], cwd=room, **how)
 
 
-def prove_last(repository: Repository, names: list[str], room: pathlib.Path, log: BinaryIO) -> bool:
-    """Proves each of these crates by a run of its own, as soon as those of them that it stands on are proved. One run over
-    two that are ready at once would give each one processor, and two runs give each half of them. False where one isn't
-    proved: what runs then is waited for, and nothing else is begun."""
-    left, proved = list(names), set[str]()
-    with concurrent.futures.ThreadPoolExecutor(max(1, len(names))) as pool:
-        runs: dict[concurrent.futures.Future[int], str] = {}
-        while left or runs:
-            for name in [name for name in left if repository.below(name) & {*names} <= proved]:
-                left.remove(name)
-                runs[pool.submit(start([name], room, log).wait)] = name
-            for run in concurrent.futures.wait(runs, return_when=concurrent.futures.FIRST_COMPLETED).done:
-                proved.add(runs.pop(run))
-                if run.result() != 0:
-                    return False
-    return True
-
-
 def run_all(repository: Repository, program: str, room: pathlib.Path, log: BinaryIO) -> bool:
     """Proves the crates of the copy. What a run comes to while another one proves it, it takes from there."""
     half = max(1, (os.cpu_count() or 1) // 2)
@@ -100,10 +73,6 @@ def run_all(repository: Repository, program: str, room: pathlib.Path, log: Binar
             if names := beside(repository, program, first):
                 others.append(start(names, room, log, half))
             if start([first], room, log).wait() != 0:
-                return False
-        if names := last(repository, program):
-            lower = [name for name in closure(repository, program) if name not in {*names, program}]
-            if start(lower, room, log).wait() != 0 or not prove_last(repository, names, room, log):
                 return False
         return start([], room, log).wait() == 0
     finally:

@@ -78,27 +78,6 @@ class ProveTest(unittest.TestCase):
         self.assertEqual(sorted(runs), sorted(["all ci low", f"{half} ci side", "all ci"]))
         self.assertLess(runs.index("all ci low"), runs.index("all ci"))
 
-    def runs_of(self, rt: str) -> list[str]:
-        """What the toolchain is called with, in turn, for a program over seven crates, three of which stand on most."""
-        (self.top / "crates.txt").write_text(
-            "low:\na: low\nb: a\nc: b\nd: c\nleft: d\nright: d\none: left right\n"
-        )
-        for name in ("a", "b", "c", "d", "left", "right"):
-            (self.top / "crates" / name / "src").mkdir(parents=True, exist_ok=True)
-        noted = self.top / "runs"
-        noted.unlink(missing_ok=True)
-        self.prove(f'echo "$*" >>{noted}\n{rt}', "one")
-        return noted.read_text().splitlines()
-
-    def test_crates_that_stand_on_most_others_are_proved_after_them_each_by_its_own_run(self) -> None:
-        runs = self.runs_of("exit 0\n")
-        self.assertEqual((runs[0], sorted(runs[1:3]), runs[3:]), ("ci low a b c d", ["ci left", "ci right"], ["ci"]))
-
-    def test_behind_what_is_not_proved_nothing_is_begun(self) -> None:
-        self.assertEqual(self.runs_of("exit 1\n"), ["ci low a b c d"])
-        runs = self.runs_of('[ "$*" != "ci left" ]\n')
-        self.assertEqual(sorted(runs), ["ci left", "ci low a b c d", "ci right"])
-
     def test_what_is_no_program_is_told(self) -> None:
         for words in (["low"], ["nothing"], ["../one"], [""], [], ["one", "low"]):
             run = self.prove(BUILT, *words)
