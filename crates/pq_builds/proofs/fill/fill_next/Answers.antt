@@ -1,4 +1,4 @@
-use Rattle.std.proofs.Common.{◌≡◌, ◌∙◌, sym, ap, subst, map, length, List, arith}
+use Rattle.std.proofs.Common.{◌≡◌, ◌∙◌, refl, sym, ap, subst, map, length, List, arith}
 use Rattle.std.proofs.lemmas.List.{length-map}
 use Rattle.std.proofs.lemmas.Result.{err_from_is_err_and}
 use Rattle.pq_store.specs.Content.{entry}
@@ -59,3 +59,15 @@ pub returns-in_err-write_entries-clause-answered : goal.returns-in_err-write_ent
 returns-in_err-write_entries-clause-answered g c =
     let p = err_from_is_err_and c.from_residual-in_err-write_entries.result c.from_residual-in_err-write_entries.ensures.1 in
     rw (p.1, p.2) (among_answered g.S.Store.answers c.args.key.now (target_shape c.args.target.now) (map entry c.items-5.result.now) (rw c.items-5.ensures c.in-Ok.ensures.answered) _ c.in_err-write_entries.ensures.damage)
+
+pub returns-in_err-high-clause-stopped : goal.returns-in_err-high-clause-stopped
+returns-in_err-high-clause-stopped g c = on_err_holds c.from_residual.result (some_same c.args.target.now c.args.target.now.table c.args.low (g.S.Store.content c.args.store.now) _ refl)
+
+pub returns-in-Err-clause-stopped : goal.returns-in-Err-clause-stopped
+returns-in-Err-clause-stopped g c = some_same c.args.target.now c.args.target.now.table c.args.low (g.S.Store.content c.args.store.now) _ c.range.ensures.same
+
+pub returns-in_err-miscounted-clause-stopped : goal.returns-in_err-miscounted-clause-stopped
+returns-in_err-miscounted-clause-stopped g c = on_err_holds c.from_residual-in_err-miscounted.result (some_same c.args.target.now c.args.target.now.table c.args.low (g.S.Store.content c.args.store.now) _ c.range.ensures.same)
+
+pub returns-in_err-next-clause-stopped : goal.returns-in_err-next-clause-stopped
+returns-in_err-next-clause-stopped g c = on_err_holds c.from_residual-in_err-next.result (some_same c.args.target.now c.args.target.now.table c.args.low (g.S.Store.content c.args.store.now) _ c.range.ensures.same)
