@@ -201,7 +201,8 @@ last_table tables table t is =
     ap (λ k. get_or (tables ++ table ∷ []) k no_table) place ∙ get_or-append_seam tables table [] no_table
 
 -- what the write of a definition's pair promises
-abbrev pub IsWritten : Option Content → Option Content → Schema → ℕ → List Line → Counts → Counts → Result (Schema × Report) Broke → Type 0
+abbrev pub IsWritten : Option Content → Option Content → Schema → ℕ → List Line → Counts → Counts
+    → Result (Schema × Report) Broke → Type 0
 IsWritten old now next number lines before after result =
     IfOk result (λ made. (made.0 ≡ next) × (made.1 ≡ define_report number lines))
     × OnOk result (PutsNew true (last_key next) (last_value next) old now)

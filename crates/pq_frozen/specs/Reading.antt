@@ -13,7 +13,8 @@ use Rattle.pq_reports.specs.Step.{step}
 abbrev pub AllRead : Schema → List Piece → Type 0
 AllRead schema pieces = All (λ piece. OnlyReads (action_of schema piece)) pieces
 
--- each report is that of the model's step for its piece, but for what was used; the pieces are numbered from a number on
+-- each report is that of the model's step for its piece, but for what was used; the pieces are numbered from a
+-- number on
 abbrev pub AreAnswers : Model → ℕ → List Piece → List Report → Type 0
 AreAnswers m number [] [] = Unit {0}
 AreAnswers m number [] (report ∷ reports) = ⊥

@@ -17,7 +17,6 @@ use Rattle.pq_text.specs.declared.piece.Piece.{Piece}
 use Rattle.std.proofs.lemmas.Bool.{false≢true}
 use Rattle.pq_print.specs.Report.{printed_report, is_refusal, is_refused}
 use Rattle.pq_print.specs.declared.report.End.{End}
-use Rattle.pq_print.specs.declared.report.End.TheVariants as End
 use Rattle.pq_print.specs.declared.report.Report.{Report}
 use Rattle.pq_statement.specs.Actions.{action_of, schema_after, statement_bound}
 use Rattle.pq_check.specs.Checks.{checked_as, check_step, without_rows}
