@@ -27,7 +27,9 @@ COMMANDS = ("piql", "piql_file", "piql_clients", "tell", "plan", "dump", "piql-s
 MODULES = """__init__ clients command dump kept launch picture plan plans pointing programs repository shapes statuses
 tell versions words""".split()
 FOLDERS = {"docs": "*.*", "docs/scripts": "*", "examples": "*.*", "drivers/python/piql": "**/*", "site": "**/*"}
-FILES = ("README.md", "CHANGES.md", "CONTRIBUTING.md", "drivers/python/pyproject.toml", "drivers/python/package.py")
+FILES = ("README.md", "CHANGES.md", "CONTRIBUTING.md", "LICENSE", "NOTICE") + tuple(
+    f"drivers/python/{name}" for name in ("pyproject.toml", "package.py")
+)
 PASSED = re.compile(r"[1-9][0-9]* passed, 0 failed")
 Contents = dict[str, tuple[bytes, int]]
 

@@ -25,15 +25,18 @@ def metadata() -> str:
         f"Version: {of['version']}",
         f"Summary: {of['description']}",
         f"Requires-Python: {of['requires-python']}",
+        f"License: {of['license']}",
     ]
     return "\n".join(lines) + "\n"
 
 
 def contents(info: str) -> dict[str, bytes]:
-    """The files of the wheel by their names. The document of refusals goes in with the modules."""
+    """The files of the wheel by their names. The document of refusals and the licence go in with the modules."""
     paths = sorted(path for pattern in FILES for path in (HERE / "piql").rglob(pattern))
     found = {str(path.relative_to(HERE)): path.read_bytes() for path in paths}
     found["piql/REFUSALS.md"] = (HERE.parents[1] / "docs" / "REFUSALS.md").read_bytes()
+    for name in ("LICENSE", "NOTICE"):
+        found[f"{info}/{name}"] = (HERE.parents[1] / name).read_bytes()
     found[f"{info}/METADATA"] = metadata().encode()
     found[f"{info}/WHEEL"] = b"Wheel-Version: 1.0\nGenerator: package\nRoot-Is-Purelib: true\nTag: py3-none-any\n"
     return found

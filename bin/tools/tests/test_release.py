@@ -65,6 +65,14 @@ class ContentsTest(unittest.TestCase):
     def test_the_package_has_the_same_version(self) -> None:
         self.assertIn(f'\nversion = "{NUMBER}"\n', (TOP / "drivers/python/pyproject.toml").read_text())
 
+    def test_the_notice_names_each_library_that_a_program_has_inside(self) -> None:
+        repository = Repository(TOP)
+        crates = {name for program in release.program_names(repository) for name in (program, *repository.below(program))}
+        libraries = {used for name in crates for used in repository.uses[name]} - set(repository.uses)
+        notice = (self.release.top / "NOTICE").read_text()
+        self.assertEqual({name for name in libraries if f"\n  {name} " not in notice}, set())
+        self.assertIn("sqlite", libraries)
+
     def test_the_same_is_packed_in_the_same_bytes(self) -> None:
         found = release.contents(TOP, {}, GATE)
         self.assertEqual(release.pack(found, "a", 1), release.pack(dict(reversed(found.items())), "a", 1))

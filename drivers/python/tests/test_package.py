@@ -22,3 +22,7 @@ class PackageTest(unittest.TestCase):
         run = subprocess.run([sys.executable, "-c", code], cwd=folder, capture_output=True, text=True)
         self.assertEqual(run.stdout, f"{folder}/piql/__init__.py True\n", run.stderr)
         self.assertTrue((folder / "piql/py.typed").exists())
+        (info,) = folder.glob("piql-*.dist-info")
+        self.assertIn("\nLicense: Apache-2.0\n", (info / "METADATA").read_text())
+        for name in ("LICENSE", "NOTICE"):
+            self.assertEqual((info / name).read_bytes(), (TOP / name).read_bytes())
