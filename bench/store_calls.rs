@@ -242,6 +242,37 @@ fn runs(calls: &mut Calls, count: i64, script: bool) {
     }
 }
 
+/// The row of 28 columns: its key, and behind it numbers and texts in turns.
+fn wide_row(group: i64, id: i64) -> Vec<u8> {
+    let number = group * 60 + id;
+    let texts: Vec<String> = (0..13).map(|at| format!("text {number} of {at:02}")).collect();
+    let mut cells = vec![Int(group), Int(id)];
+    for (at, text) in texts.iter().enumerate() {
+        cells.push(Int(scattered(number + at as i64, 7_919)));
+        cells.push(Text(text));
+    }
+    row(&cells)
+}
+
+fn wide(calls: &mut Calls, count: i64, script: bool) {
+    let groups = (count / 20).max(1);
+    let columns: Vec<String> = (0..13).map(|at| format!("n{at:02} INT, t{at:02} TEXT(20)")).collect();
+    let columns = columns.join(", ");
+    calls.define(1, &format!("CREATE TABLE wide (grp INT, id INT, {columns}, PRIMARY KEY (grp, id));"));
+    calls.define(2, "PREPARE page AS SELECT x.id, x.n06, x.t01, x.t12 FROM wide AS x WHERE x.grp = [1] ORDER BY x.id LIMIT 50;");
+    for group in 0..groups {
+        for id in 0..60 {
+            let key = coded(&[2, 1], &[Int(group), Int(id)]);
+            calls.look(&key);
+            calls.write(key, wide_row(group, id), vec![]);
+        }
+    }
+    for number in 0..if script { count } else { 0 } {
+        let prefix = coded(&[2, 1], &[Int(number % groups)]);
+        calls.call(Call::Range(prefix.clone(), past(&prefix), 50));
+    }
+}
+
 fn name(user: i64) -> String {
     format!("u{user:05}")
 }
@@ -320,6 +351,7 @@ fn main() {
         "inserts" => inserts(&mut calls, count, script),
         "indexes" => indexes(&mut calls, count, script),
         "runs" => runs(&mut calls, count, script),
+        "wide" => wide(&mut calls, count, script),
         "fill" | "feed" => {
             site(&mut calls);
             if script || workload == "feed" {

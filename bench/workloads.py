@@ -1,18 +1,16 @@
 """The workloads: each is a script for the engine, and the same statements for SQLite.
 
-    workloads.py NAME COUNT FOLDER
-
-writes FOLDER/ground.piql, FOLDER/script.piql and the same two for SQLite, with the ending sql. The ground is what the
-timed statements stand on, and the script is the ground with them behind it. It prints how many they are, and what.
-Where the timed statements are runs of one query, FOLDER/query.sql has it with a parameter, FOLDER/values a value a line
-for each of them, and FOLDER/none nothing.
+A workload is written into a folder as ground.piql and script.piql, and the same two for SQLite with the ending sql. The
+ground is what the timed statements stand on, and the script is the ground with them behind it. Where the timed
+statements are runs of one query, query.sql has it with a parameter, values a value a line for each of them, and none
+nothing.
 
 SQLite has no limits on how many rows share values, so its tables have an index in place of each limit, and it checks
 less than the engine does.
 """
 
 import pathlib
-import sys
+from collections.abc import Iterator
 from dataclasses import dataclass
 
 # An odd factor and a prime: their products fall all over the range.
@@ -36,27 +34,25 @@ class Workload:
     query: str | None = None
     values: list[str] | None = None
 
-    def write_prepared(self, folder):
-        pathlib.Path(folder, "query.sql").write_text(self.query)
-        pathlib.Path(folder, "values").write_text("\n".join(self.values) + "\n")
-        pathlib.Path(folder, "none").write_text("")
-
-    def write(self, folder):
-        if self.query is not None:
-            self.write_prepared(folder)
+    def write(self, folder: pathlib.Path) -> None:
+        """Writes its files into the folder."""
+        if self.query is not None and self.values is not None:
+            (folder / "query.sql").write_text(self.query)
+            (folder / "values").write_text("\n".join(self.values) + "\n")
+            (folder / "none").write_text("")
         grounds = {"piql": self.tables + self.ground, "sql": self.sql_tables + self.ground}
         timed = {"piql": self.timed, "sql": self.timed if self.sql_timed is None else self.sql_timed}
         for ending, ground in grounds.items():
-            pathlib.Path(folder, f"ground.{ending}").write_text("\n".join(ground) + "\n")
-            pathlib.Path(folder, f"script.{ending}").write_text("\n".join(ground + timed[ending]) + "\n")
+            (folder / f"ground.{ending}").write_text("\n".join(ground) + "\n")
+            (folder / f"script.{ending}").write_text("\n".join(ground + timed[ending]) + "\n")
 
 
-def scattered(number, factor):
+def scattered(number: int, factor: int) -> int:
     """The number's place among those below the prime, in no order."""
     return number * factor % PRIME
 
 
-def inserts(count):
+def inserts(count: int) -> Workload:
     """INSERTs into a table with two limits and a foreign key, 20 rows for each of its parents."""
     parents = max(count // 20, 1)
     rows = []
@@ -83,7 +79,7 @@ def inserts(count):
     )
 
 
-def indexes(count):
+def indexes(count: int) -> Workload:
     """INSERTs into a table with two indexes, whose values come in no order."""
     return Workload(
         f"{count:,} INSERTs into a table with two indexes, values in no order",
@@ -104,7 +100,7 @@ def indexes(count):
     )
 
 
-def runs(count):
+def runs(count: int) -> Workload:
     """A query by the key, for each row of a table."""
     keys = [scattered(row, FACTORS[0]) % count for row in range(count)]
     query = "SELECT x.v FROM m AS x WHERE x.id = {};"
@@ -145,11 +141,11 @@ SQL_SITE = [
 ]
 
 
-def name(user):
+def name(user: int) -> str:
     return f"u{user:05}"
 
 
-def site_rows(users):
+def site_rows(users: int) -> Iterator[str]:
     """The INSERTs of the generated script."""
     for user in range(users):
         yield f"INSERT INTO users VALUES ('{name(user)}', 'c{user % 10}');"
@@ -168,13 +164,13 @@ SITE_QUERY = (
 )
 
 
-def site_runs(users):
+def site_runs(users: int) -> tuple[list[str], list[str]]:
     """Its RUNs, and the same for SQLite."""
     names = [name(user) for user in range(users)]
     return [f"RUN home ('{user}');" for user in names], [SITE_QUERY.format(f"'{user}'") for user in names]
 
 
-def fill(count):
+def fill(count: int) -> Workload:
     """The generated script of `fill`, whole."""
     rows = list(site_rows(count))
     asked, selects = site_runs(count)
@@ -182,21 +178,44 @@ def fill(count):
     return Workload(text, SITE, SQL_SITE, [], rows + asked, rows + selects)
 
 
-def feed(count):
+def feed(count: int) -> Workload:
     """The RUNs of the same script alone: a page of ten, of whom a user follows."""
     asked, selects = site_runs(count)
     text, values = f"{count:,} RUNs of a follower's feed", [name(user) for user in range(count)]
     return Workload(text, SITE, SQL_SITE, list(site_rows(count)), asked, selects, SITE_QUERY.format("?"), values)
 
 
-WORKLOADS = {"fill": fill, "inserts": inserts, "indexes": indexes, "runs": runs, "feed": feed}
+# Of the columns behind the key one half are numbers and the other one texts.
+WIDE_PAIRS = 13
+WIDE_ROWS = 60
+WIDE_RUNS = 20
 
 
-def main(workload, count, folder):
-    made = WORKLOADS[workload](int(count))
-    made.write(folder)
-    print(len(made.timed), made.text)
+def wide_row(group: int, row: int) -> str:
+    """The INSERT of a row of 28 columns."""
+    number = group * WIDE_ROWS + row
+    cells = [f"{scattered(number + at, FACTORS[0])}, 'text {number} of {at:02}'" for at in range(WIDE_PAIRS)]
+    return f"INSERT INTO wide VALUES ({group}, {row}, {', '.join(cells)});"
 
 
-if __name__ == "__main__":
-    main(*sys.argv[1:])
+def wide(count: int) -> Workload:
+    """Pages of 50 rows of 28 columns, of which four are selected."""
+    groups = max(count // WIDE_RUNS, 1)
+    rows = [wide_row(group, row) for group in range(groups) for row in range(WIDE_ROWS)]
+    columns = ", ".join(f"n{at:02} INT, t{at:02} TEXT{{size}}" for at in range(WIDE_PAIRS))
+    table = f"CREATE TABLE wide (grp INT, id INT, {columns}, PRIMARY KEY (grp, id))"
+    query = "SELECT x.id, x.n06, x.t01, x.t12 FROM wide AS x WHERE x.grp = {} ORDER BY x.id LIMIT 50;"
+    keys = [str(number % groups) for number in range(count)]
+    return Workload(
+        f"{count:,} RUNs of a page of 50 rows of 28 columns, of which 4 are selected",
+        [f"{table.format(size='(20)')};", f"PREPARE page AS {query.format('[1]')}"],
+        [f"{table.format(size='')} WITHOUT ROWID;"],
+        rows,
+        [f"RUN page ({key});" for key in keys],
+        [query.format(key) for key in keys],
+        query.format("?"),
+        keys,
+    )
+
+
+WORKLOADS = {"fill": fill, "inserts": inserts, "indexes": indexes, "runs": runs, "feed": feed, "wide": wide}
