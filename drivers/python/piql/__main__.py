@@ -11,15 +11,14 @@
 
 import argparse
 import os
-import re
 import sys
 
 from . import connect, shell
 from .bounds import BoundsRose, check_bounds, write_bounds
 from .errors import Error
 from .hosts.script import run_url
-from .hosts.urls import is_url
 from .load import load
+from .marks import mark_path
 from .migrate import migrate
 from .rebuild import Values, rebuild
 from .values import read_literal
@@ -52,17 +51,12 @@ def run_backup(given: argparse.Namespace) -> int:
     return 0
 
 
-def mark_name(file: str) -> str:
-    """What the file is named after that keeps how far a load came."""
-    return re.sub(r"\W+", "_", file) if is_url(file) else file.removeprefix("unix:")
-
-
 def run_load(given: argparse.Namespace) -> int:
     """Loads a CSV file."""
-    mark = given.mark or f"{mark_name(given.file)}.{given.table}.load"
-    # The lines of a CSV text end as its records say, so they are read as they are.
-    source = open(sys.stdin.fileno(), newline="", encoding="utf-8", closefd=False)
+    # The lines of a CSV text end as its records say, so they are read as they are; what is no UTF-8 is one record's.
+    source = open(sys.stdin.fileno(), newline="", encoding="utf-8", errors="surrogateescape", closefd=False)
     with source, connect(given.file) as connection:
+        mark = given.mark or mark_path(given.file, given.table)
         try:
             loaded = load(connection, given.table, source, mark, sys.stderr, given.null)
         except (Error, KeyboardInterrupt) as error:
@@ -118,7 +112,7 @@ def parser() -> argparse.ArgumentParser:
     command("backup", run_backup, "file", "copy")
     loading = command("load", run_load, "file", "table")
     loading.add_argument("--null", default="", help="what stands for NULL in nullable columns; an empty cell")
-    loading.add_argument("--mark", help="the file that keeps how far it came; FILE.TABLE.load")
+    loading.add_argument("--mark", help="the file that keeps how far it came")
     rebuilding = command("rebuild", run_rebuild, "old", "new", "schema")
     rebuilding.add_argument("--value", action="append", default=[], metavar="TABLE.COLUMN=VALUE")
     command("run", run_run, "url")

@@ -1,18 +1,13 @@
-"""Growing a schema, bounds.lock, copies, loads and rebuilt stores."""
+"""Growing a schema, bounds.lock, copies and rebuilt stores."""
 
 import contextlib
 import io
-import os
-import signal
 import sqlite3
-import subprocess
-import sys
 import unittest
 from pathlib import Path
 
-from helpers import TOP, needs_file, new_folder, piql
+from helpers import needs_file, new_folder, piql
 from piql.__main__ import main
-from piql.load import Loaded, load
 from piql.rebuild import Rebuilt, rebuild
 from piql.reports import DefinitionLine
 from piql.schema import Added, Column, Counter, read_added, read_counter, read_query, read_schema, read_table
@@ -27,8 +22,6 @@ CREATE TABLE notes (owner TEXT(20), stamp INT, hot BOOL, PRIMARY KEY (owner, sta
   FOREIGN KEY (owner) REFERENCES users);
 PREPARE latest AS SELECT stamp, hot FROM notes WHERE owner = [1] ORDER BY stamp LIMIT 5;
 """
-ROWS = 'name,town\nann,rome\n"b,o""b",\n"two\nlines",oslo\nann,lima\n' + "x" * 21 + ",lima\ncid,lima,7\n"
-REFUSED_LINES = ["line 6: E503 users", "line 7: E501 users name", "line 8: 3 cells, and not 2"]
 # Codes of rows, written by hand from docs/FORMATS.md.
 COLUMNS = (Column("a", "INT", None, False), Column("b", "TEXT", 9, True), Column("c", "BOOL", None, True))
 CODES = [
@@ -269,80 +262,6 @@ class SchemaTest(unittest.TestCase):
         self.assertEqual(copy.execute("RUN town ('ann')").fetchall(), [("rome",)])
         self.assertEqual(copy.execute("RUN town ('bob')").fetchall(), [])
         self.assertEqual(sorted(it.name for it in self.folder.glob("copy.db.part*")), [])
-
-    def test_load(self) -> None:
-        connection, tell, mark = self.open(), io.StringIO(), self.folder / "mark"
-        piql.migrate(connection, self.schema, out=io.StringIO())
-        self.assertEqual(load(connection, "users", io.StringIO(ROWS, newline=""), mark, tell), Loaded(6, 3))
-        lines = tell.getvalue().splitlines()
-        for line, wanted in zip(lines, REFUSED_LINES):
-            self.assertTrue(line.startswith(wanted), line)
-        self.assertEqual(lines[-1], "6 records, 3 refused")
-        self.assertEqual(connection.execute("RUN town ('b,o\"b')").fetchall(), [(None,)])
-        self.assertEqual(connection.execute("RUN town ('two\nlines')").fetchall(), [("oslo",)])
-        self.assertFalse(mark.exists())
-
-    def migrated(self, schema: str) -> tuple[piql.Connection, io.StringIO, Path]:
-        """A connection over a schema, a place for what a load tells, and that of its mark."""
-        connection = self.open()
-        self.schema.write_text(schema)
-        piql.migrate(connection, self.schema, out=io.StringIO())
-        return connection, io.StringIO(), self.folder / "mark"
-
-    def test_load_leaves_out_an_added_column(self) -> None:
-        connection, tell, mark = self.migrated(FIRST + ADDED)
-        rows = "name,town\nann,rome\n"
-        self.assertEqual(load(connection, "users", io.StringIO(rows), mark, tell), Loaded(1, 0))
-        rows = "karma,name\n9,bob\n"
-        self.assertEqual(load(connection, "users", io.StringIO(rows), mark, tell), Loaded(1, 0))
-        found = connection.execute("SELECT * FROM users ORDER BY name LIMIT 9").fetchall()
-        self.assertEqual(found, [("ann", "rome", 7), ("bob", None, 9)])
-
-    def test_load_counts(self) -> None:
-        connection, tell, mark = self.migrated(FIRST + COUNTED)
-        rows = "name,town\nann,rome\nbob,rome\nann,rome\ncid,\ndan,oslo\n"
-        self.assertEqual(load(connection, "users", io.StringIO(rows), mark, tell), Loaded(5, 1))
-        found = [connection.execute("READ of_town (?)", (town,)).fetchall() for town in ("rome", "oslo", "")]
-        self.assertEqual(found, [[(2,)], [(1,)], [(0,)]])
-
-    def test_load_goes_on_where_it_stopped(self) -> None:
-        connection, tell, mark = self.open(), io.StringIO(), self.folder / "mark"
-        piql.migrate(connection, self.schema, out=io.StringIO())
-        text = "name,town\n" + "".join(f"n{i},x\n" for i in range(40))
-        for cut in (11, 25):
-            broken = "\n".join(text.split("\n")[: cut + 1]) + '\n"'
-            with self.assertRaises(piql.OperationalError):
-                load(connection, "users", io.StringIO(broken), mark, tell)
-            self.assertEqual(int(mark.read_text().split()[0]), cut)
-        connection.execute("INSERT INTO users VALUES ('n25', 'x')")
-        with self.assertRaises(piql.ProgrammingError):
-            load(connection, "users", io.StringIO(text.replace("n3,", "m3,")), mark, tell)
-        self.assertEqual(load(connection, "users", io.StringIO(text), mark, tell), Loaded(40, 0))
-        self.assertEqual(len(connection.execute("SELECT name FROM users ORDER BY name LIMIT 100").fetchall()), 40)
-
-    def test_load_of_wrong_columns(self) -> None:
-        connection = self.open()
-        piql.migrate(connection, self.schema, out=io.StringIO())
-        for head in ("", "town\n", "name,name\n", "name,other\n"):
-            with self.subTest(head), self.assertRaises(piql.ProgrammingError):
-                load(connection, "users", io.StringIO(head), self.folder / "mark", io.StringIO())
-
-    def test_a_killed_load(self) -> None:
-        with self.open() as connection:
-            piql.migrate(connection, self.schema, out=io.StringIO())
-        source = self.folder / "rows.csv"
-        source.write_text("name,town\n" + "".join(f"n{i},x\n" for i in range(300)))
-        words = [sys.executable, "-m", "piql", "load", str(self.path), "users"]
-        environment = {**os.environ, "PYTHONPATH": str(TOP / "drivers/python")}
-        mark = Path(f"{self.path}.users.load")
-        quiet = subprocess.DEVNULL
-        with source.open() as rows, subprocess.Popen(words, stdin=rows, stderr=quiet, env=environment) as first:
-            while first.poll() is None and not (mark.exists() and mark.read_text() >= f"{5:020}"):
-                pass
-            first.send_signal(signal.SIGKILL)
-        with source.open() as rows:
-            second = subprocess.run(words, stdin=rows, env=environment, capture_output=True)
-        self.assertEqual((second.returncode, second.stderr.splitlines()[-1]), (0, b"300 records, 0 refused"))
 
     def test_commands(self) -> None:
         lock, copy = self.folder / "bounds.lock", self.folder / "copy.db"

@@ -1,0 +1,89 @@
+"""How far a load came: a small file beside the store, which a second run of the same command reads."""
+
+import hashlib
+import os
+import re
+from pathlib import Path
+from urllib.parse import parse_qsl, urlencode, urlsplit
+
+from .errors import OperationalError
+from .hosts.urls import is_url
+
+CONTENT = re.compile(rb"([0-9]{20}) ([0-9]{20}) ([0-9]{10})\n")
+# Words of a URL that don't say which store it is: seconds, and whatever is secret.
+SECONDS = ("lease", "patience")
+SECRET = "password"
+DIGITS = 16
+
+
+def nameless_url(url: str) -> str:
+    """What a URL says of where a store is, without a password."""
+    parts = urlsplit(url)
+    login, _, hosts = parts.netloc.rpartition("@")
+    user = login.partition(":")[0]
+    words = [word for word in parse_qsl(parts.query) if word[0] not in SECONDS and SECRET not in word[0]]
+    return f"{parts.scheme}://{user}@{hosts}{parts.path}?{urlencode(words)}"
+
+
+def mark_path(store: str, table: str) -> str:
+    """The file that keeps how far a load came. No part of a URL stands in its name, for that may have a password."""
+    if is_url(store):
+        return f"{table}.{hashlib.sha256(nameless_url(store).encode()).hexdigest()[:DIGITS]}.load"
+    return f"{store.removeprefix('unix:')}.{table}.load"
+
+
+class Mark:
+    """How many records were taken, how many of them refused, and a sum of all. It is written behind each record.
+
+    A mark that is there when it is read was left by a load that was stopped: the first record behind it may be made.
+    """
+
+    def __init__(self, path: Path) -> None:
+        self.path = path
+        self.records, self.refused, self.sum = 0, 0, 0
+        self.file: int | None = None
+        try:
+            content = self.read()
+        except OSError as error:
+            raise OperationalError(f"{path} can't be read: {error.strerror}") from error
+        self.is_resumed = content is not None
+        # A load that was stopped before its first record's end has left nothing in it.
+        if content:
+            found = CONTENT.fullmatch(content)
+            if found is None:
+                raise OperationalError(f"{path} is no mark of a load; take it away first, or name another by --mark")
+            self.records, self.refused, self.sum = map(int, found.groups())
+
+    def read(self) -> bytes | None:
+        """What stands in the file, or None where there is no file."""
+        try:
+            file = os.open(self.path, os.O_RDONLY | os.O_NOFOLLOW | os.O_CLOEXEC)
+        except FileNotFoundError:
+            return None
+        try:
+            return os.read(file, 1024)
+        finally:
+            os.close(file)
+
+    def begin(self) -> None:
+        """Makes the file, before a record is sent."""
+        try:
+            self.file = os.open(self.path, os.O_RDWR | os.O_CREAT | os.O_NOFOLLOW | os.O_CLOEXEC, 0o600)
+        except OSError as error:
+            raise OperationalError(f"{self.path} can't be written: {error.strerror}") from error
+
+    def write(self, is_refused: bool, total: int) -> None:
+        """One record more was taken; the sum of all of them."""
+        assert self.file is not None
+        self.records, self.refused, self.sum = self.records + 1, self.refused + is_refused, total
+        try:
+            os.pwrite(self.file, f"{self.records:020} {self.refused:020} {self.sum:010}\n".encode(), 0)
+        except OSError as error:
+            raise OperationalError(f"{self.path} can't be written: {error.strerror}") from error
+
+    def close(self, is_done: bool) -> None:
+        """Closes the file, which is taken away where all is done."""
+        if self.file is not None:
+            os.close(self.file)
+            if is_done:
+                self.path.unlink(missing_ok=True)

@@ -1,0 +1,246 @@
+"""Loading a CSV file: which records are taken, what is told of the others, and how a load goes on."""
+
+import io
+import os
+import re
+import signal
+import subprocess
+import sys
+import unittest
+from pathlib import Path
+
+from helpers import TOP, needs_file, new_folder, piql
+from piql.load import Loaded, Unreadable, load, records_of, value_of
+from piql.marks import Mark, mark_path
+from piql.schema import Column
+
+FIRST = "CREATE TABLE users (name TEXT(20), town TEXT(30) NULL, PRIMARY KEY (name));"
+TOWN = "PREPARE town AS SELECT u.town FROM users AS u WHERE u.name = [1: who];"
+ADDED = "ALTER TABLE users ADD COLUMN karma INT DEFAULT 7;"
+COUNTED = "CREATE COUNTER of_town OF users (town);"
+ROWS = 'name,town\nann,rome\n"b,o""b",\n"two\nlines",oslo\nann,lima\n' + "x" * 21 + ",lima\ncid,lima,7\n"
+REFUSED_LINES = [
+    "record 4, line 6: E503 users",
+    "record 5, line 7: E501 users name",
+    "record 6, line 8: 3 cells, and not 2",
+]
+NUMBERS = {
+    "0": 0,
+    "-0": 0,
+    "007": 7,
+    "9223372036854775807": 2**63 - 1,
+    "-9223372036854775808": -(2**63),
+    "0" * 6000 + "1": 1,
+}
+NO_NUMBERS = ["", "-", "+7", " 7", "7 ", "1_000", "7.0", "1e3", "0x7", "\u0667", "\uff17", "--7", "7\n"]
+LARGE_NUMBERS = ["9223372036854775808", "-9223372036854775809", "1" * 6000, "-" + "9" * 20]
+# In none of what is told: a word that stands in cells alone.
+MARKED = "secretcell"
+SECRETS = "postgresql://site:hunter2@a,b/site?sslpassword=hunter2&lease=5"
+
+
+class CellTest(unittest.TestCase):
+    """Cells as values of their columns."""
+
+    def test_numbers(self) -> None:
+        column = Column("n", "INT", None, False)
+        for text, wanted in NUMBERS.items():
+            self.assertEqual(value_of(column, text, ""), wanted, text[:30])
+        for text in NO_NUMBERS:
+            with self.subTest(text), self.assertRaisesRegex(Unreadable, "^column n: no decimal number$"):
+                value_of(column, text, "")
+        for text in LARGE_NUMBERS:
+            with self.subTest(text[:30]), self.assertRaisesRegex(Unreadable, "^column n: a number of more than 64 bits$"):
+                value_of(column, text, "")
+
+    def test_other_cells(self) -> None:
+        truth, text = Column("b", "BOOL", None, True), Column("t", "TEXT", 9, False)
+        self.assertEqual([value_of(truth, it, "-") for it in ("TRUE", "f", "1", "-")], [True, False, True, None])
+        self.assertEqual(value_of(text, "-", "-"), "-")
+        for column, cell in ((truth, ""), (truth, MARKED), (text, "a\udcff")):
+            with self.subTest(cell), self.assertRaises(Unreadable) as caught:
+                value_of(column, cell, "-")
+            self.assertNotIn(MARKED, str(caught.exception))
+
+    def test_a_text_that_is_no_csv_is_told_with_its_line(self) -> None:
+        found = records_of(io.StringIO('a,b\n"1\n",2\n"3"4,5\n', newline=""))
+        self.assertEqual([next(found), next(found)], [(0, 1, ["a", "b"]), (1, 2, ["1\n", "2"])])
+        with self.assertRaisesRegex(piql.OperationalError, "^record 2, line 4: no CSV: "):
+            next(found)
+        found = records_of(io.TextIOWrapper(io.BytesIO(b"a\nb\xff\n"), encoding="utf-8", newline=""))
+        with self.assertRaisesRegex(piql.OperationalError, "no UTF-8"):
+            list(found)
+
+
+class MarkTest(unittest.TestCase):
+    """The file that keeps how far a load came."""
+
+    def setUp(self) -> None:
+        self.path = new_folder(self) / "mark"
+
+    def test_its_name_has_no_part_of_a_url(self) -> None:
+        path = mark_path(SECRETS, "users")
+        self.assertRegex(path, r"^users\.[0-9a-f]{16}\.load$")
+        same = SECRETS.replace("hunter2", "another").replace("lease=5", "patience=7")
+        self.assertEqual(mark_path(same, "users"), path)
+        for other in (SECRETS.replace("a,b", "a"), SECRETS.replace("site:", "root:"), SECRETS + "&dbname=x"):
+            self.assertNotEqual(mark_path(other, "users"), path, other)
+        self.assertEqual(mark_path("unix:/run/s", "users"), "/run/s.users.load")
+        self.assertEqual(mark_path("site.db", "users"), "site.db.users.load")
+
+    def test_it_goes_on(self) -> None:
+        mark = Mark(self.path)
+        self.assertFalse(mark.is_resumed)
+        mark.begin()
+        mark.write(False, 5)
+        mark.write(True, 6)
+        mark.close(False)
+        again = Mark(self.path)
+        self.assertEqual((again.is_resumed, again.records, again.refused, again.sum), (True, 2, 1, 6))
+        again.begin()
+        again.close(True)
+        self.assertFalse(self.path.exists())
+
+    def test_one_of_a_load_that_was_killed_before_its_first_record_is_empty(self) -> None:
+        self.path.write_text("")
+        mark = Mark(self.path)
+        self.assertEqual((mark.is_resumed, mark.records), (True, 0))
+
+    def test_what_is_none_is_refused_and_kept(self) -> None:
+        for text in ("7 0 0\n", "a note of the user's", "\u0667" * 20 + " " + "0" * 20 + " " + "0" * 10 + "\n"):
+            self.path.write_text(text)
+            with self.subTest(text), self.assertRaisesRegex(piql.OperationalError, "is no mark of a load"):
+                Mark(self.path)
+            self.assertEqual(self.path.read_text(), text)
+
+    def test_a_link_is_not_followed(self) -> None:
+        victim = self.path.with_name("victim")
+        self.path.symlink_to(victim)
+        self.assertRaises(piql.OperationalError, Mark, self.path)
+        self.path.unlink()
+        mark = Mark(self.path)
+        self.path.symlink_to(victim)
+        self.assertRaises(piql.OperationalError, mark.begin)
+        self.assertFalse(victim.exists())
+
+
+@needs_file
+class LoadTest(unittest.TestCase):
+    """Each test has a file of its own."""
+
+    def setUp(self) -> None:
+        self.folder = new_folder(self)
+        self.path = self.folder / "store.db"
+
+    def open(self, *definitions: str) -> piql.Connection:
+        """A connection, over a store with these definitions where it has none."""
+        connection = piql.connect(self.path)
+        self.addCleanup(connection.close)
+        for definition in definitions:
+            connection.execute(definition)
+        return connection
+
+    def migrated(self, *definitions: str) -> tuple[piql.Connection, io.StringIO, Path]:
+        """A connection over definitions, a place for what a load tells, and that of its mark."""
+        return self.open(*definitions), io.StringIO(), self.folder / "mark"
+
+    def loaded(self, rows: bytes) -> subprocess.CompletedProcess[bytes]:
+        """What the command does with a CSV file."""
+        words = [sys.executable, "-m", "piql", "load", str(self.path), "users"]
+        environment = {**os.environ, "PYTHONPATH": str(TOP / "drivers/python")}
+        return subprocess.run(words, input=rows, env=environment, capture_output=True)
+
+    def test_load(self) -> None:
+        connection, tell, mark = self.migrated(FIRST, TOWN)
+        self.assertEqual(load(connection, "users", io.StringIO(ROWS, newline=""), mark, tell), Loaded(6, 3))
+        lines = tell.getvalue().splitlines()
+        for line, wanted in zip(lines, REFUSED_LINES):
+            self.assertTrue(line.startswith(wanted), line)
+        self.assertEqual(lines[-1], "6 records, 3 refused")
+        self.assertEqual(connection.execute("RUN town ('b,o\"b')").fetchall(), [(None,)])
+        self.assertEqual(connection.execute("RUN town ('two\nlines')").fetchall(), [("oslo",)])
+        self.assertFalse(mark.exists())
+
+    def test_load_leaves_out_an_added_column(self) -> None:
+        connection, tell, mark = self.migrated(FIRST, ADDED)
+        rows = "name,town\nann,rome\n"
+        self.assertEqual(load(connection, "users", io.StringIO(rows), mark, tell), Loaded(1, 0))
+        rows = "karma,name\n9,bob\n"
+        self.assertEqual(load(connection, "users", io.StringIO(rows), mark, tell), Loaded(1, 0))
+        found = connection.execute("SELECT * FROM users ORDER BY name LIMIT 9").fetchall()
+        self.assertEqual(found, [("ann", "rome", 7), ("bob", None, 9)])
+
+    def test_load_counts(self) -> None:
+        connection, tell, mark = self.migrated(FIRST, COUNTED)
+        rows = "name,town\nann,rome\nbob,rome\nann,rome\ncid,\ndan,oslo\n"
+        self.assertEqual(load(connection, "users", io.StringIO(rows), mark, tell), Loaded(5, 1))
+        found = [connection.execute("READ of_town (?)", (town,)).fetchall() for town in ("rome", "oslo", "")]
+        self.assertEqual(found, [[(2,)], [(1,)], [(0,)]])
+
+    def test_load_goes_on_where_it_stopped(self) -> None:
+        connection, tell, mark = self.migrated(FIRST, TOWN)
+        text = "name,town\n" + "".join(f"n{i},x\n" for i in range(40))
+        for cut in (11, 25):
+            broken = "\n".join(text.split("\n")[: cut + 1]) + '\n"'
+            with self.assertRaises(piql.OperationalError):
+                load(connection, "users", io.StringIO(broken), mark, tell)
+            self.assertEqual(int(mark.read_text().split()[0]), cut)
+        connection.execute("INSERT INTO users VALUES ('n25', 'x')")
+        with self.assertRaises(piql.ProgrammingError):
+            load(connection, "users", io.StringIO(text.replace("n3,", "m3,")), mark, tell)
+        self.assertEqual(load(connection, "users", io.StringIO(text), mark, tell), Loaded(40, 0))
+        self.assertEqual(len(connection.execute("SELECT name FROM users ORDER BY name LIMIT 100").fetchall()), 40)
+
+    def test_load_of_wrong_columns(self) -> None:
+        connection, tell, mark = self.migrated(FIRST)
+        for head in ("", "town\n", "name,name\n", "name,other\n", f"{MARKED},rome\n"):
+            with self.subTest(head), self.assertRaises(piql.ProgrammingError) as caught:
+                load(connection, "users", io.StringIO(head), mark, tell)
+            self.assertNotIn(MARKED, str(caught.exception))
+            self.assertFalse(mark.exists())
+
+    def test_a_killed_load(self) -> None:
+        self.open(FIRST).close()
+        source = self.folder / "rows.csv"
+        source.write_text("name,town\n" + "".join(f"n{i},x\n" for i in range(300)))
+        words = [sys.executable, "-m", "piql", "load", str(self.path), "users"]
+        environment = {**os.environ, "PYTHONPATH": str(TOP / "drivers/python")}
+        mark = Path(f"{self.path}.users.load")
+        quiet = subprocess.DEVNULL
+        with source.open() as rows, subprocess.Popen(words, stdin=rows, stderr=quiet, env=environment) as first:
+            while first.poll() is None and not (mark.exists() and mark.read_text() >= f"{5:020}"):
+                pass
+            first.send_signal(signal.SIGKILL)
+        with source.open() as rows:
+            second = subprocess.run(words, stdin=rows, env=environment, capture_output=True)
+        self.assertEqual((second.returncode, second.stderr.splitlines()[-1]), (0, b"300 records, 0 refused"))
+
+    def test_what_can_not_be_read_is_refused_alone(self) -> None:
+        self.open("CREATE TABLE users (name TEXT(20), n INT, ok BOOL, PRIMARY KEY (name));").close()
+        cells = MARKED.encode()
+        rows = [b"ann,9999999999999999999,true", b"b%s\xff,1,true" % cells, b"cid,%s,true" % cells, b"dan,1_0,true"]
+        rows += [b"eve,1,%s" % cells, b"fay,1", b"gus,-5,F", b"hal,\xd9\xa7,true", b"gus,%d,true" % 7]
+        done = self.loaded(b"\n".join([b"name,n,ok", *rows, b""]))
+        told = done.stderr.decode().splitlines()
+        found = [re.match(r"record (\d+), line (\d+): (?:column )?(\w+)", line) for line in told[:-1]]
+        places = [(int(it[1]), int(it[2]), it[3]) for it in found if it]
+        names = ["n", "name", "n", "n", "ok", "2", None, "n", "E503"]
+        wanted = [(number, number + 1, name) for number, name in enumerate(names, 1) if name]
+        self.assertEqual((places, told[-1], done.returncode), (wanted, "9 records, 8 refused", 1))
+        self.assertNotIn(MARKED, done.stderr.decode())
+        rows_there = self.open().execute("SELECT * FROM users ORDER BY name LIMIT 9").fetchall()
+        self.assertEqual(rows_there, [("gus", -5, False)])
+
+    def test_a_load_that_was_killed_behind_its_first_row(self) -> None:
+        connection, tell, mark = self.migrated(FIRST)
+        connection.execute("INSERT INTO users VALUES ('ann', 'rome')")
+        mark.write_text("")
+        rows = io.StringIO("name,town\nann,rome\nbob,oslo\n")
+        self.assertEqual(load(connection, "users", rows, mark, tell), Loaded(2, 0))
+
+    def test_a_mark_that_is_none_ends_the_command(self) -> None:
+        self.open(FIRST).close()
+        Path(f"{self.path}.users.load").write_text("mine")
+        done = self.loaded(b"name\nann\n")
+        self.assertEqual(done.returncode, 2)
+        self.assertIn(b"is no mark of a load", done.stderr)
