@@ -12,6 +12,7 @@ from collections.abc import Iterable, Iterator
 from pathlib import Path
 
 from piql.errors import Error, OperationalError
+from piql.private import new_file
 from piql.schema import Table
 from piql.scripts import SCRIPT_BYTES
 from piql.stored import DEFINITIONS, open_file, pairs, read_stored_schema, stored_rows
@@ -78,10 +79,11 @@ def write_out(parts: Iterator[bytes]) -> int:
 
 
 def write_folder(parts: Iterable[bytes], folder: Path) -> int:
-    """Writes the scripts into a new folder, under names in their order."""
-    folder.mkdir()
+    """Writes the scripts into a new folder, under names in their order. They have rows: only their owner reads them."""
+    folder.mkdir(mode=0o700)
     for number, part in enumerate(parts, 1):
-        (folder / f"{number:06}.piql").write_bytes(part)
+        with open(new_file(folder / f"{number:06}.piql"), "wb") as script:
+            script.write(part)
     return 0
 
 

@@ -3,6 +3,7 @@
 import pathlib
 import re
 import sqlite3
+import stat
 import subprocess
 import sys
 import unittest
@@ -110,6 +111,12 @@ class BytesTest(unittest.TestCase):
         self.assertEqual(run_dump(self.path, self.folder / "new").returncode, 0)
         self.assertEqual((self.folder / "new/000001.piql").read_text(), SCRIPT)
         self.assertEqual(run_dump(self.path, self.folder / "new").returncode, 2)
+
+    def test_a_folder_is_its_owners(self) -> None:
+        self.write(PAIRS)
+        run_dump(self.path, self.folder / "new")
+        found = [self.folder / "new", self.folder / "new/000001.piql"]
+        self.assertEqual([stat.S_IMODE(it.stat().st_mode) for it in found], [0o700, 0o600])
 
     def test_scripts_are_no_longer_than_a_run_takes(self) -> None:
         lines = ["INSERT;", "INSERT INTO b;", "X;"]

@@ -1,28 +1,45 @@
 """A whole copy of a store's file, taken while no statement is at hand."""
 
 import os
-import shutil
 
 from .engine import Engine, EngineEnded
-from .errors import OperationalError
+from .errors import OperationalError, ended
+from .private import copy_file, folder_beside, put_in_place, sync_file
+
+LOG = "-wal"
+# The name of a copy in its own folder, while it is made.
+PART = "store"
+
+
+def copy_with_log(path: str, copy: str) -> None:
+    """Copies a file and its log, which lies beside the file that a link leads to."""
+    real = os.path.realpath(path)
+    copy_file(real, copy)
+    if os.path.exists(real + LOG):
+        copy_file(real + LOG, copy + LOG)
+
+
+def make_one_file(path: str, program: str) -> None:
+    """Has the engine open a store: a write that was cut off is settled, and what the log has is in the file, synced."""
+    try:
+        status, written = Engine(program, [path, "run"]).close(), ""
+    except EngineEnded as end:
+        status, written = end.status, end.written
+    if status != 0:
+        raise ended(status, written.strip())
+    sync_file(path)
 
 
 def copy_whole(path: str, copy: str, program: str) -> None:
     """Copies the file with its log, and opens the copy once, so that all stands in one file. The copy must be new."""
-    if os.path.exists(copy) or os.path.exists(copy + "-wal"):
-        raise OperationalError(f"{copy} is there already: a copy has to be a new file")
-    part = copy + ".part"
-    for ending in ("", "-wal"):
-        if os.path.exists(path + ending):
-            shutil.copyfile(path + ending, part + ending)
+    for name in (copy, copy + LOG):
+        if os.path.lexists(name):
+            raise OperationalError(f"{name} is there already: a copy has to be a new file")
     try:
-        status = Engine(program, [part, "run"]).close()
-    except EngineEnded as end:
-        status = end.status
-    if status != 0:
-        raise OperationalError(f"the copy of {path} can't be opened; what was copied lies in {part}")
-    with open(part, "rb") as file:
-        os.fsync(file.fileno())
-    if os.path.exists(part + "-wal"):
-        os.remove(part + "-wal")
-    os.rename(part, copy)
+        with folder_beside(copy) as folder:
+            part = os.path.join(folder, PART)
+            copy_with_log(path, part)
+            make_one_file(part, program)
+            put_in_place(part, copy)
+    except OSError as error:
+        raise OperationalError(f"the copy {copy} can't be made: {error}") from error

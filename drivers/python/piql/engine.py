@@ -51,8 +51,14 @@ class Engine:
     def __init__(self, program: str, words: list[str]) -> None:
         try:
             # A process group of its own: an interrupt at the terminal is the driver's, and doesn't end a write.
+            # Its mask: only their owner may read the file and the log that it makes.
             self.process = subprocess.Popen(
-                [program, *words], stdin=subprocess.PIPE, stdout=subprocess.PIPE, bufsize=0, process_group=0
+                [program, *words],
+                stdin=subprocess.PIPE,
+                stdout=subprocess.PIPE,
+                bufsize=0,
+                process_group=0,
+                umask=0o077,
             )
         except OSError as error:
             raise InterfaceError(f"{program} can't be started: {error.strerror}") from error

@@ -252,17 +252,6 @@ class SchemaTest(unittest.TestCase):
                 piql.check_bounds(connection, lock)
             lock.write_text(text)
 
-    def test_backup(self) -> None:
-        connection = self.open()
-        piql.migrate(connection, self.schema, out=io.StringIO())
-        connection.execute("INSERT INTO users VALUES ('ann', 'rome')")
-        connection.backup(self.folder / "copy.db")
-        connection.execute("INSERT INTO users VALUES ('bob', 'oslo')")
-        copy = self.open(self.folder / "copy.db")
-        self.assertEqual(copy.execute("RUN town ('ann')").fetchall(), [("rome",)])
-        self.assertEqual(copy.execute("RUN town ('bob')").fetchall(), [])
-        self.assertEqual(sorted(it.name for it in self.folder.glob("copy.db.part*")), [])
-
     def test_commands(self) -> None:
         lock, copy = self.folder / "bounds.lock", self.folder / "copy.db"
         for words in (
