@@ -15,33 +15,22 @@ from piql.errors import Error, OperationalError
 from piql.private import new_file
 from piql.schema import Table
 from piql.scripts import SCRIPT_BYTES
-from piql.stored import DEFINITIONS, open_file, pairs, read_stored_schema, stored_rows
+from piql.stored import DEFINITIONS, INTENT, READY, check_formats, open_file, pairs, read_stored_schema, stored_rows
 from piql.values import quoted
 from tools.launch import tell
 from tools.statuses import USAGE
 
 NAME = "dump"
 REFUSED = 1
-INTENT = 4
-# The format of a definition's pair, by what its text begins with.
-FORMATS = {b"CREATE TABLE ": 1, b"CREATE COUNTER ": 2, b"PREPARE ": 1, b"ALTER TABLE ": 2}
-READY = 0
-
-
-def format_of(text: bytes) -> int | None:
-    """The format of a definition of this text."""
-    return next((number for head, number in FORMATS.items() if text.startswith(head)), None)
 
 
 def check_whole(file: sqlite3.Connection) -> None:
     """What the next opening would make whole first, and what a later version wrote, is told."""
     if next(pairs(file, INTENT), None):
         raise OperationalError("a write of it was cut off; a run over it, also of nothing, makes the write whole")
-    for key, value in pairs(file, DEFINITIONS):
-        if value[0] != format_of(value[2:]):
-            raise OperationalError(f"definition {int.from_bytes(key[1:], 'big')} was written by a later version")
-        if value[1] != READY:
-            raise OperationalError("an index of it isn't filled to its end; a run over it, also of nothing, fills it")
+    check_formats(file)
+    if any(value[1] != READY for _, value in pairs(file, DEFINITIONS)):
+        raise OperationalError("an index of it isn't filled to its end; a run over it, also of nothing, fills it")
 
 
 def insert(table: Table, row: Iterable[object]) -> str:

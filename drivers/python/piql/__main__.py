@@ -3,6 +3,7 @@
     migrate FILE SCHEMA              defines what the schema has and the file lacks; tells the bounds first
     bounds FILE [--write|--check P]  prints each query's bound; writes bounds.lock, or fails where a bound rose
     backup FILE COPY                 makes a whole copy
+    restore COPY FILE                puts a copy in the file's place; the file of before gets another name
     load FILE TABLE < CSV            inserts rows; the first line names the columns
     rebuild OLD NEW SCHEMA           makes a new file with the old one's rows under another schema
     run URL < SCRIPT                 runs a whole script over the store of a cluster; the status is the engine's
@@ -21,6 +22,7 @@ from .load import load
 from .marks import mark_path
 from .migrate import migrate
 from .rebuild import Values, rebuild
+from .restore import restore
 from .values import read_literal
 
 
@@ -48,6 +50,12 @@ def run_backup(given: argparse.Namespace) -> int:
     """Copies a store."""
     with connect(given.file) as connection:
         connection.backup(given.copy)
+    return 0
+
+
+def run_restore(given: argparse.Namespace) -> int:
+    """Puts a copy in a file's place."""
+    restore(given.copy, given.file, sys.stdout)
     return 0
 
 
@@ -110,6 +118,7 @@ def parser() -> argparse.ArgumentParser:
     bounds.add_argument("--write", metavar="PATH")
     bounds.add_argument("--check", metavar="PATH")
     command("backup", run_backup, "file", "copy")
+    command("restore", run_restore, "copy", "file")
     loading = command("load", run_load, "file", "table")
     loading.add_argument("--null", default="", help="what stands for NULL in nullable columns; an empty cell")
     loading.add_argument("--mark", help="the file that keeps how far it came")

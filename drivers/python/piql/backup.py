@@ -4,9 +4,9 @@ import os
 
 from .engine import Engine, EngineEnded
 from .errors import OperationalError, ended
-from .private import copy_file, folder_beside, put_in_place, sync_file
+from .private import copy_file, folder_beside, put_in_place, sync_path
+from .replacing import LOG
 
-LOG = "-wal"
 # The name of a copy in its own folder, while it is made.
 PART = "store"
 
@@ -27,7 +27,7 @@ def make_one_file(path: str, program: str) -> None:
         status, written = end.status, end.written
     if status != 0:
         raise ended(status, written.strip())
-    sync_file(path)
+    sync_path(path)
 
 
 def copy_whole(path: str, copy: str, program: str) -> None:

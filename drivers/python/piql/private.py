@@ -31,7 +31,7 @@ def copy_file(source: str, copy: str) -> None:
             os.fsync(new.fileno())
 
 
-def sync_file(path: str) -> None:
+def sync_path(path: str) -> None:
     """Waits until a file, or a folder's list of names, is on the disk."""
     file = os.open(path, os.O_RDONLY | os.O_CLOEXEC)
     try:
@@ -60,4 +60,4 @@ def put_in_place(part: str, path: str) -> None:
     if os.path.lexists(path):
         raise FileExistsError(f"{path} is there already")
     os.rename(part, path)
-    sync_file(folder_of(path))
+    sync_path(folder_of(path))

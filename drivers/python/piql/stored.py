@@ -10,7 +10,10 @@ from .errors import InternalError, OperationalError
 from .reports import DefinitionLine, Row, Value
 from .schema import Column, Schema, read_schema
 
-DEFINITIONS, ROWS = 1, 2
+DEFINITIONS, ROWS, ENTRIES, INTENT, GROUPS = 1, 2, 3, 4, 5
+# The format of a definition's pair, by what its text begins with; and its mark behind that.
+FORMATS = {b"CREATE TABLE ": 1, b"CREATE COUNTER ": 2, b"PREPARE ": 1, b"ALTER TABLE ": 2}
+READY, FILLING = 0, 1
 # A row with a NULL has this added to its number of columns, and then four bytes whose bit i is column i's.
 HAS_NULL = 0x40
 
@@ -46,6 +49,18 @@ def pairs(file: sqlite3.Connection, first: int, *after: int) -> Iterator[tuple[b
     low = bytes([first, *after])
     high = low[:-1] + bytes([low[-1] + 1])
     yield from file.execute("SELECT k, v FROM kv WHERE k >= ? AND k < ? ORDER BY k", (low, high))
+
+
+def format_of(text: bytes) -> int | None:
+    """The format of a definition of this text."""
+    return next((number for head, number in FORMATS.items() if text.startswith(head)), None)
+
+
+def check_formats(file: sqlite3.Connection) -> None:
+    """Refuses definitions that this version doesn't know."""
+    for key, value in pairs(file, DEFINITIONS):
+        if value[:1] != bytes([format_of(value[2:]) or 0]):
+            raise OperationalError(f"definition {int.from_bytes(key[1:])} was written by a later version")
 
 
 def read_stored_schema(file: sqlite3.Connection) -> Schema:
