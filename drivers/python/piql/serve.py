@@ -42,6 +42,7 @@ from .hosts.link import HostLink
 from .hosts.urls import is_url, open_link
 from .links import FileLink
 from .scripts import first_token, is_one_piece
+from .server.sockets import Listener, check_beside, check_place
 
 CLIENTS = 256
 PEER = struct.Struct("iII")
@@ -125,16 +126,16 @@ class Server:
     """A socket with its clients."""
 
     def __init__(self, path: str, answers: Answers) -> None:
-        self.path, self.answers = path, answers
+        self.answers = answers
         self.clients: dict[socket.socket, threading.Thread] = {}
         self.guard = threading.Lock()
-        self.listener = listening(path)
+        self.listener = Listener(path, SOCKET_MODE)
 
     def run(self) -> None:
         """Takes clients until the listener is closed."""
         while True:
             try:
-                client, _ = self.listener.accept()
+                client, _ = self.listener.socket.accept()
             except OSError:
                 return
             self.take(client)
@@ -162,8 +163,7 @@ class Server:
 
     def stop(self) -> None:
         """Takes no more clients and no more frames, sends the reports that are on their way, and closes the file."""
-        with contextlib.suppress(FileNotFoundError):
-            os.unlink(self.path)
+        self.listener.close()
         with self.guard:
             clients = dict(self.clients)
         for client in clients:
@@ -174,34 +174,6 @@ class Server:
             thread.join(max(0.0, until - time.monotonic()))
         with self.answers.lock:
             self.answers.link.close()
-
-
-def answers_at(path: str) -> bool:
-    """Whether a server listens at a socket."""
-    probe = socket.socket(socket.AF_UNIX, socket.SOCK_STREAM)
-    try:
-        probe.connect(path)
-    except OSError:
-        return False
-    finally:
-        probe.close()
-    return True
-
-
-def listening(path: str) -> socket.socket:
-    """A socket that only the owner may open. One that a server left behind is taken over."""
-    if os.path.exists(path):
-        if answers_at(path):
-            raise OperationalError(f"a server listens at {path} already")
-        os.unlink(path)
-    listener = socket.socket(socket.AF_UNIX, socket.SOCK_STREAM)
-    before = os.umask(0o777 & ~SOCKET_MODE)
-    try:
-        listener.bind(path)
-    finally:
-        os.umask(before)
-    listener.listen(64)
-    return listener
 
 
 def opened(store: str, program: str | None, is_standby: bool) -> FileLink | HostLink:
@@ -235,6 +207,9 @@ def main(words: list[str] | None = None) -> int:
     """The command."""
     given = read_words(words)
     try:
+        check_place(given.socket)
+        if not is_url(given.store):
+            check_beside(given.socket, given.store)
         if given.standby:
             print(f"piql-serve: waits for {given.store}", flush=True)
         link = opened(given.store, given.program, given.standby)

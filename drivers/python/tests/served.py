@@ -1,0 +1,87 @@
+"""What the tests of the server share: a server as a process, over the engine or over what stands for it."""
+
+import contextlib
+import os
+import signal
+import socket
+import subprocess
+import sys
+import unittest
+from pathlib import Path
+
+from helpers import TOP
+from piql.frames import HELLO, STATEMENT, read_frame, write_frame
+
+COMMAND = TOP / "bin/piql-serve"
+STUB = Path(__file__).with_name("stub_file.py")
+# For how long a test waits for what has to come, in seconds; the machine may do much else.
+LONG = 60.0
+
+
+class Served:
+    """A server as a process, which has written its first line or has ended."""
+
+    def __init__(self, *words: object, program: Path | None = None, at: Path | None = None) -> None:
+        given = [] if program is None else ["--program", str(program)]
+        path = os.pathsep.join([os.path.dirname(sys.executable), os.environ.get("PATH", "")])
+        self.process = subprocess.Popen(
+            [str(COMMAND), *map(str, words), *given],
+            stdout=subprocess.PIPE,
+            stderr=subprocess.PIPE,
+            text=True,
+            env={**os.environ, "PATH": path},
+            cwd=at,
+        )
+        assert self.process.stdout is not None
+        self.said = self.process.stdout.readline()
+
+    def end(self, number: int = signal.SIGTERM) -> tuple[int, str]:
+        """Ends the server by a signal; its status and what it wrote as errors."""
+        if self.process.poll() is None:
+            self.process.send_signal(number)
+        try:
+            _, errors = self.process.communicate(timeout=LONG)
+        except subprocess.TimeoutExpired:
+            self.process.kill()
+            _, errors = self.process.communicate()
+        return self.process.returncode, errors
+
+    def engine(self) -> int:
+        """The process of its engine."""
+        number = str(self.process.pid)
+        for entry in filter(str.isdigit, os.listdir("/proc")):
+            with contextlib.suppress(OSError):
+                if Path("/proc", entry, "stat").read_text().rpartition(")")[2].split()[1] == number:
+                    return int(entry)
+        raise AssertionError("the server has no engine")
+
+
+def stub_program(folder: Path) -> Path:
+    """What stands for piql_file, as a program."""
+    path = folder / "stub_file"
+    path.write_text(f'#!/bin/sh\nexec "{sys.executable}" "{STUB}" "$@"\n')
+    path.chmod(0o755)
+    return path
+
+
+def connected(case: unittest.TestCase, at: Path) -> socket.socket:
+    """A client that has no driver, and hasn't been greeted yet."""
+    made = socket.socket(socket.AF_UNIX)
+    case.addCleanup(made.close)
+    made.settimeout(LONG)
+    made.connect(str(at))
+    return made
+
+
+def greeted(case: unittest.TestCase, at: Path) -> socket.socket:
+    """A client that has been greeted."""
+    made = connected(case, at)
+    case.assertEqual(read_frame(made)[0], HELLO)
+    return made
+
+
+def asked(client: socket.socket, statement: str) -> tuple[bytes, str]:
+    """The kind and the text of the answer to a statement."""
+    write_frame(client, STATEMENT, statement.encode())
+    kind, text = read_frame(client)
+    return kind, text.decode()
