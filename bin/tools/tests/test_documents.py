@@ -82,10 +82,8 @@ class ShownTest(unittest.TestCase):
         self.assertTrue(any(block.text in text for text in edits), block.place)
 
     def test_each_crate_is_told(self) -> None:
-        names = ("README.md", "docs/PROVED.md", "docs/ARCHITECTURE.md")
-        page, proved, map_of = ((TOP / name).read_text() for name in names)
+        proved, map_of = ((TOP / name).read_text() for name in ("docs/PROVED.md", "docs/ARCHITECTURE.md"))
         for crate in Repository().uses:
-            self.assertIn(f"`{crate}`", page, crate)
             self.assertIn(f"`{crate}`", proved, crate)
             self.assertIn(f"\n| {crate} | ", map_of, crate)
 
