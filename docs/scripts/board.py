@@ -7,7 +7,8 @@ from wsgiref.simple_server import make_server
 
 import piql
 
-TRIES = 5
+# On a busy link some votes go again several times, each time because another one was made.
+TRIES = 50
 
 
 def vote(board, link, voter):
