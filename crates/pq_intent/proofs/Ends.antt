@@ -16,7 +16,7 @@ use Rattle.pq_key_code.specs.KeyCode.{intent_key}
 use Rattle.pq_content.proofs.Keys.{key_itself}
 use Rattle.pq_content.proofs.Settling.{settles_partway, settled_at_last, settles_again, settles_once, settles_to_itself, intent_found, no_intent_after}
 use Rattle.pq_intent.specs.Changing.{content_after, IsPartway, MayChange}
-use Rattle.pq_intent.specs.Settling.{IsIntentOf, IsNoIntent, IsSettled, Settles, LeavesSettled}
+use Rattle.pq_intent.specs.Settling.{IsIntentOf, IsNoIntent, IsSettled, Settles, LeavesSettled, StopsSettling}
 use Rattle.pq_intent.proofs.Steps.{after-append, take_split}
 
 -- the changes of an intent, and its removal
@@ -169,3 +169,20 @@ changes_stopped (Some c) mid new found value cs read some intent same p settled 
 pub read_rests : (old new : Option Content) (found : Option (List ℕ)) (value : List ℕ) → IsRead old found → found ≡ Some value → IfSome old (λ pairs. get pairs intent_key ≡ None → new ≡ old)
 read_rests None new found value read some = tt
 read_rests (Some c) new found value read some = λ none. absurd (none-some value (sym none ∙ sym read.answer ∙ some))
+
+-- ---- where it stops
+
+pub stops_unchanged : (old new : Option Content) → new ≡ old → IfSome old (λ pairs. StopsSettling pairs new)
+stops_unchanged None new same = tt
+stops_unchanged (Some c) new same = inl same
+
+pub stops_partway : (old mid new : Option Content) (found : Option (List ℕ)) (value : List ℕ) (cs : List Coded) → IsRead old found → found ≡ Some value → IsIntentOf cs value → mid ≡ old → IsPartway (with_removal cs) mid new
+    → IfSome old (λ pairs. StopsSettling pairs new)
+stops_partway None mid new found value cs read some intent same p = tt
+stops_partway (Some c) mid new found value cs read some intent same p = inr (record {
+  value = value;
+  found = sym read.answer ∙ some;
+  changes = cs;
+  intent = intent;
+  partway = subst (λ (o : Option Content). IsPartway (with_removal cs) o new) same p;
+})

@@ -8,7 +8,7 @@ ghost use Rattle.pq_intent.specs.Changing.{content_after, IsPartway};
 ghost use Rattle.pq_intent.specs.Counting.{nothing_settled, settled_changes, CountsChanges, HasNumbers};
 ghost use Rattle.pq_store.specs.Breaks.{IsUndamaged, IsAnswered};
 ghost use Rattle.pq_intent.specs.Errors.{ShowsNoIntent};
-ghost use Rattle.pq_intent.specs.Settling.{IsSettled, Settles, LeavesSettled};
+ghost use Rattle.pq_intent.specs.Settling.{IsSettled, Settles, LeavesSettled, StopsSettling};
 ghost use Rattle.pq_intent.specs.Spending.{IsWithinSettling, IsWithinSettlingOf};
 
 use crate::intent::intent_of;
@@ -84,6 +84,9 @@ pub fn settle<S: Store<L>, L: Ledger>(
     ensures settles { OnOk result (IfSome (S.content store.old) (λ pairs. LeavesSettled pairs (S.content store.new))) }
     ensures stopped { OnErr result ((settled : Content) → Settles (S.content store.old) settled
         → Settles (S.content store.new) settled) }
+    // Wherever it stops over a told content, no other change is made than those of its intent: a value that is no
+    // intent stays, and so does everything else.
+    ensures stops { OnErr result (IfSome (S.content store.old) (λ pairs. StopsSettling pairs (S.content store.new))) }
     ensures sound { IfErr result (λ broke. (settled : Content) → Settles (S.content store.old) settled
         → IsUndamaged broke) }
     // Damage is a value at the intent's key that is no code of changes that an intent may hold.
