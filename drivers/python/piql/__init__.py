@@ -26,6 +26,7 @@ from .errors import (
 from .hosts.urls import is_url, open_link
 from .links import FileLink, Link, MemoryLink
 from .migrate import migrate
+from .plain import plain_path
 from .reports import Row, Value, Work
 from .socketlink import SocketLink
 from .types import (
@@ -65,7 +66,7 @@ def connect(
     tried again. Over a cluster, any number of connections with reader=True read beside the one that writes; and one
     step of a statement, as a call of the store, may take `step` seconds before the run is ended.
     """
-    target = os.fspath(path)
+    target = plain_path(path, "the store")
     if reader and not is_url(target):
         raise InterfaceError(f"{target} has no readers beside its writer: reader=True is for the store of a cluster")
     link: Link

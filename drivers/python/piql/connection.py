@@ -9,6 +9,7 @@ from . import errors
 from .errors import InterfaceError, InternalError, NotSupportedError, ProgrammingError, refused
 from .hosts.link import ReaderLink
 from .links import Link
+from .plain import plain_list, plain_path, plain_text
 from .refusals import refusal_of
 from .reports import Report, Work, read_report
 from .scripts import place_at
@@ -20,20 +21,21 @@ if TYPE_CHECKING:
     from .cursor import Cursor
 
 Parameters = Sequence[object]
-LISTS = (tuple, list)
 SHOW = read_statement("SHOW")
 UNPREPARED = "this SELECT isn't prepared in the store, and the connection was made with prepare=False: {text}"
+NO_REPORT = (
+    "what came back is no report of such a statement. One that only reads changed nothing, a write was made whole or"
+    " not at all, and nothing of the answer is told"
+)
 NO_ROLLBACK = "nothing is rolled back: each statement is made whole or not at all, at once"
 
 
 def fillings_of(statement: Statement, parameters: Parameters) -> tuple[str, ...]:
     """The values as the statement writes them, one for each place."""
-    if type(parameters) not in LISTS and (isinstance(parameters, (str, bytes)) or not isinstance(parameters, Sequence)):
-        raise ProgrammingError(f"values come as a list or a tuple, and no {type(parameters).__name__}")
-    if len(parameters) != statement.params:
-        text = statement.text[:200]
-        raise ProgrammingError(f"{statement.params} values are wanted, {len(parameters)} are given: {text}")
-    return tuple(map(quoted, parameters))
+    values = plain_list(parameters)
+    if len(values) != statement.params:
+        raise ProgrammingError(f"{statement.params} values are wanted, {len(values)} are given")
+    return tuple(map(quoted, values))
 
 
 class Connection:
@@ -95,15 +97,24 @@ class Connection:
             link = self._link or self.link()
             text = link.exchange(data, kind.reads)
             self._sent += 1
-        try:
-            report = read_report(text)
-        except ValueError as error:
-            raise InternalError(str(error)) from error
+        report = self.read(text, kind)
         if " refused " in report.ending:
             raise self.refusal(sent, report.end.refusal)
         if kind.defines:
             self._schema = None
         return report
+
+    def read(self, text: str, kind: Kind) -> Report:
+        """A report of a statement of this kind. Behind one that is none the link is closed."""
+        try:
+            report = read_report(text)
+            if (" ok rows " in report.ending) == kind.has_rows or " refused " in report.ending:
+                return report
+        except ValueError as error:
+            self.link().close()
+            raise InternalError(NO_REPORT) from error
+        self.link().close()
+        raise InternalError(NO_REPORT)
 
     def refusal(self, sent: Sent, fields: tuple[str, ...]) -> errors.DatabaseError:
         """The exception of a refusal; where the tokens spell nothing, with the place in the writer's text."""
@@ -116,7 +127,7 @@ class Connection:
     def answer(self, statement: Statement, parameters: Parameters, after: str | None = None) -> Report:
         """The report of a statement with its values, behind a cursor of pages; a SELECT is prepared where it isn't."""
         kind, values = statement.kind, fillings_of(statement, parameters)
-        behind = "" if after is None else f" AFTER {quoted_text(after)}"
+        behind = "" if after is None else f" AFTER {quoted_text(plain_text(after, 'the cursor of a page'))}"
         if kind.is_prepared:
             return self.answer_select(statement, values, behind)
         if behind and not kind.has_pages:
@@ -189,7 +200,7 @@ class Connection:
     def backup(self, path: str | os.PathLike[str]) -> None:
         """Makes a whole copy of the store's file between two statements. The copy has to be a new file."""
         with self._lock:
-            self.link().backup(os.fspath(path))
+            self.link().backup(plain_path(path, "the place of a copy"))
 
     def cursor(self) -> "Cursor":
         """A new cursor."""

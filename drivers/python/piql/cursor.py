@@ -4,9 +4,10 @@ from collections.abc import Iterable, Iterator, Sequence
 from typing import TYPE_CHECKING, NamedTuple
 
 from .errors import InterfaceError, ProgrammingError
+from .plain import plain_list, plain_rows, plain_text
 from .reports import Report, Row, Work
-from .scripts import pieces
-from .statements import Kind, Statement, read_statement
+from .scripts import NAME, pieces
+from .statements import Kind, Statement, check_utf8, read_statement
 
 if TYPE_CHECKING:
     from .connection import Connection, Parameters
@@ -111,22 +112,28 @@ class Cursor:
         if statement.kind.has_rows or statement.kind in (Kind.SHOW, Kind.EXPLAIN):
             raise ProgrammingError("executemany is for statements without an answer")
         self._made = 0
-        for parameters in seq_of_parameters:
+        for parameters in plain_rows(seq_of_parameters):
             self._report = connection.answer(statement, parameters)
             self._made += 1
         return self
 
     def executescript(self, script: str) -> "Cursor":
         """Executes each statement of a script, until one is refused. Beyond PEP 249."""
-        data = script.encode()
+        text = plain_text(script, "a script")
+        check_utf8(text)
+        data = text.encode()
         for piece in pieces(data):
             self.execute(data[piece.start : piece.end].decode())
         return self
 
     def callproc(self, procname: str, parameters: "Parameters" = ()) -> "Parameters":
         """Runs the prepared query of this name with its parameters."""
-        places = ", ".join("?" * len(parameters))
-        self.execute(f"RUN {procname} ({places})", parameters)
+        name = plain_text(procname, "the name of a query")
+        if NAME.fullmatch(name) is None:
+            raise ProgrammingError("the name of a query is letters, digits and _, and begins with no digit")
+        values = plain_list(parameters)
+        places = ", ".join("?" * len(values))
+        self.execute(f"RUN {name} ({places})", values)
         return parameters
 
     @property

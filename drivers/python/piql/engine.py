@@ -2,45 +2,64 @@
 
 import os
 import re
+import select
 import shutil
 import subprocess
 from pathlib import Path
 
-from .errors import InterfaceError
+from .errors import InterfaceError, InternalError
+from .plain import plain_path
 from .scripts import SCRIPT_BYTES
+from .wholeness import UNMATCHED, Growing, check_report, check_statement
 
 CHUNK = 1 << 16
 DIGITS = b"0123456789"
-OPENING = re.compile(rb"open [^\n]*\n")
+OPENING = re.compile(rb"open [^\n]*+\n")
+DAMAGE = re.compile(rb"damaged ((?:[0-9a-f]{2})++)\n\Z")
+# What a pair is, by the first byte of its key.
+PAIRS = {1: "a definition", 2: "a row", 3: "an entry of an index", 4: "the intent of a write", 5: "a counter's group"}
 TOP = Path(__file__).resolve().parents[3]
 # Where a program stands in a release, and in the repository once it is built.
 BUILT = ("programs/{name}", "crates/{name}/out/{name}")
 
 
 class EngineEnded(Exception):
-    """The process ended where a report was awaited: its status, negative for a signal, and what it wrote last."""
+    """The process ended where a report was awaited: its status, negative for a signal, and what it wrote last.
+
+    `written` says of which kind a damaged pair is, and neither its key nor anything of a half report, as these have
+    what the rows have. `damaged` is the key in hexadecimal, or None.
+    """
 
     def __init__(self, status: int, written: bytes) -> None:
         super().__init__(status)
         self.status = status
-        self.written = written.decode(errors="replace")
+        found = DAMAGE.search(written)
+        self.damaged = found[1].decode() if found else None
+        self.written = f"The pair is {kind_of(bytes.fromhex(self.damaged))}." if self.damaged else ""
+
+
+def kind_of(key: bytes) -> str:
+    """What the pair at a key is, for a reader; of a row and an entry the number of its table."""
+    kind = PAIRS.get(key[0], "of no kind that the engine writes")
+    return f"{kind} of table {key[1]}" if key[0] in (2, 3) and len(key) > 1 else kind
 
 
 def find_program(name: str, given: str | os.PathLike[str] | None = None) -> str:
     """The program of this name: the given one, that of the environment (PIQL_FILE, PIQL), the built one, or PATH's."""
     built = [str(path) for place in BUILT if os.access(path := TOP / place.format(name=name), os.X_OK)]
-    found = given or os.environ.get(name.upper()) or next(iter(built), None) or shutil.which(name)
+    if given is not None:
+        return plain_path(given, "the program")
+    found = os.environ.get(name.upper()) or next(iter(built), None) or shutil.which(name)
     if found is None:
         way = f"bin/prove {name} builds it, and {name.upper()} or program= names it"
         raise InterfaceError(f"the program {name} isn't found: {way}")
-    return os.fspath(found)
+    return found
 
 
-def is_report(text: bytes | bytearray) -> bool:
-    """Whether the text ends with the end line of a report: no other line begins with a digit, and it has no quote.
-
-    The caller has seen that no quote is open. So none is before the last line, and it begins as a line.
-    """
+def is_report(text: bytes) -> bool:
+    """Whether a text ends as a report does: no quote is open, and its last line begins with a digit."""
+    if text[-1:] != b"\n" or text.count(b"'") % 2:
+        return False
     start = text.rfind(b"\n", 0, -1) + 1
     return text[start] in DIGITS and text.find(b"'", start) < 0
 
@@ -64,7 +83,10 @@ class Engine:
             raise InterfaceError(f"{program} can't be started: {error.strerror}") from error
         assert self.process.stdin is not None and self.process.stdout is not None
         self.into, self.out_of = self.process.stdin.fileno(), self.process.stdout.fileno()
-        self.sent = 0
+        self.ready = select.poll()
+        self.ready.register(self.out_of, select.POLLIN)
+        # How many bytes and how many statements were sent.
+        self.sent = self.statements = 0
         try:
             self.opening = self.opened()
         except BaseException:
@@ -77,21 +99,33 @@ class Engine:
 
     def exchange(self, statement: bytes) -> bytes:
         """The report of one statement. Whatever stops this ends the process: a report would be left in the pipe."""
+        check_statement(statement)
         try:
             self.sent += len(statement)
-            return self.answered(statement)
+            self.statements += 1
+            report = self.answered(statement)
+            check_report(report, self.statements)
+            return report
         except BaseException:
             self.kill()
             raise
 
     def opened(self) -> bytes:
         """The opening line."""
-        return self.read_until(lambda text: OPENING.fullmatch(text) is not None)
+        text = self.read(b"")
+        while b"\n" not in text or text.startswith(b"damaged "):
+            text += self.read(text)
+        if not OPENING.fullmatch(text):
+            raise InternalError(UNMATCHED)
+        return text
 
     def answered(self, statement: bytes) -> bytes:
-        """The report of one statement."""
+        """The report of one statement, or, where nothing of one came, the bytes that did."""
+        if any(event & select.POLLIN for _, event in self.ready.poll(0)):
+            raise InternalError(UNMATCHED)
         self.write(statement)
-        return self.read_until(is_report)
+        text = self.read(b"")
+        return text if is_report(text) else self.read_on(text)
 
     def write(self, text: bytes) -> None:
         """Writes all of it, if the process reads on. If not, the read that follows tells how it ended."""
@@ -102,23 +136,23 @@ class Engine:
         except BrokenPipeError:
             pass
 
-    def read_until(self, is_whole) -> bytes:  # type: ignore[no-untyped-def]
-        """What is written up to a line that is_whole takes and that is in no quotes."""
-        text = os.read(self.out_of, CHUNK)
-        if text[-1:] == b"\n" and text.count(b"'") % 2 == 0 and is_whole(text):
-            return text
-        return self.read_on(text, is_whole)
+    def read(self, before: bytes | bytearray) -> bytes:
+        """What is written next, behind what was read before."""
+        part = os.read(self.out_of, CHUNK)
+        if not part:
+            raise EngineEnded(self.process.wait(), bytes(before))
+        return part
 
-    def read_on(self, first: bytes, is_whole) -> bytes:  # type: ignore[no-untyped-def]
-        """The same behind a first part."""
-        text, quotes, part = bytearray(first), first.count(b"'"), first
-        while part:
-            part = os.read(self.out_of, CHUNK)
-            text += part
-            quotes += part.count(b"'")
-            if part[-1:] == b"\n" and quotes % 2 == 0 and is_whole(text):
-                return bytes(text)
-        raise EngineEnded(self.process.wait(), bytes(text))
+    def read_on(self, first: bytes) -> bytes:
+        """A report behind its first part."""
+        growing = Growing(first)
+        while not growing.is_whole():
+            growing.text += self.read(growing.text)
+        return bytes(growing.text)
+
+    def has_ended(self) -> bool:
+        """Whether the run is over, by itself or since an exchange was stopped."""
+        return self.process.returncode is not None
 
     def close(self) -> int:
         """Ends the script, and waits for the end of the run; its status."""

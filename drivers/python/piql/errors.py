@@ -14,6 +14,8 @@ class Error(Exception):
 
     refusal: Refusal | None = None
     status: int | None = None
+    # The key, in hexadecimal, of a pair that no run writes. No message has it, since a key has what a row has.
+    damaged: str | None = None
 
     @property
     def number(self) -> str | None:
@@ -109,14 +111,14 @@ def refused(refusal: Refusal) -> DatabaseError:
     return error
 
 
-def with_status(status: int | None, text: str) -> DatabaseError:
+def with_status(status: int | None, text: str, damaged: str | None = None) -> DatabaseError:
     """The exception of a run that ended with a status, if there was one."""
     error = (InternalError if status == 6 else OperationalError)(text)
-    error.status = status
+    error.status, error.damaged = status, damaged
     return error
 
 
-def ended(status: int, stands: str) -> DatabaseError:
+def ended(status: int, stands: str, damaged: str | None = None) -> DatabaseError:
     """The exception of a run that ended with a status, or by the signal of a negative one, with what stands then."""
     why = MEANINGS.get(status, f"signal {-status}" if status < 0 else "a status that the engine doesn't have")
-    return with_status(status, f"the run ended with status {status}: {why}. {stands}")
+    return with_status(status, f"the run ended with status {status}: {why}. {stands}", damaged)

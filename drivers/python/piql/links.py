@@ -67,6 +67,9 @@ class Run(Protocol):
     def exchange(self, statement: bytes) -> bytes:
         """The report of one statement."""
 
+    def has_ended(self) -> bool:
+        """Whether the run is over, by itself or since an exchange was stopped."""
+
     def close(self) -> int:
         """Ends the run; its status."""
 
@@ -86,6 +89,10 @@ class EngineLink:
         """What stands where the run ended in mid-statement."""
         raise NotImplementedError
 
+    def ended(self, end: EngineEnded, stands: str) -> Error:
+        """The exception of a run that ended."""
+        return ended(end.status, f"{stands} {end.written}".strip(), end.damaged)
+
     def exchange(self, statement: bytes, reads: bool) -> str:
         """The report of the statement."""
         check_owner(self.owner)
@@ -93,11 +100,10 @@ class EngineLink:
         try:
             return engine.exchange(statement).decode()
         except EngineEnded as end:
-            self.engine = None
-            raise ended(end.status, f"{self.stands(reads)} {end.written}".strip()) from end
-        except BaseException:
-            self.engine = None
-            raise
+            raise self.ended(end, self.stands(reads)) from end
+        finally:
+            if engine.has_ended():
+                self.engine = None
 
     def close(self) -> None:
         """Ends the run."""
@@ -133,7 +139,7 @@ class FileLink(EngineLink):
         """Why no run could be begun."""
         if end.status == 5:
             return OperationalError(UNOPENED.format(path=self.path))
-        return ended(end.status, f"{self.path} isn't open. {end.written}".strip())
+        return self.ended(end, f"{self.path} isn't open.")
 
     def running(self, statement: bytes) -> Run:
         """A run with room for the statement."""
@@ -162,7 +168,7 @@ class MemoryLink(EngineLink):
         try:
             self.engine = Engine(find_program("piql", program), ["run"])
         except EngineEnded as end:
-            raise ended(end.status, f"The store isn't open. {end.written}".strip()) from end
+            raise self.ended(end, "The store isn't open.") from end
 
     def running(self, statement: bytes) -> Run:
         """The run, if it has room for the statement."""

@@ -84,7 +84,7 @@ class Report:
         if self._end is None:
             self._end = read_end(self.ending)
         if self._end is None:
-            raise ValueError(f"no report ends so: {self.ending[:200]!r}")
+            raise ValueError("no report ends so")
         return self._end
 
     def is_refused(self) -> bool:
@@ -192,12 +192,15 @@ def read_reports(text: str) -> Iterator[Report | OpeningLine | DamageLine]:
 
 def read_rows(text: str, ending: str) -> list[Row]:
     """The rows of an answer, from their lines and its end line, `N ok rows R ..`."""
-    feeds = text.count("\n")
-    if feeds == 1:
+    feeds, count = text.count("\n"), int(ending.split(" ", 4)[3])
+    if feeds == count == 1:
         return [read_values(text[4:-1])]
     # With as many line feeds as rows, none is in a text.
-    lines = text[:-1].split("\n") if feeds == int(ending.split(" ", 4)[3]) else cut_lines(text)
-    return [read_values(line[4:]) for line in lines]
+    lines = text[:-1].split("\n") if feeds == count else cut_lines(text)
+    rows = [read_values(line[4:]) for line in lines]
+    if len(rows) != count:
+        raise ValueError("there are more rows, or fewer, than the end line says")
+    return rows
 
 
 def read_report(text: str) -> Report:
@@ -206,6 +209,7 @@ def read_report(text: str) -> Report:
     ending = text[start:-1]
     if " ok rows " in ending and text.startswith("row "):
         return Report(read_rows(text[:start], ending), [], ending)
-    if read_end(ending) is None:
-        raise ValueError(f"no report ends so: {ending[:200]!r}")
+    end = read_end(ending)
+    if end is None or end.rows:
+        raise ValueError("no report ends so")
     return Report([], [line for line in map(read_line, cut_lines(text[:start])) if line is not None], ending)

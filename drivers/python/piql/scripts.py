@@ -12,6 +12,7 @@ KEYWORDS = frozenset(
     " ORDER PAGINATE PREPARE PRIMARY REFERENCES RUN SELECT SET SHOW TABLE TEXT TRUE UPDATE VALUES WHERE".split()
 )
 
+NAME = re.compile(r"[A-Za-z_][A-Za-z0-9_]*+")
 # Each repetition is possessive: it gives nothing back, so a text that doesn't match takes no longer than one that does.
 PIECE = re.compile(rb"(?:[^';-]++|-(?!-)|'[^']*+'|--[^\n]*+\n)*+;")
 WHITE_PIECE = re.compile(rb"(?:[ \t\r\n]++|--[^\n]*+\n)*+;")

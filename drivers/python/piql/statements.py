@@ -6,6 +6,7 @@ from functools import lru_cache
 from typing import NamedTuple
 
 from .errors import DatabaseError, DataError, ProgrammingError, refused
+from .plain import plain_text
 from .refusals import refusal_of
 from .scripts import KEYWORDS, STATEMENT_BYTES, Token, character_at, place_at, tokens
 
@@ -99,6 +100,14 @@ def misplaced(number: str, text: str, at: int | None = None) -> DatabaseError:
     return refused(refusal_of((number,), text, None if at is None else place_at(text, at)))
 
 
+def check_utf8(text: str) -> None:
+    """Refuses a text that has no bytes."""
+    try:
+        text.encode()
+    except UnicodeEncodeError as error:
+        raise misplaced("E101", text) from error
+
+
 def whole_tokens(text: str) -> list[Token]:
     """The tokens of exactly one statement, without its `;`."""
     found = tokens(text)
@@ -110,15 +119,28 @@ def whole_tokens(text: str) -> list[Token]:
         raise misplaced("E102", text, found[-1].start)
     for token in found:
         if token.is_mark(";"):
-            raise ProgrammingError(f"a cursor executes one statement at a time: {text[:200]!r}")
+            raise ProgrammingError("a cursor executes one statement at a time; executescript takes several")
     return found
+
+
+def check_places(found: list[Token]) -> None:
+    """Refuses a `?` that isn't by itself: with its value it could spell another token, as `-?` with -1 a comment."""
+    for token, behind in zip(found, found[1:]):
+        if "?" in (token.text, behind.text) and token.end == behind.start and "mark" not in (token.kind, behind.kind):
+            raise ProgrammingError("a ? stands by itself, with blanks or marks beside it: it is the place of a value")
 
 
 def normal(token: Token) -> str:
     """A token as any spelling of it has it."""
     if token.kind == "word":
         return token.text.upper() if token.text.upper() in KEYWORDS else token.text.lower()
-    return str(int(token.text)) if token.kind == "number" else token.text
+    return normal_number(token.text) if token.kind == "number" else token.text
+
+
+def normal_number(text: str) -> str:
+    """A number without zeros before it. It may have more digits than Python makes a number of."""
+    digits = text.removeprefix("-").lstrip("0") or "0"
+    return f"-{digits}" if text.startswith("-") and digits != "0" else digits
 
 
 def unlabelled(found: list[str]) -> list[str]:
@@ -146,9 +168,9 @@ def numbered_tokens(found: list[Token]) -> list[str]:
 
 
 def param_count(texts: list[str]) -> int:
-    """How many parameters a query has: the greatest number behind a `[`."""
-    numbers = [int(b) for a, b in zip(texts, texts[1:]) if a == "[" and b.isdigit()]
-    return max(numbers, default=0)
+    """How many parameters a query has: the greatest number behind a `[`, as far as a statement has room for as many."""
+    numbers = [b for a, b in zip(texts, texts[1:]) if a == "[" and b.isascii() and b.isdecimal()]
+    return max((int(it) if len(it) < 6 else STATEMENT_BYTES for it in numbers), default=0)
 
 
 def name_in(kind: Kind, found: list[Token], texts: list[str]) -> str:
@@ -160,10 +182,18 @@ def name_in(kind: Kind, found: list[Token], texts: list[str]) -> str:
     return ""
 
 
-@lru_cache(maxsize=1024)
-def read_statement(text: str) -> Statement:
+def read_statement(text: object) -> Statement:
     """The statement that a text is. Its end may lack the `;`; a comment behind it is left out."""
+    return read_text(plain_text(text, "a statement"))
+
+
+@lru_cache(maxsize=1024)
+def read_text(text: str) -> Statement:
+    """The same of a plain text."""
+    if not text.isascii():
+        check_utf8(text)
     found = whole_tokens(text)
+    check_places(found)
     first = found[0].text.upper()
     kind = Kind(first) if first in Kind.__members__ and first != "OTHER" else Kind.OTHER
     places = [token for token in found if token.text == "?"]

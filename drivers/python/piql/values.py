@@ -6,28 +6,40 @@ from .scripts import tokens
 
 LITERALS: dict[str, Value] = {"TRUE": True, "FALSE": False, "NULL": None}
 LEAST, GREATEST = -(2**63), 2**63 - 1
+# Of the letters of a number of 64 bits, its sign among them.
+MOST_DIGITS = len(str(LEAST))
 
 
 def quoted_text(text: str) -> str:
-    """A text between quotes, each of its own quotes written twice."""
-    return "'" + text.replace("'", "''") + "'"
+    """A text between quotes, each of its own quotes written twice. A class that goes on from str isn't asked how."""
+    return "'" + str.replace(text, "'", "''") + "'"
+
+
+def written_number(number: int) -> str:
+    """A whole number as a statement writes it."""
+    if LEAST <= number <= GREATEST:
+        return str(number)
+    raise DataError("a number is outside the 64 bits of INT")
 
 
 def quoted(value: object) -> str:
-    """A value as a statement writes it: a whole number, True or False, a text, or None for NULL."""
-    if type(value) is int and LEAST <= value <= GREATEST:
-        return str(value)
-    if isinstance(value, str):
-        return quoted_text(value)
+    """A value as a statement writes it: a whole number, True or False, a text, or None for NULL.
+
+    One of a class that goes on from int or str is written as the number or the text that it holds, by the methods of
+    int and str alone: what its own methods say would stand in the statement as it is.
+    """
+    kind = type(value)
+    if kind is int:
+        return written_number(value)  # type: ignore[arg-type] - its type was asked
+    if issubclass(kind, str):
+        return quoted_text(value)  # type: ignore[arg-type]
     if value is None:
         return "NULL"
-    if value is True or value is False:
+    if kind is bool:
         return "TRUE" if value else "FALSE"
-    if isinstance(value, int):
-        if LEAST <= value <= GREATEST:
-            return str(int(value))
-        raise DataError(f"{value} is outside the 64 bits of INT")
-    raise ProgrammingError(f"a value is an int, a bool, a str or None, and no {type(value).__name__}")
+    if issubclass(kind, int):
+        return written_number(int.__int__(value))  # type: ignore[arg-type]
+    raise ProgrammingError(f"a value is an int, a bool, a str or None, and no {kind.__name__}")
 
 
 def read_literal(text: str) -> Value:
@@ -35,10 +47,10 @@ def read_literal(text: str) -> Value:
     found = tokens(text)
     if len(found) == 1:
         token = found[0]
-        if token.kind == "number":
+        if token.kind == "number" and len(token.text) <= MOST_DIGITS:
             return int(token.text)
         if token.kind == "text":
             return token.text[1:-1].replace("''", "'")
         if token.text.upper() in LITERALS:
             return LITERALS[token.text.upper()]
-    raise ProgrammingError(f"{text} is no value: a number, TRUE, FALSE, NULL, or a text between quotes")
+    raise ProgrammingError("this is no value: a number of 64 bits, TRUE, FALSE, NULL, or a text between quotes")
