@@ -6,6 +6,8 @@
     restore COPY FILE                puts a copy in the file's place; the file of before gets another name
     load FILE TABLE < CSV            inserts rows; the first line names the columns
     rebuild OLD NEW SCHEMA           makes a new file with the old one's rows under another schema
+    rebuild OLD SCHEMA --replace     the same; the new file then takes the old one's place
+    make NEW SCRIPT ..               makes a new file of scripts, as bin/dump writes them
     run URL < SCRIPT                 runs a whole script over the store of a cluster; the status is the engine's
     shell [FILE]                     a prompt
 """
@@ -16,9 +18,10 @@ import sys
 
 from . import connect, shell
 from .bounds import BoundsRose, check_bounds, write_bounds
-from .errors import Error
+from .errors import Error, ProgrammingError
 from .hosts.script import run_url
 from .load import load
+from .making import make
 from .marks import mark_path
 from .migrate import migrate
 from .rebuild import Values, rebuild
@@ -86,8 +89,15 @@ def given_values(words: list[str]) -> Values:
 
 def run_rebuild(given: argparse.Namespace) -> int:
     """Rebuilds a store."""
+    if (given.new is None) != given.replace:
+        raise ProgrammingError("a rebuild makes either the file NEW, or by --replace a file in the place of OLD")
     done = rebuild(given.old, given.new, given.schema, sys.stderr, given_values(given.value))
     return 1 if done.refused else 0
+
+
+def run_make(given: argparse.Namespace) -> int:
+    """Makes a file of scripts."""
+    return 1 if make(given.new, given.script, sys.stderr).refused else 0
 
 
 def run_run(given: argparse.Namespace) -> int:
@@ -122,8 +132,12 @@ def parser() -> argparse.ArgumentParser:
     loading = command("load", run_load, "file", "table")
     loading.add_argument("--null", default="", help="what stands for NULL in nullable columns; an empty cell")
     loading.add_argument("--mark", help="the file that keeps how far it came")
-    rebuilding = command("rebuild", run_rebuild, "old", "new", "schema")
+    rebuilding = command("rebuild", run_rebuild, "old")
+    rebuilding.add_argument("new", nargs="?")
+    rebuilding.add_argument("schema")
+    rebuilding.add_argument("--replace", action="store_true", help="put the new file in the place of OLD")
     rebuilding.add_argument("--value", action="append", default=[], metavar="TABLE.COLUMN=VALUE")
+    command("make", run_make, "new").add_argument("script", nargs="+")
     command("run", run_run, "url")
     command("shell", run_shell).add_argument("file", nargs="?")
     return top

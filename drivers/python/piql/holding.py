@@ -38,7 +38,7 @@ def held(path: str) -> Iterator[None]:
 
 @contextlib.contextmanager
 def held_for_reading(path: str) -> Iterator[None]:
-    """A file that nobody else writes for this while."""
+    """A file that no engine has for this while: each of them holds its file alone."""
     with opened_for(path, os.O_RDONLY, fcntl.F_RDLCK):
         yield
 

@@ -14,13 +14,18 @@ DEFINITIONS, ROWS, ENTRIES, INTENT, GROUPS = 1, 2, 3, 4, 5
 # The format of a definition's pair, by what its text begins with; and its mark behind that.
 FORMATS = {b"CREATE TABLE ": 1, b"CREATE COUNTER ": 2, b"PREPARE ": 1, b"ALTER TABLE ": 2}
 READY, FILLING = 0, 1
+# No log with a page in it is shorter: its head, a page's head and the least page.
+LEAST_LOG = 32 + 24 + 512
 # A row with a NULL has this added to its number of columns, and then four bytes whose bit i is column i's.
 HAS_NULL = 0x40
 
 
-def open_file(path: str) -> sqlite3.Connection:
+def open_file(path: str, how: str = "mode=ro") -> sqlite3.Connection:
     """The file for reading alone."""
-    file = sqlite3.connect(Path(path).absolute().as_uri() + "?mode=ro", uri=True, timeout=5)
+    try:
+        file = sqlite3.connect(f"{Path(path).absolute().as_uri()}?{how}", uri=True, timeout=5)
+    except sqlite3.Error as error:
+        raise OperationalError(f"{path} can't be read: {error}") from error
     try:
         file.execute("SELECT k, v FROM kv LIMIT 1").fetchone()
     except sqlite3.Error as error:
@@ -42,6 +47,16 @@ def opened(path: str) -> Iterator[sqlite3.Connection]:
         if not was_there:
             with contextlib.suppress(FileNotFoundError):
                 os.remove(beside)
+
+
+@contextlib.contextmanager
+def opened_held(path: str) -> Iterator[sqlite3.Connection]:
+    """A file that this process holds (holding.py) and whose log is empty, for a while: SQLite takes no lock."""
+    log = os.path.realpath(path) + "-wal"
+    if os.path.exists(log) and os.path.getsize(log) >= LEAST_LOG:
+        raise OperationalError(f"somebody wrote to {path} just now; try again")
+    with contextlib.closing(open_file(path, "immutable=1")) as file:
+        yield file
 
 
 def pairs(file: sqlite3.Connection, first: int, *after: int) -> Iterator[tuple[bytes, bytes]]:

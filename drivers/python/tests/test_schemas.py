@@ -1,4 +1,4 @@
-"""Growing a schema, bounds.lock, copies and rebuilt stores."""
+"""Growing a schema, bounds.lock and stored rows."""
 
 import contextlib
 import io
@@ -8,7 +8,6 @@ from pathlib import Path
 
 from helpers import needs_file, new_folder, piql
 from piql.__main__ import main
-from piql.rebuild import Rebuilt, rebuild
 from piql.reports import DefinitionLine
 from piql.schema import Added, Column, Counter, read_added, read_counter, read_query, read_schema, read_table
 from piql.stored import opened, read_row, read_stored_schema, stored_rows
@@ -266,65 +265,3 @@ class SchemaTest(unittest.TestCase):
         with contextlib.redirect_stderr(io.StringIO()) as errors:
             self.assertEqual(main(["bounds", str(self.path), "--check", str(lock)]), 2)
         self.assertIn("town 1 1", errors.getvalue())
-
-    def rows_of_old(self) -> None:
-        """An old store with some rows."""
-        with self.open() as connection:
-            piql.migrate(connection, self.schema, out=io.StringIO())
-            rows = [("ann", "rome"), ("bob", None), ("c" * 20, "it's")]
-            connection.cursor().executemany("INSERT INTO users VALUES (?, ?)", rows)
-
-    def test_rebuild(self) -> None:
-        self.rows_of_old()
-        columns = "town TEXT(30) NULL, name TEXT(19), age INT, note TEXT(5) NULL"
-        self.schema.write_text(f"CREATE TABLE users ({columns}, PRIMARY KEY (name));")
-        new, tell = self.folder / "new.db", io.StringIO()
-        with self.assertRaises(piql.ProgrammingError):
-            rebuild(str(self.path), str(new), self.schema, tell, {})
-        self.assertFalse(new.exists())
-        done = rebuild(str(self.path), str(new), self.schema, tell, {("users", "age"): 30})
-        self.assertEqual(done, Rebuilt(2, 1))
-        self.assertIn("E501 users name", tell.getvalue())
-        rows = self.open(new).execute("SELECT * FROM users ORDER BY name LIMIT 9").fetchall()
-        self.assertEqual(rows, [("rome", "ann", 30, None), (None, "bob", 30, None)])
-        with self.assertRaises(piql.OperationalError):
-            rebuild(str(self.path), str(new), self.schema, tell, {})
-
-    def test_rebuild_with_added_columns(self) -> None:
-        self.rows_of_old()
-        with self.open() as connection:
-            connection.execute(ADDED)
-            connection.execute("UPDATE users SET karma = 9 WHERE name = 'bob'")
-        new, newer = self.folder / "new.db", self.folder / "newer.db"
-        self.schema.write_text(FIRST + ADDED.replace("7", "8") + "ALTER TABLE users ADD COLUMN ok BOOL DEFAULT TRUE;")
-        tell, wanted = io.StringIO(), [("ann", "rome", 7, True), ("bob", None, 9, True), ("c" * 20, "it's", 7, True)]
-        self.assertEqual(rebuild(str(self.path), str(new), self.schema, tell, {}), Rebuilt(3, 0))
-        rows = self.open(new).execute("SELECT * FROM users ORDER BY name LIMIT 9").fetchall()
-        self.assertEqual(rows, wanted)
-        done = rebuild(str(self.path), str(newer), self.schema, tell, {("users", "ok"): False})
-        self.assertEqual(done, Rebuilt(3, 0))
-        rows = self.open(newer).execute("SELECT * FROM users ORDER BY name LIMIT 9").fetchall()
-        self.assertEqual(rows, [(*row[:3], False) for row in wanted])
-
-    def test_rebuild_makes_counters_before_the_rows(self) -> None:
-        self.rows_of_old()
-        with self.open() as connection:
-            connection.execute("INSERT INTO users VALUES ('dan', 'rome')")
-        new, newer = self.folder / "new.db", self.folder / "newer.db"
-        self.schema.write_text(FIRST + COUNTED)
-        self.assertEqual(rebuild(str(self.path), str(new), self.schema, io.StringIO(), {}), Rebuilt(4, 0))
-        with self.open(new) as connection:
-            found = [connection.execute("READ of_town (?)", (town,)).fetchall() for town in ("rome", "it's", "oslo")]
-        self.assertEqual(found, [[(2,)], [(1,)], [(0,)]])
-        self.schema.write_text(FIRST)
-        tell = io.StringIO()
-        self.assertEqual(rebuild(str(new), str(newer), self.schema, tell, {}), Rebuilt(4, 0))
-        self.assertIn("counter of_town is left out\n", tell.getvalue())
-
-    def test_rebuild_leaves_out(self) -> None:
-        self.rows_of_old()
-        self.schema.write_text("CREATE TABLE people (name TEXT(20), PRIMARY KEY (name));")
-        tell = io.StringIO()
-        done = rebuild(str(self.path), str(self.folder / "new.db"), self.schema, tell, {})
-        self.assertEqual(done, Rebuilt(0, 0))
-        self.assertIn("table users is left out\n", tell.getvalue())
