@@ -21,16 +21,17 @@ LONG = 60.0
 class Served:
     """A server as a process, which has written its first line or has ended."""
 
-    def __init__(self, *words: object, program: Path | None = None, at: Path | None = None) -> None:
+    def __init__(self, *words: object, program: Path | None = None, limits: str = "") -> None:
+        """`limits` is a command of the shell that sets some before the server begins."""
         given = [] if program is None else ["--program", str(program)]
+        before = ["sh", "-c", f'{limits}; exec "$@"', "sh"] if limits else []
         path = os.pathsep.join([os.path.dirname(sys.executable), os.environ.get("PATH", "")])
         self.process = subprocess.Popen(
-            [str(COMMAND), *map(str, words), *given],
+            [*before, str(COMMAND), *map(str, words), *given],
             stdout=subprocess.PIPE,
             stderr=subprocess.PIPE,
             text=True,
             env={**os.environ, "PATH": path},
-            cwd=at,
         )
         assert self.process.stdout is not None
         self.said = self.process.stdout.readline()

@@ -1,13 +1,14 @@
 """Stands for piql_file in the tests of the server: it is quick, and does what the first words of a statement say.
 
     SHOW                             the definitions: one table with one index, and queries by the names below
-    RUN hang | wait_MS | rows_N      never answers; answers after so many milliseconds; answers so many rows
+    RUN, READ hang | wait_MS | rows_N      never answers; answers after so many milliseconds; answers so many rows
     RUN exit_STATUS | damage         ends with a status, or as a run that met a damage whose key has the word MARKED
     RUN none                         refused with E401
     anything else                    made; its text is written to a line of FILE.made
 """
 
 import os
+import re
 import sys
 import time
 
@@ -16,6 +17,7 @@ DEFINITIONS = (
     "def 2 PREPARE slow AS SELECT x.b FROM t AS x WHERE x.a = [1];\n"
     "def 3 PREPARE hang AS SELECT x.b FROM t AS x WHERE x.a = [1];\n"
 )
+COMMENT = re.compile(rb"--[^\n]*\n")
 BOUND = "bound 21 40 used 2 2"
 
 
@@ -52,10 +54,11 @@ def serve(made: int) -> None:
         while b";" in left:
             statement, _, left = left.partition(b";")
             number += 1
-            words = statement.decode(errors="replace").split()
+            words = COMMENT.sub(b" ", statement).decode(errors="replace").split()
+            words[0] = words[0].upper()
             if words[0] == "SHOW":
                 told(number, DEFINITIONS, "ok")
-            elif words[0] == "RUN":
+            elif words[0] in ("RUN", "READ"):
                 run_query(number, words[1])
             else:
                 os.write(made, statement + b"\n")

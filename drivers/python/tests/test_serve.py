@@ -13,29 +13,13 @@ import time
 import unittest
 from pathlib import Path
 
-from helpers import TOP, needs_file, new_folder, piql
-from piql.frames import BROKEN, HELLO, REPORT, STATEMENT, read_frame, write_frame
+from helpers import needs_file, needs_speed, new_folder, piql
+from piql.frames import BROKEN, REPORT, STATEMENT, read_frame, write_frame
+from served import COMMAND, Served, greeted
 
 CLIENTS, WRITES = 16, 10_000
 PAGE = "SELECT t.client, t.number FROM t ORDER BY client, number PAGINATE 1000"
 SCRIPT = "CREATE TABLE t (client INT, number INT, PRIMARY KEY (client, number));"
-
-
-class Served:
-    """A server as a process."""
-
-    def __init__(self, path: Path, at: Path) -> None:
-        words = [TOP / "bin/piql-serve", path, at]
-        self.process = subprocess.Popen(words, stdout=subprocess.PIPE, stderr=subprocess.PIPE, text=True)
-        assert self.process.stdout is not None
-        self.said = self.process.stdout.readline()
-
-    def end(self, number: int = signal.SIGTERM) -> tuple[int, str]:
-        """Ends the server by a signal; its status and what it wrote as errors."""
-        if self.process.poll() is None:
-            self.process.send_signal(number)
-        _, errors = self.process.communicate()
-        return self.process.returncode, errors
 
 
 @needs_file
@@ -59,11 +43,7 @@ class ServeTest(unittest.TestCase):
 
     def raw(self) -> socket.socket:
         """A socket that has been greeted."""
-        made = socket.socket(socket.AF_UNIX)
-        self.addCleanup(made.close)
-        made.connect(str(self.at))
-        self.assertEqual(read_frame(made)[0], HELLO)
-        return made
+        return greeted(self, self.at)
 
     def stored(self, connection: piql.Connection) -> list[piql.Row]:
         """All rows."""
@@ -75,6 +55,7 @@ class ServeTest(unittest.TestCase):
             after = cursor.next_page
         return found
 
+    @needs_speed
     def test_each_report_that_said_ok_is_in_the_file(self) -> None:
         self.open().cursor().executescript(SCRIPT)
         made: list[piql.Row] = []
@@ -131,10 +112,10 @@ class ServeTest(unittest.TestCase):
         self.assertEqual(read_frame(client)[0], REPORT)
 
     def test_a_second_server(self) -> None:
-        second = subprocess.run([TOP / "bin/piql-serve", self.path, f"{self.at}2"], capture_output=True, text=True)
+        second = subprocess.run([COMMAND, self.path, f"{self.at}2"], capture_output=True, text=True)
         self.assertEqual(second.returncode, 1)
         self.assertIn("another process has", second.stderr)
-        other = subprocess.run([TOP / "bin/piql-serve", f"{self.path}2", self.at], capture_output=True, text=True)
+        other = subprocess.run([COMMAND, f"{self.path}2", self.at], capture_output=True, text=True)
         self.assertEqual(other.returncode, 1)
         self.assertIn("a server listens", other.stderr)
         self.open().execute("SHOW")
@@ -198,11 +179,7 @@ class ServeTest(unittest.TestCase):
     def test_an_engine_that_is_killed(self) -> None:
         connection = self.open()
         connection.cursor().executescript(SCRIPT)
-        children = Path(f"/proc/{self.server.process.pid}/task/{self.server.process.pid}/children")
-        if not children.exists():
-            self.skipTest("this machine doesn't tell a process's children")
-        engine = [int(it) for it in children.read_text().split()][-1]
-        os.kill(engine, signal.SIGKILL)
+        os.kill(self.server.engine(), signal.SIGKILL)
         with self.assertRaises(piql.OperationalError) as caught:
             connection.execute("INSERT INTO t VALUES (1, 1)")
         self.assertEqual(caught.exception.status, -signal.SIGKILL)

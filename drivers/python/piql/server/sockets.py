@@ -112,6 +112,7 @@ class Listener:
             os.umask(before)
         found = os.lstat(self.path)
         self.socket.listen(BACKLOG)
+        self.socket.setblocking(False)
         return found.st_dev, found.st_ino
 
     def is_there(self) -> bool:

@@ -1,0 +1,127 @@
+"""One client of a server: what it has sent that is no whole frame yet, and what it hasn't taken of its answers."""
+
+import contextlib
+import os
+import select
+import socket
+import struct
+import time
+
+from ..frames import HEAD, REQUEST_BYTES, FrameError
+from .requests import Request
+
+Answer = tuple[bytes, bytes]
+PEER = struct.Struct("iII")
+# What is read at once, and what a client may send ahead of its answers.
+CHUNK = HEAD.size + REQUEST_BYTES
+# For how many seconds a client may be in the middle of a frame, or take nothing of an answer.
+FRAME_SECONDS = 10.0
+
+
+def is_owner(client: socket.socket) -> bool:
+    """Whether the other side is the server's own user."""
+    _, user, _ = PEER.unpack(client.getsockopt(socket.SOL_SOCKET, socket.SO_PEERCRED, PEER.size))
+    return bool(user == os.geteuid())
+
+
+class Ticket:
+    """A request in its turn. Whoever tells the client what became of it says so here, and nobody tells it twice."""
+
+    def __init__(self, client: "Client", request: Request, asked: float) -> None:
+        self.client, self.request, self.asked = client, request, asked
+        self.is_begun = self.is_told = False
+
+
+class Client:
+    """A connected socket, which never blocks. It has at most one ticket: the next frame waits for its answer."""
+
+    def __init__(self, made: socket.socket, now: float) -> None:
+        made.setblocking(False)
+        self.socket = made
+        self.received, self.unsent = bytearray(), bytearray()
+        self.ticket: Ticket | None = None
+        # Since when it is silent, in the middle of its frame, or takes nothing.
+        self.since = now
+        # It sends no more, or nothing that it sends is taken; it is left once its answers are out.
+        self.is_ending = False
+        self.is_closed = False
+
+    def receive(self) -> None:
+        """Takes what has come."""
+        try:
+            part = self.socket.recv(CHUNK)
+        except BlockingIOError:
+            return
+        except OSError:
+            part = b""
+        if not part:
+            self.is_ending = True
+        elif not self.received:
+            self.since = time.monotonic()
+        self.received += part
+
+    def next_frame(self) -> tuple[bytes, bytes] | None:
+        """The kind and the text of a frame that is there whole. One of no bytes, or of too many, is refused."""
+        if len(self.received) < HEAD.size:
+            return None
+        (length,) = HEAD.unpack_from(self.received)
+        if not 1 <= length <= REQUEST_BYTES:
+            raise FrameError(f"a frame of {length} bytes; it has 1 to {REQUEST_BYTES}")
+        end = HEAD.size + length
+        if len(self.received) < end:
+            return None
+        frame = bytes(self.received[HEAD.size : end])
+        del self.received[:end]
+        return frame[:1], frame[1:]
+
+    def push(self, kind: bytes, text: bytes) -> None:
+        """Sends a frame, as far as the client takes it now. The rest is kept."""
+        frame = HEAD.pack(len(text) + 1) + kind + text
+        self.since = time.monotonic()
+        sent = 0 if self.unsent else self.sent(frame)
+        if sent < len(frame):
+            self.unsent += frame[sent:]
+
+    def flush(self) -> None:
+        """Sends on."""
+        sent = self.sent(self.unsent)
+        if sent:
+            self.since = time.monotonic()
+            del self.unsent[:sent]
+
+    def sent(self, data: bytes | bytearray) -> int:
+        """How much of it is sent. A client that went away takes all, since nobody else wants it."""
+        if self.is_closed:
+            return len(data)
+        try:
+            return self.socket.send(data)
+        except BlockingIOError:
+            return 0
+        except OSError:
+            self.is_ending = True
+            return len(data)
+
+    def is_ready(self) -> bool:
+        """Whether its next frame may be taken."""
+        return self.ticket is None and not self.unsent
+
+    def wanted(self) -> int:
+        """What its socket is polled for. One that sends far ahead of its answers isn't read meanwhile."""
+        if self.unsent:
+            return select.EPOLLOUT
+        return 0 if self.is_ending or len(self.received) >= CHUNK else select.EPOLLIN
+
+    def overdue(self, now: float, idle: float) -> float:
+        """The seconds for which it was silent, or stood still within a frame or an answer, if these are too many."""
+        limit = min(FRAME_SECONDS, idle) if self.unsent or self.received else idle
+        return limit if now - self.since > limit else 0.0
+
+    def hang_up(self) -> None:
+        """Has the client's next frame fail before a byte of it is taken. What it sent before can still be read."""
+        with contextlib.suppress(OSError):
+            self.socket.shutdown(socket.SHUT_RD)
+
+    def close(self) -> None:
+        """Leaves the client."""
+        self.is_closed = self.is_ending = True
+        self.socket.close()

@@ -1,0 +1,199 @@
+"""The thread that has all sockets: it takes clients and their frames, and leaves those that are silent or stand still."""
+
+import collections
+import contextlib
+import os
+import select
+import threading
+import time
+from collections.abc import Callable, Sequence
+
+from ..frames import BROKEN, FrameError
+from .clients import CHUNK, Answer, Client, Ticket
+from .coming import Coming
+from .requests import Request
+from .sockets import Listener
+
+# How often it is looked for clients that are overdue, in seconds.
+TICK = 0.1
+SILENT = "nothing came for {seconds:g} seconds"
+HALF = "a frame wasn't whole after {seconds:g} seconds"
+STOPS = "the server stops"
+
+
+class Loop:
+    """All clients. At most `most` of them are taken; one that is silent for `idle` seconds is left."""
+
+    def __init__(self, listeners: Sequence[Listener], most: int, idle: float, give: Callable[[Ticket], None]) -> None:
+        self.idle, self.give = idle, give
+        self.coming = Coming(listeners, most)
+        self.clients: dict[int, Client] = {}
+        self.epoll = select.epoll()
+        # What is polled of each descriptor.
+        self.polled: dict[int, int] = {}
+        self.wake_read, self.wake_write = os.pipe2(os.O_NONBLOCK | os.O_CLOEXEC)
+        self.poll(self.wake_read, select.EPOLLIN)
+        # Clients whose answer left something to do. The guard is for what both threads touch of a client.
+        self.stirred: collections.deque[Client] = collections.deque()
+        self.guard = threading.Lock()
+        self.next_look = 0.0
+
+    # Both threads
+
+    def begin(self, ticket: Ticket) -> bool:
+        """Whether a request is still to be made; from here on it can't be told any more that it wasn't."""
+        with self.guard:
+            ticket.is_begun = not ticket.is_told
+            return ticket.is_begun
+
+    def tell(self, ticket: Ticket, answer: Answer, unless_begun: bool = False) -> None:
+        """Tells a client what became of its request, unless it was told already."""
+        client = ticket.client
+        with self.guard:
+            if ticket.is_told or unless_begun and ticket.is_begun:
+                return
+            ticket.is_told = True
+            client.ticket = None
+            client.push(*answer)
+            is_quiet = not (client.unsent or client.received or client.is_ending)
+        if not is_quiet:
+            self.stirred.append(client)
+            self.wake()
+
+    def wake(self) -> None:
+        """Has the loop look at what was stirred."""
+        with contextlib.suppress(BlockingIOError):
+            os.write(self.wake_write, b"\0")
+
+    # The loop's own thread
+
+    def turn(self) -> None:
+        """Does what there is to do; where there is nothing, waits for it for a moment."""
+        for descriptor, _ in self.epoll.poll(TICK):
+            if descriptor in self.clients:
+                self.moved(self.clients[descriptor])
+            elif descriptor == self.wake_read:
+                os.read(self.wake_read, CHUNK)
+            else:
+                self.take_clients(descriptor)
+        while self.stirred:
+            self.go_on(self.stirred.popleft())
+        if time.monotonic() >= self.next_look:
+            self.look_round()
+
+    def poll(self, descriptor: int, mask: int) -> None:
+        """Has a descriptor polled for this from now on; for 0 not at all."""
+        before = self.polled.get(descriptor, 0)
+        if mask == before:
+            return
+        if not before:
+            self.epoll.register(descriptor, mask)
+        elif mask:
+            self.epoll.modify(descriptor, mask)
+        else:
+            self.epoll.unregister(descriptor)
+        self.polled[descriptor] = mask
+
+    def moved(self, client: Client) -> None:
+        """A client has sent something, takes something, or has gone."""
+        with self.guard:
+            if client.unsent:
+                client.flush()
+            else:
+                client.receive()
+        self.go_on(client)
+
+    def go_on(self, client: Client) -> None:
+        """Takes the frames that are there, and polls for what is to come."""
+        if client.is_closed:
+            return
+        self.take_frames(client)
+        if client.is_ending and client.is_ready():
+            self.leave(client)
+        else:
+            self.poll(client.socket.fileno(), client.wanted())
+
+    def take_frames(self, client: Client) -> None:
+        """Takes the frames that are there: one of them waits for its turn, and the others wait for it."""
+        try:
+            while client.is_ready() and (frame := client.next_frame()):
+                client.ticket = Ticket(client, Request(*frame), time.monotonic())
+                self.give(client.ticket)
+        except FrameError as error:
+            self.break_off(client, str(error))
+
+    def break_off(self, client: Client, why: str) -> None:
+        """Tells a client why it is left. Nothing that it sends from now on is taken."""
+        with self.guard:
+            client.received.clear()
+            client.is_ending = True
+            client.push(BROKEN, why.encode())
+
+    def leave(self, client: Client) -> None:
+        """Lets a client go."""
+        descriptor = client.socket.fileno()
+        self.poll(descriptor, 0)
+        del self.clients[descriptor], self.polled[descriptor]
+        with self.guard:
+            client.close()
+
+    def take_clients(self, listener: int) -> None:
+        """Takes the clients that wait at a listener."""
+        for client in self.coming.taken(listener, len(self.clients)):
+            self.clients[client.socket.fileno()] = client
+            self.poll(client.socket.fileno(), select.EPOLLIN)
+        self.poll_listeners()
+
+    def poll_listeners(self) -> None:
+        """Polls the listeners, unless the system has no room for a client just now."""
+        for descriptor, mask in self.coming.wanted(time.monotonic()).items():
+            self.poll(descriptor, mask)
+
+    def look_round(self) -> None:
+        """Leaves the clients that are overdue, and looks whether clients can be taken."""
+        now = time.monotonic()
+        self.next_look = now + TICK
+        for client in list(self.clients.values()):
+            if client.ticket is None and (limit := client.overdue(now, self.idle)):
+                self.let_go(client, (HALF if client.received else SILENT).format(seconds=limit))
+        self.poll_listeners()
+
+    def let_go(self, client: Client, why: str) -> None:
+        """Leaves a client. Where a whole frame of it is on its way, that is answered first."""
+        if client.unsent:
+            return self.leave(client)
+        client.hang_up()
+        with self.guard:
+            client.receive()
+        self.take_frames(client)
+        if client.ticket is None:
+            self.break_off(client, why)
+        client.is_ending = True
+        self.go_on(client)
+
+    # The end
+
+    def close_door(self) -> None:
+        """Takes no more clients, and no more frames but those that are on their way."""
+        for descriptor in self.coming.close():
+            self.polled.pop(descriptor, None)
+        for client in list(self.clients.values()):
+            if client.ticket is None:
+                self.let_go(client, STOPS)
+            else:
+                client.hang_up()
+                client.is_ending = True
+
+    def tell_all(self, answer: Answer, unless_begun: bool = False) -> None:
+        """Tells all clients that have asked for something."""
+        for client in list(self.clients.values()):
+            if (ticket := client.ticket) is not None:
+                self.tell(ticket, answer, unless_begun)
+
+    def close(self) -> None:
+        """Leaves all clients."""
+        for client in list(self.clients.values()):
+            self.leave(client)
+        self.epoll.close()
+        os.close(self.wake_read)
+        os.close(self.wake_write)

@@ -1,0 +1,55 @@
+"""The words of piql-serve."""
+
+import argparse
+from typing import NamedTuple
+
+from ..hosts.urls import is_url
+
+CLIENTS = 256
+MOST_CLIENTS = 10_000
+IDLE = 600.0
+
+
+class Settings(NamedTuple):
+    """What the words say. Times are in seconds."""
+
+    store: str
+    socket: str
+    program: str | None
+    is_standby: bool
+    clients: int
+    idle: float
+
+
+def count(word: str) -> int:
+    """A number of clients."""
+    number = int(word) if word.isascii() and word.isdecimal() else 0
+    if not 1 <= number <= MOST_CLIENTS:
+        raise argparse.ArgumentTypeError(f"1 to {MOST_CLIENTS:,} are wanted, and not {word}")
+    return number
+
+
+def seconds(word: str) -> float:
+    """A time, above nothing."""
+    try:
+        time = float(word)
+    except ValueError:
+        time = 0.0
+    if not 0 < time < float("inf"):
+        raise argparse.ArgumentTypeError(f"a number of seconds is wanted, and not {word}")
+    return time
+
+
+def read_words(words: list[str] | None) -> Settings:
+    """The words of the command. Words of no form end the program with status 2."""
+    parser = argparse.ArgumentParser(prog="piql-serve", description="One store for many connections.")
+    parser.add_argument("store", help="the SQLite file of the store, or etcd://.. or postgresql://..")
+    parser.add_argument("socket", help="where clients connect, as unix:SOCKET")
+    parser.add_argument("--program", help="the program piql_file, or piql_host for a cluster")
+    parser.add_argument("--standby", action="store_true", help="wait until no other server has the cluster's store")
+    parser.add_argument("--clients", type=count, default=CLIENTS, help="the most clients at a time (%(default)s)")
+    parser.add_argument("--idle", type=seconds, default=IDLE, metavar="SECONDS", help="the longest silence (%(default)g)")
+    given = parser.parse_args(words)
+    if given.standby and not is_url(given.store):
+        parser.error("only the store of a cluster has a standby")
+    return Settings(given.store, given.socket, given.program, given.standby, given.clients, given.idle)
