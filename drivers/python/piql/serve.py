@@ -18,9 +18,13 @@ from .hosts.link import HostLink
 from .hosts.urls import is_url, open_link
 from .links import FileLink
 from .server.coming import room_for
+from .server.figures import Figures
+from .server.log import Log
 from .server.service import Service
 from .server.settings import Settings, read_words
 from .server.sockets import Listener, check_beside, check_place
+from .server.watch import Watch
+from .version import VERSION
 
 # For how many seconds a file that another process has is tried again.
 PATIENCE = 5.0
@@ -33,7 +37,7 @@ def opened(given: Settings) -> FileLink | HostLink:
     """The store with a run over it. A standby waits until nobody has it; it holds nothing meanwhile."""
     if not is_url(given.store):
         return FileLink(given.store, given.program, PATIENCE)
-    link = open_link(given.store, given.program, math.inf if given.is_standby else PATIENCE)
+    link = open_link(given.store, given.program, math.inf if given.standby else PATIENCE)
     try:
         link.begin()
     except BaseException:
@@ -41,6 +45,15 @@ def opened(given: Settings) -> FileLink | HostLink:
         raise
     link.timeout = PATIENCE
     return link
+
+
+def fill_streams() -> None:
+    """Has the three standard streams be there, so that no file or socket takes the number of one that was closed."""
+    for number in range(3):
+        try:
+            os.fstat(number)
+        except OSError:
+            os.open(os.devnull, os.O_RDWR)
 
 
 def check(given: Settings) -> None:
@@ -52,10 +65,15 @@ def check(given: Settings) -> None:
 
 def begun(given: Settings) -> Service:
     """A server whose store is open, and that listens."""
+    watch = Watch(Log(given.log), Figures())
     room = room_for(given.clients)
+    if room < given.clients:
+        watch.log.warning("few-descriptors", clients=room, asked=given.clients)
     link = opened(given)
     try:
-        return Service(link, [Listener(given.socket, SOCKET_MODE)], room, given.idle)
+        listeners = [Listener(given.socket, SOCKET_MODE)]
+        watch.log.info("begun", version=VERSION, store=given.store, socket=given.socket, clients=room, idle=given.idle)
+        return Service(link, listeners, given._replace(clients=room), watch)
     except BaseException:
         link.close()
         raise
@@ -63,19 +81,19 @@ def begun(given: Settings) -> Service:
 
 def main(words: list[str] | None = None) -> int:
     """The command."""
+    fill_streams()
     given = read_words(words)
     os.umask(UMASK)
     try:
         check(given)
-        if given.is_standby:
+        if given.standby:
             print(f"piql-serve: waits for {given.store}", flush=True)
         service = begun(given)
     except (Error, OSError) as error:
         print(f"piql-serve: {error}", file=sys.stderr)
         return 1
     print(f"piql-serve: {given.store} at {given.socket}", flush=True)
-    service.run()
-    return 0
+    return service.run()
 
 
 if __name__ == "__main__":

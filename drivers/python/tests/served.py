@@ -9,8 +9,8 @@ import sys
 import unittest
 from pathlib import Path
 
-from helpers import TOP
-from piql.frames import HELLO, STATEMENT, read_frame, write_frame
+from helpers import TOP, new_folder
+from piql.frames import BROKEN, HELLO, STATEMENT, read_frame, write_frame
 
 COMMAND = TOP / "bin/piql-serve"
 STUB = Path(__file__).with_name("stub_file.py")
@@ -63,6 +63,35 @@ def stub_program(folder: Path) -> Path:
     path.write_text(f'#!/bin/sh\nexec "{sys.executable}" "{STUB}" "$@"\n')
     path.chmod(0o755)
     return path
+
+
+class ServedCase(unittest.TestCase):
+    """Each test has a folder; its servers are over what stands for the engine."""
+
+    def setUp(self) -> None:
+        self.folder = new_folder(self)
+        self.program = stub_program(self.folder)
+        self.store, self.at = self.folder / "site.db", self.folder / "site.socket"
+
+    def serve(self, *words: object, limits: str = "") -> Served:
+        """A server that listens."""
+        server = Served(self.store, self.at, *words, program=self.program, limits=limits)
+        self.addCleanup(server.end)
+        self.assertIn(str(self.at), server.said)
+        return server
+
+    def made(self) -> list[str]:
+        """The statements that were made."""
+        path = Path(f"{self.store}.made")
+        return path.read_text().splitlines() if path.exists() else []
+
+    def left(self, client: socket.socket) -> str:
+        """Why a client is left; no more comes behind it."""
+        kind, text = read_frame(client)
+        self.assertEqual(kind, BROKEN)
+        with contextlib.suppress(ConnectionResetError):
+            self.assertEqual(client.recv(1), b"")
+        return text.decode()
 
 
 def connected(case: unittest.TestCase, at: Path) -> socket.socket:

@@ -73,7 +73,7 @@ class ServeTest(unittest.TestCase):
             thread.join()
         self.assertEqual(len(made), WRITES)
         self.assertEqual(self.stored(self.open()), sorted(made))
-        self.assertEqual(self.server.end(), (0, ""))
+        self.assertEqual(self.server.end()[0], 0)
         with piql.connect(self.path) as connection:
             self.assertEqual(self.stored(connection), sorted(made))
 

@@ -6,53 +6,26 @@ import os
 import resource
 import select
 import signal
-import socket
 import stat
 import struct
 import time
 import unittest
-from pathlib import Path
 
-from helpers import new_folder
+from helpers import piql
 from piql.frames import BACKUP, BROKEN, ENDED, HELLO, REPORT, STATEMENT, read_frame, write_frame
 from piql.server.coming import OWN_DESCRIPTORS, PAUSE, Coming, room_for
+from piql.server.figures import Figures
+from piql.server.log import Log
 from piql.server.sockets import Listener
-from served import Served, asked, connected, greeted, stub_program
+from piql.server.watch import Watch
+from served import Served, ServedCase, asked, connected, greeted
 
 WRITE = "INSERT INTO t VALUES (1, 'x');"
 # More than a socket keeps.
 MUCH = "RUN rows_100000 ();"
 
 
-class ClientCase(unittest.TestCase):
-    """Each test has a folder; servers are over what stands for the engine."""
-
-    def setUp(self) -> None:
-        self.folder = new_folder(self)
-        self.program = stub_program(self.folder)
-        self.store, self.at = self.folder / "site.db", self.folder / "site.socket"
-
-    def serve(self, *words: object, limits: str = "") -> Served:
-        server = Served(self.store, self.at, *words, program=self.program, limits=limits)
-        self.addCleanup(server.end)
-        self.assertIn(str(self.at), server.said)
-        return server
-
-    def made(self) -> list[str]:
-        """The statements that were made."""
-        path = Path(f"{self.store}.made")
-        return path.read_text().splitlines() if path.exists() else []
-
-    def left(self, client: socket.socket) -> str:
-        """Why a client is left; no more comes behind it."""
-        kind, text = read_frame(client)
-        self.assertEqual(kind, BROKEN)
-        with contextlib.suppress(ConnectionResetError):
-            self.assertEqual(client.recv(1), b"")
-        return text.decode()
-
-
-class SilenceTest(ClientCase):
+class SilenceTest(ServedCase):
     """Clients that don't move, beside one that does."""
 
     def setUp(self) -> None:
@@ -68,6 +41,14 @@ class SilenceTest(ClientCase):
         self.assertIn("nothing came", self.left(client))
         with self.assertRaises(BrokenPipeError):
             client.sendall(b"\0")
+
+    def test_the_driver_connects_again_by_itself(self) -> None:
+        connection = piql.connect(f"unix:{self.at}", prepare=False)
+        self.addCleanup(connection.close)
+        for number in range(3):
+            time.sleep(1.5)
+            connection.execute("INSERT INTO t VALUES (?, 'x')", (number,))
+        self.assertEqual(len(self.made()), 3)
 
     def test_what_is_sent_to_a_silent_end_fails_or_is_made(self) -> None:
         clients = [greeted(self, self.at) for _ in range(60)]
@@ -108,7 +89,7 @@ class SilenceTest(ClientCase):
         self.assertEqual(asked(client, "RUN wait_2500 ();")[0], REPORT)
 
 
-class ManyTest(ClientCase):
+class ManyTest(ServedCase):
     """Clients that are too many, for the server or for the system."""
 
     def test_the_limit_of_clients(self) -> None:
@@ -147,7 +128,9 @@ class ManyTest(ClientCase):
 
     def test_clients_are_taken_again_once_there_are_descriptors(self) -> None:
         listener = Listener(str(self.at), 0o600)
-        coming = Coming([listener], room_for(5))
+        nowhere = os.open(os.devnull, os.O_WRONLY)
+        self.addCleanup(os.close, nowhere)
+        coming = Coming([listener], room_for(5), Watch(Log("error", nowhere), Figures()))
         waiting = connected(self, self.at)
         before = resource.getrlimit(resource.RLIMIT_NOFILE)
         self.addCleanup(resource.setrlimit, resource.RLIMIT_NOFILE, before)
@@ -163,7 +146,7 @@ class ManyTest(ClientCase):
         coming.close()
 
 
-class EndTest(ClientCase):
+class EndTest(ServedCase):
     """A stop."""
 
     def test_silent_clients_hold_no_stop_up(self) -> None:
@@ -214,7 +197,7 @@ class EndTest(ClientCase):
             os.kill(engine, 0)
 
 
-class RequestTest(ClientCase):
+class RequestTest(ServedCase):
     """What the requests are taken for."""
 
     def test_a_read_changes_nothing(self) -> None:

@@ -1,7 +1,7 @@
 """One client of a server: what it has sent that is no whole frame yet, and what it hasn't taken of its answers."""
 
 import contextlib
-import os
+import itertools
 import select
 import socket
 import struct
@@ -16,12 +16,14 @@ PEER = struct.Struct("iII")
 CHUNK = HEAD.size + REQUEST_BYTES
 # For how many seconds a client may be in the middle of a frame, or take nothing of an answer.
 FRAME_SECONDS = 10.0
+# The clients of a server are counted, for its log.
+NUMBERS = itertools.count(1)
 
 
-def is_owner(client: socket.socket) -> bool:
-    """Whether the other side is the server's own user."""
-    _, user, _ = PEER.unpack(client.getsockopt(socket.SOL_SOCKET, socket.SO_PEERCRED, PEER.size))
-    return bool(user == os.geteuid())
+def user_of(client: socket.socket) -> int:
+    """The user at the other side."""
+    user: int = PEER.unpack(client.getsockopt(socket.SOL_SOCKET, socket.SO_PEERCRED, PEER.size))[1]
+    return user
 
 
 class Ticket:
@@ -29,7 +31,13 @@ class Ticket:
 
     def __init__(self, client: "Client", request: Request, asked: float) -> None:
         self.client, self.request, self.asked = client, request, asked
-        self.is_begun = self.is_told = False
+        self.is_told = False
+        # When it was begun.
+        self.begun: float | None = None
+
+    def wait(self) -> float:
+        """For how many seconds it waited for its turn."""
+        return 0.0 if self.begun is None else self.begun - self.asked
 
 
 class Client:
@@ -37,7 +45,7 @@ class Client:
 
     def __init__(self, made: socket.socket, now: float) -> None:
         made.setblocking(False)
-        self.socket = made
+        self.socket, self.number = made, next(NUMBERS)
         self.received, self.unsent = bytearray(), bytearray()
         self.ticket: Ticket | None = None
         # Since when it is silent, in the middle of its frame, or takes nothing.

@@ -1,6 +1,7 @@
 """The clients that come: who is taken, who is told why not, and the wait where the system has no room for one."""
 
 import contextlib
+import os
 import resource
 import select
 import socket
@@ -9,8 +10,9 @@ from collections.abc import Sequence
 
 from ..errors import OperationalError
 from ..frames import BROKEN, GREETING, HELLO
-from .clients import Client, is_owner
+from .clients import Client, user_of
 from .sockets import BACKLOG, Listener
+from .watch import Watch
 
 # For how many seconds no client is taken where the system has no descriptor or no memory for one.
 PAUSE = 0.2
@@ -36,9 +38,9 @@ def room_for(clients: int) -> int:
 class Coming:
     """The listeners, and at most `most` clients."""
 
-    def __init__(self, listeners: Sequence[Listener], most: int) -> None:
+    def __init__(self, listeners: Sequence[Listener], most: int, watch: Watch) -> None:
         self.listeners = {it.socket.fileno(): it for it in listeners}
-        self.most = most
+        self.most, self.watch = most, watch
         self.paused_until = 0.0
 
     def wanted(self, now: float) -> dict[int, int]:
@@ -56,9 +58,10 @@ class Coming:
                 break
             except ConnectionError:
                 continue
-            except OSError:
+            except OSError as error:
                 # No descriptor, or no memory: they wait until there is.
                 self.paused_until = time.monotonic() + PAUSE
+                self.watch.log.error("no-room-for-clients", why=error.strerror, seconds=PAUSE)
                 break
             if client := self.greeted(made, listener, count + len(found)):
                 found.append(client)
@@ -68,6 +71,8 @@ class Coming:
         """A client that is told hello; or none, who is told why not."""
         client = Client(made, time.monotonic())
         if why := self.refusal(made, listener, count):
+            self.watch.figures.clients_refused[why] += 1
+            self.watch.log.warning("client-refused", client=client.number, user=user_of(made), why=why)
             client.push(BROKEN, why.encode())
             client.close()
             return None
@@ -78,7 +83,7 @@ class Coming:
         """Why a client isn't taken."""
         if count >= self.most:
             return f"there are {self.most} clients already"
-        if listener.mode == OWNER_ONLY and not is_owner(made):
+        if listener.mode == OWNER_ONLY and user_of(made) != os.geteuid():
             return "only the server's owner may connect"
         return ""
 

@@ -6,27 +6,27 @@ import os
 import select
 import threading
 import time
-from collections.abc import Callable, Sequence
+from collections.abc import Callable
 
 from ..frames import BROKEN, FrameError
 from .clients import CHUNK, Answer, Client, Ticket
 from .coming import Coming
+from .log import Log
 from .requests import Request
-from .sockets import Listener
 
 # How often it is looked for clients that are overdue, in seconds.
 TICK = 0.1
 SILENT = "nothing came for {seconds:g} seconds"
 HALF = "a frame wasn't whole after {seconds:g} seconds"
+UNREAD = "nothing of an answer was read for {seconds:g} seconds"
 STOPS = "the server stops"
 
 
 class Loop:
-    """All clients. At most `most` of them are taken; one that is silent for `idle` seconds is left."""
+    """All clients. One that is silent for `idle` seconds is left. `give` gives a request its turn."""
 
-    def __init__(self, listeners: Sequence[Listener], most: int, idle: float, give: Callable[[Ticket], None]) -> None:
-        self.idle, self.give = idle, give
-        self.coming = Coming(listeners, most)
+    def __init__(self, coming: Coming, idle: float, give: Callable[[Ticket], None], log: Log) -> None:
+        self.coming, self.idle, self.give, self.log = coming, idle, give, log
         self.clients: dict[int, Client] = {}
         self.epoll = select.epoll()
         # What is polled of each descriptor.
@@ -43,14 +43,15 @@ class Loop:
     def begin(self, ticket: Ticket) -> bool:
         """Whether a request is still to be made; from here on it can't be told any more that it wasn't."""
         with self.guard:
-            ticket.is_begun = not ticket.is_told
-            return ticket.is_begun
+            if not ticket.is_told:
+                ticket.begun = time.monotonic()
+            return not ticket.is_told
 
     def tell(self, ticket: Ticket, answer: Answer, unless_begun: bool = False) -> None:
         """Tells a client what became of its request, unless it was told already."""
         client = ticket.client
         with self.guard:
-            if ticket.is_told or unless_begun and ticket.is_begun:
+            if ticket.is_told or unless_begun and ticket.begun is not None:
                 return
             ticket.is_told = True
             client.ticket = None
@@ -120,6 +121,7 @@ class Loop:
                 client.ticket = Ticket(client, Request(*frame), time.monotonic())
                 self.give(client.ticket)
         except FrameError as error:
+            self.log.warning("client-left", client=client.number, why=str(error))
             self.break_off(client, str(error))
 
     def break_off(self, client: Client, why: str) -> None:
@@ -134,6 +136,7 @@ class Loop:
         descriptor = client.socket.fileno()
         self.poll(descriptor, 0)
         del self.clients[descriptor], self.polled[descriptor]
+        self.log.debug("client-gone", client=client.number, clients=len(self.clients))
         with self.guard:
             client.close()
 
@@ -142,6 +145,7 @@ class Loop:
         for client in self.coming.taken(listener, len(self.clients)):
             self.clients[client.socket.fileno()] = client
             self.poll(client.socket.fileno(), select.EPOLLIN)
+            self.log.debug("client-begun", client=client.number, clients=len(self.clients))
         self.poll_listeners()
 
     def poll_listeners(self) -> None:
@@ -155,8 +159,14 @@ class Loop:
         self.next_look = now + TICK
         for client in list(self.clients.values()):
             if client.ticket is None and (limit := client.overdue(now, self.idle)):
-                self.let_go(client, (HALF if client.received else SILENT).format(seconds=limit))
+                self.give_up(client, limit)
         self.poll_listeners()
+
+    def give_up(self, client: Client, limit: float) -> None:
+        """Leaves a client that stood still for so many seconds."""
+        why = (UNREAD if client.unsent else HALF if client.received else SILENT).format(seconds=limit)
+        self.log.info("client-left", client=client.number, why=why)
+        self.let_go(client, why)
 
     def let_go(self, client: Client, why: str) -> None:
         """Leaves a client. Where a whole frame of it is on its way, that is answered first."""

@@ -8,18 +8,37 @@ from ..scripts import first_token, is_one_piece
 
 WORD = re.compile(rb"[A-Za-z_][A-Za-z0-9_]*+")
 READING = frozenset({"RUN", "READ", "EXPLAIN", "SHOW"})
-COPY = "COPY"
+WRITING = frozenset({"INSERT", "UPDATE", "DELETE"})
+DEFINING = frozenset({"CREATE", "ALTER", "PREPARE"})
+COPY, OTHER = "COPY", "OTHER"
+KINDS = READING | WRITING | DEFINING | {COPY}
+# At which word the name stands that a statement is about, from 0.
+NAME_AT = {"RUN": 1, "READ": 1, "UPDATE": 1, "PREPARE": 1, "INSERT": 2, "DELETE": 2, "CREATE": 2, "ALTER": 2}
+
+
+def first_words(text: bytes, count: int) -> list[str]:
+    """The first words of a statement in small letters, as far as nothing else stands between them."""
+    found, at = [], 0
+    while len(found) < count:
+        at += first_token(text[at:])
+        word = WORD.match(text, at)
+        if word is None:
+            break
+        found.append(word[0].decode().lower())
+        at = word.end()
+    return found
 
 
 class Request:
-    """One frame that was taken: its first word in capitals, or COPY, and its text."""
+    """One frame that was taken: its first word in capitals, or COPY or OTHER, and its text."""
 
     def __init__(self, kind: bytes, text: bytes) -> None:
         if kind == BACKUP:
             self.word = COPY
         elif kind == STATEMENT and is_one_piece(text):
             found = WORD.match(text, first_token(text))
-            self.word = found[0].decode().upper() if found else ""
+            word = found[0].decode().upper() if found else ""
+            self.word = word if word in KINDS and word != COPY else OTHER
         else:
             raise FrameError("a frame has one whole statement, or the name of a copy")
         self.text = text
@@ -28,6 +47,11 @@ class Request:
     def reads(self) -> bool:
         """Whether it changes nothing."""
         return self.word in READING
+
+    def name(self) -> str:
+        """The name that the statement is about, or nothing. It is what a client wrote, and no store may have it."""
+        at = NAME_AT.get(self.word, -1)
+        return "".join(first_words(self.text, at + 1)[at : at + 1])
 
     def path(self) -> str:
         """The path of a copy. One that is none is a ValueError."""

@@ -1,7 +1,6 @@
 """A server at work: the loop that has the sockets, the worker that has the engine, and their end within a bounded time."""
 
 import signal
-import threading
 import time
 from collections.abc import Sequence
 
@@ -9,13 +8,19 @@ from ..hosts.link import HostLink
 from ..links import FileLink
 from .children import kill_children
 from .clients import Ticket
+from .coming import Coming
 from .loop import Loop
+from .observed import Observed
+from .settings import Settings
 from .sockets import Listener
+from .watch import Watch
 from .worker import Worker, ended_frame
 
 # For how many seconds a stop waits for what was asked before it, and then for an engine that it had to kill.
 PATIENCE = 5.0
 ENDING = 2.0
+# The status of a server whose worker ended by itself.
+FAULT = 1
 NOT_MADE = "the server was stopped before this statement's turn came, so it wasn't made"
 OPEN = "the server was stopped in the middle of this statement: it was made whole or not at all"
 
@@ -23,38 +28,50 @@ OPEN = "the server was stopped in the middle of this statement: it was made whol
 class Service:
     """One store for the clients of some sockets."""
 
-    def __init__(self, link: FileLink | HostLink, listeners: Sequence[Listener], most: int, idle: float) -> None:
-        self.loop = Loop(listeners, most, idle, self.give)
-        self.worker = Worker(link, self.loop)
-        self.is_stopped = threading.Event()
+    def __init__(self, link: FileLink | HostLink, listeners: Sequence[Listener], given: Settings, watch: Watch) -> None:
+        self.watch = watch
+        self.loop = Loop(Coming(listeners, given.clients, watch), given.idle, self.give, watch.log)
+        self.worker = Worker(Observed(link, watch), self.loop, watch, given.slow)
+        # The signal that stops it.
+        self.signal = 0
 
     def give(self, ticket: Ticket) -> None:
         """Gives a request its turn."""
         self.worker.waiting.put(ticket)
 
-    def run(self) -> None:
-        """Serves until a signal stops it."""
+    def take_signal(self, number: int, _frame: object) -> None:
+        """Stops it; the work of stopping is done outside the handler."""
+        self.signal = number
+
+    def run(self) -> int:
+        """Serves until a signal stops it; the status of the program."""
         signal.set_wakeup_fd(self.loop.wake_write, warn_on_full_buffer=False)
         for number in (signal.SIGTERM, signal.SIGINT):
-            signal.signal(number, lambda _number, _frame: self.is_stopped.set())
+            signal.signal(number, self.take_signal)
         self.worker.thread.start()
-        while not self.is_stopped.is_set():
+        while not self.signal and self.worker.thread.is_alive():
             self.loop.turn()
         self.stop()
+        return 0 if self.signal else FAULT
 
     def stop(self) -> None:
         """Makes what was asked before, as far as the time goes, tells the rest that it wasn't made, and closes the store."""
+        self.watch.log.info("stopping", signal=signal.Signals(self.signal).name if self.signal else None)
         self.loop.close_door()
         self.worker.end()
         self.turn_until_ended(PATIENCE)
         self.loop.tell_all(ended_frame(NOT_MADE), unless_begun=True)
         if self.worker.thread.is_alive():
             # It stands still in a statement or at its end. What it leaves is what every stop leaves.
+            self.watch.log.error("engine-killed", seconds=PATIENCE)
             kill_children()
             self.turn_until_ended(ENDING)
         self.loop.tell_all(ended_frame(OPEN))
         signal.set_wakeup_fd(-1)
         self.loop.close()
+        figures = self.watch.figures
+        seconds = time.monotonic() - figures.began
+        self.watch.log.info("ended", seconds=seconds, statements=figures.statements.total(), runs=figures.runs)
 
     def turn_until_ended(self, seconds: float) -> None:
         """Goes on for so many seconds at most, until the store is closed and all clients have their answers."""

@@ -4,10 +4,13 @@ import argparse
 from typing import NamedTuple
 
 from ..hosts.urls import is_url
+from .log import LEVELS
 
 CLIENTS = 256
 MOST_CLIENTS = 10_000
 IDLE = 600.0
+SLOW = 1.0
+LEVEL = "info"
 
 
 class Settings(NamedTuple):
@@ -16,9 +19,11 @@ class Settings(NamedTuple):
     store: str
     socket: str
     program: str | None
-    is_standby: bool
+    standby: bool
     clients: int
     idle: float
+    log: str
+    slow: float
 
 
 def count(word: str) -> int:
@@ -49,7 +54,9 @@ def read_words(words: list[str] | None) -> Settings:
     parser.add_argument("--standby", action="store_true", help="wait until no other server has the cluster's store")
     parser.add_argument("--clients", type=count, default=CLIENTS, help="the most clients at a time (%(default)s)")
     parser.add_argument("--idle", type=seconds, default=IDLE, metavar="SECONDS", help="the longest silence (%(default)g)")
+    parser.add_argument("--log", choices=LEVELS, default=LEVEL, help="the least that stands in the log (%(default)s)")
+    parser.add_argument("--slow", type=seconds, default=SLOW, metavar="SECONDS", help="what is logged as slow (%(default)g)")
     given = parser.parse_args(words)
     if given.standby and not is_url(given.store):
         parser.error("only the store of a cluster has a standby")
-    return Settings(given.store, given.socket, given.program, given.standby, given.clients, given.idle)
+    return Settings(**vars(given))

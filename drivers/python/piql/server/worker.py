@@ -1,20 +1,23 @@
 """The one thread that has the run of the engine: it makes the statements that wait, in the order in which they came.
 
 A client has at most one request here, so the order is a turn of each: a statement waits for at most one of every other
-client. All that clients are told goes over `tell`.
+client.
 """
 
 import json
 import queue
 import threading
+import time
 
 from ..errors import Error
 from ..frames import COPIED, ENDED, REPORT
-from ..hosts.link import HostLink
-from ..links import FileLink
 from .clients import Answer, Ticket
+from .figures import ending_of
+from .log import Field
 from .loop import Loop
-from .requests import COPY, Request
+from .observed import Observed
+from .requests import COPY, DEFINING
+from .watch import Watch
 
 # How often an idle server looks whether its lease is to be renewed, in seconds.
 BEAT = 1.0
@@ -28,9 +31,11 @@ def ended_frame(text: str, status: int | None = None) -> Answer:
 class Worker:
     """The requests that wait, and the thread that makes them until `end`; then it closes the store."""
 
-    def __init__(self, link: FileLink | HostLink, loop: Loop) -> None:
-        self.link, self.loop = link, loop
+    def __init__(self, store: Observed, loop: Loop, watch: Watch, slow: float) -> None:
+        self.store, self.loop, self.watch, self.slow = store, loop, watch, slow
         self.waiting: queue.SimpleQueue[Ticket | None] = queue.SimpleQueue()
+        # What is made now.
+        self.at_hand: Ticket | None = None
         self.thread = threading.Thread(target=self.run, name="worker", daemon=True)
 
     def end(self) -> None:
@@ -38,29 +43,61 @@ class Worker:
         self.waiting.put(None)
 
     def run(self) -> None:
-        """The thread."""
+        """The thread. Where it ends by itself, the server ends."""
         try:
+            self.store.read_catalog()
             while (ticket := self.next_one()) is not None:
                 if self.loop.begin(ticket):
-                    self.loop.tell(ticket, self.answer(ticket.request))
+                    self.at_hand = ticket
+                    self.loop.tell(ticket, self.answer(ticket))
+                    self.at_hand = None
+        except Exception as error:
+            self.watch.log.error("fault", kind=type(error).__name__)
         finally:
-            self.link.close()
+            self.store.close()
+            self.loop.wake()
 
     def next_one(self) -> Ticket | None:
-        """The next request; while there is none, the lease of a cluster is kept: the calls of a statement keep it."""
+        """The next request; while there is none, the lease of a cluster is kept."""
         while True:
             try:
                 return self.waiting.get(timeout=BEAT)
             except queue.Empty:
-                if isinstance(self.link, HostLink):
-                    self.link.keep()
+                self.store.keep()
 
-    def answer(self, request: Request) -> Answer:
+    def answer(self, ticket: Ticket) -> Answer:
         """What a request is answered."""
+        request = ticket.request
         try:
             if request.word == COPY:
-                self.link.backup(request.path())
+                self.store.backup(request.path())
                 return COPIED, b""
-            return REPORT, self.link.exchange(request.text, request.reads).encode()
+            report = self.store.exchange(request.text, request.reads)
         except (Error, OSError, ValueError) as error:
+            self.store.failed(error, **self.fields(ticket))
             return ended_frame(str(error), getattr(error, "status", None))
+        self.counted(ticket, report)
+        return REPORT, report.encode()
+
+    def fields(self, ticket: Ticket) -> dict[str, Field]:
+        """What the log tells of a statement: its first word, its name if the store has it, and its times in seconds."""
+        name = ticket.request.name()
+        known = name if name in self.watch.figures.catalog.names else None
+        times = {"seconds": time.monotonic() - (ticket.begun or ticket.asked), "wait": ticket.wait()}
+        return {"statement": ticket.request.word, "name": known, **times}
+
+    def counted(self, ticket: Ticket, report: str) -> None:
+        """Counts a statement that has its report; one that took long is told."""
+        figures, word = self.watch.figures, ticket.request.word
+        seconds = time.monotonic() - (ticket.begun or ticket.asked)
+        figures.statements[word] += 1
+        figures.seconds += seconds
+        is_refused = report.find(" refused ", report.rfind("\n", 0, -1)) >= 0
+        if is_refused:
+            figures.refusals[ending_of(report).refusal] += 1
+        elif word in DEFINING:
+            self.store.read_catalog()
+        if seconds >= self.slow:
+            figures.slow += 1
+            end = ending_of(report)
+            self.watch.log.warning("slow", **self.fields(ticket), bound=end.bound, used=end.used)
