@@ -122,7 +122,7 @@ class LossyPostgres(PostgresClient):
         for other in self.others:
             other.run("SELECT 1")
 
-    def run(self, text: str, values: Values = {}) -> list[tuple[Any, ...]]:
+    def run(self, text: str, values: Values = {}, seconds: float | None = None) -> list[tuple[Any, ...]]:
         def late() -> bool:
             client = self.others.pop() if self.others else PostgresClient(self.url, 5.0)
             found = client.run(text, values)
@@ -130,8 +130,8 @@ class LossyPostgres(PostgresClient):
             return bool(found)
 
         if not text.startswith("WITH "):
-            return super().run(text, values)
-        told = self.lossy.sent(lambda: PostgresClient.run(self, text, values), late)
+            return super().run(text, values, seconds)
+        told = self.lossy.sent(lambda: PostgresClient.run(self, text, values, seconds), late)
         if told is None:
             raise Lost("lost")
         return list(told)

@@ -39,9 +39,9 @@ def children(pid: int) -> list[int]:
 
 
 class Databases:
-    """A server that takes writes, and one that has each write before it is told."""
+    """A server that takes writes, and one that has each write before it is told, if one is wanted."""
 
-    def __init__(self) -> None:
+    def __init__(self, has_standby: bool = True) -> None:
         self.folder = pathlib.Path(tempfile.mkdtemp(prefix="piql-postgres-"))
         self.ports = free_ports(2)
         self.processes: dict[int, subprocess.Popen[bytes]] = {}
@@ -49,7 +49,8 @@ class Databases:
             if RUNNER:
                 os.chown(self.folder, pwd.getpwnam(RUNNER).pw_uid, -1)
             self.make_primary()
-            self.make_standby()
+            if has_standby:
+                self.make_standby()
         except BaseException:
             self.stop()
             raise

@@ -9,7 +9,7 @@ from collections import Counter
 from common import Trial
 from piql.hosts import Backend, Host, MemoryStore, Op, serve
 from piql.hosts.urls import open_store
-from piql.hosts.wire import CALLS, FAILURE, Request
+from piql.hosts.wire import CALLS, FAILURE, Request, Write
 
 TIMES, CLUSTER_TIMES = 1000, 60
 IDS, TOWNS, STATEMENTS, MOST_CALLS = 12, 3, 6, 30
@@ -26,13 +26,19 @@ Rows = dict[int, tuple[str, str]]
 
 
 class Killing(Host):
-    """A host that kills its engine at one of the calls, before or after it is made."""
+    """A host that kills its engine at one of the calls, before or after it is made.
 
-    def __init__(self, store: Backend, at: int | None, chance: random.Random) -> None:
+    One that keeps nothing makes each write of a statement as it comes, as a host may.
+    """
+
+    def __init__(self, store: Backend, at: int | None, chance: random.Random, keeps: bool = True) -> None:
         super().__init__([store])
-        self.left, self.chance = at, chance
+        self.left, self.chance, self.keeps = at, chance, keeps
         self.process: subprocess.Popen[bytes] | None = None
         self.killed_at: Op | None = None
+
+    def written(self, backend: Backend, write: Write) -> bool:
+        return super().written(backend, write) if self.keeps else backend.write(*write)
 
     def answer(self, request: Request) -> bytes:
         if self.left is None or request.op not in CALLS:
@@ -88,14 +94,14 @@ def read_rows(text: bytes) -> Rows:
     return {int(number): (town.decode(), note.decode()) for number, town, note in ROW.findall(text)}
 
 
-def kill_over(trial: Trial, kind: str, store: Backend, times: int) -> None:
+def kill_over(trial: Trial, kind: str, store: Backend, times: int, keeps: bool = True) -> None:
     """Kills engines over one store."""
     chance, counts, rows = random.Random(3), Counter[str](), Rows()
     store.begin()
     trial.expect(run(trial.engine, Killing(store, None, chance), SCHEMA)[0] == 0, f"{kind}: no schema")
     for turn in range(times):
         script, states = statements(chance, rows)
-        host = Killing(store, chance.randrange(2, MOST_CALLS), chance)
+        host = Killing(store, chance.randrange(2, MOST_CALLS), chance, keeps)
         _, told = run(trial.engine, host, script)
         accepted = len(re.findall(rb"^\d+ ok ", told, re.MULTILINE))
         status, found = run(trial.engine, Killing(store, None, chance), LOOK)
@@ -115,6 +121,7 @@ def kill_over(trial: Trial, kind: str, store: Backend, times: int) -> None:
 def deaths(trial: Trial) -> None:
     """The engine killed at a random call: what was told is there, or one statement more, whole."""
     kill_over(trial, "memory", MemoryStore(), trial.times or TIMES)
+    kill_over(trial, "memory, each write by itself", MemoryStore(), trial.times or TIMES, keeps=False)
     for kind, url in trial.urls():
         store = open_store(url)
         kill_over(trial, kind, store, trial.times or CLUSTER_TIMES)

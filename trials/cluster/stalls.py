@@ -10,7 +10,7 @@ from databases import PRIMARY
 import piql
 from piql.connection import Connection
 from piql.errors import OperationalError
-from piql.hosts import Guard, HostLink, MemoryStore
+from piql.hosts import Backend, Guard, HostLink, MemoryStore
 
 SCHEMA = "CREATE TABLE u (id INT, town TEXT(20), PRIMARY KEY (id), CARDINALITY LIMIT 100 (town))"
 INSERT = "INSERT INTO u VALUES (?, ?)"
@@ -20,9 +20,10 @@ LEASE_SECONDS = 60.0
 
 
 class Slow(MemoryStore):
-    """A store in memory of which some writes take long."""
+    """A store in memory without transactions, of which some writes take long."""
 
     slow_at, writes = -1, 0
+    commit = Backend.commit
 
     def write(self, key: bytes, guard: Guard, held: bytes, new: bytes | None) -> bool:
         self.writes += 1

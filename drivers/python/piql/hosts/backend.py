@@ -9,6 +9,7 @@ forty lines. It owes the engine this:
 2. Each call is one step: it sees all writes that were answered before it, and a write's guard and its change are one.
 3. A write that was answered stays. One that has no answer is decided before the call returns or raises: it was made, or
    it wasn't and can be made no more. Where nothing decides it, the call raises Fault, and so does each call behind it.
+   A backend that has transactions has a `commit` of its own besides: all changes of a statement, or none.
 4. Nobody else writes between `begin` and the first Fault. A store that others can reach needs a fence for this: a value
    of the store that each call compares, reads too, in the same step (etcd.py and postgres.py have one each).
 5. A call ends by itself: what waits for a network has a limit of time of its own.
@@ -19,8 +20,14 @@ backend keeps these is tried by trials/cluster; how much work a call is for the 
 
 import abc
 import enum
+from collections.abc import Sequence
 
 Pair = tuple[bytes, bytes]
+# A key with its new value, or None where it has none from then on.
+Change = tuple[bytes, bytes | None]
+# The key at which an engine puts down the changes of a statement before it makes them.
+INTENT = b"\4"
+UNSETTLED = "the changes of another statement are there"
 
 
 class Guard(enum.IntEnum):
@@ -63,6 +70,18 @@ class Backend(abc.ABC):
 
         Guard.ANY always holds, ABSENT where the key has no value, IS where it has just the value `held`.
         """
+
+    def commit(self, intent: bytes, changes: Sequence[Change]) -> None:
+        """Makes the changes of a statement, in their order. Where it raises Fault, all of them are made or none.
+
+        A store with transactions makes them by one, and writes no intent. Here they are made by the intent: an opening
+        that finds it makes what was left.
+        """
+        if not self.write(INTENT, Guard.ABSENT, b"", intent):
+            raise Fault(UNSETTLED)
+        for key, new in changes:
+            self.write(key, Guard.ANY, b"", new)
+        self.write(INTENT, Guard.ANY, b"", None)
 
     def begin(self) -> None:
         """Called before each run of an engine. Raises Held where another engine has the store."""

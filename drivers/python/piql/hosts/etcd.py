@@ -11,9 +11,10 @@ The lease is renewed by the calls themselves, so an engine that is stopped loses
 """
 
 import time
+from collections.abc import Sequence
 from typing import NamedTuple
 
-from .backend import Fault, Guard, Held
+from .backend import INTENT, UNSETTLED, Change, Fault, Guard, Held
 from .etcd_client import (
     Body,
     EtcdClient,
@@ -33,6 +34,8 @@ from .etcd_pairs import EtcdPairs
 from .fenced import GONE, FencedStore
 
 TXN = "/v3/kv/txn"
+# How many changes a transaction has at most beside that of the fence, by etcd's own default (--max-txn-ops=128).
+CHANGES_MOST = 127
 
 
 class Fence(NamedTuple):
@@ -143,11 +146,31 @@ class EtcdStore(EtcdPairs, FencedStore):
     # Writes
 
     def write(self, key: bytes, guard: Guard, held: bytes, new: bytes | None) -> bool:
+        at = self.front + key
+        guards = {Guard.ANY: [], Guard.ABSENT: [is_absent(at)], Guard.IS: [has_value(at, held)]}[guard]
+        return self.made(guards, [(key, new)])
+
+    def commit(self, intent: bytes, changes: Sequence[Change]) -> None:
+        # A transaction changes no key twice: the last change of each is made.
+        last = list(dict(changes).items())
+        is_alone = is_absent(self.front + INTENT)
+        if len(last) <= CHANGES_MOST:
+            if not self.made([is_alone], last):
+                raise Fault(UNSETTLED)
+            return
+        if not self.made([is_alone], [(INTENT, intent)]):
+            raise Fault(UNSETTLED)
+        for begin in range(0, len(last), CHANGES_MOST):
+            self.made([], last[begin : begin + CHANGES_MOST])
+        self.made([], [(INTENT, None)])
+
+    def made(self, guards: list[Body], changes: Sequence[Change]) -> bool:
+        """Makes changes by one transaction; whether the guards held."""
         self.check()
         until = time.monotonic() + self.patience
         while True:
             try:
-                return self.tried(self.front + key, guard, held, new)
+                return self.tried(guards, changes)
             except Refused:
                 raise
             except Fault as fault:
@@ -158,12 +181,11 @@ class EtcdStore(EtcdPairs, FencedStore):
                 if time.monotonic() >= until:
                     raise Fault(f"a write wasn't made: {fault}") from fault
 
-    def tried(self, key: bytes, guard: Guard, held: bytes, new: bytes | None) -> bool:
-        """Asks one member for a write, once. A Fault says that there was no answer."""
-        guards = {Guard.ANY: [], Guard.ABSENT: [is_absent(key)], Guard.IS: [has_value(key, held)]}[guard]
+    def tried(self, guards: list[Body], changes: Sequence[Change]) -> bool:
+        """Asks one member for changes, once. A Fault says that there was no answer."""
         behind = self.fence.behind_write()
-        change = removing(key) if new is None else putting(key, new)
-        body = {"compare": [self.compare_fence(), *guards], "success": [change, self.put_fence(behind)]}
+        parts = [removing(self.front + key) if new is None else putting(self.front + key, new) for key, new in changes]
+        body = {"compare": [self.compare_fence(), *guards], "success": [*parts, self.put_fence(behind)]}
         told = self.client.once(TXN, body | {"failure": [looking(self.fence_key)]})
         if told.get("succeeded"):
             self.fence, self.revision = behind, revision_of(told)

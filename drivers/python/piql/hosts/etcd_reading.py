@@ -1,10 +1,10 @@
 """What a writer's store in etcd held at one revision, for engines that read beside the writer."""
 
-from .backend import Fault, Reading
+from .backend import INTENT, Fault, Reading
 from .etcd_client import Body, EtcdClient, Stored, coded, found_by, looking, pairs_of, revision_of
 from .etcd_pairs import EtcdPairs
 
-INTENT, DEFINITIONS, ROWS = b"\4", b"\1", b"\2"
+DEFINITIONS, ROWS = b"\1", b"\2"
 # In a definition's value, the second byte says that its index is being filled.
 MARKED = b"\1"
 

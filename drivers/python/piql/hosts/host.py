@@ -6,7 +6,7 @@ from collections import Counter
 from collections.abc import Callable, Sequence
 from typing import IO
 
-from .backend import Backend, Fault
+from .backend import INTENT, UNSETTLED, Backend, Change, Fault, Guard
 from .wire import (
     ANSWER_MOST,
     CALLS,
@@ -14,6 +14,7 @@ from .wire import (
     BadRequest,
     Op,
     Request,
+    Write,
     answer,
     done_body,
     length_of,
@@ -40,6 +41,8 @@ class Host:
         self.entries = self.faults = 0
         # Why the last call that failed has no answer.
         self.why = ""
+        # The intent and the changes of the statement at hand, which are kept until its last write.
+        self.kept: tuple[bytes, list[Change]] | None = None
 
     def answer(self, request: Request) -> bytes:
         """The frame that answers PLACES or a call of the store."""
@@ -61,10 +64,14 @@ class Host:
         if op not in CALLS or node >= len(self.backends):
             raise BadRequest(f"request {op} of node {node}")
         self.calls[op] += 1
-        return self.called(op, self.backends[node], body)
+        backend = self.backends[node]
+        if op is Op.WRITE:
+            return done_body(self.written(backend, read_write(body)))
+        self.make_kept(backend)
+        return self.called(op, backend, body)
 
     def called(self, op: Op, backend: Backend, body: bytes) -> bytes:
-        """What answers a call of a backend, each of whose pairs is an entry."""
+        """What answers a read of a backend, each of whose pairs is an entry."""
         if op is Op.GET:
             value = backend.get(body)
             self.entries += value is not None
@@ -73,11 +80,43 @@ class Host:
             pairs = backend.range(*read_range(body))
             self.entries += len(pairs)
             return pairs_body(pairs)
-        if op is Op.COUNT:
-            number = backend.count(*read_range(body))
-            self.entries += number
-            return number_body(number)
-        return done_body(backend.write(*read_write(body)))
+        number = backend.count(*read_range(body))
+        self.entries += number
+        return number_body(number)
+
+    def written(self, backend: Backend, write: Write) -> bool:
+        """Whether a write is done. Those of a statement of several changes are kept, and made at once by the last one.
+
+        They begin with the intent, put where there is none, and end with its removal; all between are made whatever
+        their keys have. So each is known to be done before it is made. The engine reports behind the last one; where
+        it or this process dies before, the content is the one before the statement.
+        """
+        is_intent, is_any = write.key == INTENT, write.guard is Guard.ANY
+        if self.kept is None:
+            # Over several stores the changes lie in others than the intent, so they are made one by one.
+            if is_intent and write.guard is Guard.ABSENT and write.new is not None and len(self.backends) == 1:
+                self.kept = write.new, []
+                return True
+            return backend.write(*write)
+        if is_any and not is_intent:
+            self.kept[1].append((write.key, write.new))
+            return True
+        if is_any and write.new is None:
+            kept, self.kept = self.kept, None
+            backend.commit(*kept)
+            return True
+        self.make_kept(backend)
+        return backend.write(*write)
+
+    def make_kept(self, backend: Backend) -> None:
+        """Makes what is kept one by one, where something else is asked for than the rest of a statement."""
+        if self.kept is None:
+            return
+        (intent, changes), self.kept = self.kept, None
+        if not backend.write(INTENT, Guard.ABSENT, b"", intent):
+            raise Fault(UNSETTLED)
+        for key, new in changes:
+            backend.write(key, Guard.ANY, b"", new)
 
 
 def read_exactly(requests: IO[bytes], length: int) -> bytes:

@@ -1,8 +1,9 @@
 """Pairs in memory: the least backend, and the one that tests compare the others with."""
 
 import bisect
+from collections.abc import Sequence
 
-from .backend import Backend, Guard, Pair
+from .backend import INTENT, UNSETTLED, Backend, Change, Fault, Guard, Pair
 
 
 class MemoryStore(Backend):
@@ -27,13 +28,25 @@ class MemoryStore(Backend):
         found = self.values.get(key)
         if (guard is Guard.ABSENT and found is not None) or (guard is Guard.IS and found != held):
             return False
-        if found is None and new is not None:
-            bisect.insort(self.keys, key)
-        if found is not None and new is None:
-            del self.keys[bisect.bisect_left(self.keys, key)]
-        if new is not None:
-            self.values[key] = new
-        else:
-            self.values.pop(key, None)
+        self.change(key, new)
         self.revision += 1
         return True
+
+    def commit(self, intent: bytes, changes: Sequence[Change]) -> None:
+        if INTENT in self.values:
+            raise Fault(UNSETTLED)
+        for key, new in changes:
+            self.change(key, new)
+        self.revision += 1
+
+    def change(self, key: bytes, new: bytes | None) -> None:
+        """Gives a key a value, or none."""
+        is_there = key in self.values
+        if new is None:
+            self.values.pop(key, None)
+        else:
+            self.values[key] = new
+        if new is not None and not is_there:
+            bisect.insort(self.keys, key)
+        if new is None and is_there:
+            del self.keys[bisect.bisect_left(self.keys, key)]

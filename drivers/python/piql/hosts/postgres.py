@@ -10,53 +10,35 @@ The time until which the fence is its owner's is renewed by the calls themselves
 A write is told once the synchronous standby has it, if the server has one.
 """
 
+import math
 import time
+from collections.abc import Sequence
 from typing import Any
 
-from .backend import Fault, Guard, Held, Pair
+from .backend import INTENT, UNSETTLED, Change, Fault, Guard, Held, Pair
 from .fenced import GONE, FencedStore
-from .postgres_client import Lost, PostgresClient, Values
+from .notices import notice
+from .postgres_client import Lost, PostgresClient, Refused, Values
+from .postgres_layout import (
+    BUILD_ORDER,
+    DROP_KEY,
+    HEAD_BYTES,
+    LAYOUT,
+    LOCKED,
+    TABLES,
+    VERSION_LEAST,
+    Layout,
+    digest_of,
+    key_words,
+    range_words,
+)
+from .postgres_texts import COMMIT, COUNT, FREE, GET, LOOK, PUTS, RANGE, REMOVALS, RENEW, SETTLE, TAKE
 
 PAUSE = 0.02
-TABLES = """
-CREATE TABLE IF NOT EXISTS piql_pairs (k bytea PRIMARY KEY, v bytea NOT NULL);
-CREATE TABLE IF NOT EXISTS piql_fence (
-  one boolean PRIMARY KEY CHECK (one), owner text NOT NULL, epoch bigint NOT NULL, revision bigint NOT NULL,
-  admitted boolean NOT NULL, until timestamptz NOT NULL) WITH (fillfactor = 10);
-INSERT INTO piql_fence VALUES (true, '', 0, 0, true, '-infinity') ON CONFLICT DO NOTHING
-"""
-LASTING = "until = clock_timestamp() + %(lease)s * interval '1 second'"
-OURS = "epoch = %(epoch)s AND revision = %(revision)s"
-LOOK = "SELECT owner, epoch, revision, admitted, until > clock_timestamp() FROM piql_fence"
-TAKEN = f"owner = %(owner)s, epoch = epoch + 1, {LASTING}"
-TAKE = f"UPDATE piql_fence SET {TAKEN} WHERE epoch = %(epoch)s RETURNING revision"
-RENEW = f"UPDATE piql_fence SET {LASTING} WHERE {OURS} RETURNING revision"
-SETTLE = f"UPDATE piql_fence SET epoch = epoch + 1, {LASTING} WHERE epoch = %(epoch)s RETURNING revision, admitted"
-FREE = "UPDATE piql_fence SET until = '-infinity' WHERE epoch = %(epoch)s"
-GET = f"SELECT v FROM piql_fence LEFT JOIN piql_pairs ON k = %(key)s WHERE {OURS}"
-WITHIN = "FROM piql_pairs WHERE k >= %(low)s AND k < %(high)s ORDER BY k LIMIT %(most)s"
-RANGE = f"SELECT k, v FROM piql_fence LEFT JOIN LATERAL (SELECT k, v {WITHIN}) AS few ON true WHERE {OURS}"
-COUNT = f"SELECT (SELECT count(*) FROM (SELECT k {WITHIN}) AS few) FROM piql_fence WHERE {OURS}"
-HOLDS = {
-    Guard.ANY: "true",
-    Guard.ABSENT: "NOT EXISTS (SELECT FROM piql_pairs WHERE k = %(key)s)",
-    Guard.IS: "EXISTS (SELECT FROM piql_pairs WHERE k = %(key)s AND v = %(held)s)",
-}
-PUT = (
-    "INSERT INTO piql_pairs SELECT %(key)s, %(new)s FROM fence WHERE admitted"
-    " ON CONFLICT (k) DO UPDATE SET v = excluded.v"
-)
-REMOVE = "DELETE FROM piql_pairs USING fence WHERE k = %(key)s AND admitted"
-
-
-def write_text(guard: Guard, is_put: bool) -> str:
-    """The statement of a write: the fence's row first, which says whether the guard holds, and then the pair."""
-    turned = f"UPDATE piql_fence SET revision = revision + 1, admitted = {HOLDS[guard]}, {LASTING} WHERE {OURS}"
-    fence = f"fence AS ({turned} RETURNING revision, admitted)"
-    return f"WITH {fence}, change AS ({PUT if is_put else REMOVE}) SELECT revision, admitted FROM fence"
-
-
-WRITES = {(guard, is_put): write_text(guard, is_put) for guard in Guard for is_put in (False, True)}
+# More than its own limit for a lock.
+DROP_SECONDS = 5.0
+OLD_SERVER = "the server's version is {version}; stores in PostgreSQL want version 13 or later"
+BRINGS_OVER = "the store in PostgreSQL is one of before, and is brought over to keys of any length; this is done once"
 
 
 class PostgresStore(FencedStore):
@@ -73,10 +55,30 @@ class PostgresStore(FencedStore):
         """Has the fence: it is still there, or it is taken. The tables are made where they aren't there."""
         if self.lost is None and self.is_begun():
             return
-        if self.again("SELECT to_regclass('piql_fence') IS NULL")[0][0]:
+        layout = Layout(*self.again(LAYOUT)[0])
+        if layout.version < VERSION_LEAST:
+            raise Fault(OLD_SERVER.format(version=layout.version))
+        if not layout.has_fence:
             self.again(TABLES)
         self.take()
+        if layout.has_fence and (layout.has_key or not layout.has_order):
+            self.bring_over(layout.has_order)
         self.lost = None
+
+    def bring_over(self, has_order: bool) -> None:
+        """Gives a table of before the index of today, and takes its key away. A kill between leaves the rest to do."""
+        notice(BRINGS_OVER)
+        if not has_order:
+            self.again(BUILD_ORDER, seconds=math.inf)
+        until = time.monotonic() + self.patience
+        while True:
+            try:
+                self.again(DROP_KEY, seconds=DROP_SECONDS)
+                return
+            except Refused as refused:
+                if refused.code != LOCKED or time.monotonic() >= until:
+                    raise Fault(f"the store can't be brought over: {refused}") from refused
+            time.sleep(PAUSE)
 
     def take(self) -> None:
         """Takes the fence where nobody has it, or where it is this store's own."""
@@ -96,18 +98,18 @@ class PostgresStore(FencedStore):
                 self.epoch, self.revision, self.renewed = epoch + 1, found[0][0], time.monotonic()
                 return
 
-    def again(self, text: str, values: Values = {}) -> list[tuple[Any, ...]]:
+    def again(self, text: str, values: Values = {}, seconds: float | None = None) -> list[tuple[Any, ...]]:
         """The rows of a statement that may be made twice: servers are asked until one answers."""
         until = time.monotonic() + self.patience
         while True:
             try:
-                return self.client.run(text, values)
+                return self.client.run(text, values, seconds)
             except Lost as lost:
                 if time.monotonic() >= until:
                     raise Fault(f"no server answers: {lost}") from lost
                 time.sleep(PAUSE)
 
-    def words(self, **more: object) -> Values:
+    def words(self, **more: object) -> dict[str, object]:
         """The values of a statement: what is compared with the fence, and those of the call."""
         return {"epoch": self.epoch, "revision": self.revision, "lease": self.lease, **more}
 
@@ -123,26 +125,40 @@ class PostgresStore(FencedStore):
     # The calls
 
     def get(self, key: bytes) -> bytes | None:
-        value = self.read(GET, key=key)[0][0]
+        value = self.read(GET, **key_words(key))[0][0]
         return None if value is None else bytes(value)
 
     def range(self, low: bytes, high: bytes, limit: int) -> list[Pair]:
         # Where the range is empty, the fence's row stands alone.
-        found = self.read(RANGE, low=low, high=high, most=limit)
+        found = self.read(RANGE, **range_words(low, high, limit))
         return sorted((bytes(k), bytes(v)) for k, v in found if k is not None)
 
     def count(self, low: bytes, high: bytes, cap: int) -> int:
-        return int(self.read(COUNT, low=low, high=high, most=cap)[0][0])
+        return int(self.read(COUNT, **range_words(low, high, cap))[0][0])
 
     def write(self, key: bytes, guard: Guard, held: bytes, new: bytes | None) -> bool:
+        texts = REMOVALS if new is None else PUTS
+        return self.made(texts[guard], {**key_words(key), "held": held, "new": new})
+
+    def commit(self, intent: bytes, changes: Sequence[Change]) -> None:
+        # A statement changes no row twice: the last change of each is made.
+        last = dict(changes)
+        put = {key: new for key, new in last.items() if new is not None}
+        gone = [key for key, new in last.items() if new is None]
+        words = {"keys": list(put), "values": list(put.values())}
+        words |= {"heads": [key[:HEAD_BYTES] for key in gone], "digests": [digest_of(key) for key in gone]}
+        if not self.made(COMMIT, {**key_words(INTENT), **words}):
+            raise Fault(UNSETTLED)
+
+    def made(self, text: str, more: Values) -> bool:
+        """Makes a statement that changes pairs; whether its guard held."""
         if self.lost is not None:
             raise Fault(self.lost)
         # (It renews the fence's time by itself.)
         until = time.monotonic() + self.patience
         while True:
-            values = self.words(key=key, held=held, new=new)
             try:
-                found = self.client.run(WRITES[guard, new is not None], values) or self.give_up(GONE)
+                found = self.client.run(text, self.words(**more)) or self.give_up(GONE)
             except Lost as lost:
                 admitted = self.settle()
                 if admitted is not None:

@@ -1,5 +1,6 @@
 """Statements to a database of PostgreSQL, each with a limit of time, over psycopg2 (Debian's python3-psycopg2)."""
 
+import math
 import select
 import time
 from collections.abc import Mapping
@@ -14,7 +15,9 @@ if TYPE_CHECKING:
 Values = Mapping[str, object]
 NO_CLIENT = "stores in PostgreSQL are reached by psycopg2, which isn't installed: apt-get install python3-psycopg2"
 # A range is a walk along the index that ends at its limit, whatever the planner knows of the table.
-SESSION = "SET enable_seqscan = off; SET enable_bitmapscan = off; SET enable_sort = off; SET jit = off"
+OFF = ("enable_seqscan", "enable_bitmapscan", "enable_sort", "enable_hashjoin", "enable_mergejoin", "jit")
+INCREMENTAL = "SELECT set_config(name, 'on', false) FROM pg_settings WHERE name = 'enable_incremental_sort'"
+SESSION = "; ".join([*(f"SET {name} = off" for name in OFF), INCREMENTAL])
 # A server that a write can't be made at, though it answers: it was the one that took writes.
 READ_ONLY = "25006"
 # What the server notes where a commit that is told hasn't reached the standby.
@@ -23,6 +26,14 @@ UNCOPIED = "canceling wait for synchronous replication"
 
 class Lost(Exception):
     """The server didn't answer: the statement was made, or will be, or not."""
+
+
+class Refused(Fault):
+    """The server's word that a statement wasn't made, with its code."""
+
+    def __init__(self, why: str, code: str) -> None:
+        super().__init__(why)
+        self.code = code
 
 
 class PostgresClient:
@@ -52,7 +63,7 @@ class PostgresClient:
                 made = self.library.connect(**place, async_=True)
                 self.wait(made, time.monotonic() + self.seconds)
                 self.connection = made
-                self.told(made, self.session, {})
+                self.told(made, self.session, {}, self.seconds)
                 return made
             except (self.library.Error, Lost) as error:
                 why = str(error).strip()
@@ -65,28 +76,29 @@ class PostgresClient:
         while (state := connection.poll()) != extensions.POLL_OK:
             ready = select.poll()
             ready.register(connection.fileno(), select.POLLIN if state == extensions.POLL_READ else select.POLLOUT)
-            if not ready.poll(max(0.0, until - time.monotonic()) * 1000):
+            left = until - time.monotonic()
+            if not ready.poll(None if left == math.inf else max(0.0, left) * 1000):
                 connection.close()
                 raise Lost(f"the server took more than {self.seconds:g} seconds")
 
-    def told(self, connection: Any, text: str, values: Values) -> list[tuple[Any, ...]]:
+    def told(self, connection: Any, text: str, values: Values, seconds: float) -> list[tuple[Any, ...]]:
         """The rows of a statement."""
         cursor = connection.cursor()
         cursor.execute(text, values)
-        self.wait(connection, time.monotonic() + self.seconds)
+        self.wait(connection, time.monotonic() + seconds)
         if any(UNCOPIED in note for note in connection.notices):
             raise Lost("the wait for the standby was cut short")
         return cursor.fetchall() if cursor.description else []
 
-    def run(self, text: str, values: Values = {}) -> list[tuple[Any, ...]]:
-        """The rows of a statement. A Fault is the server's word that it wasn't made."""
+    def run(self, text: str, values: Values = {}, seconds: float | None = None) -> list[tuple[Any, ...]]:
+        """The rows of a statement, which may take so long, or as the client is made for. Refused says: it wasn't made."""
         connection = self.connection or self.connect()
         try:
-            return self.told(connection, text, values)
+            return self.told(connection, text, values, self.seconds if seconds is None else seconds)
         except self.library.Error as error:
             why = str(error).strip()
             if error.pgcode and error.pgcode != READ_ONLY and not connection.closed:
-                raise Fault(why) from error
+                raise Refused(why, error.pgcode) from error
             self.close()
             raise Lost(why) from error
         except BaseException:

@@ -7,22 +7,38 @@ kept; so a reader has two connections. The server ends a snapshot that idles for
 
 import random
 import time
-from typing import Any
+from typing import Any, NamedTuple
 
-from .backend import Fault, Pair, Reading
-from .postgres import WITHIN
+from .backend import INTENT, Fault, Pair, Reading
 from .postgres_client import SESSION, Lost, PostgresClient
+from .postgres_layout import AT, AT_BEFORE, HEAD, WITHIN, WITHIN_BEFORE, key_words, range_words
 
 BUSY_SECONDS = 0.25
 READ_SESSION = SESSION + "; SET idle_in_transaction_session_timeout = '60s'"
 BEGIN = "COMMIT; BEGIN ISOLATION LEVEL REPEATABLE READ READ ONLY;"
+IS_BEFORE = "COMMIT; SELECT to_regclass('piql_pairs_order') IS NULL"
 MARKED = b"\1"
-PROBE = f"""{BEGIN} SELECT revision, EXISTS (SELECT FROM piql_pairs WHERE k = '\\x04'), last.k, last.v
-FROM piql_fence LEFT JOIN LATERAL
-  (SELECT k, v FROM piql_pairs WHERE k >= '\\x01' AND k < '\\x02' ORDER BY k DESC LIMIT 1) AS last ON true"""
-GET = "SELECT v FROM piql_pairs WHERE k = %(key)s"
-RANGE = f"SELECT k, v {WITHIN}"
-COUNT = f"SELECT count(*) FROM (SELECT k {WITHIN}) AS few"
+
+
+class Texts(NamedTuple):
+    """The statements of a reader, by the layout of the table."""
+
+    probe: str
+    get: str
+    range: str
+    count: str
+
+
+def texts_of(key: str, at: str, within: str) -> Texts:
+    """The statements where keys are in the order of an expression."""
+    last = f"SELECT k, v FROM piql_pairs WHERE {key} >= '\\x01' AND {key} < '\\x02' ORDER BY {key} DESC LIMIT 1"
+    probe = f"""{BEGIN} SELECT revision, EXISTS (SELECT FROM piql_pairs WHERE {at}), last.k, last.v
+      FROM piql_fence LEFT JOIN LATERAL ({last}) AS last ON true"""
+    few = f"SELECT count(*) FROM (SELECT k {within}) AS few"
+    return Texts(probe, f"SELECT v FROM piql_pairs WHERE {at}", f"SELECT k, v {within}", few)
+
+
+TEXTS = {False: texts_of(HEAD, AT, WITHIN), True: texts_of("k", AT_BEFORE, WITHIN_BEFORE)}
 
 
 class PostgresReading(Reading):
@@ -32,9 +48,14 @@ class PostgresReading(Reading):
         seconds = max(1.0, patience / 3)
         self.client, self.spare = (PostgresClient(url, seconds, READ_SESSION, "any") for _ in range(2))
         self.patience = patience
+        # Whether the table is one of before, as far as is known. The next writer brings it over.
+        self.is_before = True
 
     def pin(self, least: int = 0) -> None:
         """Takes a new snapshot that is quiet, or keeps the last one while the writer goes on being at work."""
+        if self.is_before:
+            # A snapshot of it is in the way of the writer that brings it over.
+            self.client.close()
         begun = time.monotonic()
         while True:
             why = self.try_spare(least)
@@ -48,7 +69,9 @@ class PostgresReading(Reading):
     def try_spare(self, least: int) -> str:
         """Takes a snapshot on the connection that has none, and makes it the one that is read; else why not."""
         try:
-            revision, is_at_work, last, value = self.spare.run(PROBE)[0]
+            if self.is_before:
+                self.is_before = self.spare.run(IS_BEFORE)[0][0]
+            revision, is_at_work, last, value = self.spare.run(self.texts.probe, key_words(INTENT))[0]
         except Lost as lost:
             return f"no server answers: {lost}"
         if revision < least:
@@ -58,6 +81,11 @@ class PostgresReading(Reading):
         self.client, self.spare = self.spare, self.client
         self.revision, self.definitions = revision, None if last is None else bytes(last)
         return ""
+
+    @property
+    def texts(self) -> Texts:
+        """The statements for the table as it is."""
+        return TEXTS[self.is_before]
 
     def is_kept(self) -> bool:
         """Whether the last snapshot is still there."""
@@ -78,14 +106,14 @@ class PostgresReading(Reading):
             raise Fault(f"the snapshot is gone: {lost}") from lost
 
     def get(self, key: bytes) -> bytes | None:
-        found = self.read(GET, key=key)
+        found = self.read(self.texts.get, **key_words(key))
         return bytes(found[0][0]) if found else None
 
     def range(self, low: bytes, high: bytes, limit: int) -> list[Pair]:
-        return [(bytes(k), bytes(v)) for k, v in self.read(RANGE, low=low, high=high, most=limit)]
+        return [(bytes(k), bytes(v)) for k, v in self.read(self.texts.range, **range_words(low, high, limit))]
 
     def count(self, low: bytes, high: bytes, cap: int) -> int:
-        return int(self.read(COUNT, low=low, high=high, most=cap)[0][0])
+        return int(self.read(self.texts.count, **range_words(low, high, cap))[0][0])
 
     def close(self) -> None:
         self.client.close()

@@ -2,8 +2,9 @@
 
 import contextlib
 import sqlite3
+from collections.abc import Sequence
 
-from .backend import Backend, Fault, Guard, Held, Pair
+from .backend import INTENT, UNSETTLED, Backend, Change, Fault, Guard, Held, Pair
 
 TABLE = "CREATE TABLE IF NOT EXISTS kv(k BLOB PRIMARY KEY, v BLOB NOT NULL)"
 LOCKED = (sqlite3.SQLITE_BUSY, sqlite3.SQLITE_LOCKED)
@@ -66,6 +67,19 @@ class SqliteStore(Backend):
             return self.run("UPDATE kv SET v = ? WHERE k = ?" + same[0], new, key, *same[1])
         way = "NOTHING" if guard is Guard.ABSENT else "UPDATE SET v = excluded.v"
         return self.run(f"INSERT INTO kv VALUES (?, ?) ON CONFLICT (k) DO {way}", key, new)
+
+    def commit(self, intent: bytes, changes: Sequence[Change]) -> None:
+        self.run("BEGIN IMMEDIATE")
+        try:
+            if self.get(INTENT) is not None:
+                raise Fault(UNSETTLED)
+            for key, new in changes:
+                self.changed(key, Guard.ANY, b"", new)
+            self.run("COMMIT")
+        except BaseException:
+            with contextlib.suppress(Fault):
+                self.run("ROLLBACK")
+            raise
 
     def close(self) -> None:
         """Closes the file, whose log is then in it."""

@@ -1,0 +1,66 @@
+"""The table of pairs in PostgreSQL, its one index, and the parts of statements that go by it.
+
+An entry of an index has at most some 2,700 bytes, and keys may be longer. So the index has the first bytes of each key,
+and a digest of those keys that go on behind them. It finds a key, has each of them once, and gives a range in the order
+of the first bytes; the keys that share these are sorted by the server, which it can do as it goes along (an incremental
+sort, from PostgreSQL 13 on). All keys of texts that are no longer than people write them are shorter than that.
+
+Stores of before had the key itself as the table's primary key. A writer brings such a table over.
+"""
+
+import hashlib
+from typing import NamedTuple
+
+HEAD_BYTES = 2600
+HEAD = f"substr(k, 1, {HEAD_BYTES})"
+DIGEST = f"(CASE WHEN octet_length(k) > {HEAD_BYTES} THEN sha256(k) ELSE '' END)"
+ORDER = f"CREATE UNIQUE INDEX IF NOT EXISTS piql_pairs_order ON piql_pairs ({HEAD}, {DIGEST})"
+TABLES = f"""
+CREATE TABLE IF NOT EXISTS piql_pairs (k bytea NOT NULL, v bytea NOT NULL);
+{ORDER};
+CREATE TABLE IF NOT EXISTS piql_fence (
+  one boolean PRIMARY KEY CHECK (one), owner text NOT NULL, epoch bigint NOT NULL, revision bigint NOT NULL,
+  admitted boolean NOT NULL, until timestamptz NOT NULL) WITH (fillfactor = 10);
+INSERT INTO piql_fence VALUES (true, '', 0, 0, true, '-infinity') ON CONFLICT DO NOTHING
+"""
+VERSION_LEAST = 130000
+LAYOUT = """SELECT current_setting('server_version_num')::int, to_regclass('piql_fence') IS NOT NULL,
+  to_regclass('piql_pairs_order') IS NOT NULL,
+  EXISTS (SELECT FROM pg_constraint WHERE conrelid = to_regclass('piql_pairs') AND contype = 'p')"""
+# Readers go on meanwhile.
+BUILD_ORDER = f"SET LOCAL statement_timeout = 0; {ORDER}"
+# It waits for transactions that read, and those behind it wait too. So it gives up soon, and is made again.
+DROP_KEY = "SET LOCAL lock_timeout = '0.5s'; ALTER TABLE piql_pairs DROP CONSTRAINT IF EXISTS piql_pairs_pkey"
+# The server's code where another transaction has the table.
+LOCKED = "55P03"
+
+AT = f"{HEAD} = %(head)s AND {DIGEST} = %(digest)s"
+WITHIN = f"""FROM piql_pairs WHERE {HEAD} >= %(first)s AND {HEAD} <= %(last)s AND k >= %(low)s AND k < %(high)s
+  ORDER BY {HEAD}, k LIMIT %(most)s"""
+# The same in a table of before.
+AT_BEFORE = "k = %(key)s"
+WITHIN_BEFORE = "FROM piql_pairs WHERE k >= %(low)s AND k < %(high)s ORDER BY k LIMIT %(most)s"
+
+
+class Layout(NamedTuple):
+    """What LAYOUT tells: the server's version, and what of the tables is there."""
+
+    version: int
+    has_fence: bool
+    has_order: bool
+    has_key: bool
+
+
+def digest_of(key: bytes) -> bytes:
+    """What the index has of a key beside its first bytes."""
+    return hashlib.sha256(key).digest() if len(key) > HEAD_BYTES else b""
+
+
+def key_words(key: bytes) -> dict[str, object]:
+    """The values of a statement about one key."""
+    return {"key": key, "head": key[:HEAD_BYTES], "digest": digest_of(key)}
+
+
+def range_words(low: bytes, high: bytes, most: int) -> dict[str, object]:
+    """The values of a statement about a range."""
+    return {"low": low, "high": high, "first": low[:HEAD_BYTES], "last": high[:HEAD_BYTES], "most": most}

@@ -1,0 +1,210 @@
+"""Stores in PostgreSQL: what a range costs the server, and how a table of before is brought over."""
+
+import contextlib
+import io
+import json
+import time
+import unittest
+from typing import Any
+
+from clusters import needs_postgres, postgres_url
+from piql.hosts import Fault, Guard, Held, notices
+from piql.hosts.postgres import PostgresStore
+from piql.hosts.postgres_client import PostgresClient, Values
+from piql.hosts.postgres_layout import LAYOUT, Layout, range_words
+from piql.hosts.postgres_reading import PostgresReading
+from piql.hosts.postgres_texts import RANGE, REMOVE_ALL
+
+BEFORE = """
+CREATE TABLE piql_pairs (k bytea PRIMARY KEY, v bytea NOT NULL);
+CREATE TABLE piql_fence (
+  one boolean PRIMARY KEY CHECK (one), owner text NOT NULL, epoch bigint NOT NULL, revision bigint NOT NULL,
+  admitted boolean NOT NULL, until timestamptz NOT NULL) WITH (fillfactor = 10);
+INSERT INTO piql_fence VALUES (true, 'a writer of before', 7, 40, true, '-infinity')
+"""
+ROWS = 5000
+# What a key of more bytes than an index takes has in common with others.
+SHARED = b"\2\1\x10" + b"a" * 2700
+PAIRS = [(b"\2\2" + number.to_bytes(2, "big"), b"v") for number in range(9)]
+
+
+class Killed(BaseException):
+    """Stands for the end of the process."""
+
+
+class Dying(PostgresClient):
+    """A client whose process ends before or behind one of its statements."""
+
+    def __init__(self, url: str, left: int, is_behind: bool) -> None:
+        super().__init__(url, 5.0)
+        self.left, self.is_behind = left, is_behind
+
+    def run(self, text: str, values: Values = {}, seconds: float | None = None) -> list[tuple[Any, ...]]:
+        self.left -= 1
+        if self.left == 0 and not self.is_behind:
+            raise Killed
+        found = super().run(text, values, seconds)
+        if self.left == 0:
+            raise Killed
+        return found
+
+
+def make_before() -> str:
+    """The URL of a store whose tables are those of before, with some pairs."""
+    url = postgres_url()
+    client = PostgresClient(url, 5.0)
+    client.run(BEFORE)
+    for key, value in PAIRS:
+        client.run("INSERT INTO piql_pairs VALUES (%(key)s, %(value)s)", {"key": key, "value": value})
+    client.close()
+    return url
+
+
+def layout_of(url: str) -> Layout:
+    """The tables of a store."""
+    client = PostgresClient(url, 5.0)
+    found = Layout(*client.run(LAYOUT)[0])
+    client.close()
+    return found
+
+
+@needs_postgres
+class BringingOverTest(unittest.TestCase):
+    """A table of before, whose key is its primary key."""
+
+    def setUp(self) -> None:
+        self.url = make_before()
+        notices.notice.cache_clear()
+
+    def opened(self) -> tuple[PostgresStore, str]:
+        """A store that is begun by a writer, and what was told on standard error."""
+        store = PostgresStore(self.url, lease=0.2)
+        self.addCleanup(store.close)
+        time.sleep(0.3)
+        with contextlib.redirect_stderr(io.StringIO()) as told:
+            store.begin()
+        return store, told.getvalue()
+
+    def check(self, store: PostgresStore) -> None:
+        """The pairs are there, and keys of any length go in."""
+        self.assertEqual(store.range(b"", b"\xff", 99), PAIRS)
+        self.assertTrue(store.write(SHARED, Guard.ABSENT, b"", b"new"))
+        self.assertEqual(store.range(b"", b"\xff", 2), [(SHARED, b"new"), PAIRS[0]])
+        layout = layout_of(self.url)
+        self.assertTrue(layout.has_order and not layout.has_key)
+
+    def test_the_next_writer_brings_it_over_and_says_so_once(self) -> None:
+        store, told = self.opened()
+        self.assertRegex(told, r"\Apiql: [^\n]*brought over[^\n]*\n\Z")
+        self.check(store)
+        store.close()
+        notices.notice.cache_clear()
+        self.assertEqual(self.opened()[1], "")
+
+    def test_a_writer_that_is_killed_at_any_step(self) -> None:
+        # Until a writer has made all its steps.
+        for step in range(1, 100):
+            for is_behind in (False, True):
+                self.setUp()
+                with self.subTest(step=step, is_behind=is_behind):
+                    killed = PostgresStore(self.url, lease=0.2)
+                    killed.client = Dying(self.url, step, is_behind)
+                    with contextlib.redirect_stderr(io.StringIO()), contextlib.suppress(Killed):
+                        killed.begin()
+                    killed.client.close()
+                    self.assertEqual(reading_of(self.url).range(b"", b"\xff", 99), PAIRS)
+                    self.check(self.opened()[0])
+            if killed.client.left > 0:
+                self.assertGreater(step, 5)
+                return
+
+    def test_a_writer_of_before_that_is_at_work_keeps_its_store(self) -> None:
+        first = PostgresStore(self.url, lease=30)
+        first.take()
+        second = PostgresStore(self.url)
+        self.assertRaises(Held, second.begin)
+        self.assertTrue(layout_of(self.url).has_key)
+        second.close()
+        first.client.close()
+
+    def test_readers_before_and_behind_it(self) -> None:
+        reader = reading_of(self.url)
+        self.addCleanup(reader.close)
+        self.assertEqual((reader.get(PAIRS[1][0]), reader.count(b"", b"\xff", 5)), (b"v", 5))
+        self.assertEqual(reader.range(b"", b"\xff", 2), PAIRS[:2])
+        reader.client.close()
+        store = self.opened()[0]
+        self.check(store)
+        reader.pin(store.revision)
+        self.assertEqual(reader.range(b"", b"\xff", 2), [(SHARED, b"new"), PAIRS[0]])
+        self.assertEqual((reader.get(SHARED), reader.get(SHARED + b"a")), (b"new", None))
+        self.assertEqual(reader.count(SHARED, b"\xff", 5), 5)
+
+    def test_a_reader_that_stands_in_the_way_is_told_of_and_what_was_begun_is_ended_by_the_next_writer(self) -> None:
+        reader = reading_of(self.url)
+        store = PostgresStore(self.url, lease=0.2, patience=1.0)
+        with contextlib.redirect_stderr(io.StringIO()), self.assertRaisesRegex(Fault, "can't be brought over.*lock"):
+            store.begin()
+        store.close()
+        layout = layout_of(self.url)
+        self.assertTrue(layout.has_order and layout.has_key)
+        self.assertEqual(reader.range(b"", b"\xff", 99), PAIRS)
+        reader.close()
+        self.check(self.opened()[0])
+
+
+def reading_of(url: str) -> PostgresReading:
+    """A reader that has taken a snapshot."""
+    reader = PostgresReading(url)
+    reader.pin()
+    return reader
+
+
+def scans(plan: dict[str, Any]) -> list[dict[str, Any]]:
+    """The scans of the table of pairs in a plan."""
+    below = [found for part in plan.get("Plans", []) for found in scans(part)]
+    return below + ([plan] if plan.get("Relation Name") == "piql_pairs" and "Scan" in plan["Node Type"] else [])
+
+
+@needs_postgres
+class CostTest(unittest.TestCase):
+    """What a statement has the server look at, by its own plan."""
+
+    @classmethod
+    def setUpClass(cls) -> None:
+        cls.store = PostgresStore(postgres_url())
+        cls.addClassCleanup(cls.store.close)
+        cls.store.begin()
+        pairs = [(b"\2" + number.to_bytes(4, "big"), b"v") for number in range(ROWS)]
+        cls.store.commit(b"an intent", pairs + [(SHARED + bytes([n]), b"v") for n in range(50)])
+
+    def looked_at(self, text: str, words: dict[str, object]) -> list[int]:
+        """How many rows each scan of the table gave, or passed over."""
+        told = self.store.client.run(f"EXPLAIN (ANALYZE, FORMAT JSON) {text}", self.store.words(**words))[0][0]
+        plan = told if isinstance(told, list) else json.loads(told)
+        found = scans(plan[0]["Plan"])
+        for scan in found:
+            self.assertEqual((scan["Node Type"], scan["Index Name"]), ("Index Scan", "piql_pairs_order"))
+        return [
+            (scan["Actual Rows"] + scan.get("Rows Removed by Filter", 0)) * scan["Actual Loops"] for scan in found
+        ]
+
+    def test_a_range_is_no_dearer_than_its_limit_and_the_keys_that_share_its_first_bytes(self) -> None:
+        for is_analyzed in (False, True):
+            if is_analyzed:
+                self.store.client.run("ANALYZE piql_pairs")
+            for most in (1, 10, 100):
+                with self.subTest(most, is_analyzed=is_analyzed):
+                    looked_at = self.looked_at(RANGE, range_words(b"\2\0", b"\3", most))
+                    self.assertLessEqual(looked_at, [most + 1])
+        # All of those that share them are looked at, for the server has to put them into order.
+        self.assertEqual(self.looked_at(RANGE, range_words(SHARED, b"\3", 10)), [50])
+
+    def test_a_commit_finds_what_it_removes_by_the_index(self) -> None:
+        text = REMOVE_ALL.replace("USING fence, ", "USING ").replace(" AND admitted", "")
+        gone = [b"\2" + number.to_bytes(4, "big") for number in (1, 3, 5)]
+        self.assertEqual(self.looked_at(text, {"heads": gone, "digests": [b""] * 3}), [3])
+
+
+if __name__ == "__main__":
+    unittest.main()
