@@ -7,6 +7,7 @@ import sys
 from collections.abc import Callable
 from typing import BinaryIO
 
+from piql.allocator import engine_environment
 from tools.kept import NotBuilt
 from tools.programs import Program, find_program, proved_program
 from tools.statuses import NO_PROGRAM, STORE_FAULT, USAGE, meaning
@@ -35,7 +36,8 @@ def run_once(program: Program, words: list[str], script: BinaryIO | None) -> int
     """Runs the program over a script or standard input. A signal that ends this process ends the program first."""
     # A signal that comes before there is a program waits until there is one.
     signal.pthread_sigmask(signal.SIG_BLOCK, PASSED_ON)
-    run = subprocess.Popen([program.path, *words], stdin=script, preexec_fn=begin_program)
+    how = {"stdin": script, "preexec_fn": begin_program, "env": engine_environment()}
+    run = subprocess.Popen([program.path, *words], **how)
     for number in PASSED_ON:
         signal.signal(number, lambda given, _: run.send_signal(given))
     signal.pthread_sigmask(signal.SIG_UNBLOCK, PASSED_ON)
@@ -85,7 +87,8 @@ def found(name: str) -> Program | None:
 def written(name: str, words: list[str], script: str) -> tuple[str, int]:
     """What a program writes of a script, and its status; a bad end is told."""
     with open(script, "rb") as opened:
-        run = subprocess.run([find_program(name).path, *words], stdin=opened, stdout=subprocess.PIPE)
+        how = {"stdin": opened, "stdout": subprocess.PIPE, "env": engine_environment()}
+        run = subprocess.run([find_program(name).path, *words], **how)
     if line := meaning(name, run.returncode):
         print(line, file=sys.stderr)
     return run.stdout.decode(errors="replace"), run.returncode

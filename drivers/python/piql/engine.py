@@ -7,6 +7,7 @@ import shutil
 import subprocess
 from pathlib import Path
 
+from .allocator import engine_environment
 from .errors import InterfaceError, InternalError
 from .plain import plain_path
 from .scripts import SCRIPT_BYTES
@@ -78,6 +79,7 @@ class Engine:
                 bufsize=0,
                 process_group=0,
                 umask=0o077,
+                env=engine_environment(),
             )
         except OSError as error:
             raise InterfaceError(f"{program} can't be started: {error.strerror}") from error

@@ -6,6 +6,7 @@ from collections import Counter
 from collections.abc import Callable, Sequence
 from typing import IO
 
+from ..allocator import engine_environment
 from .backend import INTENT, UNSETTLED, Backend, Change, Fault, Guard
 from .wire import (
     ANSWER_MOST,
@@ -144,7 +145,8 @@ def serve(host: Host, requests: IO[bytes], answers: IO[bytes], read: Read, repor
 
 def run(program: str, host: Host, read: Read, report: Report) -> int:
     """Runs an engine over a script to its end; its status, below 0 where a signal ended it."""
-    with subprocess.Popen([program, "run"], stdin=subprocess.PIPE, stdout=subprocess.PIPE) as process:
+    how = {"stdin": subprocess.PIPE, "stdout": subprocess.PIPE, "env": engine_environment()}
+    with subprocess.Popen([program, "run"], **how) as process:
         assert process.stdin is not None and process.stdout is not None
         try:
             serve(host, process.stdout, process.stdin, read, report)
