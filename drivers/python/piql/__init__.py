@@ -21,12 +21,13 @@ from .errors import (
     NotSupportedError,
     OperationalError,
     ProgrammingError,
+    StoreGone,
     Warning,
 )
 from .hosts.urls import is_url, open_link
 from .links import FileLink, Link, MemoryLink
 from .migrate import migrate
-from .plain import plain_path
+from .plain import plain_path, plain_seconds
 from .reports import Row, Value, Work
 from .socketlink import SocketLink
 from .types import (
@@ -47,6 +48,8 @@ from .types import (
 apilevel = "2.0"
 threadsafety = 2
 paramstyle = "qmark"
+# For how many seconds the engine over a cluster, or a call of its store, may stand still where nothing is said.
+CLUSTER_STEP = 60.0
 
 
 def connect(
@@ -56,28 +59,32 @@ def connect(
     program: str | os.PathLike[str] | None = None,
     timeout: float = 5.0,
     reader: bool = False,
-    step: float = 60.0,
+    step: float | None = None,
 ) -> Connection:
     """Opens a store: a file, `unix:SOCKET` of a piql-serve, `etcd://..`, `postgresql://..` or `:memory:`.
 
     With prepare=False a SELECT that the store doesn't have is refused. The program is that of the argument, of the
     environment (PIQL_FILE, PIQL_HOST for a cluster, PIQL for a store in memory), or that which the repository or the
     release has. `timeout` is for how many seconds a store that another process has, or a server that isn't there, is
-    tried again. Over a cluster, any number of connections with reader=True read beside the one that writes; and one
-    step of a statement, as a call of the store, may take `step` seconds before the run is ended.
+    tried again. `step` is for how many seconds whoever is at work on a statement may stand still: the engine over a
+    file or in memory, or a server, until the report; over a cluster the engine and each call of the store. Then the
+    wait is ended, and the error says what stands. None is 60 over a cluster, and no limit elsewhere. Over a cluster,
+    any number of connections with reader=True read beside the one that writes.
     """
     target = plain_path(path, "the store")
+    timeout = plain_seconds(timeout, "timeout")
+    seconds = None if step is None else plain_seconds(step, "step")
     if reader and not is_url(target):
         raise InterfaceError(f"{target} has no readers beside its writer: reader=True is for the store of a cluster")
     link: Link
     if target == ":memory:":
-        link = MemoryLink(program)
+        link = MemoryLink(program, seconds)
     elif is_url(target):
-        link = open_link(target, program, timeout, step, reader)
+        link = open_link(target, program, timeout, CLUSTER_STEP if seconds is None else seconds, reader)
     elif target.startswith("unix:"):
-        link = SocketLink(target[len("unix:") :], timeout)
+        link = SocketLink(target[len("unix:") :], timeout, seconds)
     else:
-        link = FileLink(target, program, timeout)
+        link = FileLink(target, program, timeout, seconds)
     try:
         return Connection(link, prepare and not reader)
     except BaseException:
@@ -108,6 +115,7 @@ __all__ = [
     "ROWID",
     "Row",
     "STRING",
+    "StoreGone",
     "Time",
     "TimeFromTicks",
     "Timestamp",

@@ -8,6 +8,7 @@ from typing import TYPE_CHECKING
 from . import errors
 from .errors import InterfaceError, InternalError, NotSupportedError, ProgrammingError, refused
 from .hosts.link import ReaderLink
+from .interrupts import own
 from .links import Link
 from .plain import plain_list, plain_path, plain_text
 from .refusals import refusal_of
@@ -59,7 +60,12 @@ class Connection:
         self._schema: Schema | None = None
         self._names: dict[str, str] = {}
         self._sent = 0
+        own(self)
         self.schema()
+
+    def let_go(self) -> None:
+        """Has a child that was forked, perhaps beside a thread's statement, not wait for a lock that nobody frees."""
+        self._lock = threading.RLock()
 
     @property
     def autocommit(self) -> bool:

@@ -5,16 +5,20 @@ import re
 import select
 import shutil
 import subprocess
+import time
 from pathlib import Path
 
 from .allocator import engine_environment
 from .errors import InterfaceError, InternalError
+from .interrupts import is_of_call, own
 from .plain import plain_path
 from .scripts import SCRIPT_BYTES
 from .wholeness import UNMATCHED, Growing, check_report, check_statement
 
 CHUNK = 1 << 16
 DIGITS = b"0123456789"
+# The rights that a file which a run makes has for nobody but its owner.
+OTHERS = 0o077
 OPENING = re.compile(rb"open [^\n]*+\n")
 DAMAGE = re.compile(rb"damaged ((?:[0-9a-f]{2})++)\n\Z")
 # What a pair is, by the first byte of its key.
@@ -37,6 +41,10 @@ class EngineEnded(Exception):
         found = DAMAGE.search(written)
         self.damaged = found[1].decode() if found else None
         self.written = f"The pair is {kind_of(bytes.fromhex(self.damaged))}." if self.damaged else ""
+
+
+class Stalled(Exception):
+    """The engine, or the store behind its host, took longer for one step than it may. The run was ended."""
 
 
 def kind_of(key: bytes) -> str:
@@ -66,27 +74,38 @@ def is_report(text: bytes) -> bool:
 
 
 class Engine:
-    """A process that was begun, and has written its opening line."""
+    """A process that was begun, and has written its opening line.
 
-    def __init__(self, program: str, words: list[str]) -> None:
+    `seconds` is for how long it may take for a statement, and for its end; None is without an end. Its opening has
+    none: it settles what an earlier run left, and what is ended there is to be done again by the next one.
+    """
+
+    def __init__(self, program: str, words: list[str], seconds: float | None = None) -> None:
+        self.seconds = seconds
         try:
             # A process group of its own: an interrupt at the terminal is the driver's, and doesn't end a write.
-            # Its mask: only their owner may read the file and the log that it makes.
             self.process = subprocess.Popen(
                 [program, *words],
                 stdin=subprocess.PIPE,
                 stdout=subprocess.PIPE,
                 bufsize=0,
                 process_group=0,
-                umask=0o077,
+                umask=OTHERS,
                 env=engine_environment(),
             )
         except OSError as error:
+            # One without a number is no error of the system: a signal's handler has raised it.
+            if error.errno is None:
+                raise
             raise InterfaceError(f"{program} can't be started: {error.strerror}") from error
         assert self.process.stdin is not None and self.process.stdout is not None
         self.into, self.out_of = self.process.stdin.fileno(), self.process.stdout.fileno()
-        self.ready = select.poll()
+        os.set_blocking(self.into, False)
+        self.ready, self.writable = select.poll(), select.poll()
         self.ready.register(self.out_of, select.POLLIN)
+        self.writable.register(self.into, select.POLLOUT)
+        self.until: float | None = None
+        own(self)
         # How many bytes and how many statements were sent.
         self.sent = self.statements = 0
         try:
@@ -122,27 +141,48 @@ class Engine:
         return text
 
     def answered(self, statement: bytes) -> bytes:
-        """The report of one statement, or, where nothing of one came, the bytes that did."""
+        """The report of one statement."""
         if any(event & select.POLLIN for _, event in self.ready.poll(0)):
             raise InternalError(UNMATCHED)
+        self.until = self.end_of_step()
         self.write(statement)
         text = self.read(b"")
         return text if is_report(text) else self.read_on(text)
 
+    def end_of_step(self) -> float | None:
+        """When a step that begins now has to be over."""
+        return None if self.seconds is None else time.monotonic() + self.seconds
+
     def write(self, text: bytes) -> None:
-        """Writes all of it, if the process reads on. If not, the read that follows tells how it ended."""
+        """Writes all of it within a step, if the process reads on. If not, the read that follows tells how it ended."""
+        until = self.end_of_step()
+        done = self.write_some(text)
+        while done < len(text):
+            self.wait(self.writable, until)
+            done += self.write_some(text[done:])
+
+    def write_some(self, text: bytes) -> int:
+        """Writes what there is room for; how much that is. To a process that has ended all of it is written."""
         try:
-            done = os.write(self.into, text)
-            while done < len(text):
-                done += os.write(self.into, text[done:])
-        except BrokenPipeError:
-            pass
+            return os.write(self.into, text)
+        except (BlockingIOError, BrokenPipeError) as error:
+            if not is_of_call(error):
+                raise
+            return 0 if isinstance(error, BlockingIOError) else len(text)
+
+    def wait(self, pipe: select.poll, until: float | None) -> None:
+        """Waits until there is something to read, or room to write."""
+        left = None if until is None else max(0.0, until - time.monotonic()) * 1000
+        if not pipe.poll(left):
+            raise Stalled(f"the engine stood still for {self.seconds:g} seconds")
 
     def read(self, before: bytes | bytearray) -> bytes:
         """What is written next, behind what was read before."""
+        if self.until is not None:
+            self.wait(self.ready, self.until)
         part = os.read(self.out_of, CHUNK)
         if not part:
-            raise EngineEnded(self.process.wait(), bytes(before))
+            raise EngineEnded(self.close(), bytes(before))
         return part
 
     def read_on(self, first: bytes) -> bytes:
@@ -157,11 +197,19 @@ class Engine:
         return self.process.returncode is not None
 
     def close(self) -> int:
-        """Ends the script, and waits for the end of the run; its status."""
+        """Ends the script, and waits for the end of the run; its status. One that doesn't end in time is killed."""
+        self.let_go()
+        try:
+            return self.process.wait(self.seconds)
+        except subprocess.TimeoutExpired:
+            self.process.kill()
+            return self.process.wait()
+
+    def let_go(self) -> None:
+        """Closes this process's ends of the pipes."""
         if self.process.stdin is not None and self.process.stdout is not None:
             self.process.stdin.close()
             self.process.stdout.close()
-        return self.process.wait()
 
     def kill(self) -> None:
         """Ends the process, if it hasn't ended."""

@@ -59,6 +59,10 @@ class OperationalError(DatabaseError):
     """The run ended, can't be begun, or reached a limit of what is stored."""
 
 
+class StoreGone(OperationalError):
+    """The file was removed, or another was put in its place, while it was open. The connection can't be used again."""
+
+
 class IntegrityError(DatabaseError):
     """The rows that are there speak against a write."""
 
@@ -118,7 +122,11 @@ def with_status(status: int | None, text: str, damaged: str | None = None) -> Da
     return error
 
 
-def ended(status: int, stands: str, damaged: str | None = None) -> DatabaseError:
-    """The exception of a run that ended with a status, or by the signal of a negative one, with what stands then."""
+def ended(status: int, stands: str, damaged: str | None = None, cause: str = "") -> DatabaseError:
+    """The exception of a run that ended with a status, or by the signal of a negative one, with what stands then.
+
+    A cause that is known is told first, and then in place of what the status means.
+    """
     why = MEANINGS.get(status, f"signal {-status}" if status < 0 else "a status that the engine doesn't have")
-    return with_status(status, f"the run ended with status {status}: {why}. {stands}", damaged)
+    told = f"{cause}, so the run ended with status {status}" if cause else f"the run ended with status {status}: {why}"
+    return with_status(status, f"{told}. {stands}", damaged)

@@ -1,14 +1,15 @@
 """What a connection sends its statements over: a process of its own, or (socketlink) a server that many share."""
 
 import os
-import sqlite3
 import time
-from pathlib import Path
 from typing import Protocol
 
 from .backup import copy_whole
+from .causes import LOCKED, cause_of, is_locked
 from .engine import Engine, EngineEnded, find_program
-from .errors import Error, InterfaceError, OperationalError, ended
+from .errors import Error, OperationalError, StoreGone
+from .interrupts import is_of_call
+from .runs import EngineLink, Run, check_owner, told_end
 
 STANDS_READ = (
     "This statement changes nothing; all that was reported as ok before stands."
@@ -22,8 +23,12 @@ KEEPS_NOTHING = (
     "a store in memory can't outlive its run, which takes 16,777,216 bytes of statements: its rows are lost now;"
     " connect to a file to keep them"
 )
-LOCKED = "another process has {path} open (a run, a server, or sqlite3); piql-serve hands one file to many"
-UNOPENED = "{path} can't be opened: it is no SQLite file of this engine, or its folder or the disk refuses it"
+GONE = (
+    "{path} was removed, or another file was put in its place, while it was open. This statement was made or not made,"
+    " in the file that is gone, and so was all that was told since then. This connection can't be used again"
+)
+# Which file a path names: its device and its inode, or None where there is none.
+Identity = tuple[int, int] | None
 
 
 class Link(Protocol):
@@ -39,107 +44,71 @@ class Link(Protocol):
         """Gives back what the link holds."""
 
 
-def is_locked(path: str) -> bool:
-    """Whether a process holds SQLite's lock on the file."""
+def identity_of(path: str) -> Identity:
+    """Which file a path names now."""
     try:
-        file = sqlite3.connect(Path(path).absolute().as_uri() + "?mode=ro", uri=True, timeout=0)
-        try:
-            file.execute("SELECT count(*) FROM sqlite_master").fetchone()
-        finally:
-            file.close()
-    except sqlite3.Error as error:
-        return "locked" in str(error)
-    return False
-
-
-def check_owner(owner: int) -> None:
-    """Refuses a connection that was made before a fork."""
-    if owner != os.getpid():
-        raise InterfaceError("this connection was made before a fork: each process needs one of its own")
-
-
-class Run(Protocol):
-    """A run of the engine, wherever its store is."""
-
-    def has_room(self, statement: bytes) -> bool:
-        """Whether the script is no longer than it may be with the statement."""
-
-    def exchange(self, statement: bytes) -> bytes:
-        """The report of one statement."""
-
-    def has_ended(self) -> bool:
-        """Whether the run is over, by itself or since an exchange was stopped."""
-
-    def close(self) -> int:
-        """Ends the run; its status."""
-
-
-class EngineLink:
-    """One run of the engine at a time."""
-
-    def __init__(self) -> None:
-        self.owner = os.getpid()
-        self.engine: Run | None = None
-
-    def running(self, statement: bytes) -> Run:
-        """A run with room for the statement."""
-        raise NotImplementedError
-
-    def stands(self, reads: bool) -> str:
-        """What stands where the run ended in mid-statement."""
-        raise NotImplementedError
-
-    def ended(self, end: EngineEnded, stands: str) -> Error:
-        """The exception of a run that ended."""
-        return ended(end.status, f"{stands} {end.written}".strip(), end.damaged)
-
-    def exchange(self, statement: bytes, reads: bool) -> str:
-        """The report of the statement."""
-        check_owner(self.owner)
-        engine = self.running(statement)
-        try:
-            return engine.exchange(statement).decode()
-        except EngineEnded as end:
-            raise self.ended(end, self.stands(reads)) from end
-        finally:
-            if engine.has_ended():
-                self.engine = None
-
-    def close(self) -> None:
-        """Ends the run."""
-        if self.engine is not None and self.owner == os.getpid():
-            self.engine.close()
-        self.engine = None
+        found = os.stat(path)
+    except OSError as error:
+        if not is_of_call(error):
+            raise
+        return None
+    return found.st_dev, found.st_ino
 
 
 class FileLink(EngineLink):
-    """A file. The next run is begun before the script of the last one is too long."""
+    """A file. The next run is begun before the script of the last one is too long.
 
-    def __init__(self, path: str, program: str | os.PathLike[str] | None, timeout: float) -> None:
+    `timeout` is for how many seconds a file that another process has is tried again, `seconds` for how long a statement
+    may take before the run is ended.
+    """
+
+    def __init__(
+        self, path: str, program: str | os.PathLike[str] | None, timeout: float, seconds: float | None = None
+    ) -> None:
         super().__init__()
-        self.path, self.timeout = path, timeout
+        # A process may change its folder later.
+        self.path, self.timeout, self.seconds = os.path.join(os.getcwd(), path), timeout, seconds
         self.program = find_program("piql_file", program)
+        self.identity: Identity = None
+        self.is_gone = False
         self.begin()
 
     def begin(self) -> Run:
         """Begins a run; where another process has the file, tries again until the time is over."""
         until = time.monotonic() + self.timeout
         while True:
+            self.check_there()
+            before = identity_of(self.path)
             try:
-                self.engine = Engine(self.program, [self.path, "run"])
-                return self.engine
+                self.engine = Engine(self.program, [self.path, "run"], self.seconds)
+                break
             except EngineEnded as end:
                 if end.status != 5 or not is_locked(self.path):
-                    raise self.unopened(end) from end
+                    raise self.ended(end, f"{self.path} isn't open.") from end
                 if time.monotonic() > until:
                     raise OperationalError(LOCKED.format(path=self.path)) from end
             time.sleep(0.05)
+        self.identity = self.identity or before or identity_of(self.path)
+        self.check_there()
+        return self.engine
 
-    def unopened(self, end: EngineEnded) -> Error:
-        """Why no run could be begun."""
-        if end.status == 5:
-            return OperationalError(UNOPENED.format(path=self.path))
-        return self.ended(end, f"{self.path} isn't open.")
+    def check_there(self) -> None:
+        """Refuses to go on where the file isn't the one that was opened first: no new one is begun in its place."""
+        if self.is_gone or self.identity is not None and identity_of(self.path) != self.identity:
+            self.is_gone = True
+            self.close()
+            raise StoreGone(GONE.format(path=self.path))
+
+    def exchange(self, statement: bytes, reads: bool) -> str:
+        """The report of the statement, if the file is still there then."""
+        report = super().exchange(statement, reads)
+        self.check_there()
+        return report
+
+    def ended(self, end: EngineEnded, stands: str) -> Error:
+        """The exception of a run that ended. Why a call of the store failed is looked for at the file."""
+        cause = cause_of(self.path) if end.status == 5 else ""
+        return told_end(end, stands, cause)
 
     def running(self, statement: bytes) -> Run:
         """A run with room for the statement."""
@@ -157,16 +126,17 @@ class FileLink(EngineLink):
         """Copies the file between two statements."""
         check_owner(self.owner)
         self.running(b"")
+        self.check_there()
         copy_whole(self.path, path, self.program)
 
 
 class MemoryLink(EngineLink):
     """A store in memory, which ends with its run."""
 
-    def __init__(self, program: str | os.PathLike[str] | None) -> None:
+    def __init__(self, program: str | os.PathLike[str] | None, seconds: float | None = None) -> None:
         super().__init__()
         try:
-            self.engine = Engine(find_program("piql", program), ["run"])
+            self.engine = Engine(find_program("piql", program), ["run"], seconds)
         except EngineEnded as end:
             raise self.ended(end, "The store isn't open.") from end
 

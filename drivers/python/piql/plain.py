@@ -10,6 +10,9 @@ from collections.abc import Iterable, Iterator, Sequence
 
 from .errors import InterfaceError, ProgrammingError
 
+# Some 23 days, since poll takes 2^31 milliseconds.
+LONGEST = 2_000_000.0
+
 
 def plain_text(given: object, what: str) -> str:
     """The characters of a str, whatever its class says of them. Another type is refused; `what` says what it is for."""
@@ -35,10 +38,10 @@ def plain_path(given: object, what: str) -> str:
 
 
 def plain_seconds(given: object, what: str) -> float:
-    """A number of seconds, of which there may be no end."""
+    """A number of seconds. More than a wait of the system takes, as math.inf, is the longest that it takes."""
     if not isinstance(given, (int, float)) or math.isnan(given) or given < 0:
         raise InterfaceError(f"{what} is a number of seconds, from 0")
-    return float(given)
+    return float(min(given, LONGEST))
 
 
 def plain_list(given: object) -> tuple[object, ...]:

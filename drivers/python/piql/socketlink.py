@@ -2,7 +2,6 @@
 
 import json
 import os
-import socket
 import time
 
 from .errors import DatabaseError, InternalError, OperationalError, ProgrammingError, with_status
@@ -20,13 +19,21 @@ from .frames import (
     read_frame,
     write_frame,
 )
-from .links import check_owner
+from .runs import check_owner
+from .timed import Broken, Late, TimedSocket
 from .wholeness import check_statement, number_of
 
-LOST = (
-    "the server went away before its report came: the statement was made or not made, and isn't sent again by itself."
-    " The next statement connects anew; ask for the row to see which"
+# A report has at most 1,000 rows, each of at most six stored rows.
+ANSWER_BYTES = 1 << 27
+# A server that is there has as long for its first word, in seconds, however short the time is that was asked for.
+GREETING_SECONDS = 1.0
+MADE_OR_NOT = (
+    "the statement was made or not made, and isn't sent again by itself. The next statement connects anew; ask for the"
+    " row to see which"
 )
+LOST = f"the server went away before its report came: {MADE_OR_NOT}"
+LATE = "the server gave no report for {seconds:g} seconds: {stands}"
+NOTHING = "this statement changes nothing. The next one connects anew"
 NO_ANSWER = (
     "the server's answer is none of its frames. A statement that only reads changed nothing, a write was made whole or"
     " not at all, and nothing of the answer is told"
@@ -46,39 +53,46 @@ def told_end(said: bytes) -> DatabaseError:
 
 
 class SocketLink:
-    """A server's socket. A statement that only reads is sent again where the server was stopped and started."""
+    """A server's socket. A statement that only reads is sent again where the server was stopped and started.
 
-    def __init__(self, path: str, timeout: float) -> None:
-        self.path, self.timeout = path, timeout
+    `timeout` is for how many seconds a server that isn't there is tried again, `seconds` for how long it may take for a
+    report, the statements of others before this one among it; None is without an end.
+    """
+
+    def __init__(self, path: str, timeout: float, seconds: float | None = None) -> None:
+        self.path, self.timeout, self.seconds = path, timeout, seconds
         self.owner = os.getpid()
-        self.socket: socket.socket | None = None
+        self.socket: TimedSocket | None = None
         self.reach()
 
-    def reach(self) -> socket.socket:
+    def reach(self) -> TimedSocket:
         """The connected socket; where no server is there, tries again until the time is over."""
         check_owner(self.owner)
         until = time.monotonic() + self.timeout
         while self.socket is None:
             try:
-                self.socket = self.greeted()
-            except (OSError, Gone) as error:
+                self.socket = self.greeted(max(until, time.monotonic() + GREETING_SECONDS))
+            except (Broken, Gone, Late) as error:
                 if time.monotonic() > until:
-                    raise OperationalError(f"no piql-serve answers at {self.path}: {error}") from error
+                    why = str(error) or "it says nothing"
+                    raise OperationalError(f"no piql-serve answers at {self.path}: {why}") from error
                 time.sleep(0.05)
         return self.socket
 
-    def greeted(self) -> socket.socket:
+    def greeted(self, until: float) -> TimedSocket:
         """A new socket on which the server has said hello."""
-        made = socket.socket(socket.AF_UNIX, socket.SOCK_STREAM)
+        made = TimedSocket(self.path, until)
         try:
-            made.connect(self.path)
-            kind, text = read_frame(made)
+            kind, text = read_frame(made, ANSWER_BYTES)
+        except FrameError as error:
+            made.let_go()
+            raise OperationalError(f"what listens at {self.path} is no piql-serve") from error
         except BaseException:
-            made.close()
+            made.let_go()
             raise
         if kind == HELLO and text == GREETING:
             return made
-        made.close()
+        made.let_go()
         raise OperationalError(f"the server at {self.path} says: {text.decode(errors='replace')}")
 
     def exchange(self, statement: bytes, reads: bool) -> str:
@@ -86,13 +100,18 @@ class SocketLink:
         check_statement(statement)
         try:
             return self.reported(statement)
-        except (OSError, Gone) as error:
+        except Late as error:
+            stands = NOTHING if reads else MADE_OR_NOT
+            raise OperationalError(LATE.format(seconds=self.seconds, stands=stands)) from error
+        except (Broken, Gone) as error:
             if not reads:
                 raise OperationalError(LOST) from error
         try:
             return self.reported(statement)
-        except (OSError, Gone) as error:
-            raise OperationalError("the server went away twice before its report came; nothing was changed") from error
+        except Late as error:
+            raise OperationalError(LATE.format(seconds=self.seconds, stands=NOTHING)) from error
+        except (Broken, Gone) as error:
+            raise OperationalError(f"the server went away twice before its report came: {NOTHING}") from error
 
     def reported(self, statement: bytes) -> str:
         """The one whole report that the server sends. Its number is that of the server's run, which checks it."""
@@ -102,22 +121,27 @@ class SocketLink:
             raise InternalError(NO_ANSWER)
         return report.decode()
 
-    def send(self, kind: bytes, text: bytes) -> socket.socket:
-        """Sends a frame. The server makes whole frames alone, so one that couldn't be sent is sent anew."""
+    def send(self, kind: bytes, text: bytes) -> TimedSocket:
+        """Sends a frame. One of which the kernel took nothing is sent anew: its server was stopped before."""
         try:
-            reached = self.reach()
-            write_frame(reached, kind, text)
-            return reached
-        except OSError:
+            return self.sent(kind, text)
+        except Broken as error:
+            if error.sent:
+                raise
             self.close()
+        return self.sent(kind, text)
+
+    def sent(self, kind: bytes, text: bytes) -> TimedSocket:
+        """The connected socket, on which a frame was sent."""
         reached = self.reach()
+        reached.until = None if self.seconds is None else time.monotonic() + self.seconds
         write_frame(reached, kind, text)
         return reached
 
     def asked(self, kind: bytes, text: bytes, wanted: bytes) -> bytes:
         """The text of the frame that answers one. Whatever stops this closes the socket: an answer would be left."""
         try:
-            answer, said = read_frame(self.send(kind, text))
+            answer, said = read_frame(self.send(kind, text), ANSWER_BYTES)
         except FrameError as error:
             self.close()
             raise InternalError(NO_ANSWER) from error
@@ -137,11 +161,14 @@ class SocketLink:
         """Has the server copy its file between two statements."""
         try:
             self.asked(BACKUP, os.fsencode(os.path.abspath(path)), COPIED)
-        except (OSError, Gone) as error:
+        except (Broken, Gone) as error:
             raise OperationalError(f"the server went away before it told that {path} is whole") from error
+        except Late as error:
+            why = f"the server didn't tell within {self.seconds:g} seconds that {path} is whole"
+            raise OperationalError(why) from error
 
     def close(self) -> None:
         """Closes the socket."""
         if self.socket is not None:
-            self.socket.close()
+            self.socket.let_go()
         self.socket = None

@@ -7,6 +7,7 @@ With PIQL_RECORDED=PROGRAM this program answers, behind a record of what it is s
 is answered by this text, in which %d is its number, and PIQL_LATE comes behind it after a moment.
 """
 
+import contextlib
 import os
 import subprocess
 import sys
@@ -96,8 +97,9 @@ def hand_on(program: str) -> int:
 
 def stand_in() -> int:
     """Answers each statement."""
-    for store in sys.argv[1:-1]:
-        open(store, "ab").close()
+    with contextlib.suppress(FileNotFoundError):
+        for store in sys.argv[1:-1]:
+            open(store, "ab").close()
     tell("open defs 0 bound 2 257 used 2 0\n")
     cutter, numbers = Cutter(), iter(range(1, 10**9))
 
@@ -111,4 +113,7 @@ def stand_in() -> int:
 
 if __name__ == "__main__":
     real = os.environ.get("PIQL_RECORDED")
-    sys.exit(hand_on(real) if real else stand_in())
+    try:
+        sys.exit(hand_on(real) if real else stand_in())
+    except BrokenPipeError:
+        os._exit(4)

@@ -127,6 +127,7 @@ class FullDiskTest(unittest.TestCase):
             for made in range(1000):
                 connection.execute("INSERT INTO t VALUES (?, ?)", (made, "x" * 1000))
         self.assertEqual(caught.exception.status, 5)
+        self.assertIn("is full, so the run ended with status 5", str(caught.exception))
         self.assertIn("whole or not at all", str(caught.exception))
 
 

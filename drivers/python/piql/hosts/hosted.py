@@ -4,18 +4,14 @@ The engine asks for more of its script only once the report of all that it had i
 the answer of such a request, and the next one tells that its report is whole.
 """
 
+import contextlib
 import os
 import select
-import subprocess
 import time
 
-from ..engine import CHUNK, Engine, EngineEnded
+from ..engine import CHUNK, Engine, EngineEnded, Stalled
 from .host import Host
 from .wire import BadRequest, Op, answer, length_of, read_request, read_room
-
-
-class Stalled(Exception):
-    """The engine, or the store behind its host, took longer for one step than it may. The run was ended."""
 
 
 class HostedEngine(Engine):
@@ -27,7 +23,7 @@ class HostedEngine(Engine):
     def __init__(self, program: str, host: Host, seconds: float) -> None:
         self.host, self.seconds = host, seconds
         self.room = 0
-        super().__init__(program, ["run"])
+        super().__init__(program, ["run"], seconds)
 
     def opened(self) -> bytes:
         """The opening line."""
@@ -88,12 +84,6 @@ class HostedEngine(Engine):
     def close(self) -> int:
         """Ends the script, and waits for the end of the run; its status. One that doesn't end is killed."""
         if self.process.poll() is None:
-            self.write(answer(b""))
-        if self.process.stdin is not None and self.process.stdout is not None:
-            self.process.stdin.close()
-            self.process.stdout.close()
-        try:
-            return self.process.wait(self.seconds)
-        except subprocess.TimeoutExpired:
-            self.process.kill()
-            return self.process.wait()
+            with contextlib.suppress(Stalled):
+                self.write(answer(b""))
+        return super().close()
