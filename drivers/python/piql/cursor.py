@@ -174,8 +174,10 @@ class Cursor:
 
     def fetchmany(self, size: int | None = None) -> list[Row]:
         """The next rows, so many or as arraysize says."""
-        rows = self._answer()
-        start, self._at = self._at, min(self._at + (self.arraysize if size is None else size), len(rows))
+        rows, count = self._answer(), self.arraysize if size is None else size
+        if not isinstance(count, int) or count < 0:
+            raise ProgrammingError("fetchmany takes a whole number of rows, from 0")
+        start, self._at = self._at, min(self._at + count, len(rows))
         return rows[start : self._at]
 
     def fetchall(self) -> list[Row]:
