@@ -4,6 +4,7 @@
     bounds FILE [--write|--check P]  prints each query's bound; writes bounds.lock, or fails where a bound rose
     backup FILE COPY                 makes a whole copy
     restore COPY FILE                puts a copy in the file's place; the file of before gets another name
+    verify FILE                      goes over a whole store; 0 sound, 1 differences, 5 it can't be read
     load FILE TABLE < CSV            inserts rows; the first line names the columns
     rebuild OLD NEW SCHEMA           makes a new file with the old one's rows under another schema
     rebuild OLD SCHEMA --replace     the same; the new file then takes the old one's place
@@ -27,6 +28,10 @@ from .migrate import migrate
 from .rebuild import Values, rebuild
 from .restore import restore
 from .values import read_literal
+from .verify import verify
+
+# Of a store that can't be read, beside the statuses of the other commands.
+UNREADABLE = 5
 
 
 def run_migrate(given: argparse.Namespace) -> int:
@@ -58,8 +63,17 @@ def run_backup(given: argparse.Namespace) -> int:
 
 def run_restore(given: argparse.Namespace) -> int:
     """Puts a copy in a file's place."""
-    restore(given.copy, given.file, sys.stdout)
+    restore(given.copy, given.file, sys.stdout, is_unchecked=given.unchecked)
     return 0
+
+
+def run_verify(given: argparse.Namespace) -> int:
+    """Goes over a whole store."""
+    try:
+        return 1 if verify(given.file, sys.stdout, sys.stderr, folder=given.folder).differences else 0
+    except (Error, OSError) as error:
+        print(f"piql: {error}", file=sys.stderr)
+        return UNREADABLE
 
 
 def run_load(given: argparse.Namespace) -> int:
@@ -128,7 +142,10 @@ def parser() -> argparse.ArgumentParser:
     bounds.add_argument("--write", metavar="PATH")
     bounds.add_argument("--check", metavar="PATH")
     command("backup", run_backup, "file", "copy")
-    command("restore", run_restore, "copy", "file")
+    restoring = command("restore", run_restore, "copy", "file")
+    restoring.add_argument("--unchecked", action="store_true", help="take a copy in which verify finds differences")
+    verifying = command("verify", run_verify, "file")
+    verifying.add_argument("--folder", help="where the copy of a server's file lies meanwhile; that of temporary files")
     loading = command("load", run_load, "file", "table")
     loading.add_argument("--null", default="", help="what stands for NULL in nullable columns; an empty cell")
     loading.add_argument("--mark", help="the file that keeps how far it came")

@@ -12,6 +12,7 @@ from .holding import held, held_for_reading
 from .private import folder_beside
 from .replacing import replace, take_rights
 from .stored import check_formats, opened
+from .verify import verify
 
 Program = str | os.PathLike[str] | None
 DAMAGED = 6
@@ -40,6 +41,14 @@ def check_by_engine(part: str, copy: str, program: str) -> None:
         raise type(error)(f"{copy} isn't restored: {way}") from error
 
 
+def check_whole(part: str, copy: str, tell: TextIO, program: str) -> None:
+    """Refuses a copy whose pairs differ from one another."""
+    done = verify(part, tell, tell, program)
+    if done.differences:
+        why = f"it has {done.differences} differences; --unchecked takes it as it is"
+        raise InternalError(f"{copy} isn't restored: {why}")
+
+
 def put(part: str, path: str, tell: TextIO) -> None:
     """Gives the new file the name, and tells where the old one is."""
     if os.path.lexists(path):
@@ -49,8 +58,11 @@ def put(part: str, path: str, tell: TextIO) -> None:
         print(f"what was {path} is {aside}; a file {aside}-wal belongs to it", file=tell)
 
 
-def restore(copy: str, path: str, tell: TextIO, program: Program = None) -> None:
-    """Puts a copy of a store in the place of a file, which nobody may have open. The copy stays as it is."""
+def restore(copy: str, path: str, tell: TextIO, program: Program = None, is_unchecked: bool = False) -> None:
+    """Puts a copy of a store in the place of a file, which nobody may have open. The copy stays as it is.
+
+    One that is unchecked may have differences that verify finds; SQLite and the engine have to take it all the same.
+    """
     engine = find_program("piql_file", program)
     if os.path.realpath(copy) == os.path.realpath(path):
         raise OperationalError(f"{copy} is the file itself")
@@ -61,6 +73,8 @@ def restore(copy: str, path: str, tell: TextIO, program: Program = None) -> None
                 copy_with_log(copy, part)
             check_copy(part, copy)
             check_by_engine(part, copy, engine)
+            if not is_unchecked:
+                check_whole(part, copy, tell, engine)
             put(part, path, tell)
     except OSError as error:
         raise OperationalError(f"{path} can't be restored: {error}") from error

@@ -7,7 +7,8 @@ from collections.abc import Iterator
 from pathlib import Path
 
 from .errors import InternalError, OperationalError
-from .reports import DefinitionLine, Row, Value
+from .reports import DefinitionLine, Row
+from .rowcodes import read_row
 from .schema import Column, Schema, read_schema
 
 DEFINITIONS, ROWS, ENTRIES, INTENT, GROUPS = 1, 2, 3, 4, 5
@@ -16,8 +17,6 @@ FORMATS = {b"CREATE TABLE ": 1, b"CREATE COUNTER ": 2, b"PREPARE ": 1, b"ALTER T
 READY, FILLING = 0, 1
 # No log with a page in it is shorter: its head, a page's head and the least page.
 LEAST_LOG = 32 + 24 + 512
-# A row with a NULL has this added to its number of columns, and then four bytes whose bit i is column i's.
-HAS_NULL = 0x40
 
 
 def open_file(path: str, how: str = "mode=ro") -> sqlite3.Connection:
@@ -63,7 +62,10 @@ def pairs(file: sqlite3.Connection, first: int, *after: int) -> Iterator[tuple[b
     """The pairs whose key begins with these bytes, of which the last is below 255, in order."""
     low = bytes([first, *after])
     high = low[:-1] + bytes([low[-1] + 1])
-    yield from file.execute("SELECT k, v FROM kv WHERE k >= ? AND k < ? ORDER BY k", (low, high))
+    try:
+        yield from file.execute("SELECT k, CAST(v AS BLOB) FROM kv WHERE k >= ? AND k < ? ORDER BY k", (low, high))
+    except sqlite3.Error as error:
+        raise OperationalError(f"the file can't be read: {error}") from error
 
 
 def format_of(text: bytes) -> int | None:
@@ -80,40 +82,12 @@ def check_formats(file: sqlite3.Connection) -> None:
 
 def read_stored_schema(file: sqlite3.Connection) -> Schema:
     """The definitions. A value begins with its format and its mark."""
-    found = [DefinitionLine(int.from_bytes(k[1:]), v[2:].decode()) for k, v in pairs(file, DEFINITIONS)]
-    return read_schema(found)
-
-
-def read_cell(column: Column, code: bytes, at: int) -> tuple[Value, int]:
-    """A value that is no NULL, and the place behind it."""
-    if column.type == "INT":
-        return int.from_bytes(code[at : at + 8], signed=True), at + 8
-    if column.type == "BOOL":
-        return code[at] == 1, at + 1
-    end = at + 2 + int.from_bytes(code[at : at + 2])
-    return code[at + 2 : end].decode(), end
-
-
-def read_row(columns: tuple[Column, ...], code: bytes) -> Row:
-    """The row of a stored row's code. The added columns that it leaves out have their defaults."""
-    has_null = code[0] >= HAS_NULL
-    count = code[0] - has_null * HAS_NULL
-    left_out = columns[count:]
-    marks = int.from_bytes(code[1:5]) if has_null else 0
-    at, row = 5 if has_null else 1, []
-    if count > len(columns) or not all(column.is_added for column in left_out):
-        raise InternalError(f"a row of {count} columns, where the table has {len(columns)}")
-    for place, column in enumerate(columns[:count]):
-        value: Value = None
-        if not marks >> place & 1:
-            value, at = read_cell(column, code, at)
-        row.append(value)
-    if at != len(code):
-        raise InternalError("a row's code goes on behind its last column")
-    last = columns[count - 1]
-    if last.is_added and row[-1] == last.default:
-        raise InternalError(f"a row's code ends with the default of {last.name}")
-    return (*row, *(column.default for column in left_out))
+    try:
+        found = [DefinitionLine(int.from_bytes(k[1:]), v[2:].decode()) for k, v in pairs(file, DEFINITIONS)]
+        return read_schema(found)
+    # What reading does at a text that is not canonical.
+    except (LookupError, RuntimeError, StopIteration, ValueError) as error:
+        raise InternalError("a definition has a text that no run writes") from error
 
 
 def stored_rows(file: sqlite3.Connection, number: int, columns: tuple[Column, ...]) -> Iterator[Row]:

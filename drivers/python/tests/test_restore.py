@@ -17,6 +17,7 @@ from piql import restore as restoring
 from piql.holding import held, held_for_reading
 from piql.replacing import replace, unused_name
 from piql.restore import restore
+from piql.verify import Verified
 
 TABLE = b"CREATE TABLE t (a INT, PRIMARY KEY (a));"
 DEFINITION = {b"\x01\x00\x01": b"\x01\x00" + TABLE}
@@ -100,9 +101,11 @@ class RestoreTest(unittest.TestCase):
         self.folder = new_folder(self)
         self.path, self.copy = self.folder / "d/store.db", self.folder / "copy.db"
         self.path.parent.mkdir()
-        patched = mock.patch.object(restoring, "make_one_file", fold)
-        patched.start()
-        self.addCleanup(patched.stop)
+        for name, stub in (("make_one_file", fold), ("verify", lambda *_: Verified(2, self.differences))):
+            patched = mock.patch.object(restoring, name, stub)
+            patched.start()
+            self.addCleanup(patched.stop)
+        self.differences = 0
         make_store(self.copy, DEFINITION, row(3))
 
     def make_old(self) -> None:
@@ -220,6 +223,13 @@ class RestoreTest(unittest.TestCase):
         self.copy.write_bytes(whole[:8192] + bytes(4096) + whole[12288:])
         self.refused("damaged")
 
+    def test_a_copy_with_differences_is_refused(self) -> None:
+        self.make_old()
+        self.differences = 3
+        self.refused("it has 3 differences")
+        restore(str(self.copy), str(self.path), io.StringIO(), "/bin/true", is_unchecked=True)
+        self.assertEqual(pairs_of(self.path, self.folder), NEW)
+
     def test_a_file_or_a_copy_that_somebody_has_is_refused(self) -> None:
         self.make_old()
         for path in (self.path, self.copy):
@@ -257,7 +267,9 @@ class CommandTest(unittest.TestCase):
             self.assertIn("somebody has", done.stderr)
         done = self.run_piql("restore", copy, path)
         self.assertEqual((done.returncode, done.stderr), (0, ""))
-        aside = done.stdout.removeprefix(f"what was {path} is ").partition(";")[0]
+        lines = done.stdout.splitlines()
+        self.assertEqual(lines[0], "1 pairs, 0 differences")
+        aside = lines[1].removeprefix(f"what was {path} is ").partition(";")[0]
         for name, rows in ((path, []), (aside, [(1,)])):
             with piql.connect(name) as connection:
                 self.assertEqual(connection.execute("SELECT a FROM t ORDER BY a LIMIT 9").fetchall(), rows)
@@ -270,3 +282,12 @@ class CommandTest(unittest.TestCase):
         self.assertEqual((done.returncode, done.stdout), (2, ""))
         self.assertIn("it is damaged, or a later version wrote it", done.stderr)
         self.assertEqual(os.listdir(folder), ["copy.db"])
+
+    def test_a_copy_with_an_entry_of_no_row(self) -> None:
+        folder = new_folder(self)
+        path, copy = folder / "store.db", folder / "copy.db"
+        make_store(copy, DEFINITION | {b"\x03\x01\x01x": b""}, {})
+        done = self.run_piql("restore", copy, path)
+        told = "03010178 no row asks for it\n2 pairs, 1 differences\n"
+        self.assertEqual((done.returncode, done.stdout, os.listdir(folder)), (2, told, ["copy.db"]))
+        self.assertEqual(self.run_piql("restore", "--unchecked", copy, path).returncode, 0)
