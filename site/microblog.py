@@ -1,12 +1,13 @@
 """The microblog as a WSGI application: its addresses, what each one reads, and what its forms write."""
 
 import re
+import sys
 import time
 from collections.abc import Callable, Iterable
 from html import escape
 from http import HTTPStatus
 from http.cookies import CookieError, SimpleCookie
-from typing import Any, NamedTuple
+from typing import Any, NamedTuple, TextIO
 from urllib.parse import parse_qs, quote, unquote
 
 import html_pages as html
@@ -16,6 +17,8 @@ from store import Store
 from piql import Connection, DataError, Error, IntegrityError, OperationalError
 
 FORM_BYTES = 10_000
+LATER = "<p class=error>The store can't be reached now. What you wrote was made or not: look before you try again.</p>"
+WRONG = "<p class=error>Something is wrong with this page.</p>"
 Environ = dict[str, Any]
 
 
@@ -260,8 +263,11 @@ def answer(request: Request, method: str, path: str) -> Answer:
     raise NotFound
 
 
-def safe_answer(request: Request, method: str, path: str) -> Answer:
-    """The same; a refusal is shown to the user, and a store that isn't there is told."""
+def safe_answer(request: Request, method: str, path: str, log: TextIO) -> Answer:
+    """The same. A refusal is shown to the user; of what else is wrong he is told no more than that.
+
+    What is raised there names stores and files, which is the site's own business: it goes to the server's log.
+    """
     try:
         return answer(request, method, path)
     except (NotFound, ValueError):
@@ -269,16 +275,19 @@ def safe_answer(request: Request, method: str, path: str) -> Answer:
     except (IntegrityError, DataError) as error:
         return show(request, "Not done", f'<p class=error>{escape(str(error))}</p>', HTTPStatus.BAD_REQUEST)
     except OperationalError as error:
-        return show(request, "Later", f'<p class=error>{escape(str(error))}</p>', HTTPStatus.SERVICE_UNAVAILABLE)
+        print(f"{method}: {error}", file=log)
+        return show(request, "Later", LATER, HTTPStatus.SERVICE_UNAVAILABLE)
     except Error as error:
-        return show(request, "Error", f'<p class=error>{escape(str(error))}</p>', HTTPStatus.INTERNAL_SERVER_ERROR)
+        print(f"{method}: {type(error).__name__}: {error}", file=log)
+        return show(request, "Error", WRONG, HTTPStatus.INTERNAL_SERVER_ERROR)
 
 
 def application(connection: Connection) -> Callable[[Environ, Callable[..., object]], Iterable[bytes]]:
     """The WSGI application over a connection."""
 
     def respond(environ: Environ, start_response: Callable[..., object]) -> Iterable[bytes]:
-        made = safe_answer(request_of(environ, connection), environ["REQUEST_METHOD"], path_of(environ))
+        log = environ.get("wsgi.errors", sys.stderr)
+        made = safe_answer(request_of(environ, connection), environ["REQUEST_METHOD"], path_of(environ), log)
         body = made.body.encode()
         headers = [("Content-Type", "text/html; charset=utf-8"), ("Content-Length", str(len(body))), *made.headers]
         start_response(f"{made.status.value} {made.status.phrase}", headers)

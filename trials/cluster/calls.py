@@ -12,7 +12,7 @@ from typing import Any
 from common import EXAMPLES, Trial, content, ran, stores
 from piql.hosts import Backend, Fault, Guard, MemoryStore
 from piql.hosts.etcd import EtcdStore
-from piql.hosts.etcd_client import Body, EtcdClient
+from piql.hosts.etcd_client import Body, EtcdClient, T, read_told
 from piql.hosts.postgres import PostgresStore
 from piql.hosts.postgres_client import Lost, PostgresClient, Values
 from piql.hosts.urls import open_store
@@ -101,28 +101,30 @@ class LossyEtcd(EtcdClient):
         super().__init__(endpoints)
         self.lossy = lossy
 
-    def once(self, path: str, body: Body) -> Body:
+    def once(self, path: str, body: Body, read: Callable[[Body], T], patience: float) -> T:
         def late() -> bool:
-            return bool(EtcdClient(self.endpoints).post(path, body, 5.0).get("succeeded"))
+            return EtcdClient(self.endpoints).post(path, body, read_told, 5.0).is_made
 
-        told = self.lossy.sent(lambda: EtcdClient.once(self, path, body), late)
+        told = self.lossy.sent(lambda: EtcdClient.once(self, path, body, read, patience), late)
         if told is None:
             raise Fault("lost")
-        return dict(told)
+        return told  # type: ignore[no-any-return]
 
 
 class LossyPostgres(PostgresClient):
     """A client of PostgreSQL that loses writes of pairs."""
 
     def __init__(self, url: str, lossy: Lossy) -> None:
-        super().__init__(url, 3.0)
-        self.url, self.lossy = url, lossy
+        super().__init__(url, 10.0)
+        self.lossy = lossy
         # Connections for what is late, which are there before it is sent.
         self.others = [PostgresClient(url, 5.0) for _ in range(8)]
         for other in self.others:
             other.run("SELECT 1")
 
-    def run(self, text: str, values: Values = {}, seconds: float | None = None) -> list[tuple[Any, ...]]:
+    def run(
+        self, text: str, values: Values = {}, until: float | None = None, seconds: float | None = None
+    ) -> list[tuple[Any, ...]]:
         def late() -> bool:
             client = self.others.pop() if self.others else PostgresClient(self.url, 5.0)
             found = client.run(text, values)
@@ -130,8 +132,8 @@ class LossyPostgres(PostgresClient):
             return bool(found)
 
         if not text.startswith("WITH "):
-            return super().run(text, values, seconds)
-        told = self.lossy.sent(lambda: PostgresClient.run(self, text, values, seconds), late)
+            return super().run(text, values, until, seconds)
+        told = self.lossy.sent(lambda: PostgresClient.run(self, text, values, until, seconds), late)
         if told is None:
             raise Lost("lost")
         return list(told)

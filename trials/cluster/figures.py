@@ -86,12 +86,12 @@ def fill(store: Backend, begin: int, end: int) -> None:
     numbers = range(begin, end)
     client: Any = store.client  # type: ignore[attr-defined]
     if hasattr(store, "front"):
-        from piql.hosts.etcd_client import putting
+        from piql.hosts.etcd_client import putting, read_told
 
         for first in numbers[::100]:
             few = range(first, min(end, first + 100))
             puts = [putting(store.front + b"z%08d" % number, b"v") for number in few]
-            client.post("/v3/kv/txn", {"success": puts}, 10.0)
+            client.post("/v3/kv/txn", {"success": puts}, read_told, 10.0)
     else:
         values = f"convert_to('z' || lpad(n::text, 8, '0'), 'UTF8'), 'v' FROM generate_series({begin}, {end - 1}) n"
         client.run(f"INSERT INTO piql_pairs SELECT {values}")

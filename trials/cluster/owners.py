@@ -125,6 +125,7 @@ def call(store: Backend, name: str) -> object:
         return store.count(b"", b"z", 5)
     if name == "write":
         return store.write(b"k", Guard.ANY, b"", b"2")
+    store.start()  # type: ignore[attr-defined]
     return store.settle()  # type: ignore[attr-defined]
 
 

@@ -12,6 +12,7 @@ import unittest.mock
 from pathlib import Path
 
 from helpers import TOP, built, make_folder, new_folder, piql
+from lying import LyingServer, silent
 from piql.errors import InterfaceError, NotSupportedError, OperationalError
 from piql.hosts import (
     Backend,
@@ -35,7 +36,7 @@ from piql.hosts.etcd import Fence, read_fence
 from piql.hosts.etcd_client import Stored
 from piql.hosts.etcd_reading import EtcdReading
 from piql.hosts.postgres_client import places_of
-from piql.hosts.urls import etcd_parts, is_url, times_of
+from piql.hosts.urls import etcd_parts, is_url, options_of
 from piql.hosts.wire import FAILURE, Request, answer, read_range, read_request, read_write
 
 STUB = Path(__file__).with_name("stub_engine.py")
@@ -258,10 +259,25 @@ class LinkTest(unittest.TestCase):
         store = MemoryStore()
         link = self.link(store)
         store.get = unittest.mock.Mock(side_effect=[Fault("no member answers"), b"v"])  # type: ignore[method-assign]
-        with self.assertRaisesRegex(OperationalError, "no member answers") as caught:
+        with self.assertRaisesRegex(OperationalError, "^no member answers: ") as caught:
             link.exchange(b"GET k;", True)
         self.assertEqual(caught.exception.status, 5)
         self.assertIn("v", link.exchange(b"GET k;", True))
+
+    def test_why_a_store_cant_be_opened_is_told_first(self) -> None:
+        store = MemoryStore()
+        store.range = unittest.mock.Mock(side_effect=Fault("no room"))  # type: ignore[method-assign]
+        with self.assertRaisesRegex(OperationalError, "^no room: .* the store isn't open") as caught:
+            self.link(store).exchange(b"COUNT;", True)
+        self.assertEqual(caught.exception.status, 5)
+
+    def test_a_call_takes_no_longer_than_a_step(self) -> None:
+        server = LyingServer(self, silent)
+        for reader in (False, True):
+            begun = time.monotonic()
+            with self.assertRaisesRegex(OperationalError, "no member answers"):
+                piql.connect(f"etcd://127.0.0.1:{server.port}/shop", program=self.stub, step=0.5, reader=reader)
+            self.assertLess(time.monotonic() - begun, 6)
 
     def test_an_engine_that_ends(self) -> None:
         link = self.link(MemoryStore())
@@ -327,13 +343,18 @@ class LinkTest(unittest.TestCase):
         self.assertEqual(caught.exception.status, 5)
         self.assertEqual(store.values[b"k"], b"v")
 
-    def test_a_reader_whose_revision_is_gone_takes_another(self) -> None:
+    def test_a_reader_whose_revision_is_gone_takes_another_while_there_is_time(self) -> None:
         reading = Pinned(MemoryStore())
-        link = ReaderLink("the store", reading, self.stub, 0.2)
+        link = ReaderLink("the store", reading, self.stub, 60.0)
         self.addCleanup(link.close)
-        reading.get = unittest.mock.Mock(side_effect=[Fault("compacted"), b"v"])  # type: ignore[method-assign]
+        gone = [Fault("compacted")] * 3
+        reading.get = unittest.mock.Mock(side_effect=[*gone, b"v"])  # type: ignore[method-assign]
         self.assertIn("x01v", link.exchange(b"GET k;", True))
-        self.assertEqual(len(reading.pins), 2)
+        self.assertEqual(len(reading.pins), 4)
+        link.timeout = 0.0
+        reading.get.side_effect = gone
+        with self.assertRaisesRegex(OperationalError, "^compacted: "):
+            link.exchange(b"GET k;", True)
 
     def test_nodes(self) -> None:
         link = NodesLink("nodes", [MemoryStore(), MemoryStore()], [b"", b"m"], self.stub)
@@ -346,11 +367,18 @@ class UrlTest(unittest.TestCase):
 
     def test_urls(self) -> None:
         self.assertEqual(etcd_parts("etcd://a:1,b/shop"), (["a:1", "b:2379"], "shop"))
-        self.assertEqual(times_of("etcd://a/shop?lease=3"), ("etcd://a/shop", (3.0, 10.0)))
+        self.assertEqual(options_of("etcd://a/shop?lease=3"), ("etcd://a/shop", (3.0, 10.0, False)))
         kept = "postgresql://u@a,b:1/db?sslmode=require"
-        self.assertEqual(times_of(kept + "&patience=2"), (kept, (10.0, 2.0)))
+        self.assertEqual(options_of(kept + "&patience=2"), (kept, (10.0, 2.0, False)))
         self.assertTrue(is_url("postgresql://a/db"))
         self.assertFalse(is_url("etcd.db") or is_url("unix:etcd://x"))
+        self.assertEqual(etcd_parts("etcd://[::1]/a"), (["[::1]:2379"], "a"))
+        self.assertEqual(etcd_parts("etcd://[fe80::1]:5,b/a"), (["[fe80::1]:5", "b:2379"], "a"))
+
+    def test_words_of_another_program_stay_as_they_are_written(self) -> None:
+        words = "options=-c%20statement_timeout%3D5s&passfile=/a+b"
+        self.assertEqual(options_of(f"postgresql://a/db?lease=3&{words}")[0], f"postgresql://a/db?{words}")
+        self.assertEqual(options_of("postgresql://a/db?durability=two"), ("postgresql://a/db", (10.0, 10.0, True)))
 
     def test_hosts_of_a_database(self) -> None:
         words = {"user": "u", "host": "a,b", "port": "1,2"}
@@ -361,7 +389,10 @@ class UrlTest(unittest.TestCase):
     def test_what_is_no_url(self) -> None:
         for url in ("etcd://a:1", "etcd:///shop", "etcd://a:x/shop", "etcd://a/shop/kv", "etcd://a/shop?leese=3"):
             self.assertRaises(InterfaceError, etcd_parts, url)
-        self.assertRaises(InterfaceError, times_of, "etcd://a/shop?lease=long")
+        for word in ("lease=long", "lease=0", "lease=-5", "patience=0", "patience=nan", "lease=1e3", "lease="):
+            self.assertRaises(InterfaceError, options_of, f"etcd://a/shop?{word}")
+        for url in ("etcd://[::1/a", "etcd://::1/a", "etcd://a:123456/a", "etcd://a,,b/a", "etcd://u:p@a/a"):
+            self.assertRaises(InterfaceError, etcd_parts, url)
         self.assertRaises(InterfaceError, piql.connect, "site.db", reader=True)
 
 

@@ -7,13 +7,15 @@ import time
 import unittest
 from typing import Any
 
-from clusters import needs_postgres, postgres_url
+from clusters import databases, needs_postgres, postgres_url
+from lying import LyingServer, dribbling, silent
 from piql.hosts import Fault, Guard, Held, notices
 from piql.hosts.postgres import PostgresStore
 from piql.hosts.postgres_client import PostgresClient, Values
 from piql.hosts.postgres_layout import LAYOUT, Layout, range_words
 from piql.hosts.postgres_reading import PostgresReading
 from piql.hosts.postgres_texts import RANGE, REMOVE_ALL
+from piql.hosts.urls import open_store
 
 BEFORE = """
 CREATE TABLE piql_pairs (k bytea PRIMARY KEY, v bytea NOT NULL);
@@ -39,11 +41,13 @@ class Dying(PostgresClient):
         super().__init__(url, 5.0)
         self.left, self.is_behind = left, is_behind
 
-    def run(self, text: str, values: Values = {}, seconds: float | None = None) -> list[tuple[Any, ...]]:
+    def run(
+        self, text: str, values: Values = {}, until: float | None = None, seconds: float | None = None
+    ) -> list[tuple[Any, ...]]:
         self.left -= 1
         if self.left == 0 and not self.is_behind:
             raise Killed
-        found = super().run(text, values, seconds)
+        found = super().run(text, values, until, seconds)
         if self.left == 0:
             raise Killed
         return found
@@ -120,6 +124,7 @@ class BringingOverTest(unittest.TestCase):
 
     def test_a_writer_of_before_that_is_at_work_keeps_its_store(self) -> None:
         first = PostgresStore(self.url, lease=30)
+        first.start()
         first.take()
         second = PostgresStore(self.url)
         self.assertRaises(Held, second.begin)
@@ -204,6 +209,39 @@ class CostTest(unittest.TestCase):
         text = REMOVE_ALL.replace("USING fence, ", "USING ").replace(" AND admitted", "")
         gone = [b"\2" + number.to_bytes(4, "big") for number in (1, 3, 5)]
         self.assertEqual(self.looked_at(text, {"heads": gone, "digests": [b""] * 3}), [3])
+
+
+@needs_postgres
+class UrlTest(unittest.TestCase):
+    """The words of libpq in a URL."""
+
+    def test_a_database_has_several_stores_by_a_search_path(self) -> None:
+        databases().ask(0, "CREATE SCHEMA IF NOT EXISTS shop")
+        url = postgres_url("?options=-c%20statement_timeout%3D5s")
+        stores = [open_store(url), open_store(url + "%20-c%20search_path%3Dshop")]
+        for number, store in enumerate(stores):
+            assert isinstance(store, PostgresStore)
+            self.addCleanup(store.close)
+            store.begin()
+            self.assertEqual(store.client.run("SHOW statement_timeout"), [("5s",)])
+            self.assertTrue(store.write(b"k", Guard.ABSENT, b"", b"%d" % number))
+        self.assertEqual([store.get(b"k") for store in stores], [b"0", b"1"])
+        databases().ask(0, "DROP SCHEMA shop CASCADE")
+
+
+@needs_postgres
+class SlowTest(unittest.TestCase):
+    """Servers that answer slowly or not at all: a Fault, within the time that a call has."""
+
+    def test_a_server_that_dribbles_or_is_silent(self) -> None:
+        for answer in (silent, dribbling(b"N" + b"R" * 99, 0.1)):
+            server = LyingServer(self, answer)
+            url = f"postgresql://site@127.0.0.1:{server.port},127.0.0.1:{server.port}/site"
+            for store, call in [(PostgresStore(url, patience=0.5), "begin"), (PostgresReading(url, 0.5), "pin")]:
+                begun = time.monotonic()
+                self.assertRaisesRegex(Fault, "took too long", getattr(store, call))
+                self.assertLess(time.monotonic() - begun, 6.0)
+                store.close()
 
 
 if __name__ == "__main__":

@@ -7,6 +7,7 @@ import signal
 import subprocess
 import sys
 import unittest
+import unittest.mock
 import urllib.request
 from pathlib import Path
 
@@ -38,6 +39,7 @@ class Browser:
 
     def __init__(self, connection: piql.Connection, user: str | None = None) -> None:
         self.application, self.user = microblog.application(connection), user
+        self.log = io.StringIO()
 
     def ask(self, path: str, query: str = "", form: str | None = None) -> tuple[str, dict[str, str], str]:
         """The status, the headers and the page of an address; with a form it is sent there."""
@@ -48,6 +50,7 @@ class Browser:
             "HTTP_COOKIE": f"me={self.user}" if self.user else "",
             "CONTENT_LENGTH": str(len(form or "")),
             "wsgi.input": io.BytesIO((form or "").encode()),
+            "wsgi.errors": self.log,
         }
         begun: list[tuple[str, list[tuple[str, str]]]] = []
         body = b"".join(self.application(environ, lambda status, headers: begun.append((status, headers))))
@@ -79,6 +82,21 @@ class PagesTest(unittest.TestCase):
             with self.subTest(path):
                 self.assertIn("this page", few)
                 self.assertEqual(few, many)
+
+
+class FailingTest(unittest.TestCase):
+    """Pages over a store that can't be reached."""
+
+    def test_what_is_wrong_is_told_in_the_log_alone(self) -> None:
+        for kind, status in ((piql.OperationalError, "503"), (piql.InternalError, "500"), (piql.InterfaceError, "500")):
+            connection = unittest.mock.Mock()
+            connection.execute.side_effect = kind("postgresql://site@10.0.0.1/site isn't open")
+            for path, form in (("/users", None), ("/join", "name=bea")):
+                browser = Browser(connection, USER)
+                told, _, page = browser.ask(path, form=form)
+                self.assertTrue(told.startswith(status), told)
+                self.assertNotIn("10.0.0.1", page)
+                self.assertIn("10.0.0.1", browser.log.getvalue())
 
 
 class FormsTest(StoreCase):

@@ -20,15 +20,16 @@ from .etcd_client import (
     EtcdClient,
     Refused,
     Stored,
+    Told,
     coded,
-    found_by,
     has_value,
     is_absent,
     looking,
-    pairs_of,
     putting,
+    read_change,
+    read_found,
+    reading,
     removing,
-    revision_of,
 )
 from .etcd_pairs import EtcdPairs
 from .fenced import GONE, FencedStore
@@ -57,8 +58,28 @@ class Fence(NamedTuple):
 
 def read_fence(value: bytes) -> Fence:
     """The fence of a value."""
-    owner, writes, turns = value.decode().rsplit("/", 2)
-    return Fence(owner, int(writes), int(turns))
+    try:
+        owner, writes, turns = value.decode().rsplit("/", 2)
+        return Fence(owner, int(writes), int(turns))
+    except ValueError as error:
+        raise Fault("the fence has a value that no engine writes") from error
+
+
+def read_lease(told: Body) -> str:
+    """The number of a lease that was granted."""
+    return str(int(told["ID"]))
+
+
+def read_time(told: Body) -> int:
+    """The seconds of a lease that was renewed: 0 where there is none."""
+    return int(told.get("result", told).get("TTL", 0))
+
+
+def read_nothing(told: Body) -> None:
+    """Reads nothing of an answer that is there."""
+
+
+read_look = reading(1)
 
 
 class EtcdStore(EtcdPairs, FencedStore):
@@ -77,10 +98,12 @@ class EtcdStore(EtcdPairs, FencedStore):
         if self.lost is None and self.is_begun():
             return
         self.revoke()
-        self.check_free(pairs_of(self.client.post("/v3/kv/range", {"key": coded(self.fence_key)}, self.patience)))
+        self.start()
+        looked = {"key": coded(self.fence_key)}
+        self.check_free(self.client.post("/v3/kv/range", looked, read_found, self.left()))
         self.renewed = time.monotonic()
-        granted = self.client.post("/v3/lease/grant", {"TTL": str(max(1, round(self.lease)))}, self.patience)
-        self.lease_id = granted["ID"]
+        lease = {"TTL": str(max(1, round(self.lease)))}
+        self.lease_id = self.client.post("/v3/lease/grant", lease, read_lease, self.left())
         self.take()
         self.lost = None
 
@@ -91,11 +114,11 @@ class EtcdStore(EtcdPairs, FencedStore):
             wanted = self.fence.next_turn()
             compare = has_value(self.fence_key, found[0].value) if found else is_absent(self.fence_key)
             body = {"compare": [compare], "success": [self.put_fence(wanted)], "failure": [looking(self.fence_key)]}
-            told = self.client.post(TXN, body, self.patience)
-            self.fence, self.revision = wanted, revision_of(told)
-            found = [] if told.get("succeeded") else found_by(told)
+            told = self.client.post(TXN, body, read_change, self.left())
+            self.fence, self.revision = wanted, told.revision
+            found = [] if told.is_made else told.found[0]
             # This request itself may have been made before, without an answer.
-            if told.get("succeeded") or found and found[0].value == wanted.value():
+            if told.is_made or found and found[0].value == wanted.value():
                 return
             self.check_free(found)
 
@@ -120,14 +143,13 @@ class EtcdStore(EtcdPairs, FencedStore):
 
     def renew_fence(self) -> bool:
         """Renews the lease. While it lives, the fence is there, and nobody else makes one."""
-        told = self.client.post("/v3/lease/keepalive", {"ID": self.lease_id}, self.patience)
-        return int(told.get("result", told).get("TTL", 0)) > 0
+        return self.client.post("/v3/lease/keepalive", {"ID": self.lease_id}, read_time, self.left()) > 0
 
     def revoke(self) -> None:
         """Gives the lease back, and the fence with it, if a member takes it within a second."""
         if self.lease_id:
             try:
-                self.client.post("/v3/lease/revoke", {"ID": self.lease_id}, 1.0)
+                self.client.post("/v3/lease/revoke", {"ID": self.lease_id}, read_nothing, 1.0)
             except Fault:
                 pass
         self.lease_id = ""
@@ -138,10 +160,10 @@ class EtcdStore(EtcdPairs, FencedStore):
         """What a read under the fence tells. Members are asked until one answers, for a read may be made twice."""
         self.check()
         body = {"compare": [self.compare_fence()], "success": [looking(key, **more)]}
-        told = self.client.post(TXN, body, self.patience)
-        if not told.get("succeeded"):
+        told = self.client.post(TXN, body, read_look, self.left())
+        if not told.is_made:
             self.give_up(GONE)
-        return found_by(told)
+        return told.found[0]
 
     # Writes
 
@@ -167,8 +189,9 @@ class EtcdStore(EtcdPairs, FencedStore):
     def made(self, guards: list[Body], changes: Sequence[Change]) -> bool:
         """Makes changes by one transaction; whether the guards held."""
         self.check()
-        until = time.monotonic() + self.patience
+        why: object = "too little time was left for it"
         while True:
+            self.check_time(why)
             try:
                 return self.tried(guards, changes)
             except Refused:
@@ -178,42 +201,42 @@ class EtcdStore(EtcdPairs, FencedStore):
                     raise
                 if self.settle():
                     return True
-                if time.monotonic() >= until:
-                    raise Fault(f"a write wasn't made: {fault}") from fault
+                why = fault
 
     def tried(self, guards: list[Body], changes: Sequence[Change]) -> bool:
         """Asks one member for changes, once. A Fault says that there was no answer."""
         behind = self.fence.behind_write()
         parts = [removing(self.front + key) if new is None else putting(self.front + key, new) for key, new in changes]
         body = {"compare": [self.compare_fence(), *guards], "success": [*parts, self.put_fence(behind)]}
-        told = self.client.once(TXN, body | {"failure": [looking(self.fence_key)]})
-        if told.get("succeeded"):
-            self.fence, self.revision = behind, revision_of(told)
+        body["failure"] = [looking(self.fence_key)]
+        told = self.client.once(TXN, body, read_change, self.left() / 2)
+        if told.is_made:
+            self.fence, self.revision = behind, told.revision
             return True
         self.check_fence(told, self.fence)
         return False
 
-    def check_fence(self, told: Body, wanted: Fence) -> None:
+    def check_fence(self, told: Told, wanted: Fence) -> None:
         """Gives up where a transaction found another fence."""
-        found = found_by(told)
-        if not found or found[0].value != wanted.value():
+        if [pair.value for pair in told.found[0]] != [wanted.value()]:
             self.give_up(GONE)
 
     def settle(self) -> bool:
         """Takes the fence from a write without an answer; whether that write was made. It can be made no more."""
         made, taken = self.fence.behind_write(), self.fence.next_turn()
         body = {"compare": [self.compare_fence()], "success": [self.put_fence(taken)]}
+        body["failure"] = [looking(self.fence_key)]
         try:
-            told = self.client.post(TXN, body | {"failure": [looking(self.fence_key)]}, self.patience)
+            told = self.client.post(TXN, body, read_change, self.left())
         except Fault as fault:
             # Undecided. The next fence decides it, and until then there is no further call.
             self.give_up(f"no member decides a write without an answer: {fault}")
         self.settled += 1
-        self.revision = revision_of(told)
-        if not told.get("succeeded") and (found := found_by(told)) and found[0].value == made.value():
+        self.revision = told.revision
+        if not told.is_made and [pair.value for pair in told.found[0]] == [made.value()]:
             self.fence = made
             return True
-        if not told.get("succeeded"):
+        if not told.is_made:
             # This request itself may have been made before, without an answer.
             self.check_fence(told, taken)
         self.fence = taken

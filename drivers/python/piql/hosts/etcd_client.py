@@ -1,20 +1,28 @@
-"""Requests to a cluster of etcd, over the JSON gateway of its members (etcd 3.4 and later), by the standard library."""
+"""Requests to a cluster of etcd, over the JSON gateway of its members (etcd 3.4 and later), by the standard library.
+
+Whatever a member answers is tested: one that answers in another form, or too late, is left as one that doesn't answer.
+"""
 
 import http.client
 import json
-import socket
 import time
 from base64 import b64decode, b64encode
-from collections.abc import Sequence
-from typing import Any, NamedTuple
+from collections.abc import Callable, Sequence
+from typing import Any, NamedTuple, TypeVar
 
 from .backend import Fault
+from .timed import TimedConnection
 
 PAUSE = 0.02
+# More than the longest answer of an etcd to the longest range of an engine.
+ANSWER_MOST = 1 << 27
 # gRPC's codes of answers that another member would give too: bad arguments, a lease or a revision that is gone.
 FINAL = {3, 5, 6, 9, 11}
 WRONG = (OSError, http.client.HTTPException, ValueError)
+# What reading an answer of another form raises.
+MISREAD = (ArithmeticError, AttributeError, LookupError, TypeError, ValueError)
 Body = dict[str, Any]
+T = TypeVar("T")
 
 
 class Stored(NamedTuple):
@@ -24,6 +32,14 @@ class Stored(NamedTuple):
     value: bytes
     created: int
     changed: int
+
+
+class Told(NamedTuple):
+    """What a transaction answers: whether its comparisons held, the cluster's revision, and what each read found."""
+
+    is_made: bool
+    revision: int
+    found: list[list[Stored]]
 
 
 class Refused(Fault):
@@ -36,51 +52,51 @@ class EtcdClient:
     def __init__(self, endpoints: Sequence[str], seconds: float = 2.0) -> None:
         self.endpoints, self.seconds = list(endpoints), seconds
         self.at = 0
-        self.connection: http.client.HTTPConnection | None = None
+        self.connection: TimedConnection | None = None
 
-    def post(self, path: str, body: Body, patience: float) -> Body:
-        """The answer of the first member that gives one within so many seconds. The request may be made twice."""
+    def post(self, path: str, body: Body, read: Callable[[Body], T], patience: float) -> T:
+        """What the first member answers that does so within so many seconds. The request may be made twice."""
         text, until = json.dumps(body), time.monotonic() + patience
         while True:
             try:
-                return self.ask(path, text)
+                return self.ask(path, text, read, until)
             except WRONG as error:
                 self.next_member()
-                if time.monotonic() >= until:
-                    raise Fault(f"no member answers: {error!r}") from error
+                if time.monotonic() + PAUSE >= until:
+                    raise Fault(f"no member answers: {error}") from error
                 time.sleep(PAUSE)
 
-    def once(self, path: str, body: Body) -> Body:
-        """The answer of one member. Where there is none, the request may still be made, at any time."""
+    def once(self, path: str, body: Body, read: Callable[[Body], T], patience: float) -> T:
+        """What one member answers. Where it doesn't, the request may still be made, at any time."""
         try:
-            return self.ask(path, json.dumps(body))
+            return self.ask(path, json.dumps(body), read, time.monotonic() + patience)
         except WRONG as error:
             self.next_member()
-            raise Fault(f"a member didn't answer: {error!r}") from error
+            raise Fault(f"a member didn't answer: {error}") from error
 
     def next_member(self) -> None:
         """Leaves the member that is asked."""
         self.close()
         self.at = (self.at + 1) % len(self.endpoints)
 
-    def ask(self, path: str, text: str) -> Body:
-        """The answer of the member that is asked."""
-        connection = self.connection or self.connect()
+    def ask(self, path: str, text: str, read: Callable[[Body], T], until: float) -> T:
+        """What the member that is asked answers by a time."""
+        connection = self.connection or self.new_connection()
+        connection.end_by(min(until, time.monotonic() + self.seconds))
         connection.request("POST", path, text, {"Content-Type": "application/json"})
         answer = connection.getresponse()
-        told = json.loads(answer.read())
-        if answer.status == 200 and isinstance(told, dict):
-            return told
-        if isinstance(told, dict) and told.get("code") in FINAL:
-            raise Refused(str(told.get("message") or told.get("error")))
-        raise ValueError(f"status {answer.status}: {told!r:.200}")
+        told = read_object(answer.read(ANSWER_MOST + 1))
+        if answer.status == 200:
+            return read_by(read, told)
+        why = f"{told.get('message') or told.get('error')!s:.200}"
+        if told.get("code") in FINAL:
+            raise Refused(why)
+        raise ValueError(f"status {answer.status}, {why}")
 
-    def connect(self) -> http.client.HTTPConnection:
-        """A connection to the member that is asked."""
+    def new_connection(self) -> TimedConnection:
+        """A connection to the member that is asked. It connects with its first request."""
         host, _, port = self.endpoints[self.at].rpartition(":")
-        self.connection = http.client.HTTPConnection(host.strip("[]"), int(port), timeout=self.seconds)
-        self.connection.connect()
-        self.connection.sock.setsockopt(socket.IPPROTO_TCP, socket.TCP_NODELAY, 1)
+        self.connection = TimedConnection(host.strip("[]"), int(port))
         return self.connection
 
     def close(self) -> None:
@@ -88,6 +104,27 @@ class EtcdClient:
         if self.connection is not None:
             self.connection.close()
         self.connection = None
+
+
+def read_object(text: bytes) -> Body:
+    """The object that an answer is."""
+    if len(text) > ANSWER_MOST:
+        raise ValueError("an answer that is too long")
+    try:
+        told = json.loads(text)
+    except RecursionError as error:
+        raise ValueError("an answer that is too deep") from error
+    if not isinstance(told, dict):
+        raise ValueError("an answer that is no object")
+    return told
+
+
+def read_by(read: Callable[[Body], T], told: Body) -> T:
+    """What an answer says. One of another form is none."""
+    try:
+        return read(told)
+    except MISREAD as error:
+        raise ValueError(f"an answer of another form ({type(error).__name__})") from error
 
 
 # The parts of requests and answers. The gateway writes bytes in base64 and numbers as texts, and leaves out zeros.
@@ -123,12 +160,12 @@ def removing(key: bytes) -> Body:
     return {"request_delete_range": {"key": coded(key)}}
 
 
-def pairs_of(found: Body) -> list[Stored]:
+def read_pairs(found: Body) -> list[Stored]:
     """The pairs of a range's answer."""
     return [
         Stored(
-            b64decode(pair["key"]),
-            b64decode(pair.get("value", "")),
+            b64decode(pair["key"], validate=True),
+            b64decode(pair.get("value", ""), validate=True),
             int(pair["create_revision"]),
             int(pair["mod_revision"]),
         )
@@ -136,11 +173,36 @@ def pairs_of(found: Body) -> list[Stored]:
     ]
 
 
-def found_by(told: Body, part: int = 0) -> list[Stored]:
-    """The pairs that a part of a transaction read."""
-    return pairs_of(told["responses"][part]["response_range"])
+def read_found(told: Body) -> list[Stored]:
+    """The pairs that a read of its own answers."""
+    int(told["header"]["revision"])
+    return read_pairs(told)
 
 
-def revision_of(told: Body) -> int:
-    """The cluster's revision when it answered."""
-    return int(told["header"]["revision"])
+def read_told(told: Body) -> Told:
+    """What a transaction answers."""
+    parts = [part["response_range"] for part in told.get("responses", []) if "response_range" in part]
+    is_made = told.get("succeeded", False)
+    if not isinstance(is_made, bool):
+        raise ValueError("neither made nor not made")
+    return Told(is_made, int(told["header"]["revision"]), [read_pairs(part) for part in parts])
+
+
+def reading(parts: int) -> Callable[[Body], Told]:
+    """Reads the answer of a transaction that makes so many reads, if its comparisons hold, and nothing else."""
+
+    def read(told: Body) -> Told:
+        found = read_told(told)
+        if len(found.found) != (parts if found.is_made else 0):
+            raise ValueError("another number of reads")
+        return found
+
+    return read
+
+
+def read_change(told: Body) -> Told:
+    """Reads the answer of a transaction that changes something if its comparisons hold, and else reads one key."""
+    found = read_told(told)
+    if len(found.found) != (0 if found.is_made else 1):
+        raise ValueError("another number of reads")
+    return found

@@ -2,12 +2,12 @@
 
 import abc
 
-from .backend import Backend, Pair
+from .backend import Backend, Fault, Pair
 from .etcd_client import EtcdClient, Stored, coded
 
 
 class EtcdPairs(Backend):
-    """A backend of which `look` says how a read is made. `patience` is for how long members are asked, in seconds."""
+    """A backend of which `look` says how a read is made. `patience` is for how long a call may take, in seconds."""
 
     def __init__(self, client: EtcdClient, name: str, patience: float) -> None:
         self.client, self.patience = client, patience
@@ -22,10 +22,14 @@ class EtcdPairs(Backend):
         if low >= high or most <= 0:
             return []
         found = self.look(self.front + low, range_end=coded(self.front + high), limit=str(most), **more)
+        if any(not pair.key.startswith(self.front) for pair in found):
+            raise Fault("a member answered with pairs of another store")
         return [(pair.key[len(self.front) :], pair.value) for pair in found]
 
     def get(self, key: bytes) -> bytes | None:
         found = self.look(self.front + key)
+        if [pair.key for pair in found] not in ([], [self.front + key]):
+            raise Fault("a member answered with another key")
         return found[0].value if found else None
 
     def range(self, low: bytes, high: bytes, limit: int) -> list[Pair]:

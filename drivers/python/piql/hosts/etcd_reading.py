@@ -1,12 +1,13 @@
 """What a writer's store in etcd held at one revision, for engines that read beside the writer."""
 
 from .backend import INTENT, Fault, Reading
-from .etcd_client import Body, EtcdClient, Stored, coded, found_by, looking, pairs_of, revision_of
+from .etcd_client import Body, EtcdClient, Stored, coded, looking, read_found, reading
 from .etcd_pairs import EtcdPairs
 
 DEFINITIONS, ROWS = b"\1", b"\2"
 # In a definition's value, the second byte says that its index is being filled.
 MARKED = b"\1"
+read_pin = reading(2)
 
 
 class EtcdReading(EtcdPairs, Reading):
@@ -22,8 +23,10 @@ class EtcdReading(EtcdPairs, Reading):
         """
         last = {"range_end": coded(self.front + ROWS), "sort_order": "DESCEND", "sort_target": "KEY", "limit": "2"}
         parts = [looking(self.front + INTENT), looking(self.front + DEFINITIONS, **last)]
-        told = self.client.post("/v3/kv/txn", {"success": parts}, self.patience)
-        self.take(revision_of(told), found_by(told, 0), found_by(told, 1))
+        told = self.client.post("/v3/kv/txn", {"success": parts}, read_pin, self.patience)
+        if not told.is_made:
+            raise Fault("a member answered no read")
+        self.take(told.revision, *told.found)
         if self.revision < least:
             raise Fault(f"revision {least} was asked for, and the newest quiet one is {self.revision}")
 
@@ -40,7 +43,7 @@ class EtcdReading(EtcdPairs, Reading):
     def look(self, key: bytes, **more: object) -> list[Stored]:
         """What a read at the revision tells."""
         body: Body = {"key": coded(key), "revision": str(self.revision), **more}
-        return pairs_of(self.client.post("/v3/kv/range", body, self.patience))
+        return self.client.post("/v3/kv/range", body, read_found, self.patience)
 
     def close(self) -> None:
         self.client.close()

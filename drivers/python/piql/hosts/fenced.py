@@ -12,13 +12,13 @@ GONE = "the fence is another engine's, or gone"
 
 
 class FencedStore(Backend):
-    """A backend under a fence. `lease`, and `patience`, for which servers are asked, are in seconds."""
+    """A backend under a fence. `lease`, and `patience`, within which a call ends, are in seconds."""
 
     def __init__(self, lease: float, patience: float) -> None:
         self.lease, self.patience = lease, patience
         self.owner = f"{socket.gethostname()}:{os.getpid()}:{os.urandom(8).hex()}"
-        # When the fence's time was renewed last.
-        self.renewed = 0.0
+        # When the fence's time was renewed last, and when the call at hand has to end.
+        self.renewed = self.until = 0.0
         # Why no more calls are made until the next `begin`.
         self.lost: str | None = "the store isn't begun"
         # How many writes had no answer and were decided.
@@ -28,8 +28,22 @@ class FencedStore(Backend):
     def renew_fence(self) -> bool:
         """Renews the fence's time; whether it is still this store's."""
 
+    def start(self) -> None:
+        """Begins a call."""
+        self.until = time.monotonic() + self.patience
+
+    def left(self) -> float:
+        """The seconds that are left for the call at hand."""
+        return max(0.0, self.until - time.monotonic())
+
+    def check_time(self, why: object) -> None:
+        """Has a write fail for which too little time is left: one that is sent may have to be decided too."""
+        if self.left() < self.patience / 4:
+            raise Fault(f"a write wasn't made: {why}")
+
     def check(self) -> None:
-        """Has each call fail once the fence is lost, and renews its time where a third of it is over."""
+        """Begins a call. It fails once the fence is lost; the fence's time is renewed where a third of it is over."""
+        self.start()
         if self.lost is not None:
             raise Fault(self.lost)
         now = time.monotonic()

@@ -5,7 +5,7 @@ import time
 from collections.abc import Sequence
 
 from ..engine import EngineEnded, find_program
-from ..errors import DatabaseError, NotSupportedError, OperationalError, ended
+from ..errors import DatabaseError, NotSupportedError, OperationalError, ended, with_status
 from ..links import EngineLink, check_owner
 from .backend import Backend, Fault, Held, Reading
 from .host import Host
@@ -15,12 +15,15 @@ from .wire import BadRequest
 Program = str | os.PathLike[str] | None
 # For how long it is waited between two looks at a store that another engine has, in seconds.
 PAUSE = 1.0
+# And between two tries of a reader.
+AGAIN = 0.02
 STORE_FAULT = 5
 STANDS_READ = "This statement changes nothing. The next one opens the store anew."
 STANDS_WRITE = (
     "This statement was made whole or not at all; all that was reported as ok before stands."
     " The next statement opens the store anew, which settles it."
 )
+FALLEN = "{why}: a call of the store failed, and the run ended with status {status}. {stands}"
 HELD = "another engine has the store: {why}"
 NO_COPY = "the copies of {name} are those of its database, as docs/SCALING.md tells"
 
@@ -41,10 +44,11 @@ class HostLink(EngineLink):
         """Begins a run; where another engine has the store, tries again until the time is over."""
         until = time.monotonic() + self.timeout
         while True:
+            host = Host(self.backends, self.places)
             try:
                 for backend in self.backends:
                     backend.begin()
-                self.engine = HostedEngine(self.program, Host(self.backends, self.places), self.seconds)
+                self.engine = HostedEngine(self.program, host, self.seconds)
                 return self.engine
             except Held as held:
                 if time.monotonic() > until:
@@ -52,7 +56,7 @@ class HostLink(EngineLink):
             except (Fault, Stalled, BadRequest) as error:
                 raise OperationalError(f"{self.name} isn't open: {error}") from error
             except EngineEnded as end:
-                raise ended(end.status, f"{self.name} isn't open. {end.written}".strip()) from end
+                raise self.fallen(end, host, f"{self.name} isn't open.") from end
             time.sleep(min(PAUSE, self.timeout / 50))
 
     def running(self, statement: bytes) -> HostedEngine:
@@ -72,13 +76,19 @@ class HostLink(EngineLink):
             self.revision = self.backends[0].revision
             return report
         except EngineEnded as end:
-            why = f"{engine.host.why} {end.written}".strip()
-            raise ended(end.status, f"{self.stands(reads)} {why}".strip()) from end
+            raise self.fallen(end, engine.host, self.stands(reads)) from end
         except (Stalled, BadRequest) as error:
             raise self.stopped(error, reads) from error
         finally:
             if engine.process.returncode is not None:
                 self.engine = None
+
+    def fallen(self, end: EngineEnded, host: Host, stands: str) -> DatabaseError:
+        """What is raised where the run has ended. Why a call of its store failed comes first."""
+        text = f"{stands} {end.written}".strip()
+        if host.why:
+            return with_status(end.status, FALLEN.format(why=host.why, status=end.status, stands=text))
+        return ended(end.status, text)
 
     def stopped(self, error: Exception, reads: bool) -> DatabaseError:
         """What is raised where the driver has ended the run."""
@@ -169,10 +179,12 @@ class ReaderLink(HostLink):
         """The report of a statement that changes nothing."""
         if not reads:
             raise NotSupportedError("this connection only reads; the one that writes is made without reader=True")
-        try:
-            return super().exchange(statement, reads)
-        except OperationalError as error:
-            if error.status != STORE_FAULT:
-                raise
-        # What was pinned may be gone, as a snapshot that the server ended, or a revision that was compacted.
-        return super().exchange(statement, reads)
+        until = time.monotonic() + self.timeout
+        while True:
+            try:
+                return super().exchange(statement, reads)
+            except OperationalError as error:
+                # What was pinned may be gone, as a snapshot that the server ended, or a revision that was compacted.
+                if error.status != STORE_FAULT or time.monotonic() > until:
+                    raise
+            time.sleep(AGAIN)

@@ -46,7 +46,7 @@ class PostgresStore(FencedStore):
 
     def __init__(self, url: str, lease: float = 10.0, patience: float = 10.0) -> None:
         super().__init__(lease, patience)
-        self.client = PostgresClient(url, max(1.0, patience / 3))
+        self.client = PostgresClient(url, patience)
         self.epoch = -1
 
     # The fence
@@ -55,6 +55,7 @@ class PostgresStore(FencedStore):
         """Has the fence: it is still there, or it is taken. The tables are made where they aren't there."""
         if self.lost is None and self.is_begun():
             return
+        self.start()
         layout = Layout(*self.again(LAYOUT)[0])
         if layout.version < VERSION_LEAST:
             raise Fault(OLD_SERVER.format(version=layout.version))
@@ -69,14 +70,14 @@ class PostgresStore(FencedStore):
         """Gives a table of before the index of today, and takes its key away. A kill between leaves the rest to do."""
         notice(BRINGS_OVER)
         if not has_order:
-            self.again(BUILD_ORDER, seconds=math.inf)
-        until = time.monotonic() + self.patience
+            self.again(BUILD_ORDER, until=math.inf, seconds=math.inf)
+        self.start()
         while True:
             try:
-                self.again(DROP_KEY, seconds=DROP_SECONDS)
+                self.again(DROP_KEY, until=time.monotonic() + DROP_SECONDS)
                 return
             except Refused as refused:
-                if refused.code != LOCKED or time.monotonic() >= until:
+                if refused.code != LOCKED or not self.left():
                     raise Fault(f"the store can't be brought over: {refused}") from refused
             time.sleep(PAUSE)
 
@@ -91,21 +92,24 @@ class PostgresStore(FencedStore):
             if lives and owner != self.owner:
                 raise Held(f"{owner} has it")
             try:
-                found = self.client.run(TAKE, {"owner": self.owner, "epoch": epoch, "lease": self.lease})
+                words = {"owner": self.owner, "epoch": epoch, "lease": self.lease}
+                found = self.client.run(TAKE, words, self.until)
             except Lost:
                 continue
             if found:
                 self.epoch, self.revision, self.renewed = epoch + 1, found[0][0], time.monotonic()
                 return
 
-    def again(self, text: str, values: Values = {}, seconds: float | None = None) -> list[tuple[Any, ...]]:
-        """The rows of a statement that may be made twice: servers are asked until one answers."""
-        until = time.monotonic() + self.patience
+    def again(
+        self, text: str, values: Values = {}, until: float | None = None, seconds: float | None = None
+    ) -> list[tuple[Any, ...]]:
+        """The rows of a statement that may be made twice: servers are asked until one answers, or the call's end."""
+        end = self.until if until is None else until
         while True:
             try:
-                return self.client.run(text, values, seconds)
+                return self.client.run(text, values, end, seconds)
             except Lost as lost:
-                if time.monotonic() >= until:
+                if time.monotonic() + PAUSE >= end:
                     raise Fault(f"no server answers: {lost}") from lost
                 time.sleep(PAUSE)
 
@@ -155,16 +159,18 @@ class PostgresStore(FencedStore):
         if self.lost is not None:
             raise Fault(self.lost)
         # (It renews the fence's time by itself.)
-        until = time.monotonic() + self.patience
+        self.start()
+        why: object = "too little time was left for it"
         while True:
+            self.check_time(why)
             try:
-                found = self.client.run(text, self.words(**more)) or self.give_up(GONE)
+                half = time.monotonic() + self.left() / 2
+                found = self.client.run(text, self.words(**more), half) or self.give_up(GONE)
             except Lost as lost:
                 admitted = self.settle()
                 if admitted is not None:
                     return admitted
-                if time.monotonic() >= until:
-                    raise Fault(f"a write wasn't made: {lost}") from lost
+                why = lost
                 continue
             self.revision, self.renewed = found[0][0], time.monotonic()
             return bool(found[0][1])
@@ -174,13 +180,13 @@ class PostgresStore(FencedStore):
 
         Else whether its guard held.
         """
-        until, wanted = time.monotonic() + self.patience, self.epoch + 1
+        wanted = self.epoch + 1
         while True:
             try:
-                found = self.client.run(SETTLE, self.words()) or self.found_settled(wanted)
+                found = self.client.run(SETTLE, self.words(), self.until) or self.found_settled(wanted)
                 break
             except Lost as lost:
-                if time.monotonic() >= until:
+                if self.left() <= PAUSE:
                     # Undecided. The next fence decides it, and until then there is no further call.
                     self.give_up(f"no server decides a write without an answer: {lost}")
                 time.sleep(PAUSE)
@@ -193,7 +199,7 @@ class PostgresStore(FencedStore):
 
     def found_settled(self, wanted: int) -> list[tuple[Any, ...]]:
         """The fence's number and word, where a settling of this store's own was made before, without an answer."""
-        owner, epoch, revision, admitted, _ = self.client.run(LOOK)[0]
+        owner, epoch, revision, admitted, _ = self.client.run(LOOK, until=self.until)[0]
         if owner != self.owner or epoch != wanted:
             self.give_up(GONE)
         return [(revision, admitted)]
@@ -202,7 +208,7 @@ class PostgresStore(FencedStore):
         """Gives the fence back, if the server takes it at once."""
         if self.lost is None:
             try:
-                self.client.run(FREE, self.words())
+                self.client.run(FREE, self.words(), time.monotonic() + 1.0)
             except (Lost, Fault):
                 pass
         self.client.close()

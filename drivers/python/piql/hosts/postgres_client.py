@@ -8,6 +8,7 @@ from typing import TYPE_CHECKING, Any
 
 from ..errors import InterfaceError
 from .backend import Fault
+from .passwords import check_quoted, shown, without_secrets
 
 if TYPE_CHECKING:
     import psycopg2.extensions
@@ -37,36 +38,53 @@ class Refused(Fault):
 
 
 class PostgresClient:
-    """One connection to the first host of a URL that answers, and that takes writes where they are wanted."""
+    """One connection to the first host of a URL that answers, and that takes writes where they are wanted.
 
-    def __init__(self, url: str, seconds: float, session: str = SESSION, attributes: str = "read-write") -> None:
+    A statement, with the connection that it may need, takes at most `patience` seconds. One host has a third of them.
+    """
+
+    def __init__(self, url: str, patience: float, session: str = SESSION, attributes: str = "read-write") -> None:
         try:
             import psycopg2
             import psycopg2.extensions
         except ImportError as error:
             raise InterfaceError(NO_CLIENT) from error
-        self.library, self.seconds, self.session = psycopg2, seconds, session
+        self.library, self.url, self.session = psycopg2, url, session
+        self.patience, self.seconds = patience, min(patience, max(1.0, patience / 3))
+        check_quoted(url)
         try:
             words = psycopg2.extensions.parse_dsn(url)
         except psycopg2.ProgrammingError as error:
-            raise InterfaceError(f"{url} names no database: {error}".strip()) from error
+            # (What libpq says may have all of the URL in it, and so has its exception.)
+            why = self.told_of(error)
+        else:
+            why = ""
+        if why:
+            raise InterfaceError(f"{shown(url)} names no database: {why}")
         words.setdefault("target_session_attrs", attributes)
         words.setdefault("application_name", "piql")
         self.places = places_of(words)
         self.connection: "psycopg2.extensions.connection | None" = None
 
-    def connect(self) -> Any:
-        """A connection to the first host that is as wanted. Each has a second or more to answer."""
+    def told_of(self, error: Exception) -> str:
+        """What the server or the library says, without the lines that have values, and without a password."""
+        diagnostics = getattr(error, "diag", None)
+        text = getattr(diagnostics, "message_primary", None) or str(error)
+        return without_secrets(text, self.url).strip()
+
+    def connect(self, until: float) -> Any:
+        """A connection to the first host that is as wanted."""
         why = "no host is named"
         for place in self.places:
             try:
                 made = self.library.connect(**place, async_=True)
-                self.wait(made, time.monotonic() + self.seconds)
+                soon = min(until, time.monotonic() + self.seconds)
+                self.wait(made, soon)
                 self.connection = made
-                self.told(made, self.session, {}, self.seconds)
+                self.told(made, self.session, {}, soon)
                 return made
             except (self.library.Error, Lost) as error:
-                why = str(error).strip()
+                why = self.told_of(error)
                 self.close()
         raise Lost(why)
 
@@ -79,28 +97,35 @@ class PostgresClient:
             left = until - time.monotonic()
             if not ready.poll(None if left == math.inf else max(0.0, left) * 1000):
                 connection.close()
-                raise Lost(f"the server took more than {self.seconds:g} seconds")
+                raise Lost("the server took too long")
 
-    def told(self, connection: Any, text: str, values: Values, seconds: float) -> list[tuple[Any, ...]]:
+    def told(self, connection: Any, text: str, values: Values, until: float) -> list[tuple[Any, ...]]:
         """The rows of a statement."""
         cursor = connection.cursor()
         cursor.execute(text, values)
-        self.wait(connection, time.monotonic() + seconds)
+        self.wait(connection, until)
         if any(UNCOPIED in note for note in connection.notices):
             raise Lost("the wait for the standby was cut short")
         return cursor.fetchall() if cursor.description else []
 
-    def run(self, text: str, values: Values = {}, seconds: float | None = None) -> list[tuple[Any, ...]]:
-        """The rows of a statement, which may take so long, or as the client is made for. Refused says: it wasn't made."""
-        connection = self.connection or self.connect()
+    def run(
+        self, text: str, values: Values = {}, until: float | None = None, seconds: float | None = None
+    ) -> list[tuple[Any, ...]]:
+        """The rows of a statement. Refused says that it wasn't made, Lost that nobody knows.
+
+        It ends by a time of the monotonic clock, and the server has so many seconds for it.
+        """
+        end = time.monotonic() + self.patience if until is None else until
+        connection = self.connection or self.connect(end)
         try:
-            return self.told(connection, text, values, self.seconds if seconds is None else seconds)
+            soon = time.monotonic() + (self.seconds if seconds is None else seconds)
+            return self.told(connection, text, values, min(end, soon))
         except self.library.Error as error:
-            why = str(error).strip()
+            why = self.told_of(error)
             if error.pgcode and error.pgcode != READ_ONLY and not connection.closed:
-                raise Refused(why, error.pgcode) from error
+                raise Refused(why, error.pgcode) from None
             self.close()
-            raise Lost(why) from error
+            raise Lost(why) from None
         except BaseException:
             self.close()
             raise

@@ -45,8 +45,7 @@ class PostgresReading(Reading):
     """The pairs of a database at a snapshot, on the first host that answers."""
 
     def __init__(self, url: str, patience: float = 10.0) -> None:
-        seconds = max(1.0, patience / 3)
-        self.client, self.spare = (PostgresClient(url, seconds, READ_SESSION, "any") for _ in range(2))
+        self.client, self.spare = (PostgresClient(url, patience, READ_SESSION, "any") for _ in range(2))
         self.patience = patience
         # Whether the table is one of before, as far as is known. The next writer brings it over.
         self.is_before = True
@@ -57,21 +56,22 @@ class PostgresReading(Reading):
             # A snapshot of it is in the way of the writer that brings it over.
             self.client.close()
         begun = time.monotonic()
+        until = begun + self.patience
         while True:
-            why = self.try_spare(least)
-            waited = time.monotonic() - begun
-            if not why or waited > BUSY_SECONDS and self.revision >= least and self.is_kept():
+            why = self.try_spare(least, until)
+            is_long = time.monotonic() - begun > BUSY_SECONDS
+            if not why or is_long and self.revision >= least and self.is_kept():
                 return
-            if waited > self.patience:
+            if time.monotonic() > until:
                 raise Fault(why)
             time.sleep(random.uniform(0.0005, 0.003))
 
-    def try_spare(self, least: int) -> str:
+    def try_spare(self, least: int, until: float) -> str:
         """Takes a snapshot on the connection that has none, and makes it the one that is read; else why not."""
         try:
             if self.is_before:
-                self.is_before = self.spare.run(IS_BEFORE)[0][0]
-            revision, is_at_work, last, value = self.spare.run(self.texts.probe, key_words(INTENT))[0]
+                self.is_before = self.spare.run(IS_BEFORE, until=until)[0][0]
+            revision, is_at_work, last, value = self.spare.run(self.texts.probe, key_words(INTENT), until)[0]
         except Lost as lost:
             return f"no server answers: {lost}"
         if revision < least:

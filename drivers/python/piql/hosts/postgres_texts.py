@@ -1,4 +1,4 @@
-"""The statements of a writer in PostgreSQL: each compares the fence, and one that writes counts it up in the same step."""
+"""The statements of a writer in PostgreSQL: each compares the fence, and one that writes counts it up as well."""
 
 from .backend import Guard
 from .postgres_layout import AT, DIGEST, HEAD, WITHIN

@@ -8,6 +8,7 @@ from ..errors import OperationalError
 from .backend import Backend, Fault, Held
 from .host import Host, run
 from .link import Program
+from .passwords import shown
 from .urls import open_store
 
 FAULTY = "{name}: a call failed: {why}"
@@ -32,9 +33,9 @@ def run_url(url: str, program: Program = None) -> int:
     try:
         status, host = run_script(store, sys.stdin.buffer, sys.stdout.buffer, program)
     except (Held, Fault) as error:
-        raise OperationalError(f"{url} isn't open: {error}") from error
+        raise OperationalError(f"{shown(url)} isn't open: {error}") from error
     finally:
         store.close()
     if host.why:
-        print(FAULTY.format(name=url, why=host.why), file=sys.stderr)
+        print(FAULTY.format(name=shown(url), why=host.why), file=sys.stderr)
     return status
