@@ -62,7 +62,8 @@ def insert(number: int, who: str) -> bytes:
 
 def one_at_a_time(trial: Trial, kind: str) -> None:
     """Engines that want the same store."""
-    url = trial.url(kind, f"lease={LEASE}")
+    # (The server has a synchronous standby.)
+    url = trial.url(kind, f"lease={LEASE}" + ("&durability=two" if kind == "postgres" else ""))
     first = Hosted(url)
     trial.expect(first.say(b"").startswith(b"open defs 0 "), f"{kind}: the first doesn't open")
     first.say(SCHEMA)

@@ -9,6 +9,7 @@
     rebuild OLD NEW SCHEMA           makes a new file with the old one's rows under another schema
     rebuild OLD SCHEMA --replace     the same; the new file then takes the old one's place
     make NEW SCRIPT ..               makes a new file of scripts, as bin/dump writes them
+    fence URL [--free]               tells who has the store of a cluster; frees it, once that name was typed
     run URL < SCRIPT                 runs a whole script over the store of a cluster; the status is the engine's
     shell [FILE]                     a prompt
 """
@@ -20,6 +21,7 @@ import sys
 from . import connect, shell
 from .bounds import BoundsRose, check_bounds, write_bounds
 from .errors import Error, ProgrammingError
+from .hosts.fence_command import fence
 from .hosts.script import run_url
 from .load import load
 from .making import make
@@ -114,6 +116,11 @@ def run_make(given: argparse.Namespace) -> int:
     return 1 if make(given.new, given.script, sys.stderr).refused else 0
 
 
+def run_fence(given: argparse.Namespace) -> int:
+    """Tells who has a store, or frees it."""
+    return fence(given.url, given.free)
+
+
 def run_run(given: argparse.Namespace) -> int:
     """Runs a script."""
     return run_url(given.url)
@@ -155,6 +162,7 @@ def parser() -> argparse.ArgumentParser:
     rebuilding.add_argument("--replace", action="store_true", help="put the new file in the place of OLD")
     rebuilding.add_argument("--value", action="append", default=[], metavar="TABLE.COLUMN=VALUE")
     command("make", run_make, "new").add_argument("script", nargs="+")
+    command("fence", run_fence, "url").add_argument("--free", action="store_true", help="free it of a dead owner")
     command("run", run_run, "url")
     command("shell", run_shell).add_argument("file", nargs="?")
     return top

@@ -99,8 +99,7 @@ class EtcdStore(EtcdPairs, FencedStore):
             return
         self.revoke()
         self.start()
-        looked = {"key": coded(self.fence_key)}
-        self.check_free(self.client.post("/v3/kv/range", looked, read_found, self.left()))
+        self.check_free(self.found_fence())
         self.renewed = time.monotonic()
         lease = {"TTL": str(max(1, round(self.lease)))}
         self.lease_id = self.client.post("/v3/lease/grant", lease, read_lease, self.left())
@@ -132,6 +131,25 @@ class EtcdStore(EtcdPairs, FencedStore):
             self.revoke()
             raise Held(f"{held.owner} has it")
         self.fence = held._replace(turns=max(held.turns, self.fence.turns))
+
+    def found_fence(self) -> list[Stored]:
+        """The pair of the fence, if it is there."""
+        return self.client.post("/v3/kv/range", {"key": coded(self.fence_key)}, read_found, self.left())
+
+    def holder(self) -> str:
+        self.start()
+        found = self.found_fence()
+        return read_fence(found[0].value).owner if found else ""
+
+    def free(self, owner: str) -> bool:
+        self.start()
+        # (The value of an owner who lives and writes moves on.)
+        while (found := self.found_fence()) and read_fence(found[0].value).owner == owner:
+            compare = [has_value(self.fence_key, found[0].value)]
+            body = {"compare": compare, "success": [removing(self.fence_key)], "failure": [looking(self.fence_key)]}
+            if self.client.post(TXN, body, read_change, self.left()).is_made:
+                return True
+        return False
 
     def put_fence(self, fence: Fence) -> Body:
         """The part of a transaction that writes the fence."""

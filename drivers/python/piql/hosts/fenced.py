@@ -28,6 +28,14 @@ class FencedStore(Backend):
     def renew_fence(self) -> bool:
         """Renews the fence's time; whether it is still this store's."""
 
+    @abc.abstractmethod
+    def holder(self) -> str:
+        """The name of who has the store, whoever that is, or nothing. Nothing has to be begun for it."""
+
+    @abc.abstractmethod
+    def free(self, owner: str) -> bool:
+        """Takes the fence from an owner by his name, who has no calls from then on; whether he had it."""
+
     def start(self) -> None:
         """Begins a call."""
         self.until = time.monotonic() + self.patience

@@ -5,7 +5,7 @@ import time
 from collections.abc import Sequence
 
 from ..engine import EngineEnded, find_program
-from ..errors import DatabaseError, NotSupportedError, OperationalError, ended, with_status
+from ..errors import DatabaseError, Error, NotSupportedError, OperationalError, with_status
 from ..links import EngineLink, check_owner
 from .backend import Backend, Fault, Held, Reading
 from .host import Host
@@ -83,12 +83,11 @@ class HostLink(EngineLink):
             if engine.process.returncode is not None:
                 self.engine = None
 
-    def fallen(self, end: EngineEnded, host: Host, stands: str) -> DatabaseError:
+    def fallen(self, end: EngineEnded, host: Host, stands: str) -> Error:
         """What is raised where the run has ended. Why a call of its store failed comes first."""
-        text = f"{stands} {end.written}".strip()
-        if host.why:
-            return with_status(end.status, FALLEN.format(why=host.why, status=end.status, stands=text))
-        return ended(end.status, text)
+        if not host.why:
+            return self.ended(end, stands)
+        return with_status(end.status, FALLEN.format(why=host.why, status=end.status, stands=stands), end.damaged)
 
     def stopped(self, error: Exception, reads: bool) -> DatabaseError:
         """What is raised where the driver has ended the run."""

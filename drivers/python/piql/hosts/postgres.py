@@ -19,6 +19,8 @@ from .backend import INTENT, UNSETTLED, Change, Fault, Guard, Held, Pair
 from .fenced import GONE, FencedStore
 from .notices import notice
 from .postgres_client import Lost, PostgresClient, Refused, Values
+from .postgres_durability import ASKED as DURABILITY
+from .postgres_durability import LOSES, REFUSED, Durability, weaknesses
 from .postgres_layout import (
     BUILD_ORDER,
     DROP_KEY,
@@ -32,7 +34,7 @@ from .postgres_layout import (
     key_words,
     range_words,
 )
-from .postgres_texts import COMMIT, COUNT, FREE, GET, LOOK, PUTS, RANGE, REMOVALS, RENEW, SETTLE, TAKE
+from .postgres_texts import COMMIT, COUNT, FREE, GET, LOOK, PUTS, RANGE, REMOVALS, RENEW, SETTLE, TAKE, TAKE_AWAY
 
 PAUSE = 0.02
 # More than its own limit for a lock.
@@ -44,9 +46,9 @@ BRINGS_OVER = "the store in PostgreSQL is one of before, and is brought over to 
 class PostgresStore(FencedStore):
     """The pairs of a database."""
 
-    def __init__(self, url: str, lease: float = 10.0, patience: float = 10.0) -> None:
+    def __init__(self, url: str, lease: float = 10.0, patience: float = 10.0, is_durable: bool = False) -> None:
         super().__init__(lease, patience)
-        self.client = PostgresClient(url, patience)
+        self.client, self.is_durable = PostgresClient(url, patience), is_durable
         self.epoch = -1
 
     # The fence
@@ -59,12 +61,21 @@ class PostgresStore(FencedStore):
         layout = Layout(*self.again(LAYOUT)[0])
         if layout.version < VERSION_LEAST:
             raise Fault(OLD_SERVER.format(version=layout.version))
+        self.check_durable()
         if not layout.has_fence:
             self.again(TABLES)
         self.take()
         if layout.has_fence and (layout.has_key or not layout.has_order):
             self.bring_over(layout.has_order)
         self.lost = None
+
+    def check_durable(self) -> None:
+        """Tells once what may lose writes that were told. Where each write is wanted on two servers, it is refused."""
+        why = "; ".join(weaknesses(Durability(*self.again(DURABILITY)[0])))
+        if why and self.is_durable:
+            raise Fault(REFUSED.format(why=why))
+        if why:
+            notice(LOSES.format(why=why))
 
     def bring_over(self, has_order: bool) -> None:
         """Gives a table of before the index of today, and takes its key away. A kill between leaves the rest to do."""
@@ -99,6 +110,17 @@ class PostgresStore(FencedStore):
             if found:
                 self.epoch, self.revision, self.renewed = epoch + 1, found[0][0], time.monotonic()
                 return
+
+    def holder(self) -> str:
+        self.start()
+        if not Layout(*self.again(LAYOUT)[0]).has_fence:
+            return ""
+        owner, _, _, _, lives = self.again(LOOK)[0]
+        return str(owner) if lives else ""
+
+    def free(self, owner: str) -> bool:
+        self.start()
+        return bool(self.again(TAKE_AWAY, {"owner": owner}))
 
     def again(
         self, text: str, values: Values = {}, until: float | None = None, seconds: float | None = None

@@ -11,6 +11,9 @@ TAKE = f"UPDATE piql_fence SET {TAKEN} WHERE epoch = %(epoch)s RETURNING revisio
 RENEW = f"UPDATE piql_fence SET {LASTING} WHERE {OURS} RETURNING revision"
 SETTLE = f"UPDATE piql_fence SET epoch = epoch + 1, {LASTING} WHERE epoch = %(epoch)s RETURNING revision, admitted"
 FREE = "UPDATE piql_fence SET until = '-infinity' WHERE epoch = %(epoch)s"
+# From an owner who isn't this one. The epoch is another then, so he has no calls any more.
+TAKE_AWAY = """UPDATE piql_fence SET until = '-infinity', epoch = epoch + 1
+  WHERE owner = %(owner)s AND until > clock_timestamp() RETURNING epoch"""
 GET = f"SELECT v FROM piql_fence LEFT JOIN piql_pairs ON {AT} WHERE {OURS}"
 RANGE = f"SELECT k, v FROM piql_fence LEFT JOIN LATERAL (SELECT k, v {WITHIN}) AS few ON true WHERE {OURS}"
 COUNT = f"SELECT (SELECT count(*) FROM (SELECT k {WITHIN}) AS few) FROM piql_fence WHERE {OURS}"

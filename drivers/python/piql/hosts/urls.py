@@ -29,7 +29,7 @@ SECONDS = re.compile(r"[0-9]{1,6}(?:\.[0-9]{1,6})?")
 UNKNOWN = "{url} names no store: there are files, unix:SOCKET, etcd://.. and postgresql://.."
 NO_ETCD = "a store in etcd is named etcd://HOST:PORT,HOST:PORT/NAME, and not {url}"
 NO_SECONDS = "{url}: {name} is a number of seconds from 1 on"
-NO_DURABILITY = "{url}: durability=two is the one word for it"
+NO_DURABILITY = "{url}: durability=two is the one word for it, and PostgreSQL's; etcd has each write on most members"
 TWICE = "{url}: {name} stands there twice"
 
 
@@ -69,7 +69,7 @@ def options_of(url: str) -> tuple[str, Options]:
             found[name] = read_seconds(url, name, text)
         elif name == "durability":
             found[name] = True
-            if text != "two":
+            if text != "two" or bare.startswith("etcd:"):
                 raise InterfaceError(NO_DURABILITY.format(url=shown(url)))
         else:
             rest.append(word)
@@ -108,7 +108,7 @@ def open_store(url: str, seconds: float = math.inf) -> Backend:
         return EtcdStore(etcd_client(endpoints, options), name, options.lease, options.patience)
     from .postgres import PostgresStore
 
-    return PostgresStore(bare, options.lease, options.patience)
+    return PostgresStore(bare, options.lease, options.patience, options.is_durable)
 
 
 def open_reading(url: str, seconds: float = math.inf) -> Reading:
