@@ -10,6 +10,7 @@
     rebuild OLD SCHEMA --replace     the same; the new file then takes the old one's place
     make NEW SCRIPT ..               makes a new file of scripts, as bin/dump writes them
     fence URL [--free]               tells who has the store of a cluster; frees it, once that name was typed
+    status ADDRESS                   how a piql-serve is, and whether it is well; with --metrics for Prometheus
     run URL < SCRIPT                 runs a whole script over the store of a cluster; the status is the engine's
     shell [FILE]                     a prompt
 """
@@ -18,7 +19,7 @@ import argparse
 import os
 import sys
 
-from . import connect, shell
+from . import connect, shell, status
 from .bounds import BoundsRose, check_bounds, write_bounds
 from .errors import Error, ProgrammingError
 from .hosts.fence_command import fence
@@ -170,6 +171,9 @@ def parser() -> argparse.ArgumentParser:
 
 def main(words: list[str] | None = None) -> int:
     """The command."""
+    words = sys.argv[1:] if words is None else words
+    if words[:1] == ["status"]:
+        return status.main(words[1:])
     given = parser().parse_args(words)
     try:
         return int(given.run(given))

@@ -1,14 +1,15 @@
 """The frames that a client and piql-serve exchange over a socket.
 
 A frame is four bytes with the length of what follows, the higher byte first; then one byte that says what it is; then
-its text. A client sends STATEMENT and BACKUP, and the server answers each with one frame. HELLO is the server's first.
+its text. A client sends STATEMENT, BACKUP and STATUS, and the server answers each with one frame; that of STATUS is of
+the same kind. HELLO is the server's first.
 """
 
 import socket
 import struct
 
 HEAD = struct.Struct("!I")
-STATEMENT, BACKUP = b"S", b"B"
+STATEMENT, BACKUP, STATUS = b"S", b"B", b"I"
 HELLO, REPORT, COPIED, ENDED, BROKEN = b"H", b"R", b"C", b"E", b"X"
 GREETING = b"piql 1"
 REQUEST_BYTES = 65_536 + 1

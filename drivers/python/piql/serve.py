@@ -11,6 +11,7 @@ keeps the lease of its cluster while it is idle, but not while its engine stands
 
 import math
 import os
+import signal
 import sys
 
 from .errors import Error
@@ -23,6 +24,7 @@ from .server.log import Log
 from .server.service import Service
 from .server.settings import Settings, read_words
 from .server.sockets import Listener, check_beside, check_place
+from .server.telling import told_while_opening
 from .server.watch import Watch
 from .version import VERSION
 
@@ -69,7 +71,8 @@ def begun(given: Settings) -> Service:
     room = room_for(given.clients)
     if room < given.clients:
         watch.log.warning("few-descriptors", clients=room, asked=given.clients)
-    link = opened(given)
+    with told_while_opening(watch.log):
+        link = opened(given)
     try:
         listeners = [Listener(given.socket, SOCKET_MODE)]
         watch.log.info("begun", version=VERSION, store=given.store, socket=given.socket, clients=room, idle=given.idle)
@@ -85,6 +88,9 @@ def main(words: list[str] | None = None) -> int:
     given = read_words(words)
     os.umask(UMASK)
     try:
+        # What was begun of an opening is ended with it, and completed by the next.
+        for number in (signal.SIGTERM, signal.SIGINT):
+            signal.signal(number, lambda _number, _frame: sys.exit(0))
         check(given)
         if given.standby:
             print(f"piql-serve: waits for {given.store}", flush=True)

@@ -14,6 +14,25 @@ from piql.frames import BROKEN, HELLO, STATEMENT, read_frame, write_frame
 
 COMMAND = TOP / "bin/piql-serve"
 STUB = Path(__file__).with_name("stub_file.py")
+# A marked value, and statements that have it wherever a value, a name or anything else may stand.
+MARK = "mArKeD"
+MARKED = (
+    f"INSERT INTO t VALUES (1, '{MARK}');",
+    f"INSERT INTO t VALUES (1, 'twice {MARK}');",
+    f"UPDATE {MARK} SET b = '{MARK}' WHERE a = 1;",
+    f"RUN slow ('{MARK}');",
+    f"RUN {MARK} ('{MARK}');",
+    f"READ {MARK} ({MARK});",
+    f"CREATE TABLE {MARK} ({MARK} INT);",
+    f"PREPARE {MARK} AS SELECT {MARK};",
+    f"EXPLAIN SELECT '{MARK}';",
+    f"-- {MARK}\nSHOW;",
+    f"'{MARK}' {MARK};",
+    f"{MARK} {MARK};",
+    "RUN damage ();",
+    "RUN exit_7 ();",
+    f"RUN none ('{MARK}');",
+)
 # For how long a test waits for what has to come, in seconds; the machine may do much else.
 LONG = 60.0
 
@@ -49,12 +68,19 @@ class Served:
 
     def engine(self) -> int:
         """The process of its engine."""
-        number = str(self.process.pid)
-        for entry in filter(str.isdigit, os.listdir("/proc")):
-            with contextlib.suppress(OSError):
-                if Path("/proc", entry, "stat").read_text().rpartition(")")[2].split()[1] == number:
-                    return int(entry)
-        raise AssertionError("the server has no engine")
+        found = engines_of(self.process.pid)
+        assert found, "the server has no engine"
+        return found[0]
+
+
+def engines_of(server: int) -> list[int]:
+    """The processes that a server began."""
+    found = []
+    for entry in filter(str.isdigit, os.listdir("/proc")):
+        with contextlib.suppress(OSError):
+            if Path("/proc", entry, "stat").read_text().rpartition(")")[2].split()[1] == str(server):
+                found.append(int(entry))
+    return found
 
 
 def stub_program(folder: Path) -> Path:

@@ -5,6 +5,8 @@
     RUN exit_STATUS | damage         ends with a status, or as a run that met a damage whose key has the word MARKED
     RUN none                         refused with E401
     anything else                    made; its text is written to a line of FILE.made
+
+Where FILE.slow is, an opening takes as many seconds as it says.
 """
 
 import os
@@ -69,6 +71,9 @@ def main() -> None:
     path = sys.argv[1]
     # Who may read the file, as the engine makes it, is what the umask leaves.
     os.close(os.open(path, os.O_CREAT | os.O_RDWR, 0o666))
+    if os.path.exists(path + ".slow"):
+        with open(path + ".slow") as slow:
+            time.sleep(float(slow.read()))
     sys.stdout.write("open defs 3 bound 2 257 used 2 3\n")
     sys.stdout.flush()
     serve(os.open(path + ".made", os.O_CREAT | os.O_WRONLY | os.O_APPEND, 0o600))

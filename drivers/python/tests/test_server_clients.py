@@ -8,8 +8,10 @@ import select
 import signal
 import stat
 import struct
+import subprocess
 import time
 import unittest
+from pathlib import Path
 
 from helpers import piql
 from piql.frames import BACKUP, BROKEN, ENDED, HELLO, REPORT, STATEMENT, read_frame, write_frame
@@ -18,7 +20,7 @@ from piql.server.figures import Figures
 from piql.server.log import Log
 from piql.server.sockets import Listener
 from piql.server.watch import Watch
-from served import Served, ServedCase, asked, connected, greeted
+from served import COMMAND, Served, ServedCase, asked, connected, engines_of, greeted
 
 WRITE = "INSERT INTO t VALUES (1, 'x');"
 # More than a socket keeps.
@@ -185,6 +187,20 @@ class EndTest(ServedCase):
         self.assertEqual(self.made(), [])
         with self.assertRaises(ProcessLookupError):
             os.kill(engine, 0)
+
+    def test_an_engine_that_is_still_opening_the_store(self) -> None:
+        Path(f"{self.store}.slow").write_text("3600")
+        words = [str(COMMAND), str(self.store), str(self.at), "--program", str(self.program)]
+        process = subprocess.Popen(words, stdout=subprocess.PIPE, stderr=subprocess.PIPE)
+        self.addCleanup(process.communicate)
+        self.addCleanup(process.kill)
+        until = time.monotonic() + 30
+        while not (found := engines_of(process.pid)) and time.monotonic() < until:
+            time.sleep(0.02)
+        process.terminate()
+        self.assertEqual(process.wait(15), 0)
+        with self.assertRaises(ProcessLookupError):
+            os.kill(found[0], 0)
 
     def test_an_engine_that_is_stopped_between_statements(self) -> None:
         server = self.serve()

@@ -6,6 +6,7 @@ import os
 import re
 import signal
 import socket
+import time
 import tomllib
 import unittest
 from pathlib import Path
@@ -13,15 +14,14 @@ from unittest import mock
 
 from helpers import TOP, piql
 from piql.frames import BROKEN, ENDED, REPORT, STATEMENT, read_frame, write_frame
-from piql.server import observed
+from piql.server import observed, telling
 from piql.server.figures import Figures
 from piql.server.log import MOST_A_SECOND, Log
 from piql.server.observed import Observed
 from piql.server.watch import Watch
-from served import ServedCase, asked, connected, greeted
+from served import MARK, MARKED, ServedCase, asked, connected, greeted
 
 LINE = re.compile(r'time=\S+ level=(error|warning|info|debug) event=([a-z-]+)(?: [a-z_]+=(?:[\w./:+-]+|"(?:[^"\\]|\\.)*"))*')
-MARK = "mArKeD"
 
 
 def events(errors: str) -> list[str]:
@@ -91,6 +91,16 @@ class LogTest(unittest.TestCase):
         with mock.patch("time.monotonic", return_value=8.0):
             log.info("client-refused")
         self.assertIn("left_out=5", self.read()[0])
+
+    def test_an_opening_that_takes_long(self) -> None:
+        log = Log("info", self.into)
+        with mock.patch.object(telling, "EVERY", 0.05), telling.told_while_opening(log):
+            time.sleep(0.3)
+        lines = self.read()
+        self.assertGreater(len(lines), 1)
+        self.assertRegex(lines[0], r"event=opening seconds=0\.\d\d\d$")
+        time.sleep(0.2)
+        self.assertEqual(self.read(), [])
 
     def test_a_full_disk(self) -> None:
         log = Log("error", self.into)
@@ -184,24 +194,6 @@ class EventsTest(ServedCase):
 class MarkedTest(ServedCase):
     """A marked value in all that a client sends stands in no line and no name."""
 
-    STATEMENTS = (
-        f"INSERT INTO t VALUES (1, '{MARK}');",
-        f"INSERT INTO t VALUES (1, 'twice {MARK}');",
-        f"UPDATE {MARK} SET b = '{MARK}' WHERE a = 1;",
-        f"RUN slow ('{MARK}');",
-        f"RUN {MARK} ('{MARK}');",
-        f"READ {MARK} ({MARK});",
-        f"CREATE TABLE {MARK} ({MARK} INT);",
-        f"PREPARE {MARK} AS SELECT {MARK};",
-        f"EXPLAIN SELECT '{MARK}';",
-        f"-- {MARK}\nSHOW;",
-        f"'{MARK}' {MARK};",
-        f"{MARK} {MARK};",
-        "RUN damage ();",
-        "RUN exit_7 ();",
-        f"RUN none ('{MARK}');",
-    )
-
     def broken(self, data: bytes) -> None:
         """A client that sends what is no frame."""
         client = greeted(self, self.at)
@@ -217,7 +209,7 @@ class MarkedTest(ServedCase):
     def test_no_line_and_no_name_has_it(self) -> None:
         server = self.serve("--log", "debug", "--slow", 0.000001)
         shown = ""
-        for statement in self.STATEMENTS:
+        for statement in MARKED:
             asked(greeted(self, self.at), statement)
             shown += self.words(server.process.pid)
             with contextlib.suppress(AssertionError):

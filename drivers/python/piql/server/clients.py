@@ -35,6 +35,10 @@ class Ticket:
         # When it was begun.
         self.begun: float | None = None
 
+    def since(self) -> float:
+        """When its last step was: it was begun, or it was asked for."""
+        return self.asked if self.begun is None else self.begun
+
     def wait(self) -> float:
         """For how many seconds it waited for its turn."""
         return 0.0 if self.begun is None else self.begun - self.asked

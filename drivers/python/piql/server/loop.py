@@ -6,9 +6,9 @@ import os
 import select
 import threading
 import time
-from collections.abc import Callable
+from typing import Protocol
 
-from ..frames import BROKEN, FrameError
+from ..frames import BROKEN, STATUS, FrameError
 from .clients import CHUNK, Answer, Client, Ticket
 from .coming import Coming
 from .log import Log
@@ -22,11 +22,24 @@ UNREAD = "nothing of an answer was read for {seconds:g} seconds"
 STOPS = "the server stops"
 
 
-class Loop:
-    """All clients. One that is silent for `idle` seconds is left. `give` gives a request its turn."""
+class Asked(Protocol):
+    """Who answers what clients ask for."""
 
-    def __init__(self, coming: Coming, idle: float, give: Callable[[Ticket], None], log: Log) -> None:
-        self.coming, self.idle, self.give, self.log = coming, idle, give, log
+    def give(self, ticket: Ticket) -> None:
+        """Gives a request its turn."""
+
+    def status(self) -> bytes:
+        """How the server is."""
+
+    def look(self, now: float) -> None:
+        """Is called now and then."""
+
+
+class Loop:
+    """All clients. One that is silent for `idle` seconds is left."""
+
+    def __init__(self, coming: Coming, idle: float, service: Asked, log: Log) -> None:
+        self.coming, self.idle, self.service, self.log = coming, idle, service, log
         self.clients: dict[int, Client] = {}
         self.epoll = select.epoll()
         # What is polled of each descriptor.
@@ -118,11 +131,19 @@ class Loop:
         """Takes the frames that are there: one of them waits for its turn, and the others wait for it."""
         try:
             while client.is_ready() and (frame := client.next_frame()):
-                client.ticket = Ticket(client, Request(*frame), time.monotonic())
-                self.give(client.ticket)
+                self.take_frame(client, *frame)
         except FrameError as error:
             self.log.warning("client-left", client=client.number, why=str(error))
             self.break_off(client, str(error))
+
+    def take_frame(self, client: Client, kind: bytes, text: bytes) -> None:
+        """Gives a request its turn. How the server is, is told at once."""
+        if kind == STATUS:
+            with self.guard:
+                client.push(STATUS, self.service.status())
+        else:
+            client.ticket = Ticket(client, Request(kind, text), time.monotonic())
+            self.service.give(client.ticket)
 
     def break_off(self, client: Client, why: str) -> None:
         """Tells a client why it is left. Nothing that it sends from now on is taken."""
@@ -161,6 +182,7 @@ class Loop:
             if client.ticket is None and (limit := client.overdue(now, self.idle)):
                 self.give_up(client, limit)
         self.poll_listeners()
+        self.service.look(now)
 
     def give_up(self, client: Client, limit: float) -> None:
         """Leaves a client that stood still for so many seconds."""

@@ -1,5 +1,6 @@
 """A server at work: the loop that has the sockets, the worker that has the engine, and their end within a bounded time."""
 
+import json
 import signal
 import time
 from collections.abc import Sequence
@@ -13,6 +14,7 @@ from .loop import Loop
 from .observed import Observed
 from .settings import Settings
 from .sockets import Listener
+from .telling import EVERY, OPENING, log_bytes, shown_store, state_of, status
 from .watch import Watch
 from .worker import Worker, ended_frame
 
@@ -29,15 +31,29 @@ class Service:
     """One store for the clients of some sockets."""
 
     def __init__(self, link: FileLink | HostLink, listeners: Sequence[Listener], given: Settings, watch: Watch) -> None:
-        self.watch = watch
-        self.loop = Loop(Coming(listeners, given.clients, watch), given.idle, self.give, watch.log)
+        self.watch, self.link, self.name = watch, link, shown_store(given.store)
+        self.loop = Loop(Coming(listeners, given.clients, watch), given.idle, self, watch.log)
         self.worker = Worker(Observed(link, watch), self.loop, watch, given.slow)
+        # When the log was told last that the store is being opened.
+        self.told = 0.0
         # The signal that stops it.
         self.signal = 0
 
     def give(self, ticket: Ticket) -> None:
         """Gives a request its turn."""
         self.worker.waiting.put(ticket)
+
+    def status(self) -> bytes:
+        """How the server is, in JSON."""
+        ticket = self.worker.at_hand
+        return json.dumps(status(self.name, self.link, self.loop, self.watch.figures, ticket)).encode()
+
+    def look(self, now: float) -> None:
+        """Tells of an opening that takes long."""
+        ticket = self.worker.at_hand
+        if ticket is not None and state_of(self.link, ticket) == OPENING and now > max(self.told, ticket.since()) + EVERY:
+            self.told = now
+            self.watch.log.info("opening", seconds=now - ticket.since(), log_bytes=log_bytes(self.link))
 
     def take_signal(self, number: int, _frame: object) -> None:
         """Stops it; the work of stopping is done outside the handler."""

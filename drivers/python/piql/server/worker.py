@@ -83,16 +83,16 @@ class Worker:
         """What the log tells of a statement: its first word, its name if the store has it, and its times in seconds."""
         name = ticket.request.name()
         known = name if name in self.watch.figures.catalog.names else None
-        times = {"seconds": time.monotonic() - (ticket.begun or ticket.asked), "wait": ticket.wait()}
+        times = {"seconds": time.monotonic() - ticket.since(), "wait": ticket.wait()}
         return {"statement": ticket.request.word, "name": known, **times}
 
     def counted(self, ticket: Ticket, report: str) -> None:
         """Counts a statement that has its report; one that took long is told."""
         figures, word = self.watch.figures, ticket.request.word
-        seconds = time.monotonic() - (ticket.begun or ticket.asked)
+        seconds = time.monotonic() - ticket.since()
         figures.statements[word] += 1
         figures.seconds += seconds
-        is_refused = report.find(" refused ", report.rfind("\n", 0, -1)) >= 0
+        is_refused = report.find(" refused ", report.rfind("\n", 0, -1) + 1) >= 0
         if is_refused:
             figures.refusals[ending_of(report).refusal] += 1
         elif word in DEFINING:
