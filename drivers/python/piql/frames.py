@@ -1,18 +1,23 @@
 """The frames that a client and piql-serve exchange over a socket.
 
 A frame is four bytes with the length of what follows, the higher byte first; then one byte that says what it is; then
-its text. A client sends STATEMENT, BACKUP and STATUS, and the server answers each with one frame; that of STATUS is of
-the same kind. HELLO is the server's first.
+its text. A client sends STATEMENT, LIMITED, BACKUP and STATUS, and the server answers each with one frame; that of
+STATUS is of the same kind. HELLO is the server's first. LIMITED is a statement behind two numbers of four bytes each:
+for how many milliseconds its client waits for it, and over how many rows it allows an index; for 0 it says nothing.
 """
 
 import socket
 import struct
 
+from .scripts import STATEMENT_BYTES
+
 HEAD = struct.Struct("!I")
-STATEMENT, BACKUP, STATUS = b"S", b"B", b"I"
+LIMITS = struct.Struct("!II")
+STATEMENT, LIMITED, BACKUP, STATUS = b"S", b"L", b"B", b"I"
 HELLO, REPORT, COPIED, ENDED, BROKEN = b"H", b"R", b"C", b"E", b"X"
 GREETING = b"piql 1"
-REQUEST_BYTES = 65_536 + 1
+# The most bytes that a client's frame has behind its length.
+REQUEST_BYTES = 1 + LIMITS.size + STATEMENT_BYTES
 CHUNK = 1 << 20
 
 

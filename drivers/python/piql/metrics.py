@@ -5,8 +5,8 @@ from typing import NamedTuple
 
 Told = dict[str, object]
 LABEL = re.compile(r"[A-Za-z0-9_-]{1,64}")
-# So many labels of a metric have a series of their own, and the others have one together.
-MOST_LABELS = 64
+# So many values of a label have a series of their own, and the others have one together.
+MOST_LABELS = {"statement": 16, "number": 48, "limit": 16, "status": 48, "table": 64}
 OTHERS = "others"
 
 
@@ -28,6 +28,7 @@ METRICS = {
     "statements": Metric("piql_statements_total", True, "statement", "Statements that had their report."),
     "refusals": Metric("piql_refusals_total", True, "number", "Statements that were refused."),
     "slow": Metric("piql_slow_total", True, "", "Statements that took longer than --slow."),
+    "limits": Metric("piql_limits_total", True, "limit", "Statements that met a limit of time or of rows."),
     "busy_seconds": Metric("piql_busy_seconds_total", True, "", "For how long statements were at hand."),
     "engine_runs": Metric("piql_engine_runs_total", True, "", "Runs of the engine that were begun."),
     "engine_ends": Metric("piql_engine_ends_total", True, "status", "Runs that ended within a statement."),
@@ -55,7 +56,7 @@ def series(metric: Metric, value: object) -> list[str]:
         return [*head, f"{metric.name} {number_of(value)}"]
     counts: dict[str, float | int] = {}
     for label, count in value.items() if isinstance(value, dict) else ():
-        named = LABEL.fullmatch(str(label)) and (len(counts) < MOST_LABELS or str(label) in counts)
+        named = LABEL.fullmatch(str(label)) and (len(counts) < MOST_LABELS[metric.label] or str(label) in counts)
         name = str(label) if named else OTHERS
         counts[name] = counts.get(name, 0) + number_of(count)
     return head + [f'{metric.name}{{{metric.label}="{name}"}} {count}' for name, count in counts.items()]

@@ -3,7 +3,9 @@
     SHOW                             the definitions: one table with one index, and queries by the names below
     RUN, READ hang | wait_MS | rows_N      never answers; answers after so many milliseconds; answers so many rows
     RUN exit_STATUS | damage         ends with a status, or as a run that met a damage whose key has the word MARKED
+    EXPLAIN                          wants an index where it has the word `wants`
     RUN none                         refused with E401
+    INSERT wait_MS                   made after so many milliseconds
     anything else                    made; its text is written to a line of FILE.made
 
 Where FILE.slow is, an opening takes as many seconds as it says.
@@ -60,9 +62,13 @@ def serve(made: int) -> None:
             words[0] = words[0].upper()
             if words[0] == "SHOW":
                 told(number, DEFINITIONS, "ok")
+            elif words[0] == "EXPLAIN":
+                told(number, "query explain stop 1 bound 21 40\n" + "index t 2 (b)\n" * (b"wants" in statement), "ok")
             elif words[0] in ("RUN", "READ"):
                 run_query(number, words[1])
             else:
+                if words[-1].startswith("wait_"):
+                    time.sleep(int(words[-1][5:]) / 1000)
                 os.write(made, statement + b"\n")
                 told(number, "", "refused E503 t" if b"twice" in statement else "ok")
 

@@ -31,7 +31,7 @@ class Ticket:
 
     def __init__(self, client: "Client", request: Request, asked: float) -> None:
         self.client, self.request, self.asked = client, request, asked
-        self.is_told = False
+        self.is_told = self.is_killed = False
         # When it was begun.
         self.begun: float | None = None
 

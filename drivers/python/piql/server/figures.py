@@ -9,6 +9,7 @@ from ..reports import DefinitionLine, IndexLine, read_report
 
 DEFINITIONS, INDEXES = 256, 16
 NAMED = re.compile(r"(?:CREATE TABLE|CREATE COUNTER|ALTER TABLE|PREPARE) ([a-z_][a-z0-9_]*)")
+TABLE = re.compile(r"CREATE TABLE ([a-z_][a-z0-9_]*)")
 ENDING = re.compile(r"(?: refused (E\d\d\d)[^\n]*?)? bound (\d+) (\d+) used (\d+) (\d+)\n\Z")
 
 
@@ -30,9 +31,10 @@ def ending_of(report: str) -> Ending:
 
 
 class Catalog(NamedTuple):
-    """The names that the store has, how many definitions, and the indexes of each table."""
+    """The names that the store has, its tables in their order, how many definitions, and the indexes of each table."""
 
     names: frozenset[str] = frozenset()
+    tables: tuple[str, ...] = ()
     definitions: int = 0
     indexes: dict[str, int] = {}
 
@@ -42,7 +44,8 @@ def read_catalog(report: str) -> Catalog:
     lines = read_report(report).lines
     texts = [line.text for line in lines if isinstance(line, DefinitionLine)]
     names = frozenset(found[1] for text in texts if (found := NAMED.match(text)))
-    return Catalog(names, len(texts), dict(Counter(line.table for line in lines if isinstance(line, IndexLine))))
+    tables = tuple(found[1] for text in texts if (found := TABLE.match(text)))
+    return Catalog(names, tables, len(texts), dict(Counter(line.table for line in lines if isinstance(line, IndexLine))))
 
 
 class Figures:

@@ -28,7 +28,8 @@ class Observed:
     """A link that one thread uses."""
 
     def __init__(self, link: FileLink | HostLink, watch: Watch) -> None:
-        self.link, self.figures, self.log = link, watch.figures, watch.log
+        self.link, self.watch = link, watch
+        self.figures, self.log = watch.figures, watch.log
         self.engine: Run | None = None
         self.has_lease = isinstance(link, HostLink)
         self.look("start")
@@ -54,6 +55,14 @@ class Observed:
         if isinstance(self.link, HostLink):
             self.link.keep()
             self.look("begun anew")
+
+    def drop_run(self) -> None:
+        """Ends the run; the next statement begins another. A store in a cluster stays this server's."""
+        if isinstance(self.link, HostLink):
+            self.link.end_run()
+        else:
+            self.link.close()
+        self.look("begun anew")
 
     def close(self) -> None:
         """Closes the store."""

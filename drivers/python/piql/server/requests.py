@@ -3,8 +3,8 @@
 import os
 import re
 
-from ..frames import BACKUP, STATEMENT, FrameError
-from ..scripts import first_token, is_one_piece
+from ..frames import BACKUP, LIMITED, LIMITS, STATEMENT, FrameError
+from ..scripts import STATEMENT_BYTES, first_token, is_one_piece
 
 WORD = re.compile(rb"[A-Za-z_][A-Za-z0-9_]*+")
 READING = frozenset({"RUN", "READ", "EXPLAIN", "SHOW"})
@@ -29,19 +29,29 @@ def first_words(text: bytes, count: int) -> list[str]:
     return found
 
 
+def word_of(kind: bytes, text: bytes) -> str:
+    """The first word of a statement. What is none is a FrameError."""
+    if kind != STATEMENT or len(text) > STATEMENT_BYTES or not is_one_piece(text):
+        raise FrameError("a frame has one whole statement, or the name of a copy")
+    found = WORD.match(text, first_token(text))
+    word = found[0].decode().upper() if found else ""
+    return word if word in KINDS and word != COPY else OTHER
+
+
 class Request:
     """One frame that was taken: its first word in capitals, or COPY or OTHER, and its text."""
 
     def __init__(self, kind: bytes, text: bytes) -> None:
-        if kind == BACKUP:
-            self.word = COPY
-        elif kind == STATEMENT and is_one_piece(text):
-            found = WORD.match(text, first_token(text))
-            word = found[0].decode().upper() if found else ""
-            self.word = word if word in KINDS and word != COPY else OTHER
-        else:
-            raise FrameError("a frame has one whole statement, or the name of a copy")
+        # For how many seconds its client waits, and over how many rows it allows an index.
+        self.limit: float | None = None
+        self.rows = 0
+        if kind == LIMITED and len(text) >= LIMITS.size:
+            milliseconds, self.rows = LIMITS.unpack_from(text)
+            self.limit = milliseconds / 1000 or None
+            kind, text = STATEMENT, text[LIMITS.size :]
         self.text = text
+        self.is_copy = kind == BACKUP
+        self.word = COPY if self.is_copy else word_of(kind, text)
 
     @property
     def reads(self) -> bool:

@@ -10,6 +10,7 @@ from ..links import FileLink
 from .children import kill_children
 from .clients import Ticket
 from .coming import Coming
+from .limits import Limits
 from .loop import Loop
 from .observed import Observed
 from .settings import Settings
@@ -33,7 +34,8 @@ class Service:
     def __init__(self, link: FileLink | HostLink, listeners: Sequence[Listener], given: Settings, watch: Watch) -> None:
         self.watch, self.link, self.name = watch, link, shown_store(given.store)
         self.loop = Loop(Coming(listeners, given.clients, watch), given.idle, self, watch.log)
-        self.worker = Worker(Observed(link, watch), self.loop, watch, given.slow)
+        self.worker = Worker(Observed(link, watch), self.loop, watch, given)
+        self.limits = Limits(self.loop, self.worker, given.statement_timeout, given.statement_kill)
         # When the log was told last that the store is being opened.
         self.told = 0.0
         # The signal that stops it.
@@ -49,7 +51,8 @@ class Service:
         return json.dumps(status(self.name, self.link, self.loop, self.watch.figures, ticket)).encode()
 
     def look(self, now: float) -> None:
-        """Tells of an opening that takes long."""
+        """Looks at the limits of time, and tells of an opening that takes long."""
+        self.limits.look(now, self.watch)
         ticket = self.worker.at_hand
         if ticket is not None and state_of(self.link, ticket) == OPENING and now > max(self.told, ticket.since()) + EVERY:
             self.told = now

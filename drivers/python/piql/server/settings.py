@@ -10,6 +10,7 @@ CLIENTS = 256
 MOST_CLIENTS = 10_000
 IDLE = 600.0
 SLOW = 1.0
+INDEX_ROWS, MOST_ROWS = 100_000, 1_000_000
 LEVEL = "info"
 
 
@@ -24,14 +25,27 @@ class Settings(NamedTuple):
     idle: float
     log: str
     slow: float
+    statement_timeout: float | None
+    statement_kill: float | None
+    index_rows: int
 
 
-def count(word: str) -> int:
+def number(word: str, least: int, most: int) -> int:
+    """A number of a range."""
+    found = int(word) if word.isascii() and word.isdecimal() and len(word) < 10 else -1
+    if not least <= found <= most:
+        raise argparse.ArgumentTypeError(f"{least:,} to {most:,} are wanted, and not {word}")
+    return found
+
+
+def clients(word: str) -> int:
     """A number of clients."""
-    number = int(word) if word.isascii() and word.isdecimal() else 0
-    if not 1 <= number <= MOST_CLIENTS:
-        raise argparse.ArgumentTypeError(f"1 to {MOST_CLIENTS:,} are wanted, and not {word}")
-    return number
+    return number(word, 1, MOST_CLIENTS)
+
+
+def rows(word: str) -> int:
+    """A number of rows; the engine makes no index over more than the most."""
+    return number(word, 0, MOST_ROWS)
 
 
 def seconds(word: str) -> float:
@@ -52,10 +66,13 @@ def read_words(words: list[str] | None) -> Settings:
     parser.add_argument("socket", help="where clients connect, as unix:SOCKET")
     parser.add_argument("--program", help="the program piql_file, or piql_host for a cluster")
     parser.add_argument("--standby", action="store_true", help="wait until no other server has the cluster's store")
-    parser.add_argument("--clients", type=count, default=CLIENTS, help="the most clients at a time (%(default)s)")
+    parser.add_argument("--clients", type=clients, default=CLIENTS, help="the most clients at a time (%(default)s)")
     parser.add_argument("--idle", type=seconds, default=IDLE, metavar="SECONDS", help="the longest silence (%(default)g)")
     parser.add_argument("--log", choices=LEVELS, default=LEVEL, help="the least that stands in the log (%(default)s)")
     parser.add_argument("--slow", type=seconds, default=SLOW, metavar="SECONDS", help="what is logged as slow (%(default)g)")
+    parser.add_argument("--statement-timeout", type=seconds, metavar="SECONDS", help="how long a client waits")
+    parser.add_argument("--statement-kill", type=seconds, metavar="SECONDS", help="how long an engine may stand still")
+    parser.add_argument("--index-rows", type=rows, default=INDEX_ROWS, metavar="N", help="rows of an index (%(default)s)")
     given = parser.parse_args(words)
     if given.standby and not is_url(given.store):
         parser.error("only the store of a cluster has a standby")

@@ -13,10 +13,12 @@ from ..errors import Error
 from ..frames import COPIED, ENDED, REPORT
 from .clients import Answer, Ticket
 from .figures import ending_of
+from .indexes import REFUSED, wanted
 from .log import Field
 from .loop import Loop
 from .observed import Observed
-from .requests import COPY, DEFINING
+from .requests import DEFINING, Request
+from .settings import Settings
 from .watch import Watch
 
 # How often an idle server looks whether its lease is to be renewed, in seconds.
@@ -31,8 +33,9 @@ def ended_frame(text: str, status: int | None = None) -> Answer:
 class Worker:
     """The requests that wait, and the thread that makes them until `end`; then it closes the store."""
 
-    def __init__(self, store: Observed, loop: Loop, watch: Watch, slow: float) -> None:
-        self.store, self.loop, self.watch, self.slow = store, loop, watch, slow
+    def __init__(self, store: Observed, loop: Loop, watch: Watch, given: Settings) -> None:
+        self.store, self.loop, self.watch = store, loop, watch
+        self.slow, self.index_rows = given.slow, given.index_rows
         self.waiting: queue.SimpleQueue[Ticket | None] = queue.SimpleQueue()
         # What is made now.
         self.at_hand: Ticket | None = None
@@ -48,14 +51,23 @@ class Worker:
             self.store.read_catalog()
             while (ticket := self.next_one()) is not None:
                 if self.loop.begin(ticket):
-                    self.at_hand = ticket
-                    self.loop.tell(ticket, self.answer(ticket))
-                    self.at_hand = None
+                    self.make(ticket)
         except Exception as error:
             self.watch.log.error("fault", kind=type(error).__name__)
         finally:
             self.store.close()
             self.loop.wake()
+
+    def make(self, ticket: Ticket) -> None:
+        """Makes what was asked for, and tells what became of it."""
+        self.at_hand = ticket
+        answer = self.answer(ticket)
+        with self.loop.guard:
+            self.at_hand = None
+        if ticket.is_killed and answer[0] != ENDED:
+            # Its report came just before its run was ended, which is no run for the next statement.
+            self.store.drop_run()
+        self.loop.tell(ticket, answer)
 
     def next_one(self) -> Ticket | None:
         """The next request; while there is none, the lease of a cluster is kept."""
@@ -69,15 +81,30 @@ class Worker:
         """What a request is answered."""
         request = ticket.request
         try:
-            if request.word == COPY:
+            if request.is_copy:
                 self.store.backup(request.path())
                 return COPIED, b""
+            if request.word == "PREPARE" and (why := self.index_refusal(request)):
+                return ended_frame(why)
             report = self.store.exchange(request.text, request.reads)
         except (Error, OSError, ValueError) as error:
             self.store.failed(error, **self.fields(ticket))
             return ended_frame(str(error), getattr(error, "status", None))
         self.counted(ticket, report)
         return REPORT, report.encode()
+
+    def index_refusal(self, request: Request) -> str:
+        """Why a PREPARE isn't made, or nothing. Where the rows can't be counted, the log says so, and it is made."""
+        rows = max(self.index_rows, request.rows)
+        index = wanted(self.store, request, rows)
+        if index is None or index.is_large is False:
+            return ""
+        if index.is_large is None:
+            self.watch.log.warning("index-not-counted", table=index.table)
+            return ""
+        self.watch.figures.limits["index-rows"] += 1
+        self.watch.log.warning("index-refused", table=index.table, rows=rows)
+        return REFUSED.format(table=index.table, columns=index.columns, rows=f"{rows:,}")
 
     def fields(self, ticket: Ticket) -> dict[str, Field]:
         """What the log tells of a statement: its first word, its name if the store has it, and its times in seconds."""
