@@ -82,6 +82,10 @@ answer_head len = number (2 + len) ++ (1 ∷ 1 ∷ [])
 abbrev pub answer : List ℕ → List ℕ
 answer body = answer_head (length body) ++ body
 
+-- the answer that what was asked has failed
+unfoldable pub failed_answer : List ℕ
+failed_answer = number 2 ++ (1 ∷ 0 ∷ [])
+
 -- the bodies of answers: of a get, a range, a question for places and a write
 abbrev pub value_body : Option (List ℕ) → List ℕ
 value_body None = 0 ∷ []

@@ -1,11 +1,11 @@
 //! What the bodies of answers say.
 ghost use Rattle.std.specs.Prelude.{◌≡◌, ℕ, ◌≤◌, ◌++◌, Some, IfOk, IfSome, map, length};
 ghost use Rattle.pq_store.specs.Content.{entry};
-ghost use Rattle.pq_host.specs.Frames.{number, sized, answer_head, pair_bytes, value_body, pairs_body, keys_body, done_body};
+ghost use Rattle.pq_host.specs.Frames.{number, sized, answer_head, failed_answer, pair_bytes, value_body, pairs_body, keys_body, done_body};
 
 use crate::request::VERSION;
 use pq_base::{Bytes, List, NoMem};
-use pq_store::{Guard, Pair};
+use pq_store::{Guard, Pair, StoreErr};
 use std::alloc::Global;
 
 /// The last byte of an answer's head: what was asked has failed.
@@ -38,10 +38,20 @@ impl From<NoMem> for Unread {
     }
 }
 
+impl From<Unread> for StoreErr {
+    fn from(error: Unread) -> StoreErr {
+        match error {
+            Unread::Malformed => StoreErr::Failed,
+            Unread::NoMem => StoreErr::NoMem,
+        }
+    }
+}
+
 /// What the head of an answer says: none where it is none.
-#[tactic(auto, unfolding(crate::specs::Frames::answer_head))]
+#[tactic(auto, unfolding(crate::specs::Frames::answer_head, crate::specs::Frames::failed_answer))]
 pub(crate) fn read_head(head: [u8; 6]) -> Option<Head>
-    ensures { (len : ℕ) → result ≡ Some (Head.Done len) → head ≡ answer_head len }
+    ensures done { (len : ℕ) → result ≡ Some (Head.Done len) → head ≡ answer_head len }
+    ensures failed { result ≡ Some Head.Failed → head ≡ failed_answer }
 {
     let [a, b, c, d, version, end] = head;
     let len = u32::from_be_bytes([a, b, c, d]);

@@ -1,9 +1,9 @@
 //! The store at the host.
-ghost use Rattle.std.specs.Prelude.{◌≡◌, ◌≤◌, IfOk, IsErrOf, map, length};
+ghost use Rattle.std.specs.Prelude.{◌≡◌, ◌≤◌, IfOk, OnErr, IsErrOf, map, length, false};
 ghost use Rattle.std.specs.Option.{option_copied};
 ghost use Rattle.std.specs.Int.{w32, to_be_bytes};
 ghost use Rattle.pq_store.specs.Content.{HasRisen, IsPartOf, entry};
-ghost use Rattle.pq_host.specs.Ends.{HasExchanged};
+ghost use Rattle.pq_host.specs.Ends.{HasExchanged, HasFailed, StaysBroken};
 ghost use Rattle.pq_host.specs.Frames.{number, answer, get_request, range_request, count_request, write_request, value_body, pairs_body, done_body};
 
 use crate::answer::{read_done, read_pairs, read_value};
@@ -64,14 +64,16 @@ impl<'a, R: Read, W: Write> HostStore<'a, R, W> {
     fn value_at(&mut self, alloc: Global, key: &[u8]) -> Result<Option<Bytes>, StoreErr>
         ensures exchanged { IfOk result (λ found. HasExchanged self.old.link self.new.link
             (get_request self.old.node key.now) (answer (value_body found))) }
+        ensures failed { OnErr result (HasFailed self.old.link self.new.link
+            (get_request self.old.node key.now)) }
+        ensures broken { StaysBroken self.old.link self.new.link result }
         ensures faults { self.new.faults ≡ self.old.faults }
         ensures node { self.new.node ≡ self.old.node }
     {
         let body = self.link.ask_body(alloc, Op::Get, self.node, key)?;
-        match read_value(alloc, body.items()) {
-            Ok(found) => Ok(found),
-            Err(error) => Err(self.link.unread(error)),
-        }
+        let found = read_value(alloc, body.items())?;
+        self.link.answered();
+        Ok(found)
     }
 
     fn pairs_within(
@@ -84,6 +86,9 @@ impl<'a, R: Read, W: Write> HostStore<'a, R, W> {
         ensures part { IfOk result (λ found. IsPartOf low.now high.now limit (map entry found)) }
         ensures exchanged { IfOk result (λ found. HasExchanged self.old.link self.new.link
             (range_request self.old.node low.now high.now limit) (answer (pairs_body (map entry found)))) }
+        ensures failed { OnErr result (HasFailed self.old.link self.new.link
+            (range_request self.old.node low.now high.now limit)) }
+        ensures broken { StaysBroken self.old.link self.new.link result }
         ensures faults { self.new.faults ≡ self.old.faults }
         ensures node { self.new.node ≡ self.old.node }
     {
@@ -91,11 +96,12 @@ impl<'a, R: Read, W: Write> HostStore<'a, R, W> {
         let body = self
             .link
             .ask_body(alloc, Op::Range, self.node, body.items())?;
-        match read_pairs(alloc, body.items(), limit) {
-            Ok(pairs) if is_part(low, high, limit, pairs.items()) => Ok(pairs),
-            Ok(_) => Err(self.link.lost()),
-            Err(error) => Err(self.link.unread(error)),
+        let pairs = read_pairs(alloc, body.items(), limit)?;
+        if !is_part(low, high, limit, pairs.items()) {
+            return Err(StoreErr::Failed);
         }
+        self.link.answered();
+        Ok(pairs)
     }
 
     fn number_within(
@@ -108,6 +114,9 @@ impl<'a, R: Read, W: Write> HostStore<'a, R, W> {
         ensures few { IfOk result (λ n. n ≤ cap) }
         ensures exchanged { IfOk result (λ n. HasExchanged self.old.link self.new.link
             (count_request self.old.node low.now high.now cap) (answer (number n))) }
+        ensures failed { OnErr result (HasFailed self.old.link self.new.link
+            (count_request self.old.node low.now high.now cap)) }
+        ensures broken { StaysBroken self.old.link self.new.link result }
         ensures faults { self.new.faults ≡ self.old.faults }
         ensures node { self.new.node ≡ self.old.node }
     {
@@ -117,8 +126,9 @@ impl<'a, R: Read, W: Write> HostStore<'a, R, W> {
             .ask_exact::<4>(Op::Count, self.node, body.items())?;
         let n = u32::from_be_bytes(number);
         if n > cap {
-            return Err(self.link.lost());
+            return Err(StoreErr::Failed);
         }
+        self.link.answered();
         Ok(n)
     }
 
@@ -133,6 +143,9 @@ impl<'a, R: Read, W: Write> HostStore<'a, R, W> {
         ensures exchanged { IfOk result (λ done. HasExchanged self.old.link self.new.link
             (write_request self.old.node key.now guard.entry (option_copied new.entry))
             (answer (done_body done))) }
+        ensures failed { OnErr result (HasFailed self.old.link self.new.link
+            (write_request self.old.node key.now guard.entry (option_copied new.entry))) }
+        ensures broken { StaysBroken self.old.link self.new.link result }
         ensures unsent { IsErrOf result StoreErr.NoMem → self.new.link ≡ self.old.link }
         ensures faults { self.new.faults ≡ self.old.faults }
         ensures node { self.new.node ≡ self.old.node }
@@ -142,19 +155,22 @@ impl<'a, R: Read, W: Write> HostStore<'a, R, W> {
             .link
             .ask_exact::<1>(Op::Write, self.node, body.items())?;
         match read_done(guard, answer) {
-            Some(done) => Ok(done),
-            None => Err(self.link.lost()),
+            Some(done) => {
+                self.link.answered();
+                Ok(done)
+            }
+            None => Err(StoreErr::Failed),
         }
     }
 }
 
 impl<'a, L: Ledger, R: Read, W: Write> Store<L> for HostStore<'a, R, W> {
-    ghost use Rattle.std.specs.Prelude.{◌≡◌, ◌≤◌, ◌⊎◌, ℕ, None, Option, IfSome, IfOk, OnOk, IsErrOf, map, take, length, min};
+    ghost use Rattle.std.specs.Prelude.{◌≡◌, ◌≤◌, ◌⊎◌, ℕ, None, Option, IfSome, IfOk, OnOk, OnErr, IsErrOf, map, take, length, min};
     ghost use Rattle.std.specs.Option.{option_map, option_copied};
     ghost use Rattle.std.specs.FinMap.{get as value_at};
     ghost use Rattle.pq_store.specs.Counts.{charged_counts};
     ghost use Rattle.pq_store.specs.Content.{Content, entry, pairs_within, after_write, admits, got_entries, ranged_entries, counted_entries, IsPartOf, HasCause};
-    ghost use Rattle.pq_host.specs.Ends.{HasExchanged};
+    ghost use Rattle.pq_host.specs.Ends.{HasExchanged, HasFailed, StaysBroken};
     ghost use Rattle.pq_host.specs.Frames.{number, answer, get_request, range_request, count_request, write_request, value_body, pairs_body, done_body};
 
     ghost content = { λ _. None };
@@ -172,6 +188,9 @@ impl<'a, L: Ledger, R: Read, W: Write> Store<L> for HostStore<'a, R, W> {
         ensures meter { meter.new ≡ charged_counts meter.old (got_entries result) }
         ensures exchanged { IfOk result (λ found. HasExchanged self.old.link self.new.link
             (get_request self.old.node key.now) (answer (value_body found))) }
+        ensures failed { OnErr result (HasFailed self.old.link self.new.link
+            (get_request self.old.node key.now)) }
+        ensures broken { StaysBroken self.old.link self.new.link result }
         ensures node { self.new.node ≡ self.old.node }
     {
         match self.value_at(alloc, key) {
@@ -205,6 +224,9 @@ impl<'a, L: Ledger, R: Read, W: Write> Store<L> for HostStore<'a, R, W> {
         ensures meter { meter.new ≡ charged_counts meter.old (ranged_entries result) }
         ensures exchanged { IfOk result (λ found. HasExchanged self.old.link self.new.link
             (range_request self.old.node low.now high.now limit) (answer (pairs_body (map entry found)))) }
+        ensures failed { OnErr result (HasFailed self.old.link self.new.link
+            (range_request self.old.node low.now high.now limit)) }
+        ensures broken { StaysBroken self.old.link self.new.link result }
         ensures node { self.new.node ≡ self.old.node }
     {
         match self.pairs_within(alloc, low, high, limit) {
@@ -233,6 +255,9 @@ impl<'a, L: Ledger, R: Read, W: Write> Store<L> for HostStore<'a, R, W> {
         ensures meter { meter.new ≡ charged_counts meter.old (counted_entries result) }
         ensures exchanged { IfOk result (λ n. HasExchanged self.old.link self.new.link
             (count_request self.old.node low.now high.now cap) (answer (number n))) }
+        ensures failed { OnErr result (HasFailed self.old.link self.new.link
+            (count_request self.old.node low.now high.now cap)) }
+        ensures broken { StaysBroken self.old.link self.new.link result }
         ensures node { self.new.node ≡ self.old.node }
     {
         match self.number_within(alloc, low, high, cap) {
@@ -261,6 +286,9 @@ impl<'a, L: Ledger, R: Read, W: Write> Store<L> for HostStore<'a, R, W> {
         ensures exchanged { IfOk result (λ done. HasExchanged self.old.link self.new.link
             (write_request self.old.node key.now guard.entry (option_copied new.entry))
             (answer (done_body done))) }
+        ensures failed { OnErr result (HasFailed self.old.link self.new.link
+            (write_request self.old.node key.now guard.entry (option_copied new.entry))) }
+        ensures broken { StaysBroken self.old.link self.new.link result }
         ensures unsent { IsErrOf result StoreErr.NoMem → self.new.link ≡ self.old.link }
         ensures node { self.new.node ≡ self.old.node }
     {

@@ -1,15 +1,15 @@
 //! One exchange with the host: a request, and the answer to it.
-ghost use Rattle.std.specs.Prelude.{◌≡◌, ℕ, ◌≤◌, ◌+◌, ◌++◌, List, IfOk, OnOk, IsErrOf, length, min};
+ghost use Rattle.std.specs.Prelude.{◌≡◌, ℕ, ◌≤◌, ◌+◌, ◌++◌, List, true, false, IfOk, OnOk, OnErr, IsErrOf, length, min};
 ghost use Rattle.std.specs.Io.KnownBytes.{Appends, Consumes};
-ghost use Rattle.pq_host.specs.Ends.{HasExchanged};
+ghost use Rattle.pq_host.specs.Ends.{HasAsked, HasExchanged, HasFailed, StaysBroken};
 ghost use Rattle.pq_host.specs.Frames.{request, places_request, answer, answer_head, keys_body};
 
-use crate::answer::{Head, Unread, read_head, read_keys};
+use crate::answer::{Head, read_head, read_keys};
+use crate::line::{Line, Turn};
 use crate::request::{MOST, Op, head};
 use pq_base::{Bytes, List, NoMem};
 use pq_store::StoreErr;
 use std::alloc::Global;
-use std::cell::Cell;
 use std::io::{self, Read, Write};
 use std::marker::Model;
 
@@ -19,70 +19,80 @@ const BODY_MOST: usize = 67_108_864;
 /// The bytes of a body for which memory is taken at once.
 const STEP: usize = 4_096;
 
-/// What the ends of one pair of streams share: whether it still can be used.
-#[derive(Drop)]
-pub struct Line {
-    broken: Cell<bool>,
-}
-
-impl Line {
-    /// A line that can be used.
-    pub fn new() -> Line {
-        Line {
-            broken: Cell::new(false),
-        }
-    }
-}
-
 /// The two streams of a line. After the first answer that is none they are of no more use to any end.
+///
+/// A request is sent by the end that has the line's turn, and the turn is given back behind a whole answer alone. So
+/// where an answer is none nobody gets the turn again.
 #[derive(Drop)]
 pub struct Link<'a, R: Read, W: Write> {
     line: &'a Line,
+    /// The line's turn, while the last request of this end has no answer.
+    turn: Option<Turn>,
     reader: R,
     writer: W,
 }
 
 impl<'a, R: Read, W: Write> Model for Link<'a, R, W> {
+    ghost use Rattle.std.specs.Prelude.{is_some};
     ghost use Rattle.pq_host.specs.Ends.{LinkEnds};
 
     ghost Value = { LinkEnds };
 
-    ghost view = { λ l. record { left = R.remaining l.reader; sent = W.contents l.writer } };
+    ghost view = { λ l. record {
+      left = R.remaining l.reader;
+      sent = W.contents l.writer;
+      unanswered = is_some l.turn;
+    } };
 }
 
 impl<'a, R: Read, W: Write> Link<'a, R, W> {
     /// Answers come from the reader, and requests go to the writer.
     pub fn new(line: &'a Line, reader: R, writer: W) -> Link<'a, R, W>
-        ensures { result ≡ record { left = R.remaining reader; sent = W.contents writer } }
+        ensures { result ≡ record { left = R.remaining reader; sent = W.contents writer; unanswered = false } }
     {
         Link {
             line,
+            turn: None,
             reader,
             writer,
         }
     }
 
-    /// An answer that is none: nothing is known any more of where the next one begins.
-    pub(crate) fn lost(&self) -> StoreErr
-        ensures { result ≡ StoreErr.Failed }
+    // Takes the turn, which is not to be had while a request has no answer, of this end or of another one.
+    fn begin(&mut self) -> Result<(), StoreErr>
+        ensures began { OnOk result ((self.old.unanswered ≡ false)
+            × (self.new ≡ record self.old { unanswered = true })) }
+        ensures not { OnErr result (self.new ≡ self.old) }
+        ensures failed { ¬ IsErrOf result StoreErr.NoMem }
     {
-        self.line.broken.set(true);
-        StoreErr::Failed
-    }
-
-    /// What it is to a store that nothing was read in an answer.
-    pub(crate) fn unread(&self, error: Unread) -> StoreErr {
-        self.line.broken.set(true);
-        match error {
-            Unread::Malformed => StoreErr::Failed,
-            Unread::NoMem => StoreErr::NoMem,
+        if self.turn.is_some() {
+            return Err(StoreErr::Failed);
+        }
+        match self.line.take() {
+            Some(turn) => {
+                self.turn = Some(turn);
+                Ok(())
+            }
+            None => Err(StoreErr::Failed),
         }
     }
 
+    /// The answer is whole, and says what was asked: the turn is given back.
+    pub(crate) fn answered(&mut self)
+        ensures { self.new ≡ record self.old { unanswered = false } }
+    {
+        if let Some(turn) = self.turn.take() {
+            self.line.give_back(turn);
+        }
+    }
+
+    // Only who has the turn sends.
     fn send(&mut self, op: Op, node: u8, body: &[u8]) -> io::Result<()>
-        requires { length body.now ≤ 16777213 }
+        requires fits { length body.now ≤ 16777213 }
+        requires turn { self.old.unanswered ≡ true }
         ensures sent { OnOk result (Appends self.old.sent self.new.sent (request op node body.now)) }
         ensures left { self.new.left ≡ self.old.left }
+        ensures unanswered { self.new.unanswered ≡ true }
     {
         self.writer.write_all(&head(op, node, body.len() as u32))?;
         self.writer.write_all(body)?;
@@ -99,19 +109,24 @@ impl<'a, R: Read, W: Write> Link<'a, R, W> {
     ) -> Result<usize, StoreErr>
         ensures few { IfOk result (λ n. n ≤ most) }
         ensures asked { IfOk result
-            (λ n. HasExchanged self.old self.new (request op node body.now) (answer_head n)) }
-        ensures failed { ¬ IsErrOf result StoreErr.NoMem }
+            (λ n. HasAsked self.old self.new (request op node body.now) (answer_head n)) }
+        ensures failed { OnErr result (HasFailed self.old self.new (request op node body.now)) }
+        ensures no_memory { ¬ IsErrOf result StoreErr.NoMem }
     {
-        if self.line.broken.get() || body.len() > MOST {
+        if body.len() > MOST {
             return Err(StoreErr::Failed);
         }
+        self.begin()?;
         if self.send(op, node, body).is_err() {
-            return Err(self.lost());
+            return Err(StoreErr::Failed);
         }
         match read_head(self.exact::<6>()?) {
             Some(Head::Done(len)) if len as usize <= most => Ok(len as usize),
-            Some(Head::Failed) => Err(StoreErr::Failed),
-            _ => Err(self.lost()),
+            Some(Head::Failed) => {
+                self.answered();
+                Err(StoreErr::Failed)
+            }
+            _ => Err(StoreErr::Failed),
         }
     }
 
@@ -119,11 +134,12 @@ impl<'a, R: Read, W: Write> Link<'a, R, W> {
     pub(crate) fn fill(&mut self, room: &mut [u8]) -> Result<(), StoreErr>
         ensures heard { OnOk result (Consumes self.old.left self.new.left room.new) }
         ensures sent { self.new.sent ≡ self.old.sent }
+        ensures unanswered { self.new.unanswered ≡ self.old.unanswered }
         ensures failed { ¬ IsErrOf result StoreErr.NoMem }
     {
         match self.reader.read_exact(room) {
             Ok(()) => Ok(()),
-            Err(_) => Err(self.lost()),
+            Err(_) => Err(StoreErr::Failed),
         }
     }
 
@@ -131,6 +147,7 @@ impl<'a, R: Read, W: Write> Link<'a, R, W> {
     fn exact<const N: usize>(&mut self) -> Result<[u8; N], StoreErr>
         ensures heard { IfOk result (λ bytes. Consumes self.old.left self.new.left bytes) }
         ensures sent { self.new.sent ≡ self.old.sent }
+        ensures unanswered { self.new.unanswered ≡ self.old.unanswered }
         ensures failed { ¬ IsErrOf result StoreErr.NoMem }
     {
         let mut room = [0u8; N];
@@ -145,12 +162,13 @@ impl<'a, R: Read, W: Write> Link<'a, R, W> {
         node: u8,
         body: &[u8],
     ) -> Result<[u8; N], StoreErr>
-        ensures exchanged { IfOk result
-            (λ found. HasExchanged self.old self.new (request op node body.now) (answer found)) }
-        ensures failed { ¬ IsErrOf result StoreErr.NoMem }
+        ensures asked { IfOk result
+            (λ found. HasAsked self.old self.new (request op node body.now) (answer found)) }
+        ensures failed { OnErr result (HasFailed self.old self.new (request op node body.now)) }
+        ensures no_memory { ¬ IsErrOf result StoreErr.NoMem }
     {
         if self.ask(op, node, body, N)? != N {
-            return Err(self.lost());
+            return Err(StoreErr::Failed);
         }
         self.exact::<N>()
     }
@@ -160,13 +178,14 @@ impl<'a, R: Read, W: Write> Link<'a, R, W> {
         ensures heard { OnOk result ((step : List ℕ) × (body.new ≡ body.old ++ step)
             × (length step ≡ min left 4096) × Consumes self.old.left self.new.left step) }
         ensures sent { self.new.sent ≡ self.old.sent }
+        ensures unanswered { self.new.unanswered ≡ self.old.unanswered }
     {
         let mut step = [0u8; STEP];
         let step = &mut step[..left.min(STEP)];
         self.fill(step)?;
         match body.extend(alloc, step) {
             Ok(()) => Ok(()),
-            Err(NoMem) => Err(self.unread(Unread::NoMem)),
+            Err(NoMem) => Err(StoreErr::NoMem),
         }
     }
 
@@ -175,6 +194,7 @@ impl<'a, R: Read, W: Write> Link<'a, R, W> {
         ensures len { IfOk result (λ body. length body ≡ len) }
         ensures heard { IfOk result (λ body. Consumes self.old.left self.new.left body) }
         ensures sent { self.new.sent ≡ self.old.sent }
+        ensures unanswered { self.new.unanswered ≡ self.old.unanswered }
     {
         let mut body = Bytes::new(alloc);
         while body.items().len() < len {
@@ -191,8 +211,9 @@ impl<'a, R: Read, W: Write> Link<'a, R, W> {
         node: u8,
         body: &[u8],
     ) -> Result<Bytes, StoreErr>
-        ensures exchanged { IfOk result
-            (λ found. HasExchanged self.old self.new (request op node body.now) (answer found)) }
+        ensures asked { IfOk result
+            (λ found. HasAsked self.old self.new (request op node body.now) (answer found)) }
+        ensures failed { OnErr result (HasFailed self.old self.new (request op node body.now)) }
     {
         let len = self.ask(op, node, body, BODY_MOST)?;
         self.body(alloc, len)
@@ -203,11 +224,12 @@ impl<'a, R: Read, W: Write> Link<'a, R, W> {
         ensures exchanged { IfOk result
             (λ keys. HasExchanged self.old self.new places_request (answer (keys_body keys))) }
         ensures few { IfOk result (λ keys. length keys ≤ 64) }
+        ensures failed { OnErr result (HasFailed self.old self.new places_request) }
+        ensures broken { StaysBroken self.old self.new result }
     {
         let body = self.ask_body(alloc, Op::Places, 0, &[])?;
-        match read_keys(alloc, body.items()) {
-            Ok(keys) => Ok(keys),
-            Err(error) => Err(self.unread(error)),
-        }
+        let keys = read_keys(alloc, body.items())?;
+        self.answered();
+        Ok(keys)
     }
 }

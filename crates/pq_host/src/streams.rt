@@ -30,9 +30,9 @@ impl<'a, R: Read, W: Write> HostReader<'a, R, W> {
 }
 
 impl<'a, R: Read, W: Write> Read for HostReader<'a, R, W> {
-    ghost use Rattle.std.specs.Prelude.{◌≡◌, ◌<◌, ℕ, List, None, IfOk, length, take, min};
+    ghost use Rattle.std.specs.Prelude.{◌≡◌, ◌<◌, ℕ, List, None, IfOk, OnErr, length, take, min};
     ghost use Rattle.std.specs.Io.{ReadsAtMost};
-    ghost use Rattle.pq_host.specs.Ends.{HasExchanged};
+    ghost use Rattle.pq_host.specs.Ends.{HasExchanged, HasFailed, StaysBroken};
     ghost use Rattle.pq_host.specs.Frames.{read_request, answer};
 
     /// Asks for as many bytes as there is room for. Where there is none, nothing is asked.
@@ -40,6 +40,10 @@ impl<'a, R: Read, W: Write> Read for HostReader<'a, R, W> {
         ensures bound { ReadsAtMost result buf.new }
         ensures exchanged { 0 < length buf.new → IfOk result (λ n. HasExchanged self.old self.new
             (read_request (min (length buf.new) 65536)) (answer (take n buf.new))) }
+        ensures failed { OnErr result
+            (HasFailed self.old self.new (read_request (min (length buf.new) 65536))) }
+        ensures broken { 0 < length buf.new → StaysBroken self.old self.new result }
+        ensures unasked { length buf.new ≡ 0 → self.new ≡ self.old }
     {
         let room = buf.len().min(PIECE);
         if room == 0 {
@@ -50,7 +54,10 @@ impl<'a, R: Read, W: Write> Read for HostReader<'a, R, W> {
             return Err(io::Error::from(ErrorKind::Other));
         };
         match self.link.fill(&mut buf[..len]) {
-            Ok(()) => Ok(len),
+            Ok(()) => {
+                self.link.answered();
+                Ok(len)
+            }
             Err(_) => Err(io::Error::from(ErrorKind::Other)),
         }
     }
@@ -80,9 +87,9 @@ impl<'a, R: Read, W: Write> HostWriter<'a, R, W> {
 }
 
 impl<'a, R: Read, W: Write> Write for HostWriter<'a, R, W> {
-    ghost use Rattle.std.specs.Prelude.{◌≡◌, ◌<◌, ℕ, List, [], None, IfOk, length, take, min};
+    ghost use Rattle.std.specs.Prelude.{◌≡◌, ◌<◌, ℕ, List, [], None, IfOk, OnErr, length, take, min};
     ghost use Rattle.std.specs.Io.{WritesAtMost};
-    ghost use Rattle.pq_host.specs.Ends.{HasExchanged};
+    ghost use Rattle.pq_host.specs.Ends.{HasExchanged, HasFailed, StaysBroken};
     ghost use Rattle.pq_host.specs.Frames.{report_request, answer};
 
     /// Hands the first bytes over, all where they are at most 65,536. Where there are none, nothing is asked.
@@ -91,19 +98,28 @@ impl<'a, R: Read, W: Write> Write for HostWriter<'a, R, W> {
         ensures all { IfOk result (λ n. n ≡ min (length buf.now) 65536) }
         ensures exchanged { 0 < length buf.now → IfOk result (λ n. HasExchanged self.old self.new
             (report_request (take n buf.now)) (answer [])) }
+        ensures failed { OnErr result
+            (HasFailed self.old self.new (report_request (take (min (length buf.now) 65536) buf.now))) }
+        ensures broken { 0 < length buf.now → StaysBroken self.old self.new result }
+        ensures unasked { length buf.now ≡ 0 → self.new ≡ self.old }
     {
         let len = buf.len().min(PIECE);
         if len == 0 {
             return Ok(0);
         }
         match self.link.ask(Op::Report, 0, &buf[..len], 0) {
-            Ok(_) => Ok(len),
+            Ok(_) => {
+                self.link.answered();
+                Ok(len)
+            }
             Err(_) => Err(io::Error::from(ErrorKind::Other)),
         }
     }
 
     /// There is nothing to do: each write ends once the host has answered.
-    fn flush(&mut self) -> io::Result<()> {
+    fn flush(&mut self) -> io::Result<()>
+        ensures unasked { self.new ≡ self.old }
+    {
         Ok(())
     }
 }
