@@ -2,15 +2,16 @@
 
 import contextlib
 import io
-import os
 import random
 import socket
 import subprocess
 import unittest
+from unittest import mock
 
 from helpers import PIQL_FILE, TOP, needs_file, piql
 from pipes import RECORDING, PipeCase, written
 from piql.frames import REPORT, STATEMENT, read_frame, write_frame
+from piql.links import FileLink
 from piql.load import load
 from piql.migrate import migrate
 from piql.rebuild import rebuild
@@ -239,7 +240,8 @@ class RebuildTest(PipeCase):
         self.assertEqual(told[-3:], [table, query, b"INSERT INTO t VALUES (%b, 'b');" % text])
         schema.write_bytes(table.replace(b"(60), PRIMARY", b"(60), c TEXT(60), PRIMARY"))
         new, values = self.folder / "new.db", {("t", "c"): Text(ATTACK)}
-        rebuild(str(self.folder / "store.db"), str(new), schema, io.StringIO(), values, program=RECORDING)
+        with mock.patch("piql.filling.filling_link", lambda path, program: FileLink(path, program, 5.0)):
+            rebuild(str(self.folder / "store.db"), str(new), schema, io.StringIO(), values, program=RECORDING)
         self.assertEqual(self.statements()[-1], b"INSERT INTO t VALUES (%b, 'b', %b);" % (text, text))
 
 
@@ -250,7 +252,7 @@ class ServerTest(PipeCase):
         super().setUp()
         self.at = self.folder / "socket"
         words = [TOP / "bin/piql-serve", self.folder / "store.db", self.at, "--program", RECORDING]
-        server = subprocess.Popen(words, stdout=subprocess.PIPE, env={**os.environ})
+        server = subprocess.Popen(words, stdout=subprocess.PIPE, stderr=subprocess.DEVNULL)
         self.addCleanup(server.communicate)
         self.addCleanup(server.terminate)
         assert server.stdout is not None
@@ -271,6 +273,7 @@ class ServerTest(PipeCase):
             return read_frame(made)[0]
 
     def test_frames(self) -> None:
+        self.sent()
         source, whole = random.Random(62), []
         for _ in range(400):
             text = bytes(source.choices(b"'';;-- \n\ta\0", k=source.randrange(1, 12))) + source.choice([b"", b"a;"])

@@ -147,7 +147,7 @@ class StoppedServerTest(PipeCase):
     def test_a_statement(self) -> None:
         at = self.folder / "socket"
         words = [TOP / "bin/piql-serve", self.folder / "store.db", at, "--program", RECORDING]
-        server = subprocess.Popen(words, stdout=subprocess.PIPE)
+        server = subprocess.Popen(words, stdout=subprocess.PIPE, stderr=subprocess.DEVNULL)
         self.addCleanup(server.communicate)
         self.addCleanup(server.kill)
         assert server.stdout is not None
