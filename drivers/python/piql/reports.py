@@ -195,8 +195,10 @@ def read_rows(text: str, ending: str) -> list[Row]:
     feeds, count = text.count("\n"), int(ending.split(" ", 4)[3])
     if feeds == count == 1:
         return [read_values(text[4:-1])]
-    # With as many line feeds as rows, none is in a text.
-    lines = text[:-1].split("\n") if feeds == count else cut_lines(text)
+    lines = text[:-1].split("\n")
+    # With as many line feeds as rows, none is in a text, unless the end line says another number.
+    if feeds != count or any(line.count("'") % 2 for line in lines):
+        lines = list(cut_lines(text))
     rows = [read_values(line[4:]) for line in lines]
     if len(rows) != count:
         raise ValueError("there are more rows, or fewer, than the end line says")

@@ -72,6 +72,13 @@ class ReportTest(unittest.TestCase):
     def test_cut_lines(self) -> None:
         self.assertEqual(list(cut_lines("a\nrow 'x\ny'\nb")), ["a", "row 'x\ny'", "b"])
 
+    def test_another_number_of_rows(self) -> None:
+        for rows in ("row 'a\nrow b'\n", "row 'a\n'\n", "row 1\nrow 2\nrow 3\n", "row 1\n"):
+            with self.subTest(rows), self.assertRaises(ValueError):
+                read_report(f"{rows}9 ok rows 2 bound 1 1 used 1 1\n")
+        with self.assertRaises(ValueError):
+            read_report("9 ok rows 1 bound 1 1 used 1 1\n")
+
     def test_no_report(self) -> None:
         with self.assertRaises(ValueError):
             read_report("open defs 0 bound 2 257 used 2 0\n")
