@@ -60,6 +60,7 @@ def connect(
     timeout: float = 5.0,
     reader: bool = False,
     step: float | None = None,
+    error_on_missing: bool = False,
 ) -> Connection:
     """Opens a store: a file, `unix:SOCKET` of a piql-serve, `etcd://..`, `postgresql://..` or `:memory:`.
 
@@ -69,7 +70,8 @@ def connect(
     tried again. `step` is for how many seconds whoever is at work on a statement may stand still: the engine over a
     file or in memory, or a server, until the report; over a cluster the engine and each call of the store. Then the
     wait is ended, and the error says what stands. None is 60 over a cluster, and no limit elsewhere. Over a cluster,
-    any number of connections with reader=True read beside the one that writes.
+    any number of connections with reader=True read beside the one that writes. An UPDATE or a DELETE that finds no row
+    has the rowcount 0; with error_on_missing=True it raises an IntegrityError, E504.
     """
     target = plain_path(path, "the store")
     timeout = plain_seconds(timeout, "timeout")
@@ -86,7 +88,7 @@ def connect(
     else:
         link = FileLink(target, program, timeout, seconds)
     try:
-        return Connection(link, prepare and not reader)
+        return Connection(link, prepare and not reader, error_on_missing)
     except BaseException:
         link.close()
         raise

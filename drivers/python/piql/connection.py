@@ -28,6 +28,7 @@ NO_REPORT = (
     "what came back is no report of such a statement. One that only reads changed nothing, a write was made whole or"
     " not at all, and nothing of the answer is told"
 )
+NO_ROW = "E504"
 NO_ROLLBACK = "nothing is rolled back: each statement is made whole or not at all, at once"
 
 
@@ -53,10 +54,10 @@ class Connection:
     ProgrammingError = errors.ProgrammingError
     NotSupportedError = errors.NotSupportedError
 
-    def __init__(self, link: Link, prepare: bool = True) -> None:
+    def __init__(self, link: Link, prepare: bool = True, error_on_missing: bool = False) -> None:
         self._link: Link | None = link
         self._lock = threading.RLock()
-        self._prepare = prepare
+        self._prepare, self._error_on_missing = prepare, error_on_missing
         self._schema: Schema | None = None
         self._names: dict[str, str] = {}
         self._sent = 0
@@ -96,15 +97,19 @@ class Connection:
             raise InterfaceError("the connection is closed")
         return self._link
 
+    def is_answered(self, report: Report) -> bool:
+        """Whether a refusal is no error: an UPDATE or a DELETE has found no row, and so has written none."""
+        return report.end.refusal[0] == NO_ROW and not self._error_on_missing
+
     def report(self, sent: Sent) -> Report:
-        """The report of a statement; a refusal is raised."""
+        """The report of a statement; a refusal is raised, unless it says that a write has found no row."""
         kind, data = sent.statement.kind, sent.data()
         with self._lock:
             link = self._link or self.link()
             text = link.exchange(data, kind.reads)
             self._sent += 1
         report = self.read(text, kind)
-        if " refused " in report.ending:
+        if " refused " in report.ending and not self.is_answered(report):
             raise self.refusal(sent, report.end.refusal)
         if kind.defines:
             self._schema = None

@@ -97,7 +97,7 @@ class Cursor:
         if kind.has_rows:
             self._rows = report.rows
         elif kind.writes:
-            self._made = 1
+            self._made = int(not report.is_refused())
         elif kind is Kind.SHOW:
             self._rows = [(line.number, line.text) for line in report.definitions()]
         elif kind is Kind.EXPLAIN:
@@ -105,7 +105,7 @@ class Cursor:
         return self
 
     def executemany(self, operation: str, seq_of_parameters: Iterable["Parameters"]) -> "Cursor":
-        """Executes a write once for each list of values, until one is refused; rowcount is how many were made."""
+        """Executes a write once for each list of values, until one is refused; rowcount is how many rows it wrote."""
         connection = self._open()
         self._forget()
         statement = read_statement(operation)
@@ -113,8 +113,8 @@ class Cursor:
             raise ProgrammingError("executemany is for statements without an answer")
         self._made = 0
         for parameters in plain_rows(seq_of_parameters):
-            self._report = connection.answer(statement, parameters)
-            self._made += 1
+            self._report = report = connection.answer(statement, parameters)
+            self._made += not report.is_refused()
         return self
 
     def executescript(self, script: str) -> "Cursor":

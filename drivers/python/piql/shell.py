@@ -71,7 +71,7 @@ def answer(cursor: Cursor) -> str:
         lines += [table([it.name for it in cursor.description], rows)] if rows else []
         lines += [f"{len(rows)} row{'' if len(rows) == 1 else 's'}" + ("; .next has more" if cursor.next_page else "")]
     else:
-        lines.append("ok")
+        lines.append("ok" if cursor.rowcount else "no row has this key")
     return "\n".join([*lines, numbers(cursor.bound, cursor.used)])
 
 

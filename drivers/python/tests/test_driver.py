@@ -24,7 +24,6 @@ TEXTS += ["é" * 500, "x" * 1000]
 # A statement with its values, and the exception, the number and the fields of its refusal.
 REFUSED = [
     ("INSERT INTO users VALUES (?, ?)", ("ann", "pisa"), piql.IntegrityError, "E503", {"table": "users"}),
-    ("UPDATE users SET town = ? WHERE name = 'cid'", ("x",), piql.IntegrityError, "E504", {"table": "users"}),
     ("INSERT INTO subs VALUES ('ann', 'dan')", (), piql.IntegrityError, "E505", {"table": "subs", "number": "1"}),
     ("INSERT INTO users VALUES (?, ?)", ("c" * 21, ""), piql.DataError, "E501", {"table": "users", "column": "name"}),
     ("INSERT INTO users VALUES (?)", ("cid",), piql.ProgrammingError, "E502", {"table": "users"}),
@@ -78,6 +77,17 @@ class DriverTest(StoreCase):
             with self.subTest(text), self.assertRaises(piql.ProgrammingError) as caught:
                 self.connection.execute(text, values)
             self.assertEqual((caught.exception.number, caught.exception.place), ("E104", place))
+
+    def test_a_write_that_finds_no_row(self) -> None:
+        cursor = self.connection.execute("INSERT INTO users VALUES ('dora', 'lima')")
+        for name, count in (("dora", 1), ("nobody", 0)):
+            cursor.execute("UPDATE users SET town = ? WHERE name = ?", ("x", name))
+            self.assertEqual((cursor.rowcount, cursor.description), (count, None))
+        self.assertEqual((cursor.bound, cursor.used), ((2, 1), (1, 0)))
+        cursor.executemany("DELETE FROM users WHERE name = ?", [("dora",), ("dora",), ("nobody",)])
+        self.assertEqual(cursor.rowcount, 1)
+        with self.assertRaises(piql.IntegrityError):
+            cursor.execute("INSERT INTO users VALUES ('ann', '')")
 
     def test_numbers_of_values(self) -> None:
         for values in ((), (1, 2), "a"):
@@ -198,6 +208,14 @@ class RunTest(unittest.TestCase):
         connection.execute("CREATE TABLE t (a INT, b INT, PRIMARY KEY (a, b), CARDINALITY LIMIT 7 (a))")
         connection.execute("PREPARE mine AS SELECT t.b FROM t WHERE a = [1]")
         self.assertEqual(connection.bounds(), {"mine": (1, 7)})
+
+    def test_a_write_that_finds_no_row_as_an_error(self) -> None:
+        with piql.connect(self.path, error_on_missing=True) as connection:
+            connection.execute("CREATE TABLE t (a INT, b INT, PRIMARY KEY (a))")
+            for text in ("UPDATE t SET b = 1 WHERE a = 7", "DELETE FROM t WHERE a = 7"):
+                with self.subTest(text), self.assertRaises(piql.IntegrityError) as caught:
+                    connection.execute(text)
+                self.assertEqual(caught.exception.number, "E504")
 
     def test_a_killed_process(self) -> None:
         connection = self.open()

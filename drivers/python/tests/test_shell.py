@@ -69,6 +69,9 @@ class ShellTest(StoreCase):
         said = self.said("SELECT a FROM t", "WHERE a = 1 OR a = 2;")
         self.assertIn("  WHERE a = 1 OR a = 2;\n              ^\nway out: one query with a parameter", said)
 
+    def test_a_write_that_finds_no_row(self) -> None:
+        self.assertIn("no row has this key\nbound 2", self.said("DELETE FROM t WHERE a = 99;"))
+
     def test_a_counter(self) -> None:
         said = self.said("CREATE TABLE u (a INT, PRIMARY KEY (a)); CREATE COUNTER c OF u (a); READ c (7);", ".counters")
         self.assertIn("rows\n----\n   0\n1 row\nbound 1 operations, 1 entries; used 1 operations, 0 entries\n", said)
