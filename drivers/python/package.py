@@ -7,7 +7,7 @@ import zipfile
 from pathlib import Path
 
 HERE = Path(__file__).resolve().parent
-FILES = ("*.py", "py.typed")
+FILES = ("*.py", "py.typed", "*.md")
 
 
 def project() -> dict[str, str]:
@@ -31,10 +31,9 @@ def metadata() -> str:
 
 
 def contents(info: str) -> dict[str, bytes]:
-    """The files of the wheel by their names. The document of refusals and the licence go in with the modules."""
+    """The files of the wheel by their names: the modules, what they read, and the licence."""
     paths = sorted(path for pattern in FILES for path in (HERE / "piql").rglob(pattern))
     found = {str(path.relative_to(HERE)): path.read_bytes() for path in paths}
-    found["piql/REFUSALS.md"] = (HERE.parents[1] / "docs" / "REFUSALS.md").read_bytes()
     for name in ("LICENSE", "NOTICE"):
         found[f"{info}/{name}"] = (HERE.parents[1] / name).read_bytes()
     found[f"{info}/METADATA"] = metadata().encode()

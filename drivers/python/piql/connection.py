@@ -6,6 +6,7 @@ from collections.abc import Sequence
 from typing import TYPE_CHECKING
 
 from . import errors
+from .details import Detail, detail_of, has_detail
 from .errors import InterfaceError, InternalError, NotSupportedError, ProgrammingError, refused
 from .hosts.link import ReaderLink
 from .interrupts import own
@@ -131,9 +132,18 @@ class Connection:
         """The exception of a refusal; where the tokens spell nothing, with the place in the writer's text."""
         text = sent.statement.text
         if fields[0] != "E104":
-            return refused(refusal_of(fields, text))
+            return refused(refusal_of(fields, text)._replace(**self.detail(fields, text)._asdict()))
         at = sent.source_at(int(fields[1]))
         return refused(refusal_of(("E104", str(len(text[:at].encode()))), text, place_at(text, at)))
+
+    def detail(self, fields: tuple[str, ...], text: str) -> Detail:
+        """What the definitions tell of a refusal. Where they can't be read, the refusal is told without."""
+        if not has_detail(fields[0]):
+            return Detail()
+        try:
+            return detail_of(fields, text, self.schema())
+        except errors.Error:
+            return Detail()
 
     def answer(self, statement: Statement, parameters: Parameters, after: str | None = None) -> Report:
         """The report of a statement with its values, behind a cursor of pages; a SELECT is prepared where it isn't."""

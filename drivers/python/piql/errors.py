@@ -38,6 +38,16 @@ class Error(Exception):
         return self.refusal and self.refusal.place
 
     @property
+    def table(self) -> str | None:
+        """The table that the refusal speaks of, where the definitions tell it."""
+        return self.refusal and self.refusal.table
+
+    @property
+    def key(self) -> tuple[str, ...]:
+        """The columns of the key, the foreign key or the limit that the refusal speaks of."""
+        return self.refusal.key if self.refusal else ()
+
+    @property
     def way_out(self) -> str | None:
         """What to do instead."""
         return self.refusal and self.refusal.way_out
@@ -109,8 +119,9 @@ def refused(refusal: Refusal) -> DatabaseError:
     """The exception of a refusal."""
     head = " ".join([refusal.number, *refusal.fields.values()])
     place = f" at line {refusal.place.line}, column {refusal.place.column}" if refusal.place else ""
+    detail = f" {refusal.detail}" if refusal.detail else ""
     way = f" Way out: {refusal.way_out}" if refusal.way_out else ""
-    error = class_of(refusal)(f"{head}{place}: {refusal.headline}{way}")
+    error = class_of(refusal)(f"{head}{place}: {refusal.headline}{detail}{way}")
     error.refusal = refusal
     return error
 

@@ -1,4 +1,4 @@
-"""What each refusal means and the way out of it, read from REFUSALS.md, which an installed package has beside it."""
+"""What each refusal means and the way out of it, read from REFUSALS.md, which the package has beside it."""
 
 import re
 from functools import cache
@@ -12,8 +12,11 @@ RULE = re.compile(r"^\*\*(E\d\d\d)([A-Z ]*): ?(.*?)(?=^\*\*E\d|^#|\Z)", re.DOTAL
 ROW = re.compile(r"^\| (.*?) \| (.*?) \|$", re.MULTILINE)
 # In a table's cell.
 PIPE = "\\|"
+LINK = re.compile(r"\[([^]]*)\]\([^)]*\)")
 WAY = re.compile(r"\*Ways? out:?\*:?")
 WITHOUT_DROP = "; `python -m piql rebuild OLD NEW SCHEMA` makes one"
+# A word of the document that stands for a field, and for nothing else.
+STAND_IN = re.compile(r"\b(?:ALIAS|NAME|NUMBER)\b")
 # A headline with no more characters says too little alone.
 SHORT = 10
 REBUILDS = ("definitions", "tables", "indexes")
@@ -31,7 +34,11 @@ class Rule(NamedTuple):
 
 
 class Refusal(NamedTuple):
-    """A refusal of one statement. `place` is where its tokens spell nothing, or None."""
+    """A refusal of one statement. `place` is where its tokens spell nothing, or None.
+
+    `detail` tells which name, key or number of values it is, where the definitions are known; `table` and `key` are
+    that table and its columns.
+    """
 
     number: str
     fields: dict[str, str]
@@ -40,11 +47,19 @@ class Refusal(NamedTuple):
     headline: str
     cause: str
     way_out: str
+    detail: str = ""
+    table: str | None = None
+    key: tuple[str, ...] = ()
 
 
 def one_line(text: str) -> str:
-    """A paragraph of the document as one line."""
-    return " ".join(text.replace("**", "").split())
+    """A paragraph of the document as one line, each of its links as the words that it is on."""
+    return " ".join(LINK.sub(r"\1", text.replace("**", "")).split())
+
+
+def filled(text: str, fields: dict[str, str]) -> str:
+    """A text with the name or the number that the refusal has where the document has a word for it."""
+    return STAND_IN.sub(lambda found: fields.get(found[0].lower(), found[0]), text)
 
 
 def read_rule(code: str, fields: str, text: str) -> Rule:
@@ -59,11 +74,8 @@ def read_rule(code: str, fields: str, text: str) -> Rule:
 
 
 def document() -> str:
-    """REFUSALS.md: that of the installed package, or that of the checkout or release in which the package lies."""
-    here = Path(__file__).resolve()
-    installed = here.with_name("REFUSALS.md")
-    found = installed if installed.exists() else here.parents[3] / "docs" / "REFUSALS.md"
-    return found.read_text(encoding="utf-8")
+    """The package's copy of docs/REFUSALS.md, which a test compares with it."""
+    return Path(__file__).with_name("REFUSALS.md").read_text(encoding="utf-8")
 
 
 @cache
@@ -96,6 +108,8 @@ def way_out_of(rule: Rule, fields: tuple[str, ...], statement: str, place: Place
         return one_line(way_out_at(rule.cases, statement, character_of(statement, place))) or rule.way_out
     if rule.code in ("E501", "E502"):
         return cases_with(rule, {token.text.upper() for token in tokens(statement)[:1]}) or rule.way_out
+    if rule.code == "E203":
+        return cases_with(rule, {fields[0]}) or rule.way_out
     if rule.code == "E304":
         return unbounded(rule, statement)
     return rule.way_out
@@ -106,5 +120,5 @@ def refusal_of(fields: tuple[str, ...], statement: str, place: Place | None = No
     code, values = fields[0], fields[1:]
     rule = rules().get(code) or Rule(code, tuple(f"field{i + 1}" for i in range(len(values))), "", "", "", ())
     named = dict(zip(rule.fields, values))
-    way = way_out_of(rule, values, statement, place)
-    return Refusal(code, named, statement, place, rule.headline, rule.cause, way)
+    texts = (rule.headline, rule.cause, way_out_of(rule, values, statement, place))
+    return Refusal(code, named, statement, place, *(filled(text, named) for text in texts))

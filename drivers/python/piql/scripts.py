@@ -7,6 +7,7 @@ from typing import NamedTuple
 SCRIPT_BYTES = 16_777_216
 STATEMENT_BYTES = 65_536
 NAME_BYTES = 32
+LEAST, GREATEST = -(2**63), 2**63 - 1
 KEYWORDS = frozenset(
     "AFTER AND AS ASC BOOL BY CARDINALITY CREATE DELETE DESC EXPLAIN FALSE FOREIGN FROM INSERT INT INTO JOIN KEY LIMIT"
     " ORDER PAGINATE PREPARE PRIMARY REFERENCES RUN SELECT SET SHOW TABLE TEXT TRUE UPDATE VALUES WHERE".split()
@@ -79,6 +80,18 @@ def tokens(text: str) -> list[Token]:
     """The tokens of a text, without white bytes and comments."""
     found = (Token(str(it.lastgroup), it.group(), it.start(), it.end()) for it in TOKEN.finditer(text))
     return [token for token in found if token.kind != "white"]
+
+
+def plain_number(text: str) -> str:
+    """A number without zeros before it. It may have more digits than Python makes a number of."""
+    digits = text.removeprefix("-").lstrip("0") or "0"
+    return f"-{digits}" if text.startswith("-") and digits != "0" else digits
+
+
+def is_of_64_bits(text: str) -> bool:
+    """Whether a number is one that a column can have."""
+    plain = plain_number(text)
+    return len(plain) <= len(str(LEAST)) and LEAST <= int(plain) <= GREATEST
 
 
 def place_at(text: str, at: int) -> Place:

@@ -8,7 +8,7 @@ from typing import NamedTuple
 from .errors import DatabaseError, DataError, ProgrammingError, refused
 from .plain import plain_text
 from .refusals import refusal_of
-from .scripts import KEYWORDS, STATEMENT_BYTES, Token, character_at, place_at, tokens
+from .scripts import KEYWORDS, STATEMENT_BYTES, Token, character_at, place_at, plain_number, tokens
 
 
 class Kind(Enum):
@@ -134,13 +134,7 @@ def normal(token: Token) -> str:
     """A token as any spelling of it has it."""
     if token.kind == "word":
         return token.text.upper() if token.text.upper() in KEYWORDS else token.text.lower()
-    return normal_number(token.text) if token.kind == "number" else token.text
-
-
-def normal_number(text: str) -> str:
-    """A number without zeros before it. It may have more digits than Python makes a number of."""
-    digits = text.removeprefix("-").lstrip("0") or "0"
-    return f"-{digits}" if text.startswith("-") and digits != "0" else digits
+    return plain_number(token.text) if token.kind == "number" else token.text
 
 
 def unlabelled(found: list[str]) -> list[str]:

@@ -4,7 +4,7 @@ import re
 from collections.abc import Iterable, Sequence
 from typing import NamedTuple
 
-from .scripts import KEYWORDS, Token, tokens
+from .scripts import KEYWORDS, Token, is_of_64_bits, tokens
 
 CODE = re.compile(r"`([^`]*)`")
 # In a code it divides the words with which the statement begins from the tokens around the place.
@@ -21,6 +21,11 @@ class Score(NamedTuple):
     head: int = 0
 
 
+def is_large(token: Token) -> bool:
+    """Whether a token is a number of more than 64 bits."""
+    return token.kind == "number" and not is_of_64_bits(token.text)
+
+
 def stands_for_any(pattern: Token) -> bool:
     """Whether a token of a code stands for others too: a number, a text, a name in small letters."""
     return pattern.kind in ("number", "text") or pattern.kind == "word" and pattern.text.islower()
@@ -31,7 +36,7 @@ def is_like(pattern: Token, token: Token) -> bool:
     if not stands_for_any(pattern):
         return token.text.upper() == pattern.text
     if pattern.kind != "word":
-        return token.kind == pattern.kind
+        return token.kind == pattern.kind and is_large(token) >= is_large(pattern)
     is_keyword = pattern.text.upper() in KEYWORDS
     return token.kind == "word" and (token.text.upper() in KEYWORDS) == is_keyword
 
@@ -62,12 +67,21 @@ def score_of(code: str, found: Sequence[Token], at: int) -> Score:
     return inner._replace(head=len(head)) if inner > Score() else inner
 
 
+def or_within(found: Sequence[Token], at: int) -> int:
+    """The place of an OR within the parentheses that begin at a token: they are there for it. Else the token's own."""
+    if not found[at].is_mark("(") or not found[at - 1].is_word("WHERE", "AND"):
+        return at
+    end = next((i for i in range(at, len(found)) if found[i].is_mark(")")), len(found))
+    return next((i for i in range(at, end) if found[i].is_word("OR")), at)
+
+
 def way_out_at(cases: Iterable[tuple[str, str]], statement: str, character: int) -> str:
     """The way out of the case whose code fits best around the token at a character, or nothing."""
     found = tokens(statement)
     at = next((i for i, token in enumerate(found) if token.start <= character < token.end), None)
     if at is None:
         return ""
+    at = or_within(found, at)
     fits = [(score_of(code, found, at), way) for case, way in cases for code in CODE.findall(case)]
     best, way = max(fits, key=lambda fit: fit[0], default=(Score(), ""))
     return way if best > Score() else ""

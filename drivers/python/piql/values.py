@@ -2,12 +2,9 @@
 
 from .errors import DataError, ProgrammingError
 from .reports import Value
-from .scripts import tokens
+from .scripts import GREATEST, LEAST, is_of_64_bits, plain_number, tokens
 
 LITERALS: dict[str, Value] = {"TRUE": True, "FALSE": False, "NULL": None}
-LEAST, GREATEST = -(2**63), 2**63 - 1
-# Of the letters of a number of 64 bits, its sign among them.
-MOST_DIGITS = len(str(LEAST))
 
 
 def quoted_text(text: str) -> str:
@@ -47,8 +44,8 @@ def read_literal(text: str) -> Value:
     found = tokens(text)
     if len(found) == 1:
         token = found[0]
-        if token.kind == "number" and len(token.text) <= MOST_DIGITS:
-            return int(token.text)
+        if token.kind == "number" and is_of_64_bits(token.text):
+            return int(plain_number(token.text))
         if token.kind == "text":
             return token.text[1:-1].replace("''", "'")
         if token.text.upper() in LITERALS:

@@ -1,0 +1,133 @@
+"""What a refusal speaks of by a number or a name, told from the definitions of the store: names alone, never values."""
+
+from collections.abc import Callable
+from typing import NamedTuple
+
+from .schema import Column, Schema, Table, names_behind
+from .scripts import Token, tokens
+
+
+class Detail(NamedTuple):
+    """A sentence for a message, and the table and the columns that the refusal speaks of."""
+
+    detail: str = ""
+    table: str | None = None
+    key: tuple[str, ...] = ()
+
+
+def listed(names: tuple[str, ...]) -> str:
+    """Names for a reader."""
+    return ", ".join(names)
+
+
+def counted(number: int, noun: str) -> str:
+    """A number of things."""
+    return f"{number} {noun}{'' if number == 1 else 's'}"
+
+
+def columns_behind(table: Table, *words: str) -> list[tuple[tuple[str, ...], str]]:
+    """For each place of a table where these words stand, the columns behind them, and the token behind REFERENCES."""
+    found, clauses = tokens(table.text), []
+    for at in range(len(found) - len(words)):
+        if all(token.is_word(word) for token, word in zip(found[at:], words)):
+            begin = next(i for i in range(at, len(found)) if found[i].is_mark("("))
+            names, end = names_behind(found, begin + 1)
+            clauses.append((names, found[end + 1].text if found[end].is_word("REFERENCES") else ""))
+    return clauses
+
+
+def of_name(schema: Schema, _: list[Token], name: str) -> Detail:
+    """Who has a name already."""
+    kinds = (("table", schema.tables()), ("query", schema.queries()), ("counter", schema.counters()))
+    return Detail(next((f"A {kind} has it." for kind, named in kinds if name in named), ""))
+
+
+def of_values(schema: Schema, found: list[Token], number: str) -> Detail:
+    """How many values are wanted, or which of them doesn't fit."""
+    if number != "0":
+        return Detail(f"It is value {number}.")
+    name = found[1].text.lower() if len(found) > 1 else ""
+    query, counter = schema.queries().get(name), schema.counters().get(name)
+    wanted = query.params if query else len(counter.columns) if counter else None
+    given = sum(not it.is_mark(",") for it in bracketed(found))
+    if wanted is None:
+        return Detail()
+    return Detail(f"{counted(wanted, 'value')} {'is' if wanted == 1 else 'are'} wanted, and {given} given.")
+
+
+def bracketed(found: list[Token]) -> list[Token]:
+    """The tokens within the first parentheses."""
+    begin = next((i for i, token in enumerate(found) if token.is_mark("(")), len(found))
+    end = next((i for i in range(begin, len(found)) if found[i].is_mark(")")), len(found))
+    return found[begin + 1 : end]
+
+
+def of_column(schema: Schema, _: list[Token], table: str, name: str) -> Detail:
+    """The type of the column that a value doesn't fit."""
+    column = next(it for it in schema.tables()[table].columns if it.name == name)
+    return Detail(f"{name} is {type_of(column)}.", table, (name,))
+
+
+def type_of(column: Column) -> str:
+    """A column's type as a definition has it."""
+    size = f"({column.size})" if column.size else ""
+    return f"{column.type}{size}{' NULL' if column.nullable else ', and takes no NULL'}"
+
+
+def of_columns(schema: Schema, found: list[Token], name: str) -> Detail:
+    """Which columns are wrong in a write."""
+    table = schema.tables()[name]
+    if found[0].is_word("INSERT"):
+        return Detail(of_insert(table, found), name)
+    keyed = f"The key of {name} is ({listed(table.key)}), and nothing else stands behind WHERE"
+    return Detail(f"{keyed} nor any of it behind SET." if found[0].is_word("UPDATE") else f"{keyed}.", name, table.key)
+
+
+def of_insert(table: Table, found: list[Token]) -> str:
+    """Which columns an INSERT lacks, or how many values it wants."""
+    listing = len(found) > 3 and found[3].is_mark("(")
+    if not listing:
+        return f"{counted(len(table.columns), 'value')} are wanted: {listed(tuple(it.name for it in table.columns))}."
+    given = {token.text.lower() for token in bracketed(found)}
+    lacking = tuple(it.name for it in table.columns if not it.is_added and it.name not in given)
+    return f"It lacks {listed(lacking)}." if lacking else "There isn't one value for each column of its list."
+
+
+def of_reference(schema: Schema, _: list[Token], table: str, number: str) -> Detail:
+    """The foreign key of this number."""
+    names, parent = columns_behind(schema.tables()[table], "FOREIGN", "KEY")[int(number) - 1]
+    return Detail(f"It is ({listed(names)}) of {table}, which refers to {parent}.", table, names)
+
+
+def of_limit(schema: Schema, _: list[Token], table: str, number: str, most: str) -> Detail:
+    """The limit of this number."""
+    names, _parent = columns_behind(schema.tables()[table], "CARDINALITY", "LIMIT")[int(number) - 1]
+    return Detail(f"At most {most} rows of {table} have the same ({listed(names)}).", table, names)
+
+
+READERS: dict[str, Callable[..., Detail]] = {
+    "E201": of_name,
+    "E402": of_values,
+    "E501": of_column,
+    "E502": of_columns,
+    "E505": of_reference,
+    "E506": of_reference,
+    "E507": of_limit,
+}
+
+
+def has_detail(code: str) -> bool:
+    """Whether the definitions tell more of such a refusal."""
+    return code in READERS
+
+
+def detail_of(fields: tuple[str, ...], statement: str, schema: Schema) -> Detail:
+    """What the definitions tell of a refusal. Where they are others meanwhile, it is nothing."""
+    read = READERS.get(fields[0])
+    found = tokens(statement)
+    if read is None or not found:
+        return Detail()
+    try:
+        return read(schema, found, *fields[1:])
+    except (KeyError, IndexError, StopIteration, TypeError, ValueError):
+        return Detail()
