@@ -6,7 +6,7 @@ from collections.abc import Sequence
 from typing import TYPE_CHECKING
 
 from . import errors
-from .details import Detail, detail_of, has_detail
+from .details import Detail, counted, detail_of, has_detail
 from .errors import InterfaceError, InternalError, NotSupportedError, ProgrammingError, refused
 from .hosts.link import ReaderLink
 from .interrupts import own
@@ -37,7 +37,7 @@ def fillings_of(statement: Statement, parameters: Parameters) -> tuple[str, ...]
     """The values as the statement writes them, one for each place."""
     values = plain_list(parameters)
     if len(values) != statement.params:
-        raise ProgrammingError(f"{statement.params} values are wanted, {len(values)} are given")
+        raise ProgrammingError(f"{counted(statement.params, 'value')} wanted, {len(values)} given")
     return tuple(map(quoted, values))
 
 

@@ -9,26 +9,28 @@ come out as `run` writes them.
 
 import argparse
 import os
-import readline
 import sys
-from pathlib import Path
 from typing import NoReturn
 
-from .connection import Connection
-from .cursor import Cursor
+from .connection import SHOW, Connection
+from .cursor import SHOWN, Cursor
 from .engine import find_program
 from .errors import Error
+from .hosts.passwords import shown
+from .hosts.urls import is_url
+from .prompt import prompt
 from .reports import Work
 from .schema import Added, Table
 from .scripts import Place, pieces
-from .statements import read_statement
+from .statements import Sent, read_statement
 from .tables import table
 
-HISTORY = "~/.piql_history"
 HELP = """\
-A statement ends with ; and may go over several lines.
+A statement ends with ; and may go over several lines. Ctrl-C leaves one that isn't whole.
+A SELECT is defined for good where it isn't yet, and may make an index; .queries and .indexes list them.
 .tables     the tables         .queries    the prepared queries
-.counters   the counters       .bounds     each query's bound
+.counters   the counters       .indexes    each table's key and indexes
+.bounds     each query's bound
 .next       the next page of the last answer
 .help       this               .quit       the end, as Ctrl-D"""
 
@@ -37,10 +39,9 @@ def numbers(bound: Work | None, used: Work | None) -> str:
     """The bound and what was used, in words."""
     if bound is None or used is None:
         return ""
-    return (
-        f"bound {bound.operations} operations, {bound.entries} entries;"
-        f" used {used.operations} operations, {used.entries} entries"
-    )
+    operations = f"{bound.operations} operation{'' if bound.operations == 1 else 's'}"
+    entries = f"{bound.entries} entr{'y' if bound.entries == 1 else 'ies'}"
+    return f"at most {operations}, {entries}; used {used.operations}, {used.entries}"
 
 
 def underlined(statement: str, place: Place) -> str:
@@ -54,8 +55,9 @@ def told(error: Error) -> str:
     """An error for a reader: what was refused, where, why, and the way out."""
     refusal = error.refusal
     if refusal is None:
-        return f"{type(error).__name__}: {error}"
-    lines = [" ".join([refusal.number, *refusal.fields.values()]) + f": {refusal.headline}"]
+        return str(error)
+    head = " ".join([refusal.number, *refusal.fields.values()])
+    lines = [f"{head}: {refusal.headline} {refusal.detail}".rstrip()]
     if refusal.place is not None:
         lines.append(underlined(refusal.statement, refusal.place))
     if refusal.way_out:
@@ -68,7 +70,11 @@ def answer(cursor: Cursor) -> str:
     lines = []
     if cursor.description is not None:
         rows = cursor.fetchall()
-        lines += [table([it.name for it in cursor.description], rows)] if rows else []
+        if cursor.description is SHOWN:
+            # A definition is read whole or not at all.
+            lines += [f"{number:3} {text}" for number, text in rows]
+        elif rows:
+            lines.append(table([it.name for it in cursor.description], rows))
         lines += [f"{len(rows)} row{'' if len(rows) == 1 else 's'}" + ("; .next has more" if cursor.next_page else "")]
     else:
         lines.append("ok" if cursor.rowcount else "no row has this key")
@@ -109,21 +115,39 @@ class Shell:
             return "\n".join(it.text for it in self.connection.refresh().counters().values())
         if word == ".queries":
             return "\n".join(it.text for it in self.connection.refresh().queries().values())
+        if word == ".indexes":
+            return self.indexes()
         if word == ".bounds":
             rows = [(name, *bound) for name, bound in self.connection.bounds().items()]
             return table(["query", "operations", "entries"], rows)
         return HELP if word == ".help" else f"there is no {word}\n{HELP}"
 
+    def indexes(self) -> str:
+        """The keys of the tables, and their indexes with their numbers."""
+        keys = [(name, "key", ", ".join(it.key)) for name, it in self.connection.refresh().tables().items()]
+        report = self.connection.report(Sent(SHOW, "", ()))
+        made = [(it.table, f"index {it.number}", ", ".join(it.columns)) for it in report.indexes()]
+        return table(["table", "", "columns"], sorted(keys + made, key=lambda row: row[0]))
+
+    def tell_command(self, word: str) -> None:
+        """Prints what a word with a point is answered."""
+        try:
+            print(self.command(word))
+        except Error as error:
+            print(told(error))
+
     def line(self, before: str, line: str) -> str:
         """Takes a line behind those that are no whole statement yet; prints answers; what is left."""
-        if not before and line.strip().startswith("."):
-            try:
-                print(self.command(line.strip()))
-            except Error as error:
-                print(told(error))
+        word = line.strip()
+        if not before and (word.startswith(".") or word.rstrip(";").lower() == "help"):
+            self.tell_command(word if word.startswith(".") else ".help")
             return ""
         text = before + line + "\n"
-        data = text.encode(errors="replace")
+        try:
+            data = text.encode()
+        except UnicodeEncodeError:
+            print("this line isn't UTF-8, and is left out")
+            return before
         rest = ""
         for piece in pieces(data):
             part = data[piece.start : piece.end].decode().strip()
@@ -132,32 +156,6 @@ class Shell:
             else:
                 rest = part + "\n"
         return rest
-
-
-def prompt(shell: Shell) -> None:
-    """Reads lines until the end."""
-    history = Path(HISTORY).expanduser()
-    try:
-        readline.read_history_file(history)
-    except OSError:
-        pass
-    rest = ""
-    while True:
-        try:
-            line = input("    > " if rest else "piql> ")
-            if line.strip() == ".quit":
-                break
-            rest = shell.line(rest, line)
-        except EOFError:
-            print()
-            break
-        except KeyboardInterrupt:
-            print()
-            rest = ""
-    try:
-        readline.write_history_file(history)
-    except OSError:
-        pass
 
 
 def hand_over(file: str | None) -> NoReturn:
@@ -191,10 +189,11 @@ def main(words: list[str] | None = None) -> int:
                 return through_server(file)
             hand_over(file)
         with connect(file or ":memory:") as connection:
-            print(f"{file or 'a store in memory'}; .help tells the commands")
+            name = "a store in memory" if file is None else shown(file) if is_url(file) else file
+            print(f"{name}; .help tells the commands")
             prompt(Shell(connection))
         return 0
-    except Error as error:
+    except (Error, OSError) as error:
         print(f"piql-shell: {error}", file=sys.stderr)
         return 1
 

@@ -8,6 +8,7 @@ import subprocess
 import unittest
 
 from helpers import PIQL_FILE, TOP, StoreCase, needs_file, new_folder, piql
+from piql.prompt import is_end
 from piql.shell import Shell, underlined
 from piql.scripts import Place
 from piql.tables import table
@@ -52,7 +53,7 @@ class ShellTest(StoreCase):
         return out.getvalue()
 
     def test_an_answer(self) -> None:
-        numbers = "bound 1 operations, 2 entries; used 1 operations, 2 entries\n"
+        numbers = "at most 1 operation, 2 entries; used 1, 2\n"
         self.assertEqual(self.said("RUN page;"), f"{TABLE}\n2 rows; .next has more\n{numbers}")
 
     def test_the_next_page(self) -> None:
@@ -62,7 +63,7 @@ class ShellTest(StoreCase):
 
     def test_several_statements_on_a_line(self) -> None:
         said = self.said("SHOW; RUN nothing", "(';'", ");")
-        self.assertIn("definition", said)
+        self.assertIn("  1 CREATE TABLE t (a INT, b TEXT(50) NULL, PRIMARY KEY (a));\n", said)
         self.assertIn("E401 nothing", said)
 
     def test_a_refusal(self) -> None:
@@ -70,11 +71,11 @@ class ShellTest(StoreCase):
         self.assertIn("  WHERE a = 1 OR a = 2;\n              ^\nway out: one query with a parameter", said)
 
     def test_a_write_that_finds_no_row(self) -> None:
-        self.assertIn("no row has this key\nbound 2", self.said("DELETE FROM t WHERE a = 99;"))
+        self.assertIn("no row has this key\nat most 2", self.said("DELETE FROM t WHERE a = 99;"))
 
     def test_a_counter(self) -> None:
         said = self.said("CREATE TABLE u (a INT, PRIMARY KEY (a)); CREATE COUNTER c OF u (a); READ c (7);", ".counters")
-        self.assertIn("rows\n----\n   0\n1 row\nbound 1 operations, 1 entries; used 1 operations, 0 entries\n", said)
+        self.assertIn("rows\n----\n   0\n1 row\nat most 1 operation, 1 entry; used 1, 0\n", said)
         self.assertTrue(said.endswith("CREATE COUNTER c OF u (a);\n"))
         self.assertNotIn("COUNTER", self.said(".tables"))
 
@@ -82,8 +83,29 @@ class ShellTest(StoreCase):
         self.assertIn("CREATE TABLE t", self.said(".tables"))
         self.assertIn("PREPARE page", self.said(".queries"))
         self.assertIn("page  |          1 |       2", self.said(".bounds"))
-        self.assertIn(".next", self.said(".help"))
+        for word in (".help", "help", "HELP;", " help "):
+            self.assertIn(".next       the next page", self.said(word))
         self.assertIn("there is no .x", self.said(".x"))
+        self.assertRegex(self.said(".indexes"), r"t +\| key +\| a\n")
+
+    def test_what_is_no_refusal(self) -> None:
+        self.assertEqual(self.said("RUN page (?);"), "1 value wanted, 0 given\n")
+        self.assertEqual(self.said("RUN page ('\udcff');"), "this line isn't UTF-8, and is left out\n")
+
+    def test_a_refusal_has_no_markdown(self) -> None:
+        said = self.said("HELLO WORLD;")
+        self.assertIn("LANGUAGE.md has the form of each", said)
+        self.assertNotIn("](", said)
+
+
+class PromptTest(unittest.TestCase):
+    """Words of a prompt, without one."""
+
+    def test_ends(self) -> None:
+        for line in ("exit", "quit", "EXIT;", " .quit ", ".exit", "quit ;"):
+            self.assertTrue(is_end(line), line)
+        for line in ("", ";", "exit now;", "quitting", ".next"):
+            self.assertFalse(is_end(line), line)
 
 
 @needs_file
@@ -107,11 +129,12 @@ class ProgramTest(unittest.TestCase):
         environment = {**os.environ, "HOME": str(self.folder), "TERM": "dumb"}
         process = subprocess.Popen(self.words, stdin=inner, stdout=inner, env=environment, start_new_session=True)
         os.close(inner)
-        os.write(terminal, b"CREATE TABLE t (a INT,\nPRIMARY KEY (a));\n.tables\n.quit\n")
+        os.write(terminal, b"CREATE TABLE t (a INT,\n  PRIMARY KEY (a));\n.tables\nSHOW -- all\n;\nexit\n")
         said = b""
         with contextlib.suppress(OSError):
             while part := os.read(terminal, 4096):
                 said += part
         self.assertEqual(process.wait(), 0)
         self.assertIn(b"CREATE TABLE t (a INT, PRIMARY KEY (a));", said)
-        self.assertIn(b".tables", (self.folder / ".piql_history").read_bytes())
+        history = (self.folder / ".piql_history").read_text().splitlines()
+        self.assertEqual(history, ["CREATE TABLE t (a INT, PRIMARY KEY (a));", ".tables", "SHOW -- all", ";", "exit"])
