@@ -3,11 +3,16 @@
 import contextlib
 import io
 import sqlite3
+import subprocess
 import unittest
 from pathlib import Path
 
-from helpers import needs_file, new_folder, piql
+from helpers import TOP, built, needs_file, new_folder, piql
 from piql.__main__ import main
+from piql.connection import Connection
+from piql.hosts.link import HostLink
+from piql.hosts.memory import MemoryStore
+from piql.migrate import check_rows, missing_of, read_wanted, rehearsed
 from piql.reports import DefinitionLine
 from piql.schema import Added, Column, Counter, read_added, read_counter, read_query, read_schema, read_table
 from piql.stored import opened, read_row, read_stored_schema, stored_rows
@@ -43,6 +48,9 @@ STRANGE_CODES = [
     "06 FFFFFFFFFFFFFFFE 0002 6869 01 0000000000000005 0000 00",
 ]
 ADDED = "ALTER TABLE users ADD COLUMN karma INT DEFAULT 7;\n"
+INDEXED = """PREPARE in_town AS SELECT u.name FROM users AS u WHERE u.town = [1] ORDER BY u.name LIMIT 5;
+PREPARE hot_ones AS SELECT n.owner FROM notes AS n WHERE n.hot = [1] LIMIT 5;
+"""
 COUNTED = "CREATE COUNTER of_town OF users (town);\n"
 
 
@@ -208,17 +216,77 @@ class SchemaTest(unittest.TestCase):
         self.schema.write_text(FIRST + COUNTED.replace("(town)", "(name)"))
         self.assertIn("of_town", self.told_difference(connection))
 
-    def test_migrate_refuses_a_counter_over_rows(self) -> None:
-        connection, out = self.open(), io.StringIO()
-        piql.migrate(connection, self.schema, out=out)
-        connection.execute("INSERT INTO users VALUES ('ann', 'rome')")
+    def refused_counter(self, connection: piql.Connection) -> None:
+        """A counter over the rows that a table has is refused before anything else of the schema is made."""
         self.schema.write_text(SECOND + COUNTED)
+        out, before = io.StringIO(), connection.refresh()
         with self.assertRaises(piql.OperationalError) as caught:
             piql.migrate(connection, self.schema, out=out)
         self.assertEqual((caught.exception.number, caught.exception.fields), ("E209", {"table": "users"}))
         self.assertIn("rebuild OLD NEW SCHEMA", caught.exception.way_out)
-        self.assertEqual(caught.exception.__notes__, [f"in {self.schema}, at of_town; made before it: notes, latest"])
-        self.assertEqual(connection.schema().counters(), {})
+        self.assertEqual(caught.exception.__notes__, ["at of_town; nothing was made"])
+        self.assertEqual((connection.refresh(), out.getvalue()), (before, ""))
+
+    def counted(self, connection: piql.Connection) -> None:
+        """What is made over rows is looked at first: a counter is refused, and an index is told with the rows."""
+        piql.migrate(connection, self.schema, out=io.StringIO())
+        connection.execute("INSERT INTO users VALUES ('ann', 'rome')")
+        connection.execute("INSERT INTO users VALUES ('bob', 'rome')")
+        self.refused_counter(connection)
+        self.schema.write_text(SECOND + INDEXED)
+        out = io.StringIO()
+        self.assertEqual(piql.migrate(connection, self.schema, out=out), ["notes", "latest", "in_town", "hot_ones"])
+        lines = ["index users (town, name) over 2 rows", "index notes (hot)"]
+        self.assertEqual([line for line in out.getvalue().splitlines() if line.startswith("index")], lines)
+        self.assertEqual(connection.execute("RUN in_town ('rome')").fetchall(), [("ann",), ("bob",)])
+
+    def test_migrate_looks_at_the_rows_of_a_file(self) -> None:
+        self.counted(self.open())
+
+    @unittest.skipUnless(built("piql_host"), "crates/piql_host is not built")
+    def test_migrate_looks_at_the_rows_of_a_host(self) -> None:
+        link = HostLink("pairs", MemoryStore(), built("piql_host"))
+        self.addCleanup(link.close)
+        self.counted(Connection(link))
+
+    def test_migrate_looks_at_the_rows_behind_a_server(self) -> None:
+        socket = self.folder / "socket"
+        with subprocess.Popen([TOP / "bin/piql-serve", self.path, socket], stdout=subprocess.PIPE) as server:
+            assert server.stdout is not None
+            server.stdout.readline()
+            try:
+                with piql.connect(f"unix:{socket}") as connection:
+                    self.counted(connection)
+            finally:
+                server.terminate()
+
+    def test_a_rehearsal_finds_what_a_store_has_no_room_for(self) -> None:
+        tables = [f"CREATE TABLE t{i} (a INT, PRIMARY KEY (a));" for i in range(8)]
+        added = [f"ALTER TABLE t{i} ADD COLUMN c{j} INT DEFAULT 0;" for i in range(8) for j in range(31)]
+        counters = [f"CREATE COUNTER c{i} OF t0 (a);" for i in range(4)]
+        cases = ((tables + added, "definitions"), (tables + counters, "counters"))
+        for texts, word in cases:
+            there = read_schema([DefinitionLine(number, text) for number, text in enumerate(texts, 1)])
+            self.schema.write_text(tables[0] + "CREATE COUNTER more OF t0 (a);")
+            missing = missing_of(there, read_wanted(self.schema))
+            with self.subTest(word), self.assertRaises(piql.NotSupportedError) as caught:
+                rehearsed(there, missing, None)
+            self.assertEqual((caught.exception.number, caught.exception.fields), ("E206", {"word": word}))
+            self.assertEqual(caught.exception.__notes__, ["at more; nothing was made"])
+
+    def test_an_index_over_too_many_rows(self) -> None:
+        self.schema.write_text(FIRST + INDEXED.partition("PREPARE hot")[0])
+        missing = read_wanted(self.schema)[-1:]
+        check_rows(missing, {"users": 1_000_000})
+        with self.assertRaises(piql.OperationalError) as caught:
+            check_rows(missing, {"users": 1_000_001})
+        self.assertEqual((caught.exception.number, caught.exception.fields), ("E207", {"table": "users"}))
+
+    def test_a_schema_that_can_not_be_read(self) -> None:
+        self.schema.write_bytes(b"-- \xff")
+        for path in (self.schema, self.folder / "no.piql"):
+            with self.subTest(path), self.assertRaisesRegex(piql.OperationalError, "can't be read"):
+                read_wanted(path)
 
     def test_migrate_refuses_what_differs(self) -> None:
         connection, out = self.open(), io.StringIO()
