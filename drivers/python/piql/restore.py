@@ -3,6 +3,7 @@
 import contextlib
 import os
 import sqlite3
+import sys
 from typing import TextIO
 
 from .backup import PART, copy_with_log, make_one_file
@@ -43,7 +44,7 @@ def check_by_engine(part: str, copy: str, program: str) -> None:
 
 def check_whole(part: str, copy: str, tell: TextIO, program: str) -> None:
     """Refuses a copy whose pairs differ from one another."""
-    done = verify(part, tell, tell, program)
+    done = verify(part, tell, sys.stderr, program)
     if done.differences:
         why = f"it has {done.differences} differences; --unchecked takes it as it is"
         raise InternalError(f"{copy} isn't restored: {why}")
