@@ -15,7 +15,7 @@ from piql.errors import Error, OperationalError
 from piql.private import new_file
 from piql.schema import Table
 from piql.scripts import SCRIPT_BYTES
-from piql.stored import DEFINITIONS, INTENT, READY, check_formats, open_file, pairs, read_stored_schema, stored_rows
+from piql.stored import DEFINITIONS, INTENT, READY, check_formats, opened, pairs, read_stored_schema, stored_rows
 from piql.values import quoted
 from tools.launch import tell
 from tools.statuses import USAGE
@@ -78,16 +78,10 @@ def write_folder(parts: Iterable[bytes], folder: Path) -> int:
 
 def write(path: str, folder: str | None) -> int:
     """Writes the scripts of a file."""
-    try:
-        file = open_file(path)
-    except sqlite3.OperationalError as error:
-        raise OperationalError(f"it can't be opened: {error}") from error
-    try:
+    with opened(path) as file:
         check_whole(file)
         parts = scripts(statements(file), SCRIPT_BYTES)
         return write_folder(parts, Path(folder)) if folder else write_out(parts)
-    finally:
-        file.close()
 
 
 def read_given(words: list[str]) -> argparse.Namespace:

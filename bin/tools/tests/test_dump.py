@@ -1,5 +1,6 @@
 """Tests of bin/dump: over a file whose bytes are written here, and there and back over the examples."""
 
+import contextlib
 import pathlib
 import re
 import sqlite3
@@ -81,7 +82,7 @@ class NoFileTest(unittest.TestCase):
     def test_it_is_told(self) -> None:
         run = run_dump(new_folder(self) / "nowhere.db")
         self.assertEqual(run.returncode, 1)
-        self.assertRegex(run.stderr, rb"^dump: /\S*nowhere\.db: it can't be opened: ")
+        self.assertRegex(run.stderr, rb"^dump: /\S*nowhere\.db can't be read: unable to open")
 
 
 class BytesTest(unittest.TestCase):
@@ -166,6 +167,26 @@ class BytesTest(unittest.TestCase):
             self.path.unlink(missing_ok=True)
             self.write(PAIRS | {b"\x02\x01\x10\x7f" + b"\xff" * 7: code})
             self.assertIn("a row", self.refused())
+
+    def test_a_spoilt_file_is_told(self) -> None:
+        strange = {
+            b"\x01\x00\x01": READY + b"CREATE TABLE \xff",
+            b"\x01\x00\x02": READY + b"CREATE TABLE ",
+            b"\x02\x01\x10\x7f" + b"\xff" * 7: b"",
+            b"\x02\x02\x10it's\x00\x01": b"\x02\x00\x04it\xffs" + b"\xff" * 8,
+        }
+        for key, value in strange.items():
+            self.path.unlink(missing_ok=True)
+            self.write(PAIRS | {key: value})
+            with self.subTest(value):
+                self.assertRegex(self.refused(), r"^dump: \S*a\.db: (a|column) ")
+
+    def test_nothing_is_left_beside_the_file(self) -> None:
+        self.write(PAIRS)
+        with contextlib.closing(sqlite3.connect(self.path)) as database:
+            database.execute("PRAGMA journal_mode = wal")
+        run_dump(self.path)
+        self.assertEqual([it.name for it in self.folder.glob("*-shm")], [])
 
     def test_no_store_is_told(self) -> None:
         self.assertIn("unable to open", self.refused())
