@@ -1,6 +1,7 @@
 """Hosts: the frames, backends in memory and in a file, and the links of runs whose store this process has."""
 
 import io
+import math
 import random
 import re
 import shutil
@@ -32,6 +33,7 @@ from piql.hosts import (
     run,
     serve,
 )
+from piql.hosts.backend import Unreachable
 from piql.hosts.etcd import Fence, read_fence
 from piql.hosts.etcd_client import Stored
 from piql.hosts.etcd_reading import EtcdReading
@@ -314,6 +316,18 @@ class LinkTest(unittest.TestCase):
         other.held = 1000
         with self.assertRaisesRegex(OperationalError, "another engine has the store: somebody has it"):
             self.link(other).exchange(b"COUNT;", True)
+
+    def test_servers_that_dont_answer_are_tried_until_the_time_is_over(self) -> None:
+        store = MemoryStore()
+        gone = Unreachable("no member answers")
+        store.begin = unittest.mock.Mock(side_effect=[gone, gone, None])  # type: ignore[method-assign]
+        link = self.link(store)
+        link.timeout = math.inf
+        self.assertIn("1 ok", link.exchange(b"COUNT;", True))
+        other = self.link(MemoryStore())
+        other.backends[0].begin = unittest.mock.Mock(side_effect=gone)  # type: ignore[method-assign]
+        with self.assertRaisesRegex(OperationalError, "isn't open: no member answers"):
+            other.exchange(b"COUNT;", True)
 
     def test_a_store_that_was_lost_meanwhile_is_begun_anew(self) -> None:
         store = Lost()

@@ -42,6 +42,10 @@ class Fault(Exception):
     """A call that has no answer. Behind a write the content is the old one or the changed one, and stays so."""
 
 
+class Unreachable(Fault):
+    """No server answers, and nothing is wrong with the store as far as is known: it may be tried again."""
+
+
 class Held(Exception):
     """Another engine has the store for itself."""
 

@@ -10,7 +10,7 @@ from base64 import b64decode, b64encode
 from collections.abc import Callable, Sequence
 from typing import Any, NamedTuple, TypeVar
 
-from .backend import Fault
+from .backend import Fault, Unreachable
 from .timed import TimedConnection
 
 PAUSE = 0.02
@@ -63,7 +63,7 @@ class EtcdClient:
             except WRONG as error:
                 self.next_member()
                 if time.monotonic() + PAUSE >= until:
-                    raise Fault(f"no member answers: {error}") from error
+                    raise Unreachable(f"no member answers: {error}") from error
                 time.sleep(PAUSE)
 
     def once(self, path: str, body: Body, read: Callable[[Body], T], patience: float) -> T:

@@ -7,7 +7,7 @@ from collections.abc import Sequence
 from ..engine import EngineEnded, find_program
 from ..errors import DatabaseError, Error, NotSupportedError, OperationalError, with_status
 from ..links import EngineLink, check_owner
-from .backend import Backend, Fault, Held, Reading
+from .backend import Backend, Fault, Held, Reading, Unreachable
 from .host import Host
 from .hosted import HostedEngine, Stalled
 from .wire import BadRequest
@@ -41,7 +41,7 @@ class HostLink(EngineLink):
         self.revision = 0
 
     def begin(self) -> HostedEngine:
-        """Begins a run; where another engine has the store, tries again until the time is over."""
+        """Begins a run. Where another engine has the store, or no server answers, it tries until the time is over."""
         until = time.monotonic() + self.timeout
         while True:
             host = Host(self.backends, self.places)
@@ -53,6 +53,9 @@ class HostLink(EngineLink):
             except Held as held:
                 if time.monotonic() > until:
                     raise OperationalError(HELD.format(why=held)) from held
+            except Unreachable as why:
+                if time.monotonic() > until:
+                    raise OperationalError(f"{self.name} isn't open: {why}") from why
             except (Fault, Stalled, BadRequest) as error:
                 raise OperationalError(f"{self.name} isn't open: {error}") from error
             except EngineEnded as end:

@@ -15,7 +15,7 @@ import time
 from collections.abc import Sequence
 from typing import Any
 
-from .backend import INTENT, UNSETTLED, Change, Fault, Guard, Held, Pair
+from .backend import INTENT, UNSETTLED, Change, Fault, Guard, Held, Pair, Unreachable
 from .fenced import GONE, FencedStore
 from .notices import notice
 from .postgres_client import Lost, PostgresClient, Refused, Values
@@ -132,7 +132,7 @@ class PostgresStore(FencedStore):
                 return self.client.run(text, values, end, seconds)
             except Lost as lost:
                 if time.monotonic() + PAUSE >= end:
-                    raise Fault(f"no server answers: {lost}") from lost
+                    raise Unreachable(f"no server answers: {lost}") from lost
                 time.sleep(PAUSE)
 
     def words(self, **more: object) -> dict[str, object]:

@@ -82,6 +82,8 @@ class PostgresClient:
                 self.wait(made, soon)
                 self.connection = made
                 self.told(made, self.session, {}, soon)
+                # It is asked first from now on.
+                self.places = [place, *(other for other in self.places if other is not place)]
                 return made
             except (self.library.Error, Lost) as error:
                 why = self.told_of(error)

@@ -18,6 +18,10 @@ READ_SESSION = SESSION + "; SET idle_in_transaction_session_timeout = '60s'"
 BEGIN = "COMMIT; BEGIN ISOLATION LEVEL REPEATABLE READ READ ONLY;"
 IS_BEFORE = "COMMIT; SELECT to_regclass('piql_pairs_order') IS NULL"
 MARKED = b"\1"
+AT_WORK = (
+    "the writer has been at work for {seconds:g} seconds, as while an index is made;"
+    " what a writer left that is gone, the next one ends by opening the store"
+)
 
 
 class Texts(NamedTuple):
@@ -77,7 +81,7 @@ class PostgresReading(Reading):
         if revision < least:
             return f"revision {least} was asked for, and the server has {revision}"
         if is_at_work or value is not None and bytes(value)[1:2] == MARKED:
-            return f"the writer has been at work for {self.patience:g} seconds"
+            return AT_WORK.format(seconds=self.patience)
         self.client, self.spare = self.spare, self.client
         self.revision, self.definitions = revision, None if last is None else bytes(last)
         return ""
