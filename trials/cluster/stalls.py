@@ -66,7 +66,7 @@ def stopped_in_mid_statement(trial: Trial) -> None:
             connection.execute(INSERT, (1, "a"))
             trial.expect(False, "an engine that is stopped answers")
         except OperationalError as error:
-            trial.expect("asked for nothing" in str(error), f"an engine that is stopped: {error}")
+            trial.expect("stood still" in str(error), f"an engine that is stopped: {error}")
         check(trial, f"an engine that is stopped, {time.monotonic() - begun:.1f} s", connection, [], 1)
 
 

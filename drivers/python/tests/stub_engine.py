@@ -1,6 +1,7 @@
 """Stands for an engine in the tests of hosts: it speaks the frames, and each of its statements is a few words.
 
     PUT KEY VALUE;   GET KEY;   COUNT;   calls of the store, with the answer as a row
+    STUCK KEY;   asks for a value, and never reads the answer
     EXIT STATUS;   HANG;   GARBAGE;   ECHO ANYTHING;
 """
 
@@ -11,10 +12,15 @@ import time
 READ, REPORT, GET, RANGE, COUNT, WRITE = 1, 2, 16, 17, 18, 19
 
 
-def ask(op: int, body: bytes) -> bytes:
-    """What the host answers to a request. A call that failed ends the program as the engine's ends."""
+def send(op: int, body: bytes) -> None:
+    """Sends a request."""
     sys.stdout.buffer.write(struct.pack(">IBBB", len(body) + 3, 1, op, 0) + body)
     sys.stdout.buffer.flush()
+
+
+def ask(op: int, body: bytes) -> bytes:
+    """What the host answers to a request. A call that failed ends the program as the engine's ends."""
+    send(op, body)
     head = sys.stdin.buffer.read(4)
     if len(head) < 4:
         sys.exit(3)
@@ -44,6 +50,9 @@ def done(words: list[str]) -> str:
         case ["EXIT", status]:
             sys.exit(int(status))
         case ["HANG"]:
+            time.sleep(60)
+        case ["STUCK", key]:
+            send(GET, key.encode())
             time.sleep(60)
         case ["GARBAGE"]:
             sys.stdout.buffer.write(b"\0\0\0\1x")

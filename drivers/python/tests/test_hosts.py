@@ -179,6 +179,13 @@ class Slow(MemoryStore):
         return None
 
 
+class Large(MemoryStore):
+    """A store with a value that is longer than what a pipe holds."""
+
+    def get(self, key: bytes) -> bytes | None:
+        return bytes(360_000)
+
+
 class Lost(MemoryStore):
     """A store that another has for a while, and that can be lost between two statements."""
 
@@ -224,7 +231,8 @@ class Pinned(Reading):
 
 # An engine, and a store: each with the statement at which it stands still, and what is then told.
 STANDING_STILL: list[tuple[type[Backend], bytes, str]] = [
-    (MemoryStore, b"HANG;", "asked for nothing for 0.3 seconds, so the run was ended"),
+    (MemoryStore, b"HANG;", "the engine stood still for 0.3 seconds, so the run was ended"),
+    (Large, b"STUCK k;", "the engine stood still for 0.3 seconds, so the run was ended"),
     (Slow, b"GET k;", "more than 0.3 seconds, so the run was ended"),
 ]
 
@@ -261,7 +269,7 @@ class LinkTest(unittest.TestCase):
         store = MemoryStore()
         link = self.link(store)
         store.get = unittest.mock.Mock(side_effect=[Fault("no member answers"), b"v"])  # type: ignore[method-assign]
-        with self.assertRaisesRegex(OperationalError, "^no member answers: ") as caught:
+        with self.assertRaisesRegex(OperationalError, "^no member answers, so the run ended with status 5") as caught:
             link.exchange(b"GET k;", True)
         self.assertEqual(caught.exception.status, 5)
         self.assertIn("v", link.exchange(b"GET k;", True))
@@ -269,7 +277,7 @@ class LinkTest(unittest.TestCase):
     def test_why_a_store_cant_be_opened_is_told_first(self) -> None:
         store = MemoryStore()
         store.range = unittest.mock.Mock(side_effect=Fault("no room"))  # type: ignore[method-assign]
-        with self.assertRaisesRegex(OperationalError, "^no room: .* the store isn't open") as caught:
+        with self.assertRaisesRegex(OperationalError, "^no room, so the run ended with status 5. the store isn't open") as caught:
             self.link(store).exchange(b"COUNT;", True)
         self.assertEqual(caught.exception.status, 5)
 
@@ -367,7 +375,7 @@ class LinkTest(unittest.TestCase):
         self.assertEqual(len(reading.pins), 4)
         link.timeout = 0.0
         reading.get.side_effect = gone
-        with self.assertRaisesRegex(OperationalError, "^compacted: "):
+        with self.assertRaisesRegex(OperationalError, "^compacted, so the run ended with status 5"):
             link.exchange(b"GET k;", True)
 
     def test_nodes(self) -> None:

@@ -6,7 +6,6 @@ the answer of such a request, and the next one tells that its report is whole.
 
 import contextlib
 import os
-import select
 import time
 
 from ..engine import CHUNK, Engine, EngineEnded, Stalled
@@ -20,15 +19,14 @@ class HostedEngine(Engine):
     `seconds` is for how long it may ask for nothing, and a call of its store may take.
     """
 
+    seconds: float
+
     def __init__(self, program: str, host: Host, seconds: float) -> None:
-        self.host, self.seconds = host, seconds
-        self.room = 0
+        self.host, self.room = host, 0
         super().__init__(program, ["run"], seconds)
 
     def opened(self) -> bytes:
         """The opening line."""
-        self.ready = select.poll()
-        self.ready.register(self.out_of, select.POLLIN)
         return self.reported(b"")
 
     def answered(self, statement: bytes) -> bytes:
@@ -47,7 +45,7 @@ class HostedEngine(Engine):
             try:
                 request = read_request(self.receive())
             except EOFError as end:
-                raise EngineEnded(self.process.wait(), bytes(reports)) from end
+                raise EngineEnded(super().close(), bytes(reports)) from end
             if request.op is Op.READ:
                 self.room = read_room(request.body)
                 if not rest:
@@ -65,17 +63,17 @@ class HostedEngine(Engine):
 
     def receive(self) -> bytes:
         """The next request, without its length. There is at most one that isn't answered, so nothing is behind it."""
-        data = self.some()
+        until = self.end_of_step()
+        data = self.some(until)
         while len(data) < 4 or len(data) < 4 + length_of(data[:4]):
-            data += self.some()
+            data += self.some(until)
         if len(data) > 4 + length_of(data[:4]):
             raise BadRequest("bytes behind a request")
         return data[4:]
 
-    def some(self) -> bytes:
+    def some(self, until: float | None) -> bytes:
         """Bytes of a request. They have a limit of time, since an engine that is stopped asks for nothing."""
-        if not self.ready.poll(self.seconds * 1000):
-            raise Stalled(f"the engine asked for nothing for {self.seconds:g} seconds")
+        self.wait(self.ready, until)
         data = os.read(self.out_of, CHUNK)
         if not data:
             raise EOFError

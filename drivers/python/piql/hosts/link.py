@@ -5,8 +5,8 @@ import time
 from collections.abc import Sequence
 
 from ..engine import EngineEnded, find_program
-from ..errors import DatabaseError, Error, NotSupportedError, OperationalError, with_status
-from ..links import EngineLink, check_owner
+from ..errors import Error, NotSupportedError, OperationalError
+from ..runs import EngineLink, told_end
 from .backend import Backend, Fault, Held, Reading, Unreachable
 from .host import Host
 from .hosted import HostedEngine, Stalled
@@ -23,7 +23,6 @@ STANDS_WRITE = (
     "This statement was made whole or not at all; all that was reported as ok before stands."
     " The next statement opens the store anew, which settles it."
 )
-FALLEN = "{why}: a call of the store failed, and the run ended with status {status}. {stands}"
 HELD = "another engine has the store: {why}"
 NO_COPY = "the copies of {name} are those of its database, as docs/SCALING.md tells"
 
@@ -37,6 +36,8 @@ class HostLink(EngineLink):
         super().__init__()
         self.name, self.backends, self.places = name, [backend], [b""]
         self.program, self.timeout, self.seconds = find_program("piql_host", program), timeout, seconds
+        # That of the run at hand.
+        self.host = Host(self.backends, self.places)
         # That of the store behind the last statement that was told.
         self.revision = 0
 
@@ -44,11 +45,11 @@ class HostLink(EngineLink):
         """Begins a run. Where another engine has the store, or no server answers, it tries until the time is over."""
         until = time.monotonic() + self.timeout
         while True:
-            host = Host(self.backends, self.places)
+            self.host = Host(self.backends, self.places)
             try:
                 for backend in self.backends:
                     backend.begin()
-                self.engine = HostedEngine(self.program, host, self.seconds)
+                self.engine = HostedEngine(self.program, self.host, self.seconds)
                 return self.engine
             except Held as held:
                 if time.monotonic() > until:
@@ -59,7 +60,7 @@ class HostLink(EngineLink):
             except (Fault, Stalled, BadRequest) as error:
                 raise OperationalError(f"{self.name} isn't open: {error}") from error
             except EngineEnded as end:
-                raise self.fallen(end, host, f"{self.name} isn't open.") from end
+                raise self.ended(end, f"{self.name} isn't open.") from end
             time.sleep(min(PAUSE, self.timeout / 50))
 
     def running(self, statement: bytes) -> HostedEngine:
@@ -72,29 +73,16 @@ class HostLink(EngineLink):
 
     def exchange(self, statement: bytes, reads: bool) -> str:
         """The report of the statement."""
-        check_owner(self.owner)
-        engine = self.running(statement)
         try:
-            report = engine.exchange(statement).decode()
-            self.revision = self.backends[0].revision
-            return report
-        except EngineEnded as end:
-            raise self.fallen(end, engine.host, self.stands(reads)) from end
-        except (Stalled, BadRequest) as error:
-            raise self.stopped(error, reads) from error
-        finally:
-            if engine.process.returncode is not None:
-                self.engine = None
+            report = super().exchange(statement, reads)
+        except BadRequest as error:
+            raise OperationalError(f"{error}, so the run was ended. {self.stands(reads)}") from error
+        self.revision = self.backends[0].revision
+        return report
 
-    def fallen(self, end: EngineEnded, host: Host, stands: str) -> Error:
-        """What is raised where the run has ended. Why a call of its store failed comes first."""
-        if not host.why:
-            return self.ended(end, stands)
-        return with_status(end.status, FALLEN.format(why=host.why, status=end.status, stands=stands), end.damaged)
-
-    def stopped(self, error: Exception, reads: bool) -> DatabaseError:
-        """What is raised where the driver has ended the run."""
-        return OperationalError(f"{error}, so the run was ended. {self.stands(reads)}")
+    def ended(self, end: EngineEnded, stands: str) -> Error:
+        """The exception of a run that ended. Why a call of its store failed comes first."""
+        return told_end(end, stands, self.host.why)
 
     def stands(self, reads: bool) -> str:
         """What stands where the run ended in mid-statement."""

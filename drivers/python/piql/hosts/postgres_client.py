@@ -1,12 +1,14 @@
 """Statements to a database of PostgreSQL, each with a limit of time, over psycopg2 (Debian's python3-psycopg2)."""
 
 import math
+import os
 import select
 import time
 from collections.abc import Mapping
 from typing import TYPE_CHECKING, Any
 
 from ..errors import InterfaceError
+from ..interrupts import own
 from .backend import Fault
 from .passwords import check_quoted, shown, without_secrets
 
@@ -65,6 +67,13 @@ class PostgresClient:
         words.setdefault("application_name", "piql")
         self.places = places_of(words)
         self.connection: "psycopg2.extensions.connection | None" = None
+        own(self)
+
+    def let_go(self) -> None:
+        """Closes what a child that was forked has of the connection. libpq would end the parent's session too."""
+        if self.connection is not None and not self.connection.closed:
+            with open(os.devnull) as nothing:
+                os.dup2(nothing.fileno(), self.connection.fileno())
 
     def told_of(self, error: Exception) -> str:
         """What the server or the library says, without the lines that have values, and without a password."""

@@ -5,6 +5,8 @@ import io
 import socket
 import time
 
+from ..interrupts import own
+
 
 class TimedSocket:
     """What http.client uses of a socket. Each send and receive has the time that is left up to `until`."""
@@ -13,6 +15,7 @@ class TimedSocket:
         self.until = until
         self.socket = socket.create_connection(at, self.left())
         self.socket.setsockopt(socket.IPPROTO_TCP, socket.TCP_NODELAY, 1)
+        own(self)
 
     def left(self) -> float:
         """The seconds that are left, which are some."""
@@ -38,6 +41,9 @@ class TimedSocket:
     def close(self) -> None:
         """Closes the socket."""
         self.socket.close()
+
+    # In a child that was forked: its end alone.
+    let_go = close
 
 
 class Received(io.RawIOBase):
