@@ -13,6 +13,7 @@ import math
 import os
 import signal
 import sys
+from collections.abc import Sequence
 
 from .errors import Error
 from .hosts.link import HostLink
@@ -21,6 +22,7 @@ from .links import FileLink
 from .server.coming import room_for
 from .server.figures import Figures
 from .server.log import Log
+from .server.rights import Place
 from .server.service import Service
 from .server.settings import Settings, read_words
 from .server.sockets import Listener, check_beside, check_place
@@ -32,7 +34,6 @@ from .version import VERSION
 PATIENCE = 5.0
 # Files and sockets are the owner's alone, the engine's files too.
 UMASK = 0o077
-SOCKET_MODE = 0o600
 
 
 def opened(given: Settings) -> FileLink | HostLink:
@@ -60,22 +61,37 @@ def fill_streams() -> None:
 
 def check(given: Settings) -> None:
     """Refuses words with which no server can be, before anything is touched."""
-    check_place(given.socket)
-    if not is_url(given.store):
-        check_beside(given.socket, given.store)
+    for place in given.places:
+        check_place(place.path)
+        if not is_url(given.store):
+            check_beside(place.path, given.store)
+
+
+def listening(places: Sequence[Place]) -> list[Listener]:
+    """The sockets, or none of them."""
+    made: list[Listener] = []
+    try:
+        for place in places:
+            made.append(Listener(place))
+    except BaseException:
+        for listener in made:
+            listener.close()
+        raise
+    return made
 
 
 def begun(given: Settings) -> Service:
     """A server whose store is open, and that listens."""
     watch = Watch(Log(given.log), Figures())
-    room = room_for(given.clients)
+    room = room_for(given.clients, len(given.places))
     if room < given.clients:
         watch.log.warning("few-descriptors", clients=room, asked=given.clients)
     with told_while_opening(watch.log):
         link = opened(given)
     try:
-        listeners = [Listener(given.socket, SOCKET_MODE)]
-        watch.log.info("begun", version=VERSION, store=given.store, socket=given.socket, clients=room, idle=given.idle)
+        listeners = listening(given.places)
+        sockets = " ".join(map(str, given.places))
+        watch.log.info("begun", version=VERSION, store=given.store, sockets=sockets, clients=room, idle=given.idle)
         return Service(link, listeners, given._replace(clients=room), watch)
     except BaseException:
         link.close()
@@ -98,7 +114,7 @@ def main(words: list[str] | None = None) -> int:
     except (Error, OSError) as error:
         print(f"piql-serve: {error}", file=sys.stderr)
         return 1
-    print(f"piql-serve: {given.store} at {given.socket}", flush=True)
+    print(f"piql-serve: {given.store} at {', '.join(place.path for place in given.places)}", flush=True)
     return service.run()
 
 

@@ -18,6 +18,7 @@ from piql.frames import BACKUP, BROKEN, ENDED, HELLO, REPORT, STATEMENT, read_fr
 from piql.server.coming import OWN_DESCRIPTORS, PAUSE, Coming, room_for
 from piql.server.figures import Figures
 from piql.server.log import Log
+from piql.server.rights import Place
 from piql.server.sockets import Listener
 from piql.server.watch import Watch
 from served import COMMAND, Served, ServedCase, asked, connected, engines_of, greeted
@@ -112,7 +113,7 @@ class ManyTest(ServedCase):
         self.serve(limits="ulimit -n 40")
         clients = [connected(self, self.at) for _ in range(40)]
         kinds = [read_frame(client)[0] for client in clients]
-        self.assertEqual(kinds, [HELLO] * (40 - OWN_DESCRIPTORS) + [BROKEN] * OWN_DESCRIPTORS)
+        self.assertEqual(kinds, [HELLO] * (39 - OWN_DESCRIPTORS) + [BROKEN] * (OWN_DESCRIPTORS + 1))
         self.assertEqual(asked(clients[0], WRITE)[0], REPORT)
         for client in clients:
             client.close()
@@ -129,10 +130,10 @@ class ManyTest(ServedCase):
         self.assertIn("no descriptors", errors)
 
     def test_clients_are_taken_again_once_there_are_descriptors(self) -> None:
-        listener = Listener(str(self.at), 0o600)
+        listener = Listener(Place(str(self.at)))
         nowhere = os.open(os.devnull, os.O_WRONLY)
         self.addCleanup(os.close, nowhere)
-        coming = Coming([listener], room_for(5), Watch(Log("error", nowhere), Figures()))
+        coming = Coming([listener], room_for(5, 1), Watch(Log("error", nowhere), Figures()))
         waiting = connected(self, self.at)
         before = resource.getrlimit(resource.RLIMIT_NOFILE)
         self.addCleanup(resource.setrlimit, resource.RLIMIT_NOFILE, before)

@@ -116,7 +116,7 @@ class EventsTest(ServedCase):
     """What the log of a server tells."""
 
     def test_the_life_of_a_server(self) -> None:
-        server = self.serve()
+        server = self.serve("--slow", 3600)
         client = greeted(self, self.at)
         self.assertEqual(asked(client, "RUN exit_5 ();")[0], ENDED)
         self.assertEqual(asked(client, "RUN rows_1 ();")[0], REPORT)
@@ -129,7 +129,7 @@ class EventsTest(ServedCase):
         wanted = ["begun", "engine-begun", "engine-ended", "engine-begun", "engine-ended", "engine-begun"]
         self.assertEqual(events(errors), [*wanted, "stopping", "ended"])
         version = tomllib.loads((TOP / "drivers/python/pyproject.toml").read_text())["project"]["version"]
-        self.assertIn(f"event=begun version={version} store={self.store} socket={self.at} clients=256", lines[0])
+        self.assertIn(f"event=begun version={version} store={self.store} sockets={self.at}:all:600 clients=256", lines[0])
         self.assertIn('status=5 meaning="a call of the store failed', lines[2])
         self.assertIn("statement=RUN", lines[2])
         self.assertIn('status=-9 meaning="signal 9"', lines[4])

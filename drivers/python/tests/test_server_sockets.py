@@ -10,6 +10,7 @@ from pathlib import Path
 
 from helpers import new_folder
 from piql import OperationalError
+from piql.server.rights import Place
 from piql.server.sockets import Listener, check_beside, check_place, is_listened_at
 from served import Served, greeted, stub_program
 
@@ -35,7 +36,7 @@ class PlaceTest(unittest.TestCase):
         for name in ("socket", "folder", "link", "link_to_socket", "pipe"):
             path = self.folder / name
             before = os.lstat(path)
-            for call in (check_place, lambda it: Listener(it, 0o600)):
+            for call in (check_place, lambda it: Listener(Place(it))):
                 with self.subTest(name), self.assertRaisesRegex(OperationalError, "is no socket"):
                     call(str(path))
             self.assertEqual(os.lstat(path).st_ino, before.st_ino)
@@ -44,16 +45,16 @@ class PlaceTest(unittest.TestCase):
     def test_one_that_was_left_behind_is_taken_over(self) -> None:
         left_behind(self.at)
         check_place(str(self.at))
-        listener = Listener(str(self.at), 0o600)
+        listener = Listener(Place(str(self.at)))
         self.assertTrue(is_listened_at(str(self.at)))
         listener.close()
         self.assertFalse(os.path.lexists(self.at))
 
     def test_one_at_which_somebody_listens_is_not(self) -> None:
-        first = Listener(str(self.at), 0o600)
+        first = Listener(Place(str(self.at)))
         self.addCleanup(first.close)
         with self.assertRaisesRegex(OperationalError, "listens at"):
-            Listener(str(self.at), 0o600)
+            Listener(Place(str(self.at)))
         # A server that stands still, so that its row of clients is full, listens as well.
         waiting = []
         while len(waiting) < 1000:
@@ -66,7 +67,7 @@ class PlaceTest(unittest.TestCase):
                 break
             waiting.append(client)
         with self.assertRaisesRegex(OperationalError, "listens at"):
-            Listener(str(self.at), 0o600)
+            Listener(Place(str(self.at)))
         self.assertTrue(first.is_there())
 
     @unittest.skipUnless(os.geteuid() == 0, "another user's socket can be made by root alone")
@@ -74,13 +75,13 @@ class PlaceTest(unittest.TestCase):
         left_behind(self.at)
         os.chown(self.at, 65534, 65534)
         with self.assertRaisesRegex(OperationalError, "another user's"):
-            Listener(str(self.at), 0o600)
+            Listener(Place(str(self.at)))
         self.assertTrue(os.path.lexists(self.at))
 
     def test_the_end_takes_only_its_own_away(self) -> None:
-        first = Listener(str(self.at), 0o600)
+        first = Listener(Place(str(self.at)))
         os.unlink(self.at)
-        second = Listener(str(self.at), 0o600)
+        second = Listener(Place(str(self.at)))
         first.close()
         self.assertTrue(second.is_there())
         os.unlink(self.at)
@@ -95,7 +96,7 @@ class PlaceTest(unittest.TestCase):
 
         def listen() -> None:
             try:
-                made.append(Listener(str(self.at), 0o600))
+                made.append(Listener(Place(str(self.at))))
             except OperationalError as error:
                 refused.append(error)
 
@@ -110,7 +111,7 @@ class PlaceTest(unittest.TestCase):
 
     def test_the_mode_is_there_from_the_start(self) -> None:
         for mode in (0o600, 0o660):
-            listener = Listener(str(self.at), mode)
+            listener = Listener(Place(str(self.at), mode=mode))
             self.assertEqual(stat.S_IMODE(os.lstat(self.at).st_mode), mode)
             listener.close()
 

@@ -2,13 +2,15 @@
 
 import contextlib
 import itertools
+import json
 import select
 import socket
 import struct
 import time
 
-from ..frames import HEAD, REQUEST_BYTES, FrameError
+from ..frames import ENDED, HEAD, REQUEST_BYTES, FrameError
 from .requests import Request
+from .rights import Right
 
 Answer = tuple[bytes, bytes]
 PEER = struct.Struct("iII")
@@ -18,6 +20,11 @@ CHUNK = HEAD.size + REQUEST_BYTES
 FRAME_SECONDS = 10.0
 # The clients of a server are counted, for its log.
 NUMBERS = itertools.count(1)
+
+
+def ended_frame(text: str, status: int | None = None) -> Answer:
+    """The frame that says what ended a statement without a report."""
+    return ENDED, json.dumps({"status": status, "text": text}).encode()
 
 
 def user_of(client: socket.socket) -> int:
@@ -47,8 +54,9 @@ class Ticket:
 class Client:
     """A connected socket, which never blocks. It has at most one ticket: the next frame waits for its answer."""
 
-    def __init__(self, made: socket.socket, now: float) -> None:
+    def __init__(self, made: socket.socket, now: float, right: Right) -> None:
         made.setblocking(False)
+        self.right = right
         self.socket, self.number = made, next(NUMBERS)
         self.received, self.unsent = bytearray(), bytearray()
         self.ticket: Ticket | None = None

@@ -11,27 +11,28 @@ from collections.abc import Sequence
 from ..errors import OperationalError
 from ..frames import BROKEN, GREETING, HELLO
 from .clients import Client, user_of
+from .rights import OWNER_ONLY
 from .sockets import BACKLOG, Listener
 from .watch import Watch
 
 # For how many seconds no client is taken where the system has no descriptor or no memory for one.
 PAUSE = 0.2
 # How many descriptors a server needs beside those of its clients: for its engine, a copy, its cluster.
-OWN_DESCRIPTORS = 28
-OWNER_ONLY = 0o600
+OWN_DESCRIPTORS = 27
 
 
-def room_for(clients: int) -> int:
+def room_for(clients: int, sockets: int) -> int:
     """How many of so many clients the system gives descriptors for. Its softer limit is raised where it may be."""
     soft, hard = resource.getrlimit(resource.RLIMIT_NOFILE)
-    wanted = clients + OWN_DESCRIPTORS
+    own = OWN_DESCRIPTORS + sockets
+    wanted = clients + own
     if soft < wanted:
         soft = wanted if hard == resource.RLIM_INFINITY else min(wanted, hard)
         with contextlib.suppress(OSError, ValueError):
             resource.setrlimit(resource.RLIMIT_NOFILE, (soft, hard))
-    room = min(clients, resource.getrlimit(resource.RLIMIT_NOFILE)[0] - OWN_DESCRIPTORS)
+    room = min(clients, resource.getrlimit(resource.RLIMIT_NOFILE)[0] - own)
     if room < 1:
-        raise OperationalError(f"the system gives no descriptors for clients: {OWN_DESCRIPTORS} are the server's own")
+        raise OperationalError(f"the system gives no descriptors for clients: {own} are the server's own")
     return room
 
 
@@ -69,7 +70,7 @@ class Coming:
 
     def greeted(self, made: socket.socket, listener: Listener, count: int) -> Client | None:
         """A client that is told hello; or none, who is told why not."""
-        client = Client(made, time.monotonic())
+        client = Client(made, time.monotonic(), listener.place.right)
         if why := self.refusal(made, listener, count):
             self.watch.figures.clients_refused[why] += 1
             self.watch.log.warning("client-refused", client=client.number, user=user_of(made), why=why)
@@ -83,7 +84,7 @@ class Coming:
         """Why a client isn't taken."""
         if count >= self.most:
             return f"there are {self.most} clients already"
-        if listener.mode == OWNER_ONLY and user_of(made) != os.geteuid():
+        if listener.place.mode == OWNER_ONLY and user_of(made) != os.geteuid():
             return "only the server's owner may connect"
         return ""
 

@@ -8,10 +8,10 @@ opening completes what a stop left, so ending it would gain nothing.
 from typing import Protocol, cast
 
 from ..links import Run
-from .clients import Ticket
+from .clients import Ticket, ended_frame
 from .loop import Loop
 from .watch import Watch
-from .worker import Worker, ended_frame
+from .worker import Worker
 
 WAITED = "this statement waited {seconds:g} seconds for its turn, which is its limit of time: it wasn't made"
 READ_ON = "this statement has been at hand for longer than its limit of time, {seconds:g} seconds; it changes nothing"

@@ -9,7 +9,7 @@ import time
 from typing import Protocol
 
 from ..frames import BROKEN, STATUS, FrameError
-from .clients import CHUNK, Answer, Client, Ticket
+from .clients import CHUNK, Answer, Client, Ticket, ended_frame
 from .coming import Coming
 from .log import Log
 from .requests import Request
@@ -137,13 +137,19 @@ class Loop:
             self.break_off(client, str(error))
 
     def take_frame(self, client: Client, kind: bytes, text: bytes) -> None:
-        """Gives a request its turn. How the server is, is told at once."""
+        """Gives a request its turn, if its client may make it. How the server is, is told at once."""
         if kind == STATUS:
             with self.guard:
                 client.push(STATUS, self.service.status())
-        else:
-            client.ticket = Ticket(client, Request(kind, text), time.monotonic())
+            return
+        request = Request(kind, text)
+        if request.word in client.right.takes:
+            client.ticket = Ticket(client, request, time.monotonic())
             self.service.give(client.ticket)
+        else:
+            self.log.warning("not-allowed", client=client.number, right=client.right.value, statement=request.word)
+            with self.guard:
+                client.push(*ended_frame(client.right.refusal()))
 
     def break_off(self, client: Client, why: str) -> None:
         """Tells a client why it is left. Nothing that it sends from now on is taken."""

@@ -8,7 +8,7 @@ from collections.abc import Sequence
 from ..hosts.link import HostLink
 from ..links import FileLink
 from .children import kill_children
-from .clients import Ticket
+from .clients import Ticket, ended_frame
 from .coming import Coming
 from .limits import Limits
 from .loop import Loop
@@ -17,7 +17,7 @@ from .settings import Settings
 from .sockets import Listener
 from .telling import EVERY, OPENING, log_bytes, shown_store, state_of, status
 from .watch import Watch
-from .worker import Worker, ended_frame
+from .worker import Worker
 
 # For how many seconds a stop waits for what was asked before it, and then for an engine that it had to kill.
 PATIENCE = 5.0

@@ -1,13 +1,17 @@
 """The words of piql-serve."""
 
 import argparse
+import os
 from typing import NamedTuple
 
 from ..hosts.urls import is_url
 from .log import LEVELS
+from .rights import Place, read_place
 
 CLIENTS = 256
 MOST_CLIENTS = 10_000
+MOST_SOCKETS = 16
+SOCKETS = "another one, for all, write, run or read, with the mode 600 or the given one; several times"
 IDLE = 600.0
 SLOW = 1.0
 INDEX_ROWS, MOST_ROWS = 100_000, 1_000_000
@@ -18,7 +22,7 @@ class Settings(NamedTuple):
     """What the words say. Times are in seconds."""
 
     store: str
-    socket: str
+    places: tuple[Place, ...]
     program: str | None
     standby: bool
     clients: int
@@ -59,11 +63,20 @@ def seconds(word: str) -> float:
     return time
 
 
+def place(word: str) -> Place:
+    """A socket with what its clients may."""
+    try:
+        return read_place(word)
+    except ValueError as error:
+        raise argparse.ArgumentTypeError(str(error)) from error
+
+
 def read_words(words: list[str] | None) -> Settings:
     """The words of the command. Words of no form end the program with status 2."""
     parser = argparse.ArgumentParser(prog="piql-serve", description="One store for many connections.")
     parser.add_argument("store", help="the SQLite file of the store, or etcd://.. or postgresql://..")
-    parser.add_argument("socket", help="where clients connect, as unix:SOCKET")
+    parser.add_argument("at", nargs="?", metavar="socket", help="where clients connect, as unix:SOCKET, and may all")
+    parser.add_argument("--socket", type=place, action="append", default=[], metavar="PATH:RIGHT[:MODE]", help=SOCKETS)
     parser.add_argument("--program", help="the program piql_file, or piql_host for a cluster")
     parser.add_argument("--standby", action="store_true", help="wait until no other server has the cluster's store")
     parser.add_argument("--clients", type=clients, default=CLIENTS, help="the most clients at a time (%(default)s)")
@@ -76,4 +89,8 @@ def read_words(words: list[str] | None) -> Settings:
     given = parser.parse_args(words)
     if given.standby and not is_url(given.store):
         parser.error("only the store of a cluster has a standby")
-    return Settings(**vars(given))
+    places = ([Place(given.at)] if given.at is not None else []) + given.socket
+    if not 1 <= len({os.path.realpath(it.path) for it in places}) == len(places) <= MOST_SOCKETS:
+        parser.error(f"1 to {MOST_SOCKETS} sockets are wanted, each at a path of its own")
+    words_left = {name: value for name, value in vars(given).items() if name not in ("at", "socket")}
+    return Settings(places=tuple(places), **words_left)

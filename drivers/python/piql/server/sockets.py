@@ -13,6 +13,7 @@ import time
 from collections.abc import Iterator
 
 from ..errors import OperationalError
+from .rights import Place
 
 BACKLOG = 64
 # The longest path of a socket, in bytes.
@@ -89,13 +90,13 @@ def locked_folder(path: str) -> Iterator[None]:
 
 
 class Listener:
-    """A socket that clients connect to. `mode` says who may: by 0600 only the owner."""
+    """A socket that clients connect to. Its mode says who may: by 0600 only the owner."""
 
-    def __init__(self, path: str, mode: int) -> None:
-        self.path, self.mode = path, mode
+    def __init__(self, place: Place) -> None:
+        self.place, self.path = place, place.path
         self.socket = socket.socket(socket.AF_UNIX, socket.SOCK_STREAM)
         try:
-            with locked_folder(path):
+            with locked_folder(self.path):
                 self.made = self.bound()
         except BaseException:
             self.socket.close()
@@ -105,7 +106,7 @@ class Listener:
         """Makes the socket, and listens; its device and its inode."""
         if is_left_behind(self.path):
             os.unlink(self.path)
-        before = os.umask(0o777 & ~self.mode)
+        before = os.umask(0o777 & ~self.place.mode)
         try:
             self.socket.bind(self.path)
         finally:

@@ -4,14 +4,13 @@ A client has at most one request here, so the order is a turn of each: a stateme
 client.
 """
 
-import json
 import queue
 import threading
 import time
 
 from ..errors import Error
 from ..frames import COPIED, ENDED, REPORT
-from .clients import Answer, Ticket
+from .clients import Answer, Ticket, ended_frame
 from .figures import ending_of
 from .indexes import REFUSED, wanted
 from .log import Field
@@ -23,11 +22,6 @@ from .watch import Watch
 
 # How often an idle server looks whether its lease is to be renewed, in seconds.
 BEAT = 1.0
-
-
-def ended_frame(text: str, status: int | None = None) -> Answer:
-    """The frame that says what ended a statement without a report."""
-    return ENDED, json.dumps({"status": status, "text": text}).encode()
 
 
 class Worker:
