@@ -26,7 +26,7 @@ from .server.rights import Place
 from .server.service import Service
 from .server.settings import Settings, read_words
 from .server.sockets import Listener, check_beside, check_place
-from .server.telling import told_while_opening
+from .server.telling import shown_store, told_while_opening
 from .server.watch import Watch
 from .version import VERSION
 
@@ -91,7 +91,7 @@ def begun(given: Settings) -> Service:
     try:
         listeners = listening(given.places)
         sockets = " ".join(map(str, given.places))
-        watch.log.info("begun", version=VERSION, store=given.store, sockets=sockets, clients=room, idle=given.idle)
+        watch.log.info("begun", version=VERSION, store=shown_store(given.store), sockets=sockets, clients=room, idle=given.idle)
         return Service(link, listeners, given._replace(clients=room), watch)
     except BaseException:
         link.close()
@@ -109,12 +109,12 @@ def main(words: list[str] | None = None) -> int:
             signal.signal(number, lambda _number, _frame: sys.exit(0))
         check(given)
         if given.standby:
-            print(f"piql-serve: waits for {given.store}", flush=True)
+            print(f"piql-serve: waits for {shown_store(given.store)}", flush=True)
         service = begun(given)
     except (Error, OSError) as error:
         print(f"piql-serve: {error}", file=sys.stderr)
         return 1
-    print(f"piql-serve: {given.store} at {', '.join(place.path for place in given.places)}", flush=True)
+    print(f"piql-serve: {shown_store(given.store)} at {', '.join(place.path for place in given.places)}", flush=True)
     return service.run()
 
 

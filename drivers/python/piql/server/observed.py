@@ -51,10 +51,12 @@ class Observed:
         self.look("rollover")
 
     def keep(self) -> None:
-        """Keeps the lease of a cluster, while no statement is at work: the calls of one keep it themselves."""
+        """Keeps the lease of a cluster while no statement is at work. Of a file it is seen whether it is still there."""
         if isinstance(self.link, HostLink):
             self.link.keep()
             self.look("begun anew")
+        else:
+            self.link.check_there()
 
     def drop_run(self) -> None:
         """Ends the run; the next statement begins another. A store in a cluster stays this server's."""

@@ -3,7 +3,7 @@
 import json
 import signal
 import time
-from collections.abc import Sequence
+from collections.abc import Callable, Sequence
 
 from ..hosts.link import HostLink
 from ..links import FileLink
@@ -22,8 +22,8 @@ from .worker import Worker
 # For how many seconds a stop waits for what was asked before it, and then for an engine that it had to kill.
 PATIENCE = 5.0
 ENDING = 2.0
-# The status of a server whose worker ended by itself.
-FAULT = 1
+# The statuses of a server that ends by itself: by a fault of its own, and since its store's file is gone.
+FAULT, GONE = 1, 5
 NOT_MADE = "the server was stopped before this statement's turn came, so it wasn't made"
 OPEN = "the server was stopped in the middle of this statement: it was made whole or not at all"
 
@@ -71,6 +71,8 @@ class Service:
         while not self.signal and self.worker.thread.is_alive():
             self.loop.turn()
         self.stop()
+        if self.worker.is_gone:
+            return GONE
         return 0 if self.signal else FAULT
 
     def stop(self) -> None:
@@ -78,22 +80,23 @@ class Service:
         self.watch.log.info("stopping", signal=signal.Signals(self.signal).name if self.signal else None)
         self.loop.close_door()
         self.worker.end()
-        self.turn_until_ended(PATIENCE)
+        self.turn_while(self.worker.thread.is_alive, PATIENCE)
         self.loop.tell_all(ended_frame(NOT_MADE), unless_begun=True)
         if self.worker.thread.is_alive():
             # It stands still in a statement or at its end. What it leaves is what every stop leaves.
             self.watch.log.error("engine-killed", seconds=PATIENCE)
             kill_children()
-            self.turn_until_ended(ENDING)
+            self.turn_while(self.worker.thread.is_alive, ENDING)
         self.loop.tell_all(ended_frame(OPEN))
+        self.turn_while(lambda: bool(self.loop.clients), ENDING)
         signal.set_wakeup_fd(-1)
         self.loop.close()
         figures = self.watch.figures
         seconds = time.monotonic() - figures.began
         self.watch.log.info("ended", seconds=seconds, statements=figures.statements.total(), runs=figures.runs)
 
-    def turn_until_ended(self, seconds: float) -> None:
-        """Goes on for so many seconds at most, until the store is closed and all clients have their answers."""
+    def turn_while(self, goes_on: Callable[[], bool], seconds: float) -> None:
+        """Goes on for so many seconds at most."""
         until = time.monotonic() + seconds
-        while time.monotonic() < until and (self.worker.thread.is_alive() or self.loop.clients):
+        while time.monotonic() < until and goes_on():
             self.loop.turn()

@@ -7,6 +7,8 @@ import time
 from collections.abc import Iterator
 
 from ..hosts.link import HostLink
+from ..hosts.passwords import shown
+from ..hosts.urls import is_url
 from ..links import FileLink
 from ..version import VERSION
 from .clients import Ticket
@@ -21,8 +23,8 @@ EVERY = 10.0
 
 
 def shown_store(store: str) -> str:
-    """A store's file or URL, as it may be told."""
-    return store
+    """A store's file, or its URL without a password."""
+    return shown(store) if is_url(store) else store
 
 
 def log_bytes(link: FileLink | HostLink) -> int | None:

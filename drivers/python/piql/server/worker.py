@@ -8,8 +8,10 @@ import queue
 import threading
 import time
 
-from ..errors import Error
+from ..errors import Error, StoreGone
 from ..frames import COPIED, ENDED, REPORT
+from ..hosts.passwords import without_secrets
+from ..hosts.urls import is_url
 from .clients import Answer, Ticket, ended_frame
 from .figures import ending_of
 from .indexes import REFUSED, wanted
@@ -29,7 +31,9 @@ class Worker:
 
     def __init__(self, store: Observed, loop: Loop, watch: Watch, given: Settings) -> None:
         self.store, self.loop, self.watch = store, loop, watch
-        self.slow, self.index_rows = given.slow, given.index_rows
+        self.slow, self.index_rows, self.name = given.slow, given.index_rows, given.store
+        # The store's file isn't there any more: nothing can be made.
+        self.is_gone = False
         self.waiting: queue.SimpleQueue[Ticket | None] = queue.SimpleQueue()
         # What is made now.
         self.at_hand: Ticket | None = None
@@ -43,9 +47,11 @@ class Worker:
         """The thread. Where it ends by itself, the server ends."""
         try:
             self.store.read_catalog()
-            while (ticket := self.next_one()) is not None:
+            while not self.is_gone and (ticket := self.next_one()) is not None:
                 if self.loop.begin(ticket):
                     self.make(ticket)
+        except StoreGone as error:
+            self.gone(error)
         except Exception as error:
             self.watch.log.error("fault", kind=type(error).__name__)
         finally:
@@ -81,11 +87,20 @@ class Worker:
             if request.word == "PREPARE" and (why := self.index_refusal(request)):
                 return ended_frame(why)
             report = self.store.exchange(request.text, request.reads)
+        except StoreGone as error:
+            self.gone(error)
+            return ended_frame(str(error))
         except (Error, OSError, ValueError) as error:
             self.store.failed(error, **self.fields(ticket))
-            return ended_frame(str(error), getattr(error, "status", None))
+            text = without_secrets(str(error), self.name) if is_url(self.name) else str(error)
+            return ended_frame(text, getattr(error, "status", None))
         self.counted(ticket, report)
         return REPORT, report.encode()
+
+    def gone(self, error: StoreGone) -> None:
+        """Ends the server, since the file was removed or replaced beneath it."""
+        self.is_gone = True
+        self.watch.log.error("store-gone", why=str(error))
 
     def index_refusal(self, request: Request) -> str:
         """Why a PREPARE isn't made, or nothing. Where the rows can't be counted, the log says so, and it is made."""
