@@ -1,7 +1,7 @@
 //! A reader and a writer of the system as source and sink. They tell nothing, and count their faults; the source
 //! counts its bytes too.
 ghost use Rattle.std.specs.Prelude.{◌≡◌, ◌≤◌, ◌+◌, ◌<◌, length, IfOk, OnErr};
-ghost use Rattle.std.specs.Io.KnownBytes.{ReadConsumes};
+ghost use Rattle.std.specs.Io.KnownBytes.{ReadConsumes, WriteAppends};
 ghost use Rattle.pq_console.specs.Outside.{HasFaultCause};
 
 use crate::outside::{Failed, Sink, Source};
@@ -83,7 +83,14 @@ impl<W: Write> Sink for StdSink<W> {
     ghost faults = { λ s. s.faults };
 
     // A writer that takes nothing is a fault.
-    fn write(&mut self, piece: &[u8]) -> Result<usize, Failed> {
+    fn write(&mut self, piece: &[u8]) -> Result<usize, Failed>
+        requires { 0 < length piece.now }
+        ensures some { IfOk result (λ n. 0 < n) }
+        ensures within { IfOk result (λ n. n ≤ length piece.now) }
+        // What the writer holds, if that is known, grows by just the bytes that are told as taken.
+        ensures passed { WriteAppends (W.contents self.old.writer) (W.contents self.new.writer) result piece.now }
+        ensures cause { HasFaultCause self.old.faults self.new.faults result }
+    {
         match self.writer.write(piece) {
             Ok(n) if n > 0 => Ok(n),
             _ => {
