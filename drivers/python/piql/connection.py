@@ -1,17 +1,19 @@
 """A connection: the statements that it sends, the definitions that it knows, and the queries that it prepares once."""
 
+import contextlib
 import os
 import threading
-from collections.abc import Sequence
+import time
+from collections.abc import Iterator, Sequence
 from typing import TYPE_CHECKING
 
 from . import errors
 from .details import Detail, counted, detail_of, has_detail
-from .errors import InterfaceError, InternalError, NotSupportedError, ProgrammingError, refused
+from .errors import InterfaceError, InternalError, NotSupportedError, OperationalError, ProgrammingError, refused
 from .hosts.link import ReaderLink
 from .interrupts import own
 from .links import Link
-from .plain import plain_list, plain_path, plain_text
+from .plain import plain_list, plain_path, plain_seconds, plain_text
 from .refusals import refusal_of
 from .reports import Report, Work, read_report
 from .scripts import place_at
@@ -29,6 +31,7 @@ NO_REPORT = (
     "what came back is no report of such a statement. One that only reads changed nothing, a write was made whole or"
     " not at all, and nothing of the answer is told"
 )
+UNSENT = "the time of this statement was over before it was sent: nothing was made of it"
 NO_ROW = "E504"
 NO_ROLLBACK = "nothing is rolled back: each statement is made whole or not at all, at once"
 
@@ -62,6 +65,7 @@ class Connection:
         self._schema: Schema | None = None
         self._names: dict[str, str] = {}
         self._sent = 0
+        self._until: float | None = None
         own(self)
         self.schema()
 
@@ -98,6 +102,26 @@ class Connection:
             raise InterfaceError("the connection is closed")
         return self._link
 
+    @contextlib.contextmanager
+    def within(self, seconds: float) -> Iterator[None]:
+        """What is sent meanwhile has to be reported within so many seconds, those in which others send among them."""
+        until = time.monotonic() + seconds
+        if not self._lock.acquire(timeout=seconds):
+            raise OperationalError(UNSENT)
+        try:
+            self._until = until
+            yield
+        finally:
+            self._until = None
+            self._lock.release()
+
+    def left(self, until: float) -> float:
+        """For how many seconds a statement may still be waited for; one that has none left isn't sent."""
+        seconds = until - time.monotonic()
+        if seconds <= 0:
+            raise OperationalError(UNSENT)
+        return seconds
+
     def is_answered(self, report: Report) -> bool:
         """Whether a refusal is no error: an UPDATE or a DELETE has found no row, and so has written none."""
         return report.end.refusal[0] == NO_ROW and not self._error_on_missing
@@ -107,7 +131,7 @@ class Connection:
         kind, data = sent.statement.kind, sent.data()
         with self._lock:
             link = self._link or self.link()
-            text = link.exchange(data, kind.reads)
+            text = link.exchange(data, kind.reads, None if self._until is None else self.left(self._until))
             self._sent += 1
         report = self.read(text, kind)
         if " refused " in report.ending and not self.is_answered(report):
@@ -145,8 +169,13 @@ class Connection:
         except errors.Error:
             return Detail()
 
-    def answer(self, statement: Statement, parameters: Parameters, after: str | None = None) -> Report:
+    def answer(
+        self, statement: Statement, parameters: Parameters, after: str | None = None, timeout: float | None = None
+    ) -> Report:
         """The report of a statement with its values, behind a cursor of pages; a SELECT is prepared where it isn't."""
+        if timeout is not None:
+            with self.within(plain_seconds(timeout, "timeout")):
+                return self.answer(statement, parameters, after)
         kind, values = statement.kind, fillings_of(statement, parameters)
         behind = "" if after is None else f" AFTER {quoted_text(plain_text(after, 'the cursor of a page'))}"
         if kind.is_prepared:
@@ -230,9 +259,11 @@ class Connection:
         self.link()
         return Cursor(self)
 
-    def execute(self, operation: str, parameters: Parameters = (), *, after: str | None = None) -> "Cursor":
+    def execute(
+        self, operation: str, parameters: Parameters = (), *, after: str | None = None, timeout: float | None = None
+    ) -> "Cursor":
         """A new cursor that has executed the statement."""
-        return self.cursor().execute(operation, parameters, after=after)
+        return self.cursor().execute(operation, parameters, after=after, timeout=timeout)
 
     def commit(self) -> None:
         """Does nothing: each statement that was reported stands."""

@@ -86,12 +86,17 @@ class Cursor:
         """The cursor behind a full page, to be handed to execute as `after`."""
         return None if self._report is None else self._report.end.cursor
 
-    def execute(self, operation: str, parameters: "Parameters" = (), *, after: str | None = None) -> "Cursor":
-        """Executes one statement with a value for each `?`; `after` is the next_page of the page before."""
+    def execute(
+        self, operation: str, parameters: "Parameters" = (), *, after: str | None = None, timeout: float | None = None
+    ) -> "Cursor":
+        """Executes one statement with a value for each `?`; `after` is the next_page of the page before.
+
+        `timeout` is for how many seconds it may take; then an OperationalError says what stands.
+        """
         connection = self._open()
         self._forget()
         statement = read_statement(operation)
-        report = self._report = connection.answer(statement, parameters, after)
+        report = self._report = connection.answer(statement, parameters, after, timeout)
         self._statement = statement
         kind = statement.kind
         if kind.has_rows:

@@ -17,6 +17,8 @@ from .wholeness import UNMATCHED, Growing, check_report, check_statement
 
 CHUNK = 1 << 16
 DIGITS = b"0123456789"
+OVER = "the statement's time was over"
+STILL = "the engine stood still for {seconds:g} seconds"
 # The rights that a file which a run makes has for nobody but its owner.
 OTHERS = 0o077
 OPENING = re.compile(rb"open [^\n]*+\n")
@@ -76,8 +78,9 @@ def is_report(text: bytes) -> bool:
 class Engine:
     """A process that was begun, and has written its opening line.
 
-    `seconds` is for how long it may take for a statement, and for its end; None is without an end. Its opening has
-    none: it settles what an earlier run left, and what is ended there is to be done again by the next one.
+    `seconds` is for how long it may take for a statement, and for its end; None is without an end. A statement may
+    have a limit of its own besides. An opening has none: it settles what an earlier run left, and what is ended there
+    is to be done again by the next one.
     """
 
     def __init__(self, program: str, words: list[str], seconds: float | None = None) -> None:
@@ -104,7 +107,9 @@ class Engine:
         self.ready, self.writable = select.poll(), select.poll()
         self.ready.register(self.out_of, select.POLLIN)
         self.writable.register(self.into, select.POLLOUT)
+        # When the report has to be there, by the limit of steps and by that of the statement.
         self.until: float | None = None
+        self.deadline: float | None = None
         own(self)
         # How many bytes and how many statements were sent.
         self.sent = self.statements = 0
@@ -118,9 +123,10 @@ class Engine:
         """Whether the script is no longer than it may be with the statement."""
         return self.sent + len(statement) <= SCRIPT_BYTES
 
-    def exchange(self, statement: bytes) -> bytes:
+    def exchange(self, statement: bytes, limit: float | None = None) -> bytes:
         """The report of one statement. Whatever stops this ends the process: a report would be left in the pipe."""
         check_statement(statement)
+        self.deadline = None if limit is None else time.monotonic() + limit
         try:
             self.sent += len(statement)
             self.statements += 1
@@ -151,7 +157,10 @@ class Engine:
 
     def end_of_step(self) -> float | None:
         """When a step that begins now has to be over."""
-        return None if self.seconds is None else time.monotonic() + self.seconds
+        if self.seconds is None:
+            return self.deadline
+        end = time.monotonic() + self.seconds
+        return end if self.deadline is None else min(end, self.deadline)
 
     def write(self, text: bytes) -> None:
         """Writes all of it within a step, if the process reads on. If not, the read that follows tells how it ended."""
@@ -174,7 +183,8 @@ class Engine:
         """Waits until there is something to read, or room to write."""
         left = None if until is None else max(0.0, until - time.monotonic()) * 1000
         if not pipe.poll(left):
-            raise Stalled(f"the engine stood still for {self.seconds:g} seconds")
+            is_late = self.deadline is not None and time.monotonic() >= self.deadline
+            raise Stalled(OVER if is_late else STILL.format(seconds=self.seconds))
 
     def read(self, before: bytes | bytearray) -> bytes:
         """What is written next, behind what was read before."""

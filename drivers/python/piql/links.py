@@ -32,9 +32,12 @@ Identity = tuple[int, int] | None
 
 
 class Link(Protocol):
-    """Takes one statement after the other. `reads` says that a statement changes nothing."""
+    """Takes one statement after the other.
 
-    def exchange(self, statement: bytes, reads: bool) -> str:
+    `reads` says that a statement changes nothing, `limit` for how many seconds its report is waited for at most.
+    """
+
+    def exchange(self, statement: bytes, reads: bool, limit: float | None = None) -> str:
         """The report of the statement."""
 
     def backup(self, path: str) -> None:
@@ -99,9 +102,9 @@ class FileLink(EngineLink):
             self.close()
             raise StoreGone(GONE.format(path=self.path))
 
-    def exchange(self, statement: bytes, reads: bool) -> str:
+    def exchange(self, statement: bytes, reads: bool, limit: float | None = None) -> str:
         """The report of the statement, if the file is still there then."""
-        report = super().exchange(statement, reads)
+        report = super().exchange(statement, reads, limit)
         self.check_there()
         return report
 

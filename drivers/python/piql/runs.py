@@ -24,8 +24,8 @@ class Run(Protocol):
     def has_room(self, statement: bytes) -> bool:
         """Whether the script is no longer than it may be with the statement."""
 
-    def exchange(self, statement: bytes) -> bytes:
-        """The report of one statement."""
+    def exchange(self, statement: bytes, limit: float | None = None) -> bytes:
+        """The report of one statement, which may take so many seconds."""
 
     def has_ended(self) -> bool:
         """Whether the run is over, by itself or since an exchange was stopped."""
@@ -53,12 +53,12 @@ class EngineLink:
         """The exception of a run that ended."""
         return told_end(end, stands)
 
-    def exchange(self, statement: bytes, reads: bool) -> str:
+    def exchange(self, statement: bytes, reads: bool, limit: float | None = None) -> str:
         """The report of the statement."""
         check_owner(self.owner)
         engine = self.running(statement)
         try:
-            return engine.exchange(statement).decode()
+            return engine.exchange(statement, limit).decode()
         except EngineEnded as end:
             raise self.ended(end, self.stands(reads)) from end
         except Stalled as stall:

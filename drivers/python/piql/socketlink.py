@@ -95,53 +95,54 @@ class SocketLink:
         made.let_go()
         raise OperationalError(f"the server at {self.path} says: {text.decode(errors='replace')}")
 
-    def exchange(self, statement: bytes, reads: bool) -> str:
+    def exchange(self, statement: bytes, reads: bool, limit: float | None = None) -> str:
         """The report of the statement."""
         check_statement(statement)
+        seconds = min((it for it in (self.seconds, limit) if it is not None), default=None)
         try:
-            return self.reported(statement)
+            return self.reported(statement, seconds)
         except Late as error:
             stands = NOTHING if reads else MADE_OR_NOT
-            raise OperationalError(LATE.format(seconds=self.seconds, stands=stands)) from error
+            raise OperationalError(LATE.format(seconds=seconds, stands=stands)) from error
         except (Broken, Gone) as error:
             if not reads:
                 raise OperationalError(LOST) from error
         try:
-            return self.reported(statement)
+            return self.reported(statement, seconds)
         except Late as error:
-            raise OperationalError(LATE.format(seconds=self.seconds, stands=NOTHING)) from error
+            raise OperationalError(LATE.format(seconds=seconds, stands=NOTHING)) from error
         except (Broken, Gone) as error:
             raise OperationalError(f"the server went away twice before its report came: {NOTHING}") from error
 
-    def reported(self, statement: bytes) -> str:
+    def reported(self, statement: bytes, seconds: float | None) -> str:
         """The one whole report that the server sends. Its number is that of the server's run, which checks it."""
-        report = self.asked(STATEMENT, statement, REPORT)
+        report = self.asked(STATEMENT, statement, REPORT, seconds)
         if number_of(report) is None:
             self.close()
             raise InternalError(NO_ANSWER)
         return report.decode()
 
-    def send(self, kind: bytes, text: bytes) -> TimedSocket:
+    def send(self, kind: bytes, text: bytes, seconds: float | None) -> TimedSocket:
         """Sends a frame. One of which the kernel took nothing is sent anew: its server was stopped before."""
         try:
-            return self.sent(kind, text)
+            return self.sent(kind, text, seconds)
         except Broken as error:
             if error.sent:
                 raise
             self.close()
-        return self.sent(kind, text)
+        return self.sent(kind, text, seconds)
 
-    def sent(self, kind: bytes, text: bytes) -> TimedSocket:
+    def sent(self, kind: bytes, text: bytes, seconds: float | None) -> TimedSocket:
         """The connected socket, on which a frame was sent."""
         reached = self.reach()
-        reached.until = None if self.seconds is None else time.monotonic() + self.seconds
+        reached.until = None if seconds is None else time.monotonic() + seconds
         write_frame(reached, kind, text)
         return reached
 
-    def asked(self, kind: bytes, text: bytes, wanted: bytes) -> bytes:
+    def asked(self, kind: bytes, text: bytes, wanted: bytes, seconds: float | None) -> bytes:
         """The text of the frame that answers one. Whatever stops this closes the socket: an answer would be left."""
         try:
-            answer, said = read_frame(self.send(kind, text), ANSWER_BYTES)
+            answer, said = read_frame(self.send(kind, text, seconds), ANSWER_BYTES)
         except FrameError as error:
             self.close()
             raise InternalError(NO_ANSWER) from error
@@ -160,7 +161,7 @@ class SocketLink:
     def backup(self, path: str) -> None:
         """Has the server copy its file between two statements."""
         try:
-            self.asked(BACKUP, os.fsencode(os.path.abspath(path)), COPIED)
+            self.asked(BACKUP, os.fsencode(os.path.abspath(path)), COPIED, self.seconds)
         except (Broken, Gone) as error:
             raise OperationalError(f"the server went away before it told that {path} is whole") from error
         except Late as error:

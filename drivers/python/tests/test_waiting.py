@@ -13,8 +13,9 @@ from collections.abc import Callable
 from pathlib import Path
 
 from helpers import TOP, engine_of, new_folder, piql
-from pipes import RECORDING, PipeCase
+from pipes import RECORDING, PipeCase, program_of
 from piql.frames import GREETING, HELLO, REPORT, read_frame, write_frame
+from piql.hosts import HostLink, MemoryStore
 from piql.links import FileLink, MemoryLink
 from piql.scripts import pieces
 from piql.socketlink import SocketLink
@@ -64,6 +65,45 @@ class EngineTest(PipeCase):
         connection.close()
         self.assertLess(time.monotonic() - begun, SOON)
         self.assertEqual(process.poll(), -signal.SIGKILL)
+
+    def test_the_time_of_a_statement(self) -> None:
+        connection = self.open(step=SOON)
+        self.assertEqual(connection.execute("RUN q", timeout=SOON).fetchall(), [])
+        process = self.stopped(connection)
+        with self.assertRaises(piql.OperationalError) as caught:
+            connection.execute("INSERT INTO t VALUES (1)", timeout=STEP)
+        self.assertIn("the statement's time was over, so the run was ended", str(caught.exception))
+        self.assertIn("whole or not at all", str(caught.exception))
+        self.assertIsNotNone(process.poll())
+        # The limit was that statement's alone.
+        self.assertEqual(connection.execute("RUN q").fetchall(), [])
+        self.assertIn("nothing was made of it", self.untold(connection, 0))
+
+    def untold(self, connection: piql.Connection, timeout: float) -> str:
+        """What is told of a statement that isn't sent in time."""
+        self.sent()
+        with self.assertRaises(piql.OperationalError) as caught:
+            connection.execute("RUN q", timeout=timeout)
+        self.assertEqual(self.sent(), b"")
+        return str(caught.exception)
+
+    def test_the_time_behind_another_thread(self) -> None:
+        connection, told = self.open(), []
+        with connection._lock:
+            thread = threading.Thread(target=lambda: told.append(self.untold(connection, STEP)))
+            thread.start()
+            thread.join(SOON)
+        self.assertIn("nothing was made of it", str(told))
+        self.assertEqual(connection.execute("RUN q").fetchall(), [])
+
+    def test_the_time_over_a_host(self) -> None:
+        link = HostLink("a store", MemoryStore(), program_of(self, "stub_engine.py"), 5.0, SOON)
+        self.addCleanup(link.close)
+        begun = time.monotonic()
+        with self.assertRaises(piql.OperationalError) as caught:
+            link.exchange(b"HANG;", False, STEP)
+        self.assertLess(time.monotonic() - begun, SOON)
+        self.assertIn("the statement's time was over, so the run was ended", str(caught.exception))
 
     def test_a_store_in_memory(self) -> None:
         link = MemoryLink(RECORDING, STEP)
@@ -139,6 +179,14 @@ class SocketTest(unittest.TestCase):
             self.assertLess(time.monotonic() - begun, SOON)
             self.assertIn("no report for 0.5 seconds", str(caught.exception))
             self.assertIn(stands, str(caught.exception))
+
+
+    def test_the_time_of_a_statement(self) -> None:
+        link = SocketLink(Slow(self, False, 0.1).path, 5.0)
+        self.addCleanup(link.close)
+        with self.assertRaises(piql.OperationalError) as caught:
+            link.exchange(WRITE, False, 0.25)
+        self.assertIn("no report for 0.25 seconds", str(caught.exception))
 
 
 class StoppedServerTest(PipeCase):

@@ -71,10 +71,10 @@ class HostLink(EngineLink):
         self.end_run()
         return self.begin()
 
-    def exchange(self, statement: bytes, reads: bool) -> str:
+    def exchange(self, statement: bytes, reads: bool, limit: float | None = None) -> str:
         """The report of the statement."""
         try:
-            report = super().exchange(statement, reads)
+            report = super().exchange(statement, reads, limit)
         except BadRequest as error:
             raise OperationalError(f"{error}, so the run was ended. {self.stands(reads)}") from error
         self.revision = self.backends[0].revision
@@ -165,14 +165,14 @@ class ReaderLink(HostLink):
         except Fault as fault:
             raise OperationalError(f"{self.name} can't be read: {fault}") from fault
 
-    def exchange(self, statement: bytes, reads: bool) -> str:
+    def exchange(self, statement: bytes, reads: bool, limit: float | None = None) -> str:
         """The report of a statement that changes nothing."""
         if not reads:
             raise NotSupportedError("this connection only reads; the one that writes is made without reader=True")
         until = time.monotonic() + self.timeout
         while True:
             try:
-                return super().exchange(statement, reads)
+                return super().exchange(statement, reads, limit)
             except OperationalError as error:
                 # What was pinned may be gone, as a snapshot that the server ended, or a revision that was compacted.
                 if error.status != STORE_FAULT or time.monotonic() > until:
