@@ -16,7 +16,7 @@ from .errors import OperationalError
 # The bytes of SQLite's file format on which its locks are, and the form of C's struct flock.
 FIRST, COUNT = 0x4000_0000, 512
 FLOCK = struct.Struct("hhqqi4x")
-IN_USE = "somebody has {path} open (a run, a server, or sqlite3): end that first"
+IN_USE = "somebody has {path} open (a run, a server, or sqlite3): end that first, or ask a server by unix:SOCKET"
 
 
 def take_lock(file: int, path: str, kind: int) -> None:

@@ -7,6 +7,7 @@ from collections.abc import Iterator
 from pathlib import Path
 
 from .errors import InternalError, OperationalError
+from .holding import IN_USE
 from .reports import DefinitionLine, Row
 from .rowcodes import read_row
 from .schema import Column, Schema, read_schema
@@ -17,19 +18,22 @@ FORMATS = {b"CREATE TABLE ": 1, b"CREATE COUNTER ": 2, b"PREPARE ": 1, b"ALTER T
 READY, FILLING = 0, 1
 # No log with a page in it is shorter: its head, a page's head and the least page.
 LEAST_LOG = 32 + 24 + 512
+# For how many seconds a file is tried that somebody has.
+WAIT = 5.0
 
 
 def open_file(path: str, how: str = "mode=ro") -> sqlite3.Connection:
     """The file for reading alone."""
     try:
-        file = sqlite3.connect(f"{Path(path).absolute().as_uri()}?{how}", uri=True, timeout=5)
+        file = sqlite3.connect(f"{Path(path).absolute().as_uri()}?{how}", uri=True, timeout=WAIT)
     except sqlite3.Error as error:
         raise OperationalError(f"{path} can't be read: {error}") from error
     try:
         file.execute("SELECT k, v FROM kv LIMIT 1").fetchone()
     except sqlite3.Error as error:
         file.close()
-        raise OperationalError(f"{path} can't be read: {error}") from error
+        is_locked = error.sqlite_errorcode == sqlite3.SQLITE_BUSY
+        raise OperationalError(IN_USE.format(path=path) if is_locked else f"{path} can't be read: {error}") from error
     return file
 
 

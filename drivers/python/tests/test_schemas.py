@@ -251,7 +251,8 @@ class SchemaTest(unittest.TestCase):
 
     def test_migrate_looks_at_the_rows_behind_a_server(self) -> None:
         socket = self.folder / "socket"
-        with subprocess.Popen([TOP / "bin/piql-serve", self.path, socket], stdout=subprocess.PIPE) as server:
+        pipes = {"stdout": subprocess.PIPE, "stderr": subprocess.DEVNULL}
+        with subprocess.Popen([TOP / "bin/piql-serve", self.path, socket], **pipes) as server:
             assert server.stdout is not None
             server.stdout.readline()
             try:

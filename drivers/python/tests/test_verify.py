@@ -21,6 +21,7 @@ from piql.checks import merged
 from piql.findings import Findings
 from piql.hosts.backend import Fault, Guard, Pair, Reading
 from piql.hosts.memory import MemoryStore
+from piql.holding import held
 from piql.keycodes import key_code
 from piql.layout import layout_of
 from piql.rowcodes import read_row
@@ -351,13 +352,10 @@ class VerifyTest(unittest.TestCase):
                         verify("etcd://a/b", out, io.StringIO())
 
     def test_a_file_that_somebody_has(self) -> None:
-        with contextlib.closing(sqlite3.connect(self.changed({}), isolation_level=None)) as file:
-            file.execute("PRAGMA locking_mode = exclusive")
-            file.execute("BEGIN EXCLUSIVE")
-            with mock.patch("sqlite3.connect", wraps=sqlite3.connect) as connect:
-                connect.side_effect = lambda *words, **more: sqlite3.Connection(*words, **{**more, "timeout": 0})
-                with self.assertRaisesRegex(piql.OperationalError, "locked"):
-                    verify(str(self.folder / "changed.db"), io.StringIO(), io.StringIO())
+        path = self.changed({})
+        with held(str(path)), mock.patch("piql.stored.WAIT", 0.0):
+            with self.assertRaisesRegex(piql.OperationalError, "somebody has .* open .* by unix:SOCKET"):
+                verify(str(path), io.StringIO(), io.StringIO())
 
 
 @needs_file
@@ -395,7 +393,8 @@ class CommandTest(unittest.TestCase):
     def test_a_server_goes_on(self) -> None:
         folder = new_folder(self)
         path, socket = folder / "store.db", folder / "socket"
-        with subprocess.Popen([TOP / "bin/piql-serve", path, socket], stdout=subprocess.PIPE) as server:
+        pipes = {"stdout": subprocess.PIPE, "stderr": subprocess.DEVNULL}
+        with subprocess.Popen([TOP / "bin/piql-serve", path, socket], **pipes) as server:
             assert server.stdout is not None
             server.stdout.readline()
             try:
