@@ -11,11 +11,12 @@ import sys
 from collections.abc import Iterable, Iterator
 from pathlib import Path
 
-from piql.errors import Error, OperationalError
+from piql.errors import Error, InterfaceError, OperationalError
 from piql.private import new_file
 from piql.schema import Table
 from piql.scripts import SCRIPT_BYTES
 from piql.stored import DEFINITIONS, INTENT, READY, check_formats, opened, pairs, read_stored_schema, stored_rows
+from piql.targets import check_files
 from piql.values import quoted
 from tools.launch import tell
 from tools.statuses import USAGE
@@ -78,6 +79,7 @@ def write_folder(parts: Iterable[bytes], folder: Path) -> int:
 
 def write(path: str, folder: str | None) -> int:
     """Writes the scripts of a file."""
+    check_files(path)
     with opened(path) as file:
         check_whole(file)
         parts = scripts(statements(file), SCRIPT_BYTES)
@@ -96,8 +98,8 @@ def main(words: list[str]) -> int:
     try:
         return write(given.file, given.folder)
     except Error as error:
-        said = str(error)
-        tell(NAME, said if said.startswith(given.file) else f"{given.file}: {said}")
+        said, is_told = str(error), isinstance(error, InterfaceError)
+        tell(NAME, said if is_told or said.startswith(given.file) else f"{given.file}: {said}")
         return REFUSED
     except OSError as error:
         tell(NAME, str(error))

@@ -13,6 +13,7 @@ from .hosts.backend import Backend, Fault, Held
 from .hosts.script import run_script
 from .private import folder_beside, put_in_place
 from .reports import EndLine, cut_lines, read_line
+from .targets import check_files
 
 Program = str | os.PathLike[str] | None
 SOME_REFUSED = 1
@@ -56,6 +57,7 @@ def run_scripts(store: Backend, program: str, scripts: Iterable[str], tell: Text
 
 def make(new: str, scripts: Iterable[str], tell: TextIO, program: Program = None) -> Made:
     """Makes a file, which may not be there yet, of what scripts define and write."""
+    check_files(new)
     host, engine = find_program("piql_host"), find_program("piql_file", program)
     if os.path.lexists(new):
         raise OperationalError(f"{new} is there already: it has to be a new file")

@@ -4,31 +4,28 @@ import hashlib
 import os
 import re
 from pathlib import Path
-from urllib.parse import parse_qsl, urlencode, urlsplit
+from urllib.parse import unquote
 
 from .errors import OperationalError
-from .hosts.urls import is_url
+from .hosts.passwords import SECRET, cut_user, cut_words
+from .hosts.urls import is_url, options_of
 
 CONTENT = re.compile(rb"([0-9]{20}) ([0-9]{20}) ([0-9]{10})\n")
-# Words of a URL that don't say which store it is: seconds, and whatever is secret.
-SECONDS = ("lease", "patience")
-SECRET = "password"
 DIGITS = 16
 
 
-def nameless_url(url: str) -> str:
-    """What a URL says of where a store is, without a password."""
-    parts = urlsplit(url)
-    login, _, hosts = parts.netloc.rpartition("@")
-    user = login.partition(":")[0]
-    words = [word for word in parse_qsl(parts.query) if word[0] not in SECONDS and SECRET not in word[0]]
-    return f"{parts.scheme}://{user}@{hosts}{parts.path}?{urlencode(words)}"
+def place_of(url: str) -> str:
+    """What a URL says of where a store is, without its secrets and without seconds."""
+    front, _, rest = cut_user(options_of(url)[0])
+    whole = front.removesuffix(":") + rest
+    words = [name + value for name, value in cut_words(whole) if not SECRET.search(unquote(name))]
+    return f"{whole.partition('?')[0]}?{'&'.join(words)}"
 
 
 def mark_path(store: str, table: str) -> str:
     """The file that keeps how far a load came. No part of a URL stands in its name, for that may have a password."""
     if is_url(store):
-        return f"{table}.{hashlib.sha256(nameless_url(store).encode()).hexdigest()[:DIGITS]}.load"
+        return f"{table}.{hashlib.sha256(place_of(store).encode()).hexdigest()[:DIGITS]}.load"
     return f"{store.removeprefix('unix:')}.{table}.load"
 
 

@@ -22,6 +22,7 @@ from .replacing import replace, take_rights
 from .reports import Value
 from .schema import Schema, Table
 from .stored import opened_held, read_stored_schema, stored_rows
+from .targets import check_files
 
 Program = str | os.PathLike[str] | None
 # The values of columns that the old table lacks, by table and column. An added column else has its default.
@@ -129,6 +130,7 @@ def rebuild(
 
     Where `new` is None, the new file takes the place of the old one, whose name from then on is told.
     """
+    check_files(old, new)
     if not os.path.exists(old) or new is not None and os.path.lexists(new):
         raise OperationalError(f"{old} has to be there, and {new} may not")
     # An opening settles what a run that was cut off left, and its end brings all into the one file.

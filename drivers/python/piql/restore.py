@@ -13,6 +13,7 @@ from .holding import held, held_for_reading
 from .private import folder_beside
 from .replacing import replace, take_rights
 from .stored import check_formats, opened
+from .targets import check_files
 from .verify import verify
 
 Program = str | os.PathLike[str] | None
@@ -64,6 +65,7 @@ def restore(copy: str, path: str, tell: TextIO, program: Program = None, is_unch
 
     One that is unchecked may have differences that verify finds; SQLite and the engine have to take it all the same.
     """
+    check_files(copy, path)
     engine = find_program("piql_file", program)
     if os.path.realpath(copy) == os.path.realpath(path):
         raise OperationalError(f"{copy} is the file itself")

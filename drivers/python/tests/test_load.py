@@ -82,9 +82,10 @@ class MarkTest(unittest.TestCase):
         path = mark_path(SECRETS, "users")
         self.assertRegex(path, r"^users\.[0-9a-f]{16}\.load$")
         same = SECRETS.replace("hunter2", "another").replace("lease=5", "patience=7")
-        self.assertEqual(mark_path(same, "users"), path)
-        for other in (SECRETS.replace("a,b", "a"), SECRETS.replace("site:", "root:"), SECRETS + "&dbname=x"):
-            self.assertNotEqual(mark_path(other, "users"), path, other)
+        for url in (same, SECRETS.replace(":hunter2@", "@"), "postgresql://site@a,b/site"):
+            self.assertEqual(mark_path(url, "users"), path)
+        for url in (SECRETS.replace("a,b", "a"), SECRETS.replace("site:", "root:"), SECRETS + "&dbname=x"):
+            self.assertNotEqual(mark_path(url, "users"), path, url)
         self.assertEqual(mark_path("unix:/run/s", "users"), "/run/s.users.load")
         self.assertEqual(mark_path("site.db", "users"), "site.db.users.load")
 
