@@ -4,8 +4,8 @@ import contextlib
 import socket
 import threading
 import time
-import unittest
 from collections.abc import Callable
+from types import TracebackType
 
 # What a connection is answered, by what a client sent first.
 Answer = Callable[[socket.socket, bytes], None]
@@ -14,13 +14,18 @@ Answer = Callable[[socket.socket, bytes], None]
 class LyingServer:
     """A server on loopback, each of whose connections is answered by a function, in a thread of its own."""
 
-    def __init__(self, case: unittest.TestCase, answer: Answer) -> None:
-        self.answer, self.is_over = answer, False
+    def __init__(self, answer: Answer) -> None:
+        self.answer = answer
         self.listener = socket.create_server(("127.0.0.1", 0))
         self.port: int = self.listener.getsockname()[1]
         self.sockets: list[socket.socket] = []
         threading.Thread(target=self.run, daemon=True).start()
-        case.addCleanup(self.close)
+
+    def __enter__(self) -> "LyingServer":
+        return self
+
+    def __exit__(self, kind: type[BaseException] | None, error: BaseException | None, at: TracebackType | None) -> None:
+        self.close()
 
     def run(self) -> None:
         """Takes connections until the end."""

@@ -91,7 +91,7 @@ class LyingTest(unittest.TestCase):
     """Each call at a member that answers as none does."""
 
     def check(self, answer: Answer, patience: float, names: set[str]) -> None:
-        server = LyingServer(self, answer)
+        server = self.enterContext(LyingServer(answer))
         for store in opened(server.port, patience):
             for name in names & set(calls(store)):
                 if isinstance(store, EtcdStore):
@@ -114,6 +114,7 @@ class LyingTest(unittest.TestCase):
         for status in ("200 OK", "503 Service Unavailable", "404 Not Found"):
             with self.subTest(status):
                 self.check(telling(b"{}", status), SHORT, ALL)
+        self.check(telling(b'{"code": {}, "message": [1]}', "400 Bad Request"), SHORT, ALL)
 
     def test_a_member_that_dribbles_or_is_silent_takes_no_longer_than_a_call_has(self) -> None:
         for answer in (silent, dribbling(b"HTTP/1.1 200 OK\r\nContent-Length: 999\r\n\r\n" + b" " * 999, 0.1)):
@@ -121,7 +122,8 @@ class LyingTest(unittest.TestCase):
 
     def test_nothing_of_an_answer_is_told(self) -> None:
         marked = base64.b64encode(b"a row's value").decode()
-        server = LyingServer(self, telling(json.dumps({"kvs": marked, "responses": [marked]}).encode()))
+        told = json.dumps({"kvs": marked, "responses": [marked]}).encode()
+        server = self.enterContext(LyingServer(telling(told)))
         for store in opened(server.port, SHORT):
             with self.assertRaises(Fault) as caught:
                 store.begin() if isinstance(store, EtcdStore) else store.get(b"k")

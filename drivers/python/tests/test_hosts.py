@@ -9,12 +9,12 @@ import struct
 import sys
 import time
 import unittest
-import unittest.mock
 from pathlib import Path
+from unittest.mock import Mock
 
 from helpers import TOP, built, make_folder, new_folder, piql
 from lying import LyingServer, silent
-from piql.errors import InterfaceError, NotSupportedError, OperationalError
+from piql.errors import InterfaceError, InternalError, NotSupportedError, OperationalError
 from piql.hosts import (
     Backend,
     BadRequest,
@@ -101,7 +101,7 @@ class HostTest(unittest.TestCase):
         self.assertEqual((self.host.calls.total(), self.host.entries, self.host.faults), (6, 3, 0))
 
     def test_a_call_without_an_answer(self) -> None:
-        self.store.get = unittest.mock.Mock(side_effect=Fault("gone"))  # type: ignore[method-assign]
+        self.store.get = Mock(side_effect=Fault("gone"))  # type: ignore[method-assign]
         self.assertEqual(self.host.answer(Request(Op.GET, 0, b"k")), FAILURE)
         self.assertEqual((self.host.faults, self.host.why), (1, "gone"))
 
@@ -268,7 +268,7 @@ class LinkTest(unittest.TestCase):
     def test_a_fault_of_the_store_ends_the_run_and_the_next_statement_begins_one(self) -> None:
         store = MemoryStore()
         link = self.link(store)
-        store.get = unittest.mock.Mock(side_effect=[Fault("no member answers"), b"v"])  # type: ignore[method-assign]
+        store.get = Mock(side_effect=[Fault("no member answers"), b"v"])  # type: ignore[method-assign]
         with self.assertRaisesRegex(OperationalError, "^no member answers, so the run ended with status 5") as caught:
             link.exchange(b"GET k;", True)
         self.assertEqual(caught.exception.status, 5)
@@ -276,13 +276,27 @@ class LinkTest(unittest.TestCase):
 
     def test_why_a_store_cant_be_opened_is_told_first(self) -> None:
         store = MemoryStore()
-        store.range = unittest.mock.Mock(side_effect=Fault("no room"))  # type: ignore[method-assign]
+        store.range = Mock(side_effect=Fault("no room"))  # type: ignore[method-assign]
         with self.assertRaisesRegex(OperationalError, "^no room, so the run ended with status 5. the store isn't open") as caught:
             self.link(store).exchange(b"COUNT;", True)
         self.assertEqual(caught.exception.status, 5)
 
+    def test_a_backend_that_fails_by_itself(self) -> None:
+        store = MemoryStore()
+        link = self.link(store)
+        link.exchange(b"COUNT;", True)
+        store.get = Mock(side_effect=[KeyError("a value"), b"v"])  # type: ignore[method-assign]
+        with self.assertRaisesRegex(InternalError, "failed by itself .KeyError.") as caught:
+            link.exchange(b"GET k;", True)
+        self.assertNotIn("a value", str(caught.exception))
+        self.assertIn("x01v", link.exchange(b"GET k;", True))
+        for failing in (Mock(side_effect=TypeError("a value")), Mock(return_value=None)):
+            other = self.link(MemoryStore())
+            other.backends[0].range = failing  # type: ignore[method-assign]
+            self.assertRaisesRegex(InternalError, "the store isn't open", other.begin)
+
     def test_a_call_takes_no_longer_than_a_step(self) -> None:
-        server = LyingServer(self, silent)
+        server = self.enterContext(LyingServer(silent))
         for reader in (False, True):
             begun = time.monotonic()
             with self.assertRaisesRegex(OperationalError, "no member answers"):
@@ -328,12 +342,12 @@ class LinkTest(unittest.TestCase):
     def test_servers_that_dont_answer_are_tried_until_the_time_is_over(self) -> None:
         store = MemoryStore()
         gone = Unreachable("no member answers")
-        store.begin = unittest.mock.Mock(side_effect=[gone, gone, None])  # type: ignore[method-assign]
+        store.begin = Mock(side_effect=[gone, gone, None])  # type: ignore[method-assign]
         link = self.link(store)
         link.timeout = math.inf
         self.assertIn("1 ok", link.exchange(b"COUNT;", True))
         other = self.link(MemoryStore())
-        other.backends[0].begin = unittest.mock.Mock(side_effect=gone)  # type: ignore[method-assign]
+        other.backends[0].begin = Mock(side_effect=gone)  # type: ignore[method-assign]
         with self.assertRaisesRegex(OperationalError, "isn't open: no member answers"):
             other.exchange(b"COUNT;", True)
 
@@ -370,7 +384,7 @@ class LinkTest(unittest.TestCase):
         link = ReaderLink("the store", reading, self.stub, 60.0)
         self.addCleanup(link.close)
         gone = [Fault("compacted")] * 3
-        reading.get = unittest.mock.Mock(side_effect=[*gone, b"v"])  # type: ignore[method-assign]
+        reading.get = Mock(side_effect=[*gone, b"v"])  # type: ignore[method-assign]
         self.assertIn("x01v", link.exchange(b"GET k;", True))
         self.assertEqual(len(reading.pins), 4)
         link.timeout = 0.0
@@ -428,7 +442,7 @@ class EtcdTest(unittest.TestCase):
         self.assertEqual(len({fence.value(), fence.behind_write().value(), fence.next_turn().value()}), 3)
 
     def test_quiet_revisions(self) -> None:
-        reading = EtcdReading(unittest.mock.Mock(), "shop")
+        reading = EtcdReading(Mock(), "shop")
         first, second = Stored(b"\1\0\1", b"\1\0..", 5, 5), Stored(b"\1\0\2", b"\1\1..", 40, 40)
         filled = second._replace(value=b"\1\0..", changed=60)
         for intent, found, revision, definitions in [

@@ -234,7 +234,7 @@ class SlowTest(unittest.TestCase):
     """Servers that answer slowly or not at all: a Fault, within the time that a call has."""
 
     def test_a_host_that_answered_is_asked_first_from_then_on(self) -> None:
-        server = LyingServer(self, silent)
+        server = self.enterContext(LyingServer(silent))
         at = databases().url((0,)).partition("@")[2]
         client = PostgresClient(f"postgresql://piql@127.0.0.1:{server.port},{at}", 6.0)
         self.addCleanup(client.close)
@@ -248,7 +248,7 @@ class SlowTest(unittest.TestCase):
 
     def test_a_server_that_dribbles_or_is_silent(self) -> None:
         for answer in (silent, dribbling(b"N" + b"R" * 99, 0.1)):
-            server = LyingServer(self, answer)
+            server = self.enterContext(LyingServer(answer))
             url = f"postgresql://site@127.0.0.1:{server.port},127.0.0.1:{server.port}/site"
             for store, call in [(PostgresStore(url, patience=0.5), "begin"), (PostgresReading(url, 0.5), "pin")]:
                 begun = time.monotonic()

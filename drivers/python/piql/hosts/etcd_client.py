@@ -88,8 +88,8 @@ class EtcdClient:
         told = read_object(answer.read(ANSWER_MOST + 1))
         if answer.status == 200:
             return read_by(read, told)
-        why = f"{told.get('message') or told.get('error')!s:.200}"
-        if told.get("code") in FINAL:
+        code, why = told.get("code"), f"{told.get('message') or told.get('error')!s:.200}"
+        if isinstance(code, int) and code in FINAL:
             raise Refused(why)
         raise ValueError(f"status {answer.status}, {why}")
 

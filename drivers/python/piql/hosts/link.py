@@ -5,7 +5,7 @@ import time
 from collections.abc import Sequence
 
 from ..engine import EngineEnded, find_program
-from ..errors import Error, NotSupportedError, OperationalError
+from ..errors import Error, InternalError, NotSupportedError, OperationalError
 from ..runs import EngineLink, told_end
 from .backend import Backend, Fault, Held, Reading, Unreachable
 from .host import Host
@@ -23,8 +23,16 @@ STANDS_WRITE = (
     "This statement was made whole or not at all; all that was reported as ok before stands."
     " The next statement opens the store anew, which settles it."
 )
+# What a backend raises that stumbles over what a server answered, or over itself.
+STRANGE = (ArithmeticError, AttributeError, LookupError, TypeError, ValueError)
+STUMBLED = "the store's backend failed by itself ({kind}). {stands}"
 HELD = "another engine has the store: {why}"
 NO_COPY = "the copies of {name} are those of its database, as docs/SCALING.md tells"
+
+
+def stumbled(error: Exception, stands: str) -> InternalError:
+    """The exception of a backend that failed by itself. What it says of that may have values, and isn't told."""
+    return InternalError(STUMBLED.format(kind=type(error).__name__, stands=stands))
 
 
 class HostLink(EngineLink):
@@ -61,6 +69,8 @@ class HostLink(EngineLink):
                 raise OperationalError(f"{self.name} isn't open: {error}") from error
             except EngineEnded as end:
                 raise self.ended(end, f"{self.name} isn't open.") from end
+            except STRANGE as error:
+                raise stumbled(error, f"{self.name} isn't open.") from error
             time.sleep(min(PAUSE, self.timeout / 50))
 
     def running(self, statement: bytes) -> HostedEngine:
@@ -77,6 +87,8 @@ class HostLink(EngineLink):
             report = super().exchange(statement, reads, limit)
         except BadRequest as error:
             raise OperationalError(f"{error}, so the run was ended. {self.stands(reads)}") from error
+        except STRANGE as error:
+            raise stumbled(error, self.stands(reads)) from error
         self.revision = self.backends[0].revision
         return report
 
