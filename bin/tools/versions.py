@@ -2,7 +2,7 @@
 
 LANGUAGE = 5
 FILE_FORMAT = 4
-DRIVER = 1
+DRIVER = 2
 
 NUMBER = f"{LANGUAGE}.{FILE_FORMAT}.{DRIVER}"
 MEANING = f"language {LANGUAGE}, file format {FILE_FORMAT}, driver {DRIVER}"
