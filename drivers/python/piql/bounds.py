@@ -1,12 +1,15 @@
 """bounds.lock: a file with the bound of each query, so that a test fails where a page gets dearer."""
 
 import os
+import re
 from pathlib import Path
 
 from .connection import Connection
+from .errors import OperationalError, ProgrammingError
 from .reports import Work
 
 HEAD = "# Each query's bound: its name, operations, entries. `python -m piql bounds FILE --write PATH` writes this.\n"
+LINE = re.compile(r"(\w+)\s+([0-9]{1,9})\s+([0-9]{1,9})\s*")
 
 
 class BoundsRose(AssertionError):
@@ -16,14 +19,30 @@ class BoundsRose(AssertionError):
 def write_bounds(connection: Connection, path: str | os.PathLike[str]) -> dict[str, Work]:
     """Writes the bound of each query of the store, by their names; what was written."""
     bounds = connection.bounds()
-    Path(path).write_text(HEAD + "".join(f"{name} {bounds[name]}\n" for name in sorted(bounds)))
+    text = HEAD + "".join(f"{name} {bounds[name]}\n" for name in sorted(bounds))
+    try:
+        Path(path).write_text(text, encoding="utf-8")
+    except OSError as error:
+        raise OperationalError(f"{path} can't be written: {error.strerror}") from error
     return bounds
 
 
 def read_bounds(path: str | os.PathLike[str]) -> dict[str, Work]:
     """The bounds that such a file has."""
-    lines = [line.split() for line in Path(path).read_text().splitlines() if line and not line.startswith("#")]
-    return {name: Work(int(operations), int(entries)) for name, operations, entries in lines}
+    try:
+        text = Path(path).read_text(encoding="utf-8")
+    except (OSError, UnicodeDecodeError) as error:
+        raise OperationalError(f"{path} can't be read: {getattr(error, 'strerror', 'it is no UTF-8')}") from error
+    lines = [(place, line) for place, line in enumerate(text.splitlines(), 1) if line and not line.startswith("#")]
+    return dict(read_bound(line, f"{path}, line {place}") for place, line in lines)
+
+
+def read_bound(line: str, where: str) -> tuple[str, Work]:
+    """A query's name and its bound."""
+    found = LINE.fullmatch(line)
+    if found is None:
+        raise ProgrammingError(f"{where} has no name of a query with two numbers, operations and entries")
+    return found[1], Work(int(found[2]), int(found[3]))
 
 
 def check_bounds(connection: Connection, path: str | os.PathLike[str]) -> None:

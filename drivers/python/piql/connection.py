@@ -94,6 +94,8 @@ class Connection:
         link = self.link()
         if not isinstance(link, ReaderLink):
             raise NotSupportedError("only a reader waits for a revision: another connection reads what stands")
+        if not isinstance(revision, int):
+            raise ProgrammingError("a revision is the number that the writer's connection has")
         link.wait_for(revision)
 
     def link(self) -> Link:

@@ -110,6 +110,44 @@ class GivenTest(PipeCase):
         self.assertEqual(sorted(it.name for it in new_place.iterdir()), ["a.db", "b.db", "place.db"])
 
 
+class ModuleTest(unittest.TestCase):
+    """Functions of the module."""
+
+    def test_constructors(self) -> None:
+        made: list[tuple[Callable[..., str], tuple[object, ...]]] = [
+            (piql.Date, (2026, 13, 1)),
+            (piql.Date, ("2026", 1, 1)),
+            (piql.Date, ()),
+            (piql.Time, (24, 0, 0)),
+            (piql.Timestamp, (2026, 1, 1, 0, 0, 60)),
+            (piql.DateFromTicks, (10**30,)),
+            (piql.TimeFromTicks, ("now",)),
+            (piql.TimestampFromTicks, (float("nan"),)),
+            (piql.Binary, (5,)),
+            (piql.Binary, ("text",)),
+        ]
+        for make, parts in made:
+            with self.subTest(make.__name__, parts=parts), self.assertRaises(piql.DataError):
+                make(*parts)
+        for data, digits in ((b"\0\xff", "00ff"), (bytearray(b"a"), "61"), (memoryview(b"b"), "62")):
+            self.assertEqual(piql.Binary(data), digits)  # type: ignore[arg-type]
+
+    def test_bounds(self) -> None:
+        place = new_folder(self) / "bounds.lock"
+        with self.assertRaises(piql.OperationalError):
+            piql.read_bounds(place)
+        place.write_bytes(b"\xff")
+        with self.assertRaises(piql.OperationalError):
+            piql.read_bounds(place)
+        for line in ("q 1", "q 1 2 3", "q one 2", f"q 1 {DIGITS}", "q -1 2"):
+            place.write_text(f"# a comment\n{line}\n")
+            with self.subTest(line[:20]), self.assertRaises(piql.ProgrammingError) as caught:
+                piql.read_bounds(place)
+            self.assertIn("line 2", str(caught.exception))
+        place.write_text("# a comment\n\nq 1 2\n")
+        self.assertEqual(piql.read_bounds(place), {"q": (1, 2)})
+
+
 class MessageTest(unittest.TestCase):
     """No message has a value of a statement or of a row."""
 
