@@ -4,10 +4,11 @@ import ctypes
 import signal
 import subprocess
 import sys
-from collections.abc import Callable
+from collections.abc import Callable, Sequence
 from typing import BinaryIO
 
 from piql.allocator import engine_environment
+from piql.causes import cause_of
 from tools.kept import NotBuilt
 from tools.programs import Program, find_program, proved_program
 from tools.statuses import NO_PROGRAM, STORE_FAULT, USAGE, meaning
@@ -53,15 +54,17 @@ def run_all(name: str, program: Program, asked: Asked) -> int:
         if len(asked.scripts) > 1:
             print(f"== {shown(script)}", flush=True)
         with open(script, "rb") as opened:
-            status = ended(name, run_once(program, asked.words, opened))
+            status = ended(name, run_once(program, asked.words, opened), asked.words)
         worst = max(worst, status)
         if status >= NO_PROGRAM or status > 1 and name == "piql_file":
             break
     return worst
 
 
-def ended(name: str, status: int) -> int:
-    """Tells what a status says, and gives it as a shell does."""
+def ended(name: str, status: int, words: Sequence[str] = ()) -> int:
+    """Tells what a status says, and gives it as a shell does. Why a file can't be used is told first, if it shows."""
+    if name == "piql_file" and status == STORE_FAULT:
+        tell(name, cause_of(words[0]))
     if line := meaning(name, status):
         print(line, file=sys.stderr, flush=True)
     return status if status >= 0 else 128 - status
@@ -112,7 +115,7 @@ def run_asked(name: str, asked: Asked) -> int:
         tell(name, AT_A_TERMINAL)
     if asked.scripts:
         return run_all(name, program, asked)
-    return ended(name, run_once(program, asked.words, None))
+    return ended(name, run_once(program, asked.words, None), asked.words)
 
 
 def main(name: str, words: list[str]) -> int:

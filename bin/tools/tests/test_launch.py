@@ -1,8 +1,10 @@
 """Tests of running a program: what it reads, what is told of its end, and what is told at a terminal."""
 
+import contextlib
 import os
 import pty
 import signal
+import sqlite3
 import subprocess
 import time
 import unittest
@@ -49,6 +51,16 @@ class EndsTest(unittest.TestCase):
         run = self.copy.run("piql_file", "new.db", "run", "a", "b", "c")
         self.assertEqual(run.stdout, b"== a\nrun\n== b\nrun\n")
         self.assertEqual(run.returncode, 6)
+
+    def test_why_a_file_can_not_be_used_is_told_first(self) -> None:
+        self.copy.put_script("piql_file", "exit 5\n")
+        store = self.copy.top / "store.db"
+        with contextlib.closing(sqlite3.connect(store)) as other:
+            other.execute("CREATE TABLE t (a)")
+            other.execute("BEGIN EXCLUSIVE")
+            run = self.copy.run("piql_file", "store.db", "run")
+        cause = "another process has store.db open (a run, a server, or sqlite3); piql-serve hands one file to many"
+        self.assertEqual(run.stderr.decode(), f"piql_file: {cause}\npiql_file: ended with status 5: {MEANINGS[5]}\n")
 
     def test_wrong_words_start_nothing(self) -> None:
         self.copy.put_script("piql", "echo started\n")
