@@ -6,6 +6,7 @@ from pathlib import Path
 
 from .connection import Connection
 from .errors import OperationalError, ProgrammingError
+from .plain import plain_path
 from .reports import Work
 
 HEAD = "# Each query's bound: its name, operations, entries. `python -m piql bounds FILE --write PATH` writes this.\n"
@@ -18,23 +19,24 @@ class BoundsRose(AssertionError):
 
 def write_bounds(connection: Connection, path: str | os.PathLike[str]) -> dict[str, Work]:
     """Writes the bound of each query of the store, by their names; what was written."""
-    bounds = connection.bounds()
+    place, bounds = plain_path(path, "the list of bounds"), connection.bounds()
     text = HEAD + "".join(f"{name} {bounds[name]}\n" for name in sorted(bounds))
     try:
-        Path(path).write_text(text, encoding="utf-8")
+        Path(place).write_text(text, encoding="utf-8")
     except OSError as error:
-        raise OperationalError(f"{path} can't be written: {error.strerror}") from error
+        raise OperationalError(f"{place} can't be written: {error.strerror}") from error
     return bounds
 
 
 def read_bounds(path: str | os.PathLike[str]) -> dict[str, Work]:
     """The bounds that such a file has."""
+    place = plain_path(path, "the list of bounds")
     try:
-        text = Path(path).read_text(encoding="utf-8")
+        text = Path(place).read_text(encoding="utf-8")
     except (OSError, UnicodeDecodeError) as error:
-        raise OperationalError(f"{path} can't be read: {getattr(error, 'strerror', 'it is no UTF-8')}") from error
-    lines = [(place, line) for place, line in enumerate(text.splitlines(), 1) if line and not line.startswith("#")]
-    return dict(read_bound(line, f"{path}, line {place}") for place, line in lines)
+        raise OperationalError(f"{place} can't be read: {getattr(error, 'strerror', 'it is no UTF-8')}") from error
+    lines = [(number, line) for number, line in enumerate(text.splitlines(), 1) if line and not line.startswith("#")]
+    return dict(read_bound(line, f"{place}, line {number}") for number, line in lines)
 
 
 def read_bound(line: str, where: str) -> tuple[str, Work]:

@@ -16,6 +16,7 @@ from typing import NamedTuple, TextIO
 from .connection import Connection
 from .errors import DatabaseError, DataError, OperationalError, ProgrammingError
 from .marks import Mark
+from .plain import plain_path
 from .reports import Value
 from .schema import Column, Table
 from .values import GREATEST, LEAST
@@ -188,7 +189,7 @@ def load(
     found = connection.refresh().tables().get(table.lower())
     if found is None:
         raise ProgrammingError(f"no table has the name {table}")
-    kept, is_done = Mark(Path(mark)), False
+    kept, is_done = Mark(Path(plain_path(mark, "the mark"))), False
     try:
         work = Load(connection, found, kept, tell, null)
         work.run(records_of(source))

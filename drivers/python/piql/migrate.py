@@ -11,6 +11,7 @@ from .connection import Connection
 from .engine import find_program
 from .errors import Error, InterfaceError, OperationalError, ProgrammingError, refused
 from .links import FileLink, Link, MemoryLink
+from .plain import plain_path
 from .refusals import refusal_of
 from .reports import Report
 from .rowcounts import CAP, count_rows
@@ -94,7 +95,7 @@ def read_wanted(path: str | os.PathLike[str], program: str | os.PathLike[str] | 
 def read_script(path: str | os.PathLike[str]) -> str:
     """A schema's text."""
     try:
-        return Path(path).read_text(encoding="utf-8")
+        return Path(plain_path(path, "the schema")).read_text(encoding="utf-8")
     except (OSError, UnicodeError) as error:
         raise OperationalError(f"{os.fspath(path)} can't be read: {error}") from error
 

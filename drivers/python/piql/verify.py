@@ -17,6 +17,7 @@ from .findings import Findings
 from .hosts.backend import Fault
 from .hosts.urls import is_url, open_reading
 from .layout import Layout, Program, WrongDefinition, layout_of
+from .plain import plain_path
 from .socketlink import SocketLink
 from .sources import FileSource, ReadingSource, Settled, Source
 from .stored import DEFINITIONS, FILLING, INTENT, READY, format_of, opened
@@ -128,7 +129,7 @@ def verify(target: str, out: TextIO, tell: TextIO, program: Program = None, fold
     read is an OperationalError.
     """
     findings = Findings(out, tell)
-    with source_of(target, folder) as source:
+    with source_of(plain_path(target, "the store"), folder) as source:
         check_store(source, findings, program)
     print(f"{findings.pairs} pairs, {findings.differences} differences", file=out)
     return Verified(findings.pairs, findings.differences)

@@ -6,9 +6,12 @@ import subprocess
 import sys
 import unittest
 
-from helpers import TOP, piql
+from helpers import TOP, new_folder, piql
 from piql.__main__ import main
+from piql.bounds import read_bounds
+from piql.migrate import read_script
 from piql.targets import check_files
+from piql.verify import verify
 
 URL = "postgresql://site:hunter2@a,b/site?sslpassword=hunter2"
 WORDS = (
@@ -26,8 +29,22 @@ class TargetsTest(unittest.TestCase):
 
     def test_a_file_is_one(self) -> None:
         check_files("a.db", None, "./unix:", "/a//b")
-        for name in (URL, "etcd://a/b", "unix:/run/socket"):
+        for name in (URL, "etcd://a/b", "unix:/run/socket", "a\0b", "", 5):
             self.assertRaises(piql.InterfaceError, check_files, "a.db", name)
+
+    def test_what_is_no_path_is_refused(self) -> None:
+        for path in ("a\0b", "", 5, "\ud800"):
+            for work in (read_bounds, read_script, lambda it: verify(it, io.StringIO(), io.StringIO())):
+                with self.subTest(path), self.assertRaises(piql.InterfaceError):
+                    work(path)
+
+    def test_what_is_no_list_of_bounds(self) -> None:
+        path = new_folder(self) / "bounds.lock"
+        for text in (None, "a 1\n", "a 1 x\n", "\udcff 1 1\n"):
+            if text is not None:
+                path.write_bytes(text.encode(errors="surrogateescape"))
+            with self.subTest(text), self.assertRaises(piql.DatabaseError):
+                read_bounds(path)
 
     def test_a_url_is_refused_without_its_password(self) -> None:
         for words in WORDS:
