@@ -18,7 +18,8 @@ SCHEMA = """CREATE TABLE u (id INT, town TEXT(20), name TEXT(20), PRIMARY KEY (i
 PREPARE one AS SELECT * FROM u WHERE u.id = [1: id];
 PREPARE town AS SELECT * FROM u WHERE u.town = [1: town] ORDER BY u.id LIMIT 10;
 """
-CALLS = ("get", "range", "count", "write")
+CALLS = ("get", "range", "count", "write", "commit")
+FILL_SECONDS = 120.0
 
 
 class Timed:
@@ -44,7 +45,7 @@ class Timed:
 
 
 def script(times: int) -> bytes:
-    """Inserts of four calls, look-ups of one, and pages of eleven."""
+    """Inserts of three calls, look-ups of one, and pages of eleven."""
     towns = max(1, times // 50)
     made = [SCHEMA, *(f"INSERT INTO u VALUES ({number}, 't{number // 50}', 'somebody');\n" for number in range(times))]
     made += [f"RUN one ({number * 7919 % times});\n" for number in range(times)]
@@ -94,7 +95,8 @@ def fill(store: Backend, begin: int, end: int) -> None:
             client.post("/v3/kv/txn", {"success": puts}, read_told, 10.0)
     else:
         values = f"convert_to('z' || lpad(n::text, 8, '0'), 'UTF8'), 'v' FROM generate_series({begin}, {end - 1}) n"
-        client.run(f"INSERT INTO piql_pairs SELECT {values}")
+        until = time.monotonic() + FILL_SECONDS
+        client.run(f"INSERT INTO piql_pairs SELECT {values}", {}, until, FILL_SECONDS)
 
 
 def ranges(trial: Trial, kind: str, url: str) -> None:

@@ -277,7 +277,8 @@ class LinkTest(unittest.TestCase):
     def test_why_a_store_cant_be_opened_is_told_first(self) -> None:
         store = MemoryStore()
         store.range = Mock(side_effect=Fault("no room"))  # type: ignore[method-assign]
-        with self.assertRaisesRegex(OperationalError, "^no room, so the run ended with status 5. the store isn't open") as caught:
+        told = "^no room, so the run ended with status 5. the store isn't open"
+        with self.assertRaisesRegex(OperationalError, told) as caught:
             self.link(store).exchange(b"COUNT;", True)
         self.assertEqual(caught.exception.status, 5)
 
