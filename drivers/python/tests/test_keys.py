@@ -23,6 +23,9 @@ CREATE TABLE parents (a TEXT(1000), b TEXT(1000), PRIMARY KEY (a, b));
 CREATE TABLE t (a TEXT(1000), b TEXT(1000), c TEXT(1000), d TEXT(1000), n INT, PRIMARY KEY (a, b, c, d),
   CARDINALITY LIMIT 3 (b, c, d), FOREIGN KEY (a, b) REFERENCES parents);
 CREATE COUNTER of_bcd OF t (b, c, d);
+CREATE TABLE u (id INT, a TEXT(1000), b TEXT(1000), c TEXT(1000), PRIMARY KEY (id));
+CREATE COUNTER of_abc OF u (a, b, c);
+PREPARE by_abc AS SELECT y.id FROM u AS y WHERE y.a = [1] AND y.b = [2] AND y.c = [3] ORDER BY y.id LIMIT 5;
 PREPARE by_dcba AS SELECT x.n FROM t AS x WHERE x.d = [1] AND x.c = [2] AND x.b = [3] ORDER BY x.a LIMIT 5;
 """
 ALL = "RUN by_dcba (?, ?, ?)"
@@ -93,12 +96,25 @@ class LongestTest(unittest.TestCase):
         select = "SELECT x.n FROM t AS x WHERE x.b = ? AND x.n > ? ORDER BY x.n, x.d, x.c, x.a LIMIT 5"
         self.assertEqual(connection.execute(select, (text, 0)).fetchall(), [(3,), (7,)])
 
+    def check_moved(self, connection: Connection, text: str) -> None:
+        """Entries and groups with the longest keys are made, moved by an UPDATE, and taken away."""
+        other = text[1:] + "0"
+        connection.execute("INSERT INTO u VALUES (?, ?, ?, ?)", (1, text, text, text))
+        connection.execute("INSERT INTO u VALUES (?, ?, ?, ?)", (2, text, text, text))
+        connection.execute("UPDATE u SET a = ?, b = ?, c = ? WHERE id = ?", (other, other, other, 1))
+        for values, wanted in (((text,) * 3, [(2,)]), ((other,) * 3, [(1,)])):
+            self.assertEqual(connection.execute("RUN by_abc (?, ?, ?)", values).fetchall(), wanted)
+            self.assertEqual(connection.execute("READ of_abc (?, ?, ?)", values).fetchone(), (1,))
+        connection.execute("DELETE FROM u WHERE id = ?", (1,))
+        self.assertEqual(connection.execute("READ of_abc (?, ?, ?)", (other,) * 3).fetchone(), (0,))
+
     def test_over_each_store(self) -> None:
         for text in TEXTS:
             for kind, make in stores(self):
                 with self.subTest(kind, text=text[:9]):
                     with Connection(HostLink(kind, make(), PIQL_HOST)) as connection:
                         self.check(connection, text)
+                        self.check_moved(connection, text)
                     with Connection(HostLink(kind, make(), PIQL_HOST)) as connection:
                         self.assertEqual(connection.execute(ALL, (text, text, text)).fetchall(), [(7,), (3,)])
 
