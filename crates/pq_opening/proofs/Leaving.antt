@@ -15,7 +15,7 @@ use Rattle.pq_builds.specs.Filling.{row_pairs_in}
 use Rattle.pq_builds.specs.Stages.{IsReady, StopsFilling}
 use Rattle.pq_builds.specs.declared.target.NewQuery.{NewQuery}
 use Rattle.pq_builds.specs.declared.target.Target.{Target}
-use Rattle.pq_intent.specs.Settling.{LeavesSettled}
+use Rattle.pq_intent.specs.Settling.{LeavesSettled, StopsSettling}
 use Rattle.pq_store.specs.Breaks.{IfDamaged, IsUndamaged}
 use Rattle.pq_store.specs.Content.{Content}
 use Rattle.pq_store.specs.declared.damage.Broke.{Broke}
@@ -23,7 +23,7 @@ use Rattle.pq_store.specs.declared.damage.Broke.TheVariants.{Failed, NoMem, Dama
 use Rattle.pq_catalog.specs.declared.format.Mark.{Mark}
 use Rattle.pq_catalog.specs.declared.format.Mark.TheVariants.{Ready, Building}
 use Rattle.pq_catalog.specs.Model.{Model}
-use Rattle.pq_opening.specs.Opening.{IsLeft, IsQuiet, GoesOnLeft, LeavesFlawed, LeavesMarked, LeavesRead, added_from, catalog_in, none_added}
+use Rattle.pq_opening.specs.Opening.{IsLeft, IsQuiet, GoesOnLeft, LeavesFlawed, LeavesMarked, LeavesRead, LeavesStopped, added_from, catalog_in, none_added}
 use Rattle.pq_catalog.specs.Stands.{HoldsModel, Opens, Holds, content_of}
 use Rattle.pq_opening.proofs.Reopening.{mark_in, catalog_tells, held_tells}
 use Rattle.pq_catalog.proofs.Standing.{no_intent_in}
@@ -86,6 +86,24 @@ left_flawed (Some c) new Failed left = tt
 left_flawed (Some c) new NoMem left = tt
 left_flawed (Some c) new (Damaged damage) left = inr (inr left)
 
+-- ---- where it stops, for whatever cause
+
+-- in the settling
+pub settled_stops : (old mid : Option Content) → IfSome old (λ c. StopsSettling c mid) → IfSome old (λ c. LeavesStopped c mid)
+settled_stops None mid stops = tt
+settled_stops (Some c) mid (inl same) = inr (inl same)
+settled_stops (Some c) mid (inr part) = inl part
+
+-- in the reading of the catalog
+pub read_stops : (old mid now : Option Content) → now ≡ mid → IfSome old (λ pairs. LeavesSettled pairs mid) → IfSome old (λ c. LeavesStopped c now)
+read_stops None mid now same are = tt
+read_stops (Some c) mid now same are = inr (inr (inl (subst (LeavesSettled c) (sym same) are)))
+
+-- behind it
+pub left_stops : (old new : Option Content) → IfSome old (λ c. LeavesRead c new) → IfSome old (λ c. LeavesStopped c new)
+left_stops None new left = tt
+left_stops (Some c) new left = inr (inr (inr left))
+
 -- ---- a quiet content
 
 pub settled_quiet : (old mid : Option Content) → IfSome old (λ pairs. get pairs intent_key ≡ None → mid ≡ old) → IfSome old (λ c. IsQuiet c → mid ≡ Some c)
@@ -107,6 +125,14 @@ left_quiet (Some c) mid now new schema mark same rests told left = λ q.
     let at : mid ≡ Some c = rests q.no_intent in
     unmarked c new schema mark q (subst (λ (o : Option Content). IfSome o (λ pairs. added_from none_added (catalog_in pairs) ≡ Ok (schema, mark))) at told)
     (subst (λ (o : Option Content). IfSome o (λ x. LeavesMarked schema mark x new)) (same ∙ at) left)
+
+-- so what was read of it was nothing to go on with
+pub quiet_stays : (old now : Option Content) → IfSome old (λ c. LeavesRead c now) → IfSome old (λ c. IsQuiet c → now ≡ Some c)
+quiet_stays None now left = tt
+quiet_stays (Some c) now left = λ q.
+    let one : left.settled ≡ c = settles_once c left.settled c left.settles (settles_to_itself c q.no_intent) in
+    unmarked c now left.schema left.mark q (subst (λ (x : Content). added_from none_added (catalog_in x) ≡ Ok (left.schema, left.mark)) one left.read)
+    (subst (λ (x : Content). LeavesMarked left.schema left.mark x now) one left.left)
 
 -- ---- what a model's content is
 

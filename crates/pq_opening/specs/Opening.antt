@@ -32,7 +32,7 @@ use Rattle.pq_tallies.specs.Defined.{counters_in}
 use Rattle.pq_print.specs.Canonical.{definition_text}
 use Rattle.pq_print.specs.declared.report.Opened.{Opened}
 use Rattle.pq_intent.specs.Counting.{HasChanges}
-use Rattle.pq_intent.specs.Settling.{IsNoIntent, LeavesSettled}
+use Rattle.pq_intent.specs.Settling.{IsNoIntent, IsPartSettled, LeavesSettled}
 use Rattle.pq_intent.specs.declared.settles.Settled.{Settled}
 use Rattle.pq_builds.specs.Bounds.{bound, left_bound}
 use Rattle.pq_builds.specs.Filling.{row_pairs_in}
@@ -316,6 +316,10 @@ pub record LeavesRead (content : Content) (now : Option Content) : Type 0 where
 -- where damage is found: the content as it was, or what it settles to, or this with more of a build that was left
 abbrev pub LeavesFlawed : Content → Option Content → Type 0
 LeavesFlawed content now = (now ≡ Some content) ⊎ (LeavesSettled content now ⊎ LeavesRead content now)
+
+-- where an opening stops, for whatever cause: one of these, or the content with some of the changes of its intent
+abbrev pub LeavesStopped : Content → Option Content → Type 0
+LeavesStopped content now = IsPartSettled content now ⊎ LeavesFlawed content now
 
 -- ---- the bound, which the content and the model fix
 

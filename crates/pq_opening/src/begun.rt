@@ -4,7 +4,7 @@ ghost use Rattle.pq_builds.specs.Stages.{Takes, IsWithinBuild as BuildsWithin, l
 ghost use Rattle.pq_intent.specs.Spending.{TakesAtMost};
 ghost use Rattle.pq_store.specs.Content.{HasBrokeCause};
 ghost use Rattle.pq_catalog.specs.Model.{Model as Tables};
-ghost use Rattle.pq_opening.specs.Opening.{HasAnswer, IsAnsweredFlaw, opening_of, started_of, none_added, added_from, catalog_in, completion_bound, AreFewRows, HasFewLeft, IsOpening, IsQuiet, IsStarted, IsAsMarked, LeavesFlawed, LeavesMarked, LeavesRead, rows_of_mark, TellsSchema, NamesPair, NamesFlaw, ShowsMarked};
+ghost use Rattle.pq_opening.specs.Opening.{HasAnswer, IsAnsweredFlaw, opening_of, started_of, none_added, added_from, catalog_in, completion_bound, AreFewRows, HasFewLeft, IsOpening, IsQuiet, IsStarted, IsAsMarked, LeavesFlawed, LeavesMarked, LeavesRead, LeavesStopped, rows_of_mark, TellsSchema, NamesPair, NamesFlaw, ShowsMarked};
 ghost use Rattle.pq_schema.specs.Valid.{IsValid};
 ghost use Rattle.pq_opening.specs.Within.{IsBounded, StopsWithin, IsWithinOpening};
 ghost use Rattle.pq_store.specs.Breaks.{IfDamaged, IsUndamaged, IsAnswered};
@@ -102,6 +102,8 @@ pub fn start<S: Store<L>, L: Ledger>(
     ensures left { OnOk result (IfSome (S.content store.old) (λ c. LeavesRead c (S.content store.new))) }
     ensures left_flawed { IfErr result (λ broke. IfSome (S.content store.old)
         (λ c. IfDamaged (λ damage. LeavesFlawed c (S.content store.new)) broke)) }
+    // Whatever it stops for, nothing else is changed: a value that is no intent stays, and so does a flawed catalog.
+    ensures stops { OnErr result (IfSome (S.content store.old) (λ c. LeavesStopped c (S.content store.new))) }
     ensures rests { IfSome (S.content store.old) (λ c. IsQuiet c → S.content store.new ≡ Some c) }
     ensures cause { HasBrokeCause (S.faults store.old) (S.faults store.new) result }
     // Damage is told of what a call answered; or, where a build that was left is completed, of the key of an

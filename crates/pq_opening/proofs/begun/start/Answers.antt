@@ -5,7 +5,7 @@ use Rattle.pq_schema.specs.Schema.{Schema}
 use Rattle.pq_store.specs.Content.{Content}
 use Rattle.pq_opening.specs.declared.begun.Begun.{Begun}
 use Rattle.pq_catalog.specs.Stands.{Opens}
-use Rattle.pq_opening.proofs.Leaving.{if_err_holds, left_flawed, left_quiet, left_read, on_ok_holds, read_flawed, read_quiet, settled_flawed, settled_quiet}
+use Rattle.pq_opening.proofs.Leaving.{if_err_holds, left_flawed, left_quiet, left_read, left_stops, on_ok_holds, read_flawed, read_quiet, read_stops, settled_flawed, settled_quiet, settled_stops}
 use Rattle.pq_catalog.proofs.Standing.{settled_opens}
 use Rattle.pq_opening.proofs.Starting.{opens_kept, opens_rests, rests_opens, rests_sound, read_mid, read_now, finished_stands, opens_as, tells_schema, settle_flaw, read_flaw, build_flaw, both_ok, either_way}
 use Rattle.pq_opening.proofs.Within.{is_bounded, settle_within, read_within, finish_within, settle_own, read_own, finish_own}
@@ -120,6 +120,10 @@ returns-in_err-settled-clause-left_flawed g c =
     let p = err_from_is_err_and c.from_residual.result c.from_residual.ensures.1 in
     rw (p.1, p.2) (settled_flawed (g.S.Store.content c.args.store.now) (g.S.Store.content c.settle.new.store) c.in_err-settled.field-0.0 c.in_err-settled.ensures.kept)
 
+pub returns-in_err-settled-clause-stops : goal.returns-in_err-settled-clause-stops
+returns-in_err-settled-clause-stops g c =
+    on_err_holds c.from_residual.result (settled_stops (g.S.Store.content c.args.store.now) (g.S.Store.content c.settle.new.store) c.in_err-settled.ensures.stops)
+
 pub returns-in_err-settled-clause-rests : goal.returns-in_err-settled-clause-rests
 returns-in_err-settled-clause-rests g c = settled_quiet (g.S.Store.content c.args.store.now) (g.S.Store.content c.settle.new.store) c.in_err-settled.ensures.rests
 
@@ -127,6 +131,10 @@ pub returns-in_err-found-clause-left_flawed : goal.returns-in_err-found-clause-l
 returns-in_err-found-clause-left_flawed g c =
     let p = err_from_is_err_and c.from_residual-in_err-found.result c.from_residual-in_err-found.ensures.1 in
     rw (p.1, p.2) (read_flawed (g.S.Store.content c.args.store.now) (g.S.Store.content c.settle.new.store) (g.S.Store.content c.read_catalog.new.store) c.in_err-found.field-0.0 c.read_catalog.ensures.same c.in_ok-settled.ensures.settles)
+
+pub returns-in_err-found-clause-stops : goal.returns-in_err-found-clause-stops
+returns-in_err-found-clause-stops g c =
+    on_err_holds c.from_residual-in_err-found.result (read_stops (g.S.Store.content c.args.store.now) (g.S.Store.content c.settle.new.store) _ c.read_catalog.ensures.same c.in_ok-settled.ensures.settles)
 
 pub returns-in_err-found-clause-rests : goal.returns-in_err-found-clause-rests
 returns-in_err-found-clause-rests g c = read_quiet (g.S.Store.content c.args.store.now) (g.S.Store.content c.settle.new.store) (g.S.Store.content c.read_catalog.new.store) c.read_catalog.ensures.same c.in_ok-settled.ensures.rests
@@ -138,6 +146,11 @@ returns-clause-left g c =
 pub returns-clause-left_flawed : goal.returns-clause-left_flawed
 returns-clause-left_flawed g c =
     if_err_holds c.finish_opening.result _ (λ broke. left_flawed (g.S.Store.content c.args.store.now) (g.S.Store.content c.finish_opening.new.store) broke
+    (left_read (g.S.Store.content c.args.store.now) (g.S.Store.content c.settle.new.store) (g.S.Store.content c.read_catalog.new.store) (g.S.Store.content c.finish_opening.new.store) c.in_ok-found.found.planned c.in_ok-found.found.mark c.read_catalog.ensures.same c.in_ok-settled.ensures.settles c.in_ok-found.ensures.told c.finish_opening.ensures.left))
+
+pub returns-clause-stops : goal.returns-clause-stops
+returns-clause-stops g c =
+    on_err_holds c.finish_opening.result (left_stops (g.S.Store.content c.args.store.now) _
     (left_read (g.S.Store.content c.args.store.now) (g.S.Store.content c.settle.new.store) (g.S.Store.content c.read_catalog.new.store) (g.S.Store.content c.finish_opening.new.store) c.in_ok-found.found.planned c.in_ok-found.found.mark c.read_catalog.ensures.same c.in_ok-settled.ensures.settles c.in_ok-found.ensures.told c.finish_opening.ensures.left))
 
 pub returns-clause-rests : goal.returns-clause-rests
