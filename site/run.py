@@ -101,7 +101,7 @@ def main() -> None:
     parser.add_argument("--workers", type=int, default=1)
     given = parser.parse_args()
     with piql.connect(given.file) as connection:
-        piql.migrate(connection, HERE / "schema.piql")
+        piql.migrate(connection, HERE / "schema.piql", out=sys.stdout)
     server = listener(given.port)
     print(f"http://127.0.0.1:{server.server_port}/ with {given.workers} worker(s) over {given.file}", flush=True)
     if given.workers == 1:

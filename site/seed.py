@@ -6,7 +6,6 @@ alone and not on N, but for the first and the last few.
 """
 
 import argparse
-import io
 import sys
 import time
 from collections.abc import Iterator
@@ -63,7 +62,7 @@ def count(users: int) -> int:
 
 def seed(connection: piql.Connection, users: int, tell: bool = True) -> None:
     """Makes the schema and the rows. Rows that are there already are left as they are."""
-    piql.migrate(connection, HERE / "schema.piql", out=sys.stdout if tell else io.StringIO())
+    piql.migrate(connection, HERE / "schema.piql", out=sys.stdout if tell else None)
     told, total = time.monotonic(), count(users)
     for done, (statement, values) in enumerate(writes(users), 1):
         try:

@@ -7,7 +7,7 @@ import zipfile
 from pathlib import Path
 
 HERE = Path(__file__).resolve().parent
-FILES = ("*.py", "py.typed", "*.md")
+FILES = ("*.py", "py.typed", "*.md", "*.piql", "*.lock")
 
 
 def project() -> dict[str, str]:

@@ -27,6 +27,7 @@ from .errors import (
 from .hosts.urls import is_url, open_link
 from .links import FileLink, Link, MemoryLink
 from .migrate import migrate
+from .page import Page, page
 from .plain import plain_path, plain_seconds
 from .reports import Row, Value, Work
 from .socketlink import SocketLink
@@ -113,6 +114,7 @@ __all__ = [
     "NUMBER",
     "NotSupportedError",
     "OperationalError",
+    "Page",
     "ProgrammingError",
     "ROWID",
     "Row",
@@ -129,6 +131,7 @@ __all__ = [
     "check_bounds",
     "connect",
     "migrate",
+    "page",
     "paramstyle",
     "read_bounds",
     "threadsafety",

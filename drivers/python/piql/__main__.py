@@ -1,5 +1,6 @@
 """The package's commands, `python -m piql WORD ..`. FILE is a file, the URL of a cluster's store, or unix:SOCKET.
 
+    new FOLDER                       makes a small site with its schema and a test, to begin with
     migrate FILE SCHEMA              defines what the schema has and the file lacks; tells the bounds first
     bounds FILE [--write|--check P]  prints each query's bound; writes bounds.lock, or fails where a bound rose
     backup FILE COPY                 makes a whole copy
@@ -28,6 +29,7 @@ from .load import load
 from .making import make
 from .marks import mark_path
 from .migrate import migrate
+from .new_site import make_site
 from .rebuild import Values, rebuild
 from .restore import restore
 from .values import read_literal
@@ -37,10 +39,17 @@ from .verify import verify
 UNREADABLE = 5
 
 
+def run_new(given: argparse.Namespace) -> int:
+    """Makes a new site."""
+    for name in make_site(given.folder):
+        print(os.path.join(given.folder, name))
+    return 0
+
+
 def run_migrate(given: argparse.Namespace) -> int:
     """Grows a schema."""
     with connect(given.file) as connection:
-        made = migrate(connection, given.schema)
+        made = migrate(connection, given.schema, out=sys.stdout)
     print(f"{len(made)} definitions made")
     return 0
 
@@ -145,6 +154,7 @@ def parser() -> argparse.ArgumentParser:
             made.add_argument(place)
         return made
 
+    command("new", run_new, "folder")
     command("migrate", run_migrate, "file", "schema")
     bounds = command("bounds", run_bounds, "file")
     bounds.add_argument("--write", metavar="PATH")

@@ -4,7 +4,7 @@ import contextlib
 import os
 import threading
 import time
-from collections.abc import Iterator, Sequence
+from collections.abc import Callable, Iterator, Sequence
 from typing import TYPE_CHECKING
 
 from . import errors
@@ -25,6 +25,7 @@ if TYPE_CHECKING:
     from .cursor import Cursor
 
 Parameters = Sequence[object]
+Watch = Callable[[Statement, Report], None]
 SHOW = read_statement("SHOW")
 UNPREPARED = "this SELECT isn't prepared in the store, and the connection was made with prepare=False: {text}"
 NO_REPORT = (
@@ -66,6 +67,7 @@ class Connection:
         self._names: dict[str, str] = {}
         self._sent = 0
         self._until: float | None = None
+        self._watches: list[Watch] = []
         own(self)
         self.schema()
 
@@ -117,6 +119,15 @@ class Connection:
             self._until = None
             self._lock.release()
 
+    @contextlib.contextmanager
+    def watched(self, watch: Watch) -> Iterator[None]:
+        """Has each statement that is reported meanwhile told to a function, with its report; refusals too."""
+        self._watches.append(watch)
+        try:
+            yield
+        finally:
+            self._watches.remove(watch)
+
     def left(self, until: float) -> float:
         """For how many seconds a statement may still be waited for; one that has none left isn't sent."""
         seconds = until - time.monotonic()
@@ -136,6 +147,8 @@ class Connection:
             text = link.exchange(data, kind.reads, None if self._until is None else self.left(self._until))
             self._sent += 1
         report = self.read(text, kind)
+        for watch in self._watches:
+            watch(sent.statement, report)
         if " refused " in report.ending and not self.is_answered(report):
             raise self.refusal(sent, report.end.refusal)
         if kind.defines:

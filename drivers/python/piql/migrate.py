@@ -1,7 +1,6 @@
 """Growing a schema: what a script defines and the store lacks is defined, and what differs is refused."""
 
 import os
-import sys
 import tempfile
 from collections.abc import Mapping
 from pathlib import Path
@@ -164,12 +163,13 @@ def migrate(
 ) -> list[str]:
     """Defines what the schema at the path has and the store lacks; the names.
 
-    Before the first is made, what can't be is refused, and the bounds are told with the rows that indexes go over. The
-    program is that of a store in which all is tried.
+    Before the first is made, what can't be is refused, and `out` gets the bounds with the rows that indexes go over.
+    The program is that of a store in which all is tried.
     """
     missing, rows = looked_at(connection, read_wanted(path, program), program)
-    for line in [line for it in missing for line in told_lines(it, rows)]:
-        print(line, file=out or sys.stdout)
+    if out is not None:
+        for line in [line for it in missing for line in told_lines(it, rows)]:
+            print(line, file=out)
     for place, it in enumerate(missing):
         try:
             connection.execute(it.definition.text)
