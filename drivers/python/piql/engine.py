@@ -148,7 +148,8 @@ class Engine:
 
     def answered(self, statement: bytes) -> bytes:
         """The report of one statement."""
-        if any(event & select.POLLIN for _, event in self.ready.poll(0)):
+        # A process that has ended has closed its end, which is told as another event.
+        if (unasked := self.ready.poll(0)) and unasked[0][1] & select.POLLIN:
             raise InternalError(UNMATCHED)
         self.until = self.end_of_step()
         self.write(statement)

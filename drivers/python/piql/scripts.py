@@ -17,6 +17,7 @@ NAME = re.compile(r"[A-Za-z_][A-Za-z0-9_]*+")
 # Each repetition is possessive: it gives nothing back, so a text that doesn't match takes no longer than one that does.
 PIECE = re.compile(rb"(?:[^';-]++|-(?!-)|'[^']*+'|--[^\n]*+\n)*+;")
 WHITE_PIECE = re.compile(rb"(?:[ \t\r\n]++|--[^\n]*+\n)*+;")
+ONE_PIECE = re.compile(rb"(?!" + WHITE_PIECE.pattern + rb")" + PIECE.pattern)
 WHITE_REST = re.compile(rb"(?:[ \t\r\n]++|--[^\n]*+(?:\n|\Z))*+")
 TOKEN = re.compile(
     r"(?P<white>(?:[ \t\r\n]++|--[^\n]*+(?:\n|\Z))++)|(?P<word>[A-Za-z_][A-Za-z0-9_]*)|(?P<number>-?[0-9]+)"
@@ -73,7 +74,7 @@ def pieces(script: bytes) -> Iterator[Piece]:
 
 def is_one_piece(statement: bytes) -> bool:
     """Whether the bytes are exactly one piece that isn't blank, so that the engine answers them by one report."""
-    return PIECE.fullmatch(statement) is not None and WHITE_PIECE.fullmatch(statement) is None
+    return ONE_PIECE.fullmatch(statement) is not None
 
 
 def tokens(text: str) -> list[Token]:
