@@ -215,7 +215,7 @@ class StoppedServerTest(PipeCase):
 class Interrupt:
     """Raises an exception of each kind by a signal's handler, again and again, at moments that the timer chooses."""
 
-    KINDS = (TimeoutError, ConnectionResetError, BrokenPipeError, BlockingIOError, OSError, KeyError)
+    KINDS = (TimeoutError, ConnectionResetError, BrokenPipeError, BlockingIOError, OSError, ZeroDivisionError)
 
     def __init__(self, case: unittest.TestCase, seconds: float) -> None:
         self.count, self.seconds, self.is_armed = 0, seconds, False
