@@ -1,8 +1,11 @@
 """Cases over a stand-in for the engine, whose pipe's bytes are kept."""
 
 import os
+import socket
 import sys
+import threading
 import unittest
+from collections.abc import Callable
 from pathlib import Path
 from unittest import mock
 
@@ -18,6 +21,17 @@ def program_of(case: unittest.TestCase, source: str) -> Path:
     program.write_text(f"#!{sys.executable} -SE\n{(HERE / source).read_text()}")
     program.chmod(0o755)
     return program
+
+
+def listener_of(case: unittest.TestCase, serve: Callable[[socket.socket], object]) -> str:
+    """The path of a new socket, at which a thread serves clients by a function of the listener."""
+    path = str(new_folder(case) / "socket")
+    listener = socket.socket(socket.AF_UNIX)
+    case.addCleanup(listener.close)
+    listener.bind(path)
+    listener.listen()
+    threading.Thread(target=serve, args=(listener,), daemon=True).start()
+    return path
 
 
 class PipeCase(unittest.TestCase):
@@ -66,4 +80,4 @@ def written(value: object) -> bytes:
     return b"%d" % value  # type: ignore[str-bytes-safe, str-format]
 
 
-__all__ = ["RECORDING", "PipeCase", "program_of", "written"]
+__all__ = ["RECORDING", "PipeCase", "listener_of", "program_of", "written"]

@@ -1,12 +1,11 @@
 """A report is told as that of its statement alone: what is sent is one piece, and what comes is its one report."""
 
 import socket
-import threading
 import unittest
 from collections.abc import Callable
 
-from helpers import engine_of, new_folder, piql
-from pipes import RECORDING, PipeCase, program_of
+from helpers import engine_of, piql
+from pipes import RECORDING, PipeCase, listener_of, program_of
 from piql.frames import ENDED, GREETING, HELLO, REPORT, read_frame, write_frame
 from piql.hosts import HostLink, MemoryStore
 from piql.links import Link, MemoryLink
@@ -102,17 +101,13 @@ class Pretended:
     """A server of one client, which answers a statement by what a function says."""
 
     def __init__(self, case: unittest.TestCase, answer: Answer) -> None:
-        self.path, self.answer = str(new_folder(case) / "socket"), answer
+        self.answer = answer
         self.asked: list[bytes] = []
-        self.listener = socket.socket(socket.AF_UNIX)
-        self.listener.bind(self.path)
-        self.listener.listen()
-        case.addCleanup(self.listener.close)
-        threading.Thread(target=self.serve, daemon=True).start()
+        self.path = listener_of(case, self.serve)
 
-    def serve(self) -> None:
+    def serve(self, listener: socket.socket) -> None:
         """Answers until a client has gone away."""
-        client, _ = self.listener.accept()
+        client, _ = listener.accept()
         with client:
             write_frame(client, HELLO, GREETING)
             while True:

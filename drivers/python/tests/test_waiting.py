@@ -12,8 +12,8 @@ from collections import Counter
 from collections.abc import Callable
 from pathlib import Path
 
-from helpers import TOP, engine_of, new_folder, piql
-from pipes import RECORDING, PipeCase, program_of
+from helpers import TOP, engine_of, piql
+from pipes import RECORDING, PipeCase, listener_of, program_of
 from piql.frames import GREETING, HELLO, REPORT, read_frame, write_frame
 from piql.hosts import HostLink, MemoryStore
 from piql.links import FileLink, MemoryLink
@@ -126,19 +126,15 @@ class Slow:
     """A server that says hello and then sends its answers byte by byte, or nothing."""
 
     def __init__(self, case: unittest.TestCase, is_mute: bool, pause: float = 0.0) -> None:
-        self.path, self.is_mute, self.pause = str(new_folder(case) / "socket"), is_mute, pause
+        self.is_mute, self.pause = is_mute, pause
         self.asked: Counter[bytes] = Counter()
-        self.listener = socket.socket(socket.AF_UNIX)
-        self.listener.bind(self.path)
-        self.listener.listen()
-        case.addCleanup(self.listener.close)
-        threading.Thread(target=self.serve, daemon=True).start()
+        self.path = listener_of(case, self.serve)
 
-    def serve(self) -> None:
+    def serve(self, listener: socket.socket) -> None:
         """Takes clients."""
         while True:
             try:
-                client, _ = self.listener.accept()
+                client, _ = listener.accept()
             except OSError:
                 return
             threading.Thread(target=self.answer, args=(client,), daemon=True).start()
