@@ -45,7 +45,8 @@ class FileSource:
     def run(self, text: str, *values: object) -> Iterator[tuple[Any, ...]]:
         """The rows of a statement."""
         try:
-            yield from self.file.execute(text, values)
+            for row in self.file.execute(text, values):
+                yield row
         except sqlite3.Error as error:
             raise OperationalError(f"the file can't be read: {error}") from error
 

@@ -67,7 +67,8 @@ def pairs(file: sqlite3.Connection, first: int, *after: int) -> Iterator[tuple[b
     low = bytes([first, *after])
     high = low[:-1] + bytes([low[-1] + 1])
     try:
-        yield from file.execute("SELECT k, CAST(v AS BLOB) FROM kv WHERE k >= ? AND k < ? ORDER BY k", (low, high))
+        for pair in file.execute("SELECT k, CAST(v AS BLOB) FROM kv WHERE k >= ? AND k < ? ORDER BY k", (low, high)):
+            yield pair
     except sqlite3.Error as error:
         raise OperationalError(f"the file can't be read: {error}") from error
 

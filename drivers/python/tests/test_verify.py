@@ -26,7 +26,8 @@ from piql.keycodes import key_code
 from piql.layout import layout_of
 from piql.rowcodes import read_row
 from piql.schema import Column
-from piql.sources import ReadingSource, Settled
+from piql.sources import FileSource, ReadingSource, Settled
+from piql.stored import opened, pairs
 from piql.verify import Verified, verify
 
 # A table with all that its rows are asked for, and one that it refers to.
@@ -302,6 +303,14 @@ class VerifyTest(unittest.TestCase):
         with self.known():
             found, _ = self.found(self.changed(changes))
         self.assertNotIn(town, f"{found}{self.noted}")
+
+    def test_who_reads_a_part_may_close_the_file(self) -> None:
+        with contextlib.redirect_stderr(io.StringIO()) as told:
+            with opened(str(self.store)) as file:
+                first, all_pairs = pairs(file, 1), FileSource(file).range(b"", b"\xff")
+                self.assertEqual(next(first), next(all_pairs))
+            del first, all_pairs
+        self.assertEqual(told.getvalue(), "")
 
     def test_what_is_no_pair_of_bytes(self) -> None:
         path = self.changed({})
