@@ -3,8 +3,10 @@
 import base64
 import contextlib
 import json
+import socket
 import time
 import unittest
+import unittest.mock
 from collections.abc import Callable
 
 from clusters import etcd_url, needs_etcd
@@ -119,6 +121,16 @@ class LyingTest(unittest.TestCase):
     def test_a_member_that_dribbles_or_is_silent_takes_no_longer_than_a_call_has(self) -> None:
         for answer in (silent, dribbling(b"HTTP/1.1 200 OK\r\nContent-Length: 999\r\n\r\n" + b" " * 999, 0.1)):
             self.check(answer, PATIENCE, ALL)
+
+    def test_each_address_of_a_host_is_tried(self) -> None:
+        server = self.enterContext(LyingServer(telling(found())))
+        with socket.create_server(("127.0.0.1", 0)) as closed:
+            ports = [closed.getsockname()[1], server.port]
+        places = [(socket.AF_INET, socket.SOCK_STREAM, 6, "", ("127.0.0.1", port)) for port in ports]
+        with unittest.mock.patch.object(socket, "getaddrinfo", return_value=places):
+            reading = EtcdReading(EtcdClient(["member:1"], PATIENCE), "shop", PATIENCE)
+            self.addCleanup(reading.close)
+            self.assertIsNone(reading.get(b"k"))
 
     def test_nothing_of_an_answer_is_told(self) -> None:
         marked = base64.b64encode(b"a row's value").decode()

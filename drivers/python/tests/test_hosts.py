@@ -30,10 +30,10 @@ from piql.hosts import (
     ReaderLink,
     Reading,
     SqliteStore,
+    Unreachable,
     run,
     serve,
 )
-from piql.hosts.backend import Unreachable
 from piql.hosts.etcd import Fence, read_fence
 from piql.hosts.etcd_client import Stored
 from piql.hosts.etcd_reading import EtcdReading

@@ -7,7 +7,7 @@ To write a backend for another store, read backend.py: it has four calls. docs/H
 and its host, docs/SCALING.md what each store keeps and costs.
 """
 
-from .backend import Backend, Fault, Guard, Held, Pair, Reading
+from .backend import Backend, Fault, Guard, Held, Pair, Reading, Unreachable
 from .host import Host, run, serve
 from .hosted import HostedEngine, Stalled
 from .link import HostLink, NodesLink, ReaderLink
@@ -32,6 +32,7 @@ __all__ = [
     "Reading",
     "SqliteStore",
     "Stalled",
+    "Unreachable",
     "run",
     "serve",
 ]

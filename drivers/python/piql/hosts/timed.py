@@ -13,9 +13,23 @@ class TimedSocket:
 
     def __init__(self, at: tuple[str, int], until: float) -> None:
         self.until = until
-        self.socket = socket.create_connection(at, self.left())
+        self.socket = self.connected(at)
         self.socket.setsockopt(socket.IPPROTO_TCP, socket.TCP_NODELAY, 1)
         own(self)
+
+    def connected(self, at: tuple[str, int]) -> socket.socket:
+        """A socket that is connected to the first address of a host that answers."""
+        why: OSError = TimeoutError("the host has no address")
+        for family, kind, protocol, _, address in socket.getaddrinfo(*at, type=socket.SOCK_STREAM):
+            made = socket.socket(family, kind, protocol)
+            try:
+                made.settimeout(self.left())
+                made.connect(address)
+                return made
+            except OSError as error:
+                made.close()
+                why = error
+        raise why
 
     def left(self) -> float:
         """The seconds that are left, which are some."""
