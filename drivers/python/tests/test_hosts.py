@@ -1,5 +1,6 @@
 """Hosts: the frames, backends in memory and in a file, and the links of runs whose store this process has."""
 
+import contextlib
 import io
 import math
 import random
@@ -31,6 +32,7 @@ from piql.hosts import (
     Reading,
     SqliteStore,
     Unreachable,
+    notices,
     run,
     serve,
 )
@@ -346,7 +348,10 @@ class LinkTest(unittest.TestCase):
         store.begin = Mock(side_effect=[gone, gone, None])  # type: ignore[method-assign]
         link = self.link(store)
         link.timeout = math.inf
-        self.assertIn("1 ok", link.exchange(b"COUNT;", True))
+        notices.notice.cache_clear()
+        with contextlib.redirect_stderr(io.StringIO()) as told:
+            self.assertIn("1 ok", link.exchange(b"COUNT;", True))
+        self.assertEqual(told.getvalue(), "piql: the store isn't open yet: no member answers\n")
         other = self.link(MemoryStore())
         other.backends[0].begin = Mock(side_effect=gone)  # type: ignore[method-assign]
         with self.assertRaisesRegex(OperationalError, "isn't open: no member answers"):

@@ -10,6 +10,7 @@ from ..runs import EngineLink, told_end
 from .backend import Backend, Fault, Held, Reading, Unreachable
 from .host import Host
 from .hosted import HostedEngine, Stalled
+from .notices import notice
 from .wire import BadRequest
 
 Program = str | os.PathLike[str] | None
@@ -65,6 +66,8 @@ class HostLink(EngineLink):
             except Unreachable as why:
                 if time.monotonic() > until:
                     raise OperationalError(f"{self.name} isn't open: {why}") from why
+                # (A password that is wrong is told by this too.)
+                notice(f"{self.name} isn't open yet: {why}")
             except (Fault, Stalled, BadRequest) as error:
                 raise OperationalError(f"{self.name} isn't open: {error}") from error
             except EngineEnded as end:
