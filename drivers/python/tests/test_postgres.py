@@ -122,6 +122,18 @@ class BringingOverTest(unittest.TestCase):
                 self.assertGreater(step, 5)
                 return
 
+    def test_one_beside_a_store_of_today_in_another_schema(self) -> None:
+        databases().ask(0, f"CREATE SCHEMA before; SET search_path = before; {BEFORE}")
+        self.addCleanup(databases().ask, 0, "DROP SCHEMA before CASCADE")
+        self.opened()[0].close()
+        self.url += "?options=-c%20search_path%3Dbefore,public"
+        reader = reading_of(self.url)
+        self.assertTrue(reader.is_before)
+        reader.close()
+        store = self.opened()[0]
+        self.assertTrue(store.write(SHARED, Guard.ABSENT, b"", b"new"))
+        self.assertEqual(store.range(b"", b"\xff", 9), [(SHARED, b"new")])
+
     def test_a_writer_of_before_that_is_at_work_keeps_its_store(self) -> None:
         first = PostgresStore(self.url, lease=30)
         first.start()

@@ -28,8 +28,10 @@ CREATE TABLE IF NOT EXISTS piql_fence (
 INSERT INTO piql_fence VALUES (true, '', 0, 0, true, '-infinity') ON CONFLICT DO NOTHING
 """
 VERSION_LEAST = 130000
-LAYOUT = """SELECT current_setting('server_version_num')::int, to_regclass('piql_fence') IS NOT NULL,
-  to_regclass('piql_pairs_order') IS NOT NULL,
+# (Another schema of the search path may have a store too.)
+HAS_ORDER = """EXISTS (SELECT FROM pg_index JOIN pg_class ON pg_class.oid = indexrelid
+  WHERE indrelid = to_regclass('piql_pairs') AND relname = 'piql_pairs_order' AND indisvalid)"""
+LAYOUT = f"""SELECT current_setting('server_version_num')::int, to_regclass('piql_fence') IS NOT NULL, {HAS_ORDER},
   EXISTS (SELECT FROM pg_constraint WHERE conrelid = to_regclass('piql_pairs') AND contype = 'p')"""
 # Readers go on meanwhile.
 BUILD_ORDER = f"SET LOCAL statement_timeout = 0; ALTER TABLE piql_pairs SET {WHOLE}; {ORDER}"

@@ -11,12 +11,12 @@ from typing import Any, NamedTuple
 
 from .backend import INTENT, Fault, Pair, Reading
 from .postgres_client import SESSION, Lost, PostgresClient
-from .postgres_layout import AT, AT_BEFORE, HEAD, WITHIN, WITHIN_BEFORE, key_words, range_words
+from .postgres_layout import AT, AT_BEFORE, HAS_ORDER, HEAD, WITHIN, WITHIN_BEFORE, key_words, range_words
 
 BUSY_SECONDS = 0.25
 READ_SESSION = SESSION + "; SET idle_in_transaction_session_timeout = '60s'"
 BEGIN = "COMMIT; BEGIN ISOLATION LEVEL REPEATABLE READ READ ONLY;"
-IS_BEFORE = "COMMIT; SELECT to_regclass('piql_pairs_order') IS NULL"
+IS_BEFORE = f"COMMIT; SELECT NOT {HAS_ORDER}"
 MARKED = b"\1"
 AT_WORK = (
     "the writer has been at work for {seconds:g} seconds, as while an index is made;"
