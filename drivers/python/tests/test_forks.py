@@ -10,7 +10,7 @@ from collections.abc import Iterator
 
 from clusters import databases, needs_postgres, postgres_url
 from piql.hosts.postgres_client import PostgresClient
-from piql.hosts.timed import TimedSocket
+from piql.hosts.timed_http import HttpSocket
 
 SESSIONS = "SELECT count(*) FROM pg_stat_activity WHERE application_name = 'forked'"
 
@@ -32,7 +32,7 @@ def child() -> Iterator[None]:
 class ForkTest(unittest.TestCase):
     def test_a_connection_to_a_member_ends_with_its_owner(self) -> None:
         with socket.create_server(("127.0.0.1", 0)) as listener:
-            made = TimedSocket(listener.getsockname(), time.monotonic() + 5)
+            made = HttpSocket(listener.getsockname(), time.monotonic() + 5)
             other, _ = listener.accept()
             with other, child():
                 made.close()

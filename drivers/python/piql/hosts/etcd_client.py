@@ -11,7 +11,7 @@ from collections.abc import Callable, Sequence
 from typing import Any, NamedTuple, TypeVar
 
 from .backend import Fault, Unreachable
-from .timed import TimedConnection
+from .timed_http import TimedConnection
 
 PAUSE = 0.02
 # More than the longest answer of an etcd to the longest range of an engine.

@@ -8,7 +8,7 @@ import time
 from ..interrupts import own
 
 
-class TimedSocket:
+class HttpSocket:
     """What http.client uses of a socket. Each send and receive has the time that is left up to `until`."""
 
     def __init__(self, at: tuple[str, int], until: float) -> None:
@@ -63,7 +63,7 @@ class TimedSocket:
 class Received(io.RawIOBase):
     """What a socket receives."""
 
-    def __init__(self, source: TimedSocket) -> None:
+    def __init__(self, source: HttpSocket) -> None:
         self.source = source
 
     def readable(self) -> bool:
@@ -80,7 +80,7 @@ class TimedConnection(http.client.HTTPConnection):
 
     def connect(self) -> None:
         """Connects."""
-        self.sock = TimedSocket((self.host, self.port), self.until)  # type: ignore[assignment]
+        self.sock = HttpSocket((self.host, self.port), self.until)  # type: ignore[assignment]
 
     def end_by(self, until: float) -> None:
         """Says by when the next request has to end."""
