@@ -1,8 +1,8 @@
 """Tries what stands round the engine with what nobody would write: values, reports, answers of a server or of a member
-of etcd, files.
+of etcd, files, a server's clients.
 
     python3 trials/outside                 each trial, for 20 seconds
-    python3 trials/outside values          one of them: values, reports, answers, gateway, spoilt
+    python3 trials/outside values          one of them: values, reports, answers, gateway, spoilt, server
     python3 trials/outside --seconds 300 --seed 7
 
 Each trial is a module with a function `trial`, which draws a case and tells what is strange of it, or nothing. The
@@ -20,7 +20,7 @@ sys.dont_write_bytecode = True
 TOP = pathlib.Path(__file__).resolve().parents[2]
 sys.path[:0] = [str(TOP / "drivers/python"), str(TOP / "drivers/python/tests")]
 
-TRIALS = ("values", "reports", "answers", "gateway", "spoilt")
+TRIALS = ("values", "reports", "answers", "gateway", "spoilt", "server")
 SHOWN = 5
 
 

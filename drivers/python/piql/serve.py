@@ -10,6 +10,7 @@ keeps the lease of its cluster while it is idle, but not while its engine stands
 """
 
 import math
+import contextlib
 import os
 import signal
 import sys
@@ -59,6 +60,12 @@ def fill_streams() -> None:
             os.open(os.devnull, os.O_RDWR)
 
 
+def say(text: str) -> None:
+    """Writes a line to standard output, if somebody reads it; paths as they were given."""
+    with contextlib.suppress(OSError):
+        os.write(1, os.fsencode(f"piql-serve: {text}\n"))
+
+
 def check(given: Settings) -> None:
     """Refuses words with which no server can be, before anything is touched."""
     for place in given.places:
@@ -90,8 +97,8 @@ def begun(given: Settings) -> Service:
         link = opened(given)
     try:
         listeners = listening(given.places)
-        sockets = " ".join(map(str, given.places))
-        watch.log.info("begun", version=VERSION, store=shown_store(given.store), sockets=sockets, clients=room, idle=given.idle)
+        store, sockets = shown_store(given.store), " ".join(map(str, given.places))
+        watch.log.info("begun", version=VERSION, store=store, sockets=sockets, clients=room, idle=given.idle)
         return Service(link, listeners, given._replace(clients=room), watch)
     except BaseException:
         link.close()
@@ -109,13 +116,13 @@ def main(words: list[str] | None = None) -> int:
             signal.signal(number, lambda _number, _frame: sys.exit(0))
         check(given)
         if given.standby:
-            print(f"piql-serve: waits for {shown_store(given.store)}", flush=True)
+            say(f"waits for {shown_store(given.store)}")
         service = begun(given)
-    except (Error, OSError) as error:
+        say(f"{shown_store(given.store)} at {', '.join(place.path for place in given.places)}")
+        return service.run()
+    except (Error, OSError, RuntimeError) as error:
         print(f"piql-serve: {error}", file=sys.stderr)
         return 1
-    print(f"piql-serve: {shown_store(given.store)} at {', '.join(place.path for place in given.places)}", flush=True)
-    return service.run()
 
 
 if __name__ == "__main__":

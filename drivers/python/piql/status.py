@@ -94,14 +94,16 @@ def main(words: list[str] | None = None) -> int:
     parser.add_argument("address", help="unix:SOCKET, or the path of the socket")
     parser.add_argument("--metrics", action="store_true", help="in the text format of Prometheus")
     parser.add_argument("--timeout", type=float, default=5.0, metavar="SECONDS", help="the longest wait (%(default)g)")
-    parser.add_argument("--stuck", type=float, default=30.0, metavar="SECONDS", help="what is no good time (%(default)g)")
+    parser.add_argument("--stuck", type=float, default=30.0, metavar="SECONDS", help="what is too long (%(default)g)")
     given = parser.parse_args(words)
     try:
         told = ask(given.address.removeprefix("unix:"), given.timeout)
     except Error as error:
         print(f"piql: {error}", file=sys.stderr)
         return 2
-    print("\n".join(metrics(told) if given.metrics else lines(told)))
+    text = "\n".join(metrics(told) if given.metrics else lines(told))
+    # A path may have bytes that are no UTF-8.
+    print(text.encode(errors="backslashreplace").decode())
     found = troubles(told, given.stuck)
     for why in found:
         print(f"piql: not well: {why}", file=sys.stderr)

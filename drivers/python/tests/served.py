@@ -49,7 +49,7 @@ class Served:
             [*before, str(COMMAND), *map(str, words), *given],
             stdout=subprocess.PIPE,
             stderr=subprocess.PIPE,
-            text=True,
+            errors="surrogateescape",
             env={**os.environ, "PATH": path},
         )
         assert self.process.stdout is not None

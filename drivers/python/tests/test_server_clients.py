@@ -1,4 +1,4 @@
-"""The clients of piql-serve: those that are silent, that stand still, that are too many, and what the end leaves them."""
+"""The clients of piql-serve: those that are silent, stand still or are too many, and what the end leaves them."""
 
 import contextlib
 import json
@@ -33,12 +33,12 @@ class SilenceTest(ServedCase):
 
     def setUp(self) -> None:
         super().setUp()
-        self.server = self.serve("--idle", 1)
+        self.server = self.serve("--idle", 0.7)
         self.begun = time.monotonic()
 
     def test_a_silent_one_is_let_go(self) -> None:
         client, busy = greeted(self, self.at), greeted(self, self.at)
-        while time.monotonic() < self.begun + 2:
+        while time.monotonic() < self.begun + 1.4:
             self.assertEqual(asked(busy, WRITE)[0], REPORT)
             time.sleep(0.1)
         self.assertIn("nothing came", self.left(client))
@@ -48,16 +48,16 @@ class SilenceTest(ServedCase):
     def test_the_driver_connects_again_by_itself(self) -> None:
         connection = piql.connect(f"unix:{self.at}", prepare=False)
         self.addCleanup(connection.close)
-        for number in range(3):
-            time.sleep(1.5)
+        for number in range(2):
+            time.sleep(1.1)
             connection.execute("INSERT INTO t VALUES (?, 'x')", (number,))
-        self.assertEqual(len(self.made()), 3)
+        self.assertEqual(len(self.made()), 2)
 
     def test_what_is_sent_to_a_silent_end_fails_or_is_made(self) -> None:
         clients = [greeted(self, self.at) for _ in range(60)]
         sent, answered = 0, 0
         for i, client in enumerate(clients):
-            time.sleep(max(0.0, self.begun + 0.9 + i * 0.005 - time.monotonic()))
+            time.sleep(max(0.0, self.begun + 0.6 + i * 0.005 - time.monotonic()))
             try:
                 write_frame(client, STATEMENT, f"INSERT INTO t VALUES ({i}, 'x');".encode())
             except BrokenPipeError:
@@ -89,7 +89,7 @@ class SilenceTest(ServedCase):
 
     def test_one_that_waits_for_its_answer_is_not_silent(self) -> None:
         client = greeted(self, self.at)
-        self.assertEqual(asked(client, "RUN wait_2500 ();")[0], REPORT)
+        self.assertEqual(asked(client, "RUN wait_1500 ();")[0], REPORT)
 
 
 class ManyTest(ServedCase):

@@ -1,4 +1,4 @@
-"""The limits of piql-serve: how long a statement waits, how long an engine stands still, and over how many rows an index."""
+"""The limits of piql-serve: how long a statement waits, how long an engine stands still, and how large an index is."""
 
 import json
 import os

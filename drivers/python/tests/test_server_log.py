@@ -14,6 +14,7 @@ from unittest import mock
 
 from helpers import TOP, piql
 from piql.frames import BROKEN, ENDED, REPORT, STATEMENT, read_frame, write_frame
+from piql.hosts import HostLink
 from piql.server import observed, telling
 from piql.server.figures import Figures
 from piql.server.log import MOST_A_SECOND, Log
@@ -21,7 +22,8 @@ from piql.server.observed import Observed
 from piql.server.watch import Watch
 from served import MARK, MARKED, ServedCase, asked, connected, greeted
 
-LINE = re.compile(r'time=\S+ level=(error|warning|info|debug) event=([a-z-]+)(?: [a-z_]+=(?:[\w./:+-]+|"(?:[^"\\]|\\.)*"))*')
+FIELD = r' [a-z_]+=(?:[\w./:+-]+|"(?:[^"\\]|\\.)*")'
+LINE = re.compile(rf"time=\S+ level=(error|warning|info|debug) event=([a-z-]+)(?:{FIELD})*")
 
 
 def events(errors: str) -> list[str]:
@@ -92,6 +94,16 @@ class LogTest(unittest.TestCase):
             log.info("client-refused")
         self.assertIn("left_out=5", self.read()[0])
 
+    def test_a_lease_that_is_lost_and_taken(self) -> None:
+        backend = mock.Mock(lost=None)
+        link = mock.create_autospec(HostLink, instance=True, backends=[backend], engine=None)
+        store = Observed(link, Watch(Log("info", self.into), Figures()))
+        for lost in (None, "another engine has it", "still", None, None):
+            backend.lost = lost
+            store.keep()
+        found = [line.partition("level=")[2] for line in self.read()]
+        self.assertEqual(found, ["error event=lease-lost", "info event=lease-taken"])
+
     def test_an_opening_that_takes_long(self) -> None:
         log = Log("info", self.into)
         with mock.patch.object(telling, "EVERY", 0.05), telling.told_while_opening(log):
@@ -129,7 +141,8 @@ class EventsTest(ServedCase):
         wanted = ["begun", "engine-begun", "engine-ended", "engine-begun", "engine-ended", "engine-begun"]
         self.assertEqual(events(errors), [*wanted, "stopping", "ended"])
         version = tomllib.loads((TOP / "drivers/python/pyproject.toml").read_text())["project"]["version"]
-        self.assertIn(f"event=begun version={version} store={self.store} sockets={self.at}:all:600 clients=256", lines[0])
+        wanted = f"event=begun version={version} store={self.store} sockets={self.at}:all:600 clients=256"
+        self.assertIn(wanted, lines[0])
         self.assertIn('status=5 meaning="a call of the store failed', lines[2])
         self.assertIn("statement=RUN", lines[2])
         self.assertIn('status=-9 meaning="signal 9"', lines[4])

@@ -13,7 +13,7 @@ from served import Served, ServedCase, asked, connected, greeted
 
 READS = ("RUN rows_1 ();", "READ rows_1 ();", "EXPLAIN SELECT x;", "SHOW;", "-- INSERT\n\t run rows_1 ();")
 WRITES = ("INSERT INTO t VALUES (1);", "UPDATE t SET a = 1;", "DELETE FROM t WHERE a = 1;")
-DEFINES = ("CREATE TABLE t (a INT);", "CREATE COUNTER c ON t;", "ALTER TABLE t ADD COLUMN b INT;", "PREPARE q AS SELECT x;")
+DEFINES = ("CREATE TABLE t (a INT);", "CREATE COUNTER c ON t;", "ALTER TABLE t ADD COLUMN b INT;", "PREPARE q AS x;")
 # What is no statement of this version could be one of a later version.
 OTHERS = ("DROP TABLE t;", "RUN_ t;", "'RUN';", "(RUN);", "runs t;", "COPY t;", "1;", "Rün t;")
 
@@ -27,7 +27,7 @@ class PlaceTest(unittest.TestCase):
             "/run/a:write:0666": Place("/run/a", Right.WRITE, 0o666),
         }.items():
             self.assertEqual(read_place(word), place)
-        for word in ("/run/a", "/run/a:", ":all", "/run/a:admin", "/run/a:read:7", "/run/a:read:777", "/run/a:read:060"):
+        for word in ("/a", "/a:", ":all", "/a:admin", "/a:read:7", "/a:read:777", "/a:read:060"):
             with self.subTest(word), self.assertRaises(ValueError):
                 read_place(word)
 
@@ -124,7 +124,8 @@ class UsersTest(ServedCase):
                 server = Served(self.store, *words, program=self.program)
                 self.assertEqual(server.end()[0], 2)
         self.at.write_text("a file")
-        server = Served(self.store, "--socket", f"{self.folder}/a:all", "--socket", f"{self.at}:read", program=self.program)
+        words = ("--socket", f"{self.folder}/a:all", "--socket", f"{self.at}:read")
+        server = Served(self.store, *words, program=self.program)
         self.assertEqual(server.end()[0], 1)
         self.assertEqual(sorted(it.name for it in self.folder.iterdir()), ["site.socket", "stub_file"])
 

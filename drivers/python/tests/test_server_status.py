@@ -96,6 +96,15 @@ class StatusTest(ServedCase):
             write_frame(client, kind, text)
         self.assertEqual([read_frame(client)[0] for _ in range(3)], [STATUS, REPORT, STATUS])
 
+    def test_one_that_asks_all_the_time_holds_nobody_up(self) -> None:
+        self.serve()
+        greedy, other = greeted(self, self.at), greeted(self, self.at)
+        greedy.sendall(b"\0\0\0\1I" * 13_000)
+        begun = time.monotonic()
+        self.assertEqual(asked(other, "RUN rows_1 ();")[0], REPORT)
+        self.assertLess(time.monotonic() - begun, 5)
+        self.assertEqual({read_frame(greedy)[0] for _ in range(13_000)}, {STATUS})
+
     def test_the_command(self) -> None:
         server = self.serve("--clients", 2)
         status, out, errors = command(f"unix:{self.at}")

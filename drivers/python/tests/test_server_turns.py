@@ -2,11 +2,13 @@
 
 import re
 import threading
+import time
 import unittest
 
 from helpers import piql
 from piql.frames import HEAD, REPORT, STATEMENT, read_frame, write_frame
-from served import ServedCase, asked, greeted
+from piql.status import ask
+from served import ServedCase, greeted
 
 CLIENTS, EACH = 12, 20
 NUMBERS = re.compile(r"INSERT (\d+) (\d+)")
@@ -42,32 +44,21 @@ class TurnsTest(ServedCase):
             waits = [later - place for place, later in zip(places, places[1:])]
             self.assertLessEqual(max(waits), CLIENTS)
 
-    def test_one_that_sends_all_the_time_starves_nobody(self) -> None:
+    def test_those_who_send_all_the_time_starve_nobody(self) -> None:
         self.serve()
-        greedy, modest = [greeted(self, self.at) for _ in range(3)], greeted(self, self.at)
-        ended = threading.Event()
-
-        def hurry(number: int) -> None:
-            sent = 0
-            while not ended.is_set():
-                greedy[number].sendall(b"".join(frame(number + 1, sent + i) for i in range(EACH)))
-                sent += EACH
-                for _ in range(EACH):
-                    read_frame(greedy[number])
-
-        threads = [threading.Thread(target=hurry, args=(number,)) for number in range(len(greedy))]
-        for thread in threads:
-            thread.start()
-        waits = []
-        for number in range(100):
-            before = len(self.order())
-            self.assertEqual(asked(modest, f"INSERT 0 {number};")[0], REPORT)
-            waits.append(self.order()[before:].index((0, number)))
-        ended.set()
-        for thread in threads:
-            thread.join()
-        # What is made while the statement is still on its way doesn't wait before it: half of them had no such luck.
-        self.assertLessEqual(sorted(waits)[len(waits) // 2], len(greedy))
+        busy, *greedy, modest = (greeted(self, self.at) for _ in range(5))
+        for number, client in enumerate(greedy):
+            client.sendall(frame(number + 1, 0))
+            self.assertEqual(read_frame(client)[0], REPORT)
+        write_frame(busy, STATEMENT, b"RUN wait_2000 ();")
+        for number, client in enumerate(greedy):
+            client.sendall(b"".join(frame(number + 1, i) for i in range(1, EACH)))
+        write_frame(modest, STATEMENT, b"INSERT 0 0;")
+        until = time.monotonic() + 30
+        while ask(str(self.at), 30)["waiting"] != len(greedy) + 1:
+            self.assertLess(time.monotonic(), until)
+        self.assertEqual([read_frame(client)[0] for client in (busy, modest)], [REPORT, REPORT])
+        self.assertLessEqual(self.order()[len(greedy) :].index((0, 0)), len(greedy))
 
     def test_the_driver_has_them_too(self) -> None:
         self.serve()

@@ -45,7 +45,8 @@ def read_catalog(report: str) -> Catalog:
     texts = [line.text for line in lines if isinstance(line, DefinitionLine)]
     names = frozenset(found[1] for text in texts if (found := NAMED.match(text)))
     tables = tuple(found[1] for text in texts if (found := TABLE.match(text)))
-    return Catalog(names, tables, len(texts), dict(Counter(line.table for line in lines if isinstance(line, IndexLine))))
+    indexes = Counter(line.table for line in lines if isinstance(line, IndexLine))
+    return Catalog(names, tables, len(texts), dict(indexes))
 
 
 class Figures:

@@ -1,21 +1,22 @@
-"""The thread that has all sockets: it takes clients and their frames, and leaves those that are silent or stand still."""
+"""The thread that has all sockets: it takes clients and their frames, and leaves those that don't move."""
 
 import collections
-import contextlib
-import os
 import select
 import threading
 import time
 from typing import Protocol
 
 from ..frames import BROKEN, STATUS, FrameError
-from .clients import CHUNK, Answer, Client, Ticket, ended_frame
+from .clients import Answer, Client, Ticket, ended_frame
 from .coming import Coming
 from .log import Log
+from .polls import Polls
 from .requests import Request
 
 # How often it is looked for clients that are overdue, in seconds.
 TICK = 0.1
+# How many frames of one client are taken before those of the others.
+AT_ONCE = 16
 SILENT = "nothing came for {seconds:g} seconds"
 HALF = "a frame wasn't whole after {seconds:g} seconds"
 UNREAD = "nothing of an answer was read for {seconds:g} seconds"
@@ -41,11 +42,7 @@ class Loop:
     def __init__(self, coming: Coming, idle: float, service: Asked, log: Log) -> None:
         self.coming, self.idle, self.service, self.log = coming, idle, service, log
         self.clients: dict[int, Client] = {}
-        self.epoll = select.epoll()
-        # What is polled of each descriptor.
-        self.polled: dict[int, int] = {}
-        self.wake_read, self.wake_write = os.pipe2(os.O_NONBLOCK | os.O_CLOEXEC)
-        self.poll(self.wake_read, select.EPOLLIN)
+        self.polls = Polls()
         # Clients whose answer left something to do. The guard is for what both threads touch of a client.
         self.stirred: collections.deque[Client] = collections.deque()
         self.guard = threading.Lock()
@@ -72,41 +69,21 @@ class Loop:
             is_quiet = not (client.unsent or client.received or client.is_ending)
         if not is_quiet:
             self.stirred.append(client)
-            self.wake()
-
-    def wake(self) -> None:
-        """Has the loop look at what was stirred."""
-        with contextlib.suppress(BlockingIOError):
-            os.write(self.wake_write, b"\0")
+            self.polls.wake()
 
     # The loop's own thread
 
     def turn(self) -> None:
         """Does what there is to do; where there is nothing, waits for it for a moment."""
-        for descriptor, _ in self.epoll.poll(TICK):
+        for descriptor in self.polls.wait(0 if self.stirred else TICK):
             if descriptor in self.clients:
                 self.moved(self.clients[descriptor])
-            elif descriptor == self.wake_read:
-                os.read(self.wake_read, CHUNK)
-            else:
+            elif descriptor in self.coming.listeners:
                 self.take_clients(descriptor)
-        while self.stirred:
+        for _ in range(len(self.stirred)):
             self.go_on(self.stirred.popleft())
         if time.monotonic() >= self.next_look:
             self.look_round()
-
-    def poll(self, descriptor: int, mask: int) -> None:
-        """Has a descriptor polled for this from now on; for 0 not at all."""
-        before = self.polled.get(descriptor, 0)
-        if mask == before:
-            return
-        if not before:
-            self.epoll.register(descriptor, mask)
-        elif mask:
-            self.epoll.modify(descriptor, mask)
-        else:
-            self.epoll.unregister(descriptor)
-        self.polled[descriptor] = mask
 
     def moved(self, client: Client) -> None:
         """A client has sent something, takes something, or has gone."""
@@ -125,13 +102,17 @@ class Loop:
         if client.is_ending and client.is_ready():
             self.leave(client)
         else:
-            self.poll(client.socket.fileno(), client.wanted())
+            self.polls.set(client.socket.fileno(), client.wanted())
 
     def take_frames(self, client: Client) -> None:
         """Takes the frames that are there: one of them waits for its turn, and the others wait for it."""
         try:
-            while client.is_ready() and (frame := client.next_frame()):
+            for _ in range(AT_ONCE):
+                frame = client.next_frame() if client.is_ready() else None
+                if frame is None:
+                    return
                 self.take_frame(client, *frame)
+            self.stirred.append(client)
         except FrameError as error:
             self.log.warning("client-left", client=client.number, why=str(error))
             self.break_off(client, str(error))
@@ -161,8 +142,8 @@ class Loop:
     def leave(self, client: Client) -> None:
         """Lets a client go."""
         descriptor = client.socket.fileno()
-        self.poll(descriptor, 0)
-        del self.clients[descriptor], self.polled[descriptor]
+        self.polls.forget(descriptor)
+        del self.clients[descriptor]
         self.log.debug("client-gone", client=client.number, clients=len(self.clients))
         with self.guard:
             client.close()
@@ -171,14 +152,14 @@ class Loop:
         """Takes the clients that wait at a listener."""
         for client in self.coming.taken(listener, len(self.clients)):
             self.clients[client.socket.fileno()] = client
-            self.poll(client.socket.fileno(), select.EPOLLIN)
+            self.polls.set(client.socket.fileno(), select.EPOLLIN)
             self.log.debug("client-begun", client=client.number, clients=len(self.clients))
         self.poll_listeners()
 
     def poll_listeners(self) -> None:
         """Polls the listeners, unless the system has no room for a client just now."""
         for descriptor, mask in self.coming.wanted(time.monotonic()).items():
-            self.poll(descriptor, mask)
+            self.polls.set(descriptor, mask)
 
     def look_round(self) -> None:
         """Leaves the clients that are overdue, and looks whether clients can be taken."""
@@ -214,7 +195,7 @@ class Loop:
     def close_door(self) -> None:
         """Takes no more clients, and no more frames but those that are on their way."""
         for descriptor in self.coming.close():
-            self.polled.pop(descriptor, None)
+            self.polls.forget(descriptor)
         for client in list(self.clients.values()):
             if client.ticket is None:
                 self.let_go(client, STOPS)
@@ -232,6 +213,4 @@ class Loop:
         """Leaves all clients."""
         for client in list(self.clients.values()):
             self.leave(client)
-        self.epoll.close()
-        os.close(self.wake_read)
-        os.close(self.wake_write)
+        self.polls.close()

@@ -1,4 +1,4 @@
-"""The store of a server, and what of its life the log and the figures are told: runs, ends, rollovers, leases, a full disk.
+"""The store of a server, and what of its life the log and the figures are told: runs, ends, leases, a full disk.
 
 The texts of errors go to the client whose statement it was, and not to the log: they may tell what a row has.
 """
@@ -6,11 +6,11 @@ The texts of errors go to the client whose statement it was, and not to the log:
 import contextlib
 import os
 
-from ..errors import Error
+from ..errors import Error, StoreGone
 from ..hosts.link import HostLink
 from ..links import FileLink, Run
 from ..statuses import MEANINGS
-from .figures import ending_of, read_catalog
+from .figures import read_catalog
 from .log import Field
 from .watch import Watch
 
@@ -51,7 +51,7 @@ class Observed:
         self.look("rollover")
 
     def keep(self) -> None:
-        """Keeps the lease of a cluster while no statement is at work. Of a file it is seen whether it is still there."""
+        """Keeps the lease of a cluster while no statement is at work; of a file, sees whether it is still there."""
         if isinstance(self.link, HostLink):
             self.link.keep()
             self.look("begun anew")
@@ -105,7 +105,8 @@ class Observed:
         """Learns the names of the store."""
         try:
             report = self.exchange(SHOW, True)
-        except Error as error:
-            return self.failed(error)
-        if not ending_of(report).refusal:
             self.figures.catalog = read_catalog(report)
+        except StoreGone:
+            raise
+        except (Error, ValueError) as error:
+            self.failed(error)

@@ -1,4 +1,4 @@
-"""A server at work: the loop that has the sockets, the worker that has the engine, and their end within a bounded time."""
+"""A server at work: the loop that has the sockets, the worker that has the engine, and their end in a bounded time."""
 
 import json
 import signal
@@ -40,6 +40,9 @@ class Service:
         self.told = 0.0
         # The signal that stops it.
         self.signal = 0
+        signal.set_wakeup_fd(self.loop.polls.wake_write, warn_on_full_buffer=False)
+        for number in (signal.SIGTERM, signal.SIGINT):
+            signal.signal(number, self.take_signal)
 
     def give(self, ticket: Ticket) -> None:
         """Gives a request its turn."""
@@ -54,7 +57,9 @@ class Service:
         """Looks at the limits of time, and tells of an opening that takes long."""
         self.limits.look(now, self.watch)
         ticket = self.worker.at_hand
-        if ticket is not None and state_of(self.link, ticket) == OPENING and now > max(self.told, ticket.since()) + EVERY:
+        if ticket is None or state_of(self.link, ticket) != OPENING:
+            return
+        if now > max(self.told, ticket.since()) + EVERY:
             self.told = now
             self.watch.log.info("opening", seconds=now - ticket.since(), log_bytes=log_bytes(self.link))
 
@@ -63,11 +68,13 @@ class Service:
         self.signal = number
 
     def run(self) -> int:
-        """Serves until a signal stops it; the status of the program."""
-        signal.set_wakeup_fd(self.loop.wake_write, warn_on_full_buffer=False)
-        for number in (signal.SIGTERM, signal.SIGINT):
-            signal.signal(number, self.take_signal)
-        self.worker.thread.start()
+        """Serves until a signal stops it; the status of the program. Without a thread for it, a RuntimeError."""
+        try:
+            self.worker.thread.start()
+        except RuntimeError:
+            self.loop.close_door()
+            self.link.close()
+            raise
         while not self.signal and self.worker.thread.is_alive():
             self.loop.turn()
         self.stop()
@@ -76,7 +83,7 @@ class Service:
         return 0 if self.signal else FAULT
 
     def stop(self) -> None:
-        """Makes what was asked before, as far as the time goes, tells the rest that it wasn't made, and closes the store."""
+        """Makes what was asked before, as far as the time goes, tells the rest that it wasn't, and closes the store."""
         self.watch.log.info("stopping", signal=signal.Signals(self.signal).name if self.signal else None)
         self.loop.close_door()
         self.worker.end()

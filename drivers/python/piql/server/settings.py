@@ -2,8 +2,11 @@
 
 import argparse
 import os
-from typing import NamedTuple
+import sys
+from collections.abc import Sequence
+from typing import NamedTuple, NoReturn
 
+from ..hosts.passwords import without_secrets
 from ..hosts.urls import is_url
 from .log import LEVELS
 from .rights import Place, read_place
@@ -63,6 +66,21 @@ def seconds(word: str) -> float:
     return time
 
 
+class Parser(argparse.ArgumentParser):
+    """One that tells no password of the words that it refuses."""
+
+    def parse_args(self, words: Sequence[str] | None = None) -> argparse.Namespace:  # type: ignore[override]
+        """The words, which are kept for `error`."""
+        self.words = sys.argv[1:] if words is None else list(words)
+        return super().parse_args(self.words)
+
+    def error(self, message: str) -> NoReturn:
+        """Ends the program."""
+        for word in filter(is_url, self.words):
+            message = without_secrets(message, word)
+        super().error(message)
+
+
 def place(word: str) -> Place:
     """A socket with what its clients may."""
     try:
@@ -73,19 +91,19 @@ def place(word: str) -> Place:
 
 def read_words(words: list[str] | None) -> Settings:
     """The words of the command. Words of no form end the program with status 2."""
-    parser = argparse.ArgumentParser(prog="piql-serve", description="One store for many connections.")
+    parser = Parser(prog="piql-serve", description="One store for many connections.")
     parser.add_argument("store", help="the SQLite file of the store, or etcd://.. or postgresql://..")
     parser.add_argument("at", nargs="?", metavar="socket", help="where clients connect, as unix:SOCKET, and may all")
     parser.add_argument("--socket", type=place, action="append", default=[], metavar="PATH:RIGHT[:MODE]", help=SOCKETS)
     parser.add_argument("--program", help="the program piql_file, or piql_host for a cluster")
     parser.add_argument("--standby", action="store_true", help="wait until no other server has the cluster's store")
     parser.add_argument("--clients", type=clients, default=CLIENTS, help="the most clients at a time (%(default)s)")
-    parser.add_argument("--idle", type=seconds, default=IDLE, metavar="SECONDS", help="the longest silence (%(default)g)")
+    parser.add_argument("--idle", type=seconds, default=IDLE, metavar="SECONDS", help="most silence (%(default)g)")
     parser.add_argument("--log", choices=LEVELS, default=LEVEL, help="the least that stands in the log (%(default)s)")
-    parser.add_argument("--slow", type=seconds, default=SLOW, metavar="SECONDS", help="what is logged as slow (%(default)g)")
+    parser.add_argument("--slow", type=seconds, default=SLOW, metavar="SECONDS", help="what is slow (%(default)g)")
     parser.add_argument("--statement-timeout", type=seconds, metavar="SECONDS", help="how long a client waits")
     parser.add_argument("--statement-kill", type=seconds, metavar="SECONDS", help="how long an engine may stand still")
-    parser.add_argument("--index-rows", type=rows, default=INDEX_ROWS, metavar="N", help="rows of an index (%(default)s)")
+    parser.add_argument("--index-rows", type=rows, default=INDEX_ROWS, metavar="N", help="of an index (%(default)s)")
     given = parser.parse_args(words)
     if given.standby and not is_url(given.store):
         parser.error("only the store of a cluster has a standby")

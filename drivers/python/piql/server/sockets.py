@@ -1,4 +1,4 @@
-"""The sockets of a server: each is made where nothing stands, or in place of one that a server of this user left behind.
+"""The sockets of a server: each is made where nothing stands, or in place of one that this user's server left behind.
 
 Nothing else is ever taken away: no file, no folder, no link, no socket at which somebody listens, and at the end no
 socket that another server has made in the place of this one's.

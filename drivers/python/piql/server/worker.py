@@ -24,6 +24,7 @@ from .watch import Watch
 
 # How often an idle server looks whether its lease is to be renewed, in seconds.
 BEAT = 1.0
+FAULT = "the server met a fault of its own. A statement was made whole or not at all; a copy wasn't made"
 
 
 class Worker:
@@ -56,7 +57,7 @@ class Worker:
             self.watch.log.error("fault", kind=type(error).__name__)
         finally:
             self.store.close()
-            self.loop.wake()
+            self.loop.polls.wake()
 
     def make(self, ticket: Ticket) -> None:
         """Makes what was asked for, and tells what became of it."""
@@ -94,6 +95,10 @@ class Worker:
             self.store.failed(error, **self.fields(ticket))
             text = without_secrets(str(error), self.name) if is_url(self.name) else str(error)
             return ended_frame(text, getattr(error, "status", None))
+        except Exception as error:
+            # The link has ended its run. What the error says is for nobody: it may have anything in it.
+            self.watch.log.error("fault", kind=type(error).__name__, **self.fields(ticket))
+            return ended_frame(FAULT)
         self.counted(ticket, report)
         return REPORT, report.encode()
 
