@@ -12,6 +12,8 @@ from .frames import (
     ENDED,
     GREETING,
     HELLO,
+    LIMITED,
+    LIMITS,
     REPORT,
     STATEMENT,
     FrameError,
@@ -27,6 +29,8 @@ from .wholeness import check_statement, number_of
 ANSWER_BYTES = 1 << 27
 # A server that is there has as long for its first word, in seconds, however short the time is that was asked for.
 GREETING_SECONDS = 1.0
+# For how much longer than a statement's limit its client waits, so that the server can tell what became of it.
+GRACE_SECONDS = 1.0
 MADE_OR_NOT = (
     "the statement was made or not made, and isn't sent again by itself. The next statement connects anew; ask for the"
     " row to see which"
@@ -50,6 +54,11 @@ def told_end(said: bytes) -> DatabaseError:
     if not isinstance(text, str) or not (status is None or type(status) is int):
         return InternalError(NO_ANSWER)
     return with_status(status, text)
+
+
+def milliseconds(seconds: float) -> int:
+    """A limit as a frame has it, where 0 would say that there is none."""
+    return max(1, round(min(seconds * 1000, 2.0**32 - 1)))
 
 
 class SocketLink:
@@ -116,7 +125,11 @@ class SocketLink:
 
     def reported(self, statement: bytes, seconds: float | None) -> str:
         """The one whole report that the server sends. Its number is that of the server's run, which checks it."""
-        report = self.asked(STATEMENT, statement, REPORT, seconds)
+        kind, text, wait = STATEMENT, statement, seconds
+        if seconds is not None:
+            # The server's own word comes first: it knows whether the statement was still waiting.
+            kind, text, wait = LIMITED, LIMITS.pack(milliseconds(seconds), 0) + statement, seconds + GRACE_SECONDS
+        report = self.asked(kind, text, REPORT, wait)
         if number_of(report) is None:
             self.close()
             raise InternalError(NO_ANSWER)

@@ -7,7 +7,7 @@ import time
 import unittest
 from unittest import mock
 
-from helpers import built
+from helpers import built, piql
 from piql.frames import ENDED, LIMITED, LIMITS, REPORT, STATEMENT, read_frame, write_frame
 from piql.hosts import HostLink, MemoryStore
 from piql.server.clients import Ticket
@@ -50,8 +50,8 @@ class WaitTest(ServedCase):
             self.assertIn("row 1", asked(client, "RUN rows_1 ();")[1])
         self.assertEqual(self.made(), [])
         errors = server.end()[1]
-        self.assertRegex(errors, r"event=timeout where=at-hand limit=1.000 statement=RUN seconds=1\.")
-        self.assertRegex(errors, r"event=timeout where=waiting limit=1.000 statement=INSERT name=t ")
+        self.assertRegex(errors, r"event=timeout where=at-hand limit=1.000 statement=RUN seconds=[01]\.\d+ wait=")
+        self.assertRegex(errors, r"event=timeout where=waiting limit=1.000 statement=INSERT name=t seconds=0.000 wait=1\.")
 
     def test_a_write_at_hand_is_made_or_not_made(self) -> None:
         self.serve("--statement-timeout", 0.5)
@@ -78,6 +78,21 @@ class WaitTest(ServedCase):
             other = greeted(self, self.at)
             write_frame(other, LIMITED, text)
             self.assertIn("one whole statement", self.left(other))
+
+    def test_the_limit_of_the_drivers_statement(self) -> None:
+        self.serve()
+        busy = greeted(self, self.at)
+        with piql.connect(f"unix:{self.at}", prepare=False) as connection:
+            write_frame(busy, STATEMENT, b"RUN wait_1500 ();")
+            time.sleep(0.2)
+            with self.assertRaisesRegex(piql.OperationalError, "waited 0.3 seconds .* it wasn't made"):
+                connection.execute(WRITE, timeout=0.3)
+            self.assertEqual(read_frame(busy)[0], REPORT)
+            with self.assertRaisesRegex(piql.OperationalError, "it is made or not made"):
+                connection.execute("INSERT wait_1500", timeout=0.5)
+            for seconds in (60, 1e30, float("inf")):
+                connection.execute(WRITE, timeout=seconds)
+        self.assertEqual(self.made(), ["INSERT wait_1500", *[WRITE[:-1]] * 3])
 
     def test_an_engine_that_stands_still_is_ended(self) -> None:
         server = self.serve("--statement-kill", 1)

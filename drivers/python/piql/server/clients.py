@@ -46,9 +46,9 @@ class Ticket:
         """When its last step was: it was begun, or it was asked for."""
         return self.asked if self.begun is None else self.begun
 
-    def wait(self) -> float:
+    def wait(self, now: float) -> float:
         """For how many seconds it waited for its turn."""
-        return 0.0 if self.begun is None else self.begun - self.asked
+        return (now if self.begun is None else self.begun) - self.asked
 
 
 class Client:

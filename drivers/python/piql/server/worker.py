@@ -124,8 +124,9 @@ class Worker:
         """What the log tells of a statement: its first word, its name if the store has it, and its times in seconds."""
         name = ticket.request.name()
         known = name if name in self.watch.figures.catalog.names else None
-        times = {"seconds": time.monotonic() - ticket.since(), "wait": ticket.wait()}
-        return {"statement": ticket.request.word, "name": known, **times}
+        now = time.monotonic()
+        seconds = 0.0 if ticket.begun is None else now - ticket.begun
+        return {"statement": ticket.request.word, "name": known, "seconds": seconds, "wait": ticket.wait(now)}
 
     def counted(self, ticket: Ticket, report: str) -> None:
         """Counts a statement that has its report; one that took long is told."""
