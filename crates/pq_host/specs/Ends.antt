@@ -28,14 +28,14 @@ abbrev pub HasExchanged : LinkEnds → LinkEnds → List ℕ → List ℕ → Ty
 HasExchanged before now request answer = Moves before now request answer false
 
 -- just this was sent, and just this front of its answer was read
-abbrev pub HasAsked : LinkEnds → LinkEnds → List ℕ → List ℕ → Type 0
-HasAsked before now request front = Moves before now request front true
+abbrev pub HasBegun : LinkEnds → LinkEnds → List ℕ → List ℕ → Type 0
+HasBegun before now request front = Moves before now request front true
 
 -- how a call fails: nothing was sent or read; or the host answered that what was asked has failed; or what came is no
 -- answer, or none that could be kept, and from now on the link is broken
 pub data HasFailed (before now : LinkEnds) (request : List ℕ) : Type 0 where
   Unsent : now ≡ before → HasFailed before now request
-  Told : HasExchanged before now request failed_answer → HasFailed before now request
+  ToldFailed : HasExchanged before now request failed_answer → HasFailed before now request
   Lost : before.unanswered ≡ false → now.unanswered ≡ true → HasFailed before now request
 
 -- over a link that is broken nothing is sent or read, and the call fails

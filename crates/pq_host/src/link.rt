@@ -1,7 +1,7 @@
 //! One exchange with the host: a request, and the answer to it.
 ghost use Rattle.std.specs.Prelude.{◌≡◌, ℕ, ◌≤◌, ◌+◌, ◌++◌, List, true, false, IfOk, OnOk, OnErr, IsErrOf, length, min};
 ghost use Rattle.std.specs.Io.KnownBytes.{Appends, Consumes};
-ghost use Rattle.pq_host.specs.Ends.{HasAsked, HasExchanged, HasFailed, StaysBroken};
+ghost use Rattle.pq_host.specs.Ends.{HasBegun, HasExchanged, HasFailed, StaysBroken};
 ghost use Rattle.pq_host.specs.Frames.{request, places_request, answer, answer_head, keys_body};
 
 use crate::answer::{Head, read_head, read_keys};
@@ -109,7 +109,7 @@ impl<'a, R: Read, W: Write> Link<'a, R, W> {
     ) -> Result<usize, StoreErr>
         ensures few { IfOk result (λ n. n ≤ most) }
         ensures asked { IfOk result
-            (λ n. HasAsked self.old self.new (request op node body.now) (answer_head n)) }
+            (λ n. HasBegun self.old self.new (request op node body.now) (answer_head n)) }
         ensures failed { OnErr result (HasFailed self.old self.new (request op node body.now)) }
         ensures no_memory { ¬ IsErrOf result StoreErr.NoMem }
     {
@@ -163,7 +163,7 @@ impl<'a, R: Read, W: Write> Link<'a, R, W> {
         body: &[u8],
     ) -> Result<[u8; N], StoreErr>
         ensures asked { IfOk result
-            (λ found. HasAsked self.old self.new (request op node body.now) (answer found)) }
+            (λ found. HasBegun self.old self.new (request op node body.now) (answer found)) }
         ensures failed { OnErr result (HasFailed self.old self.new (request op node body.now)) }
         ensures no_memory { ¬ IsErrOf result StoreErr.NoMem }
     {
@@ -212,7 +212,7 @@ impl<'a, R: Read, W: Write> Link<'a, R, W> {
         body: &[u8],
     ) -> Result<Bytes, StoreErr>
         ensures asked { IfOk result
-            (λ found. HasAsked self.old self.new (request op node body.now) (answer found)) }
+            (λ found. HasBegun self.old self.new (request op node body.now) (answer found)) }
         ensures failed { OnErr result (HasFailed self.old self.new (request op node body.now)) }
     {
         let len = self.ask(op, node, body, BODY_MOST)?;
