@@ -9,6 +9,8 @@ from program import TOP, run, whole_parts
 
 SCRIPTS = TOP / "trials/stores"
 NO_MEMORY = 7
+# Want of memory in the middle of a statement: the file undoes it.
+STORE_FAULT = 5
 
 
 def scripts():
@@ -44,7 +46,7 @@ def strange(ended, again, held, whole, allowed):
         return f"opened again with status {again.status}"
     if (ended.status, ended.output) == (whole.status, whole.output):
         return None if held == allowed[-1] else "other tables behind the whole script"
-    if ended.status != NO_MEMORY:
+    if ended.status not in (NO_MEMORY, STORE_FAULT):
         return "no end" if ended.status is None else f"status {ended.status}"
     length, parts = whole_parts(ended.output)
     if not whole.output.startswith(ended.output) or length != len(ended.output):

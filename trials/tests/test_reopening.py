@@ -33,8 +33,12 @@ class StrangeTest(unittest.TestCase):
         self.assertIsNone(self.said(WHOLE.output, STATES[2], status=0))
         self.assertIsNotNone(self.said(WHOLE.output, STATES[1], status=0))
 
+    def test_want_of_memory_within_a_statement_is_a_fault_of_the_store(self) -> None:
+        self.assertIsNone(self.said(OPENING, STATES[0], status=5))
+        self.assertIsNotNone(self.said(OPENING, STATES[2], status=5))
+
     def test_another_end_is_strange(self) -> None:
-        self.assertEqual(self.said(OPENING, STATES[0], status=5), "status 5")
+        self.assertEqual(self.said(OPENING, STATES[0], status=4), "status 4")
         self.assertEqual(self.said(OPENING, STATES[0], status=None), "no end")
         self.assertEqual(self.said(OPENING + b"1 ok", STATES[0]), "no whole reports")
 

@@ -50,7 +50,11 @@ impl FileSqlStore {
     /// `open` reads both.
     pub fn close(self) -> Result<(), StoreErr> {
         let FileSqlStore { inner } = self;
-        match inner.into_connection().close() {
+        let connection = match inner.into_connection() {
+            Ok(connection) => connection,
+            Err(error) => return Err(store_err(&error)),
+        };
+        match connection.close() {
             Ok(()) => Ok(()),
             Err(error) => Err(store_err(&error)),
         }

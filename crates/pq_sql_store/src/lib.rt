@@ -4,6 +4,7 @@
 //! Proved is what every store promises of the form of its answers, of its costs and of its faults.
 #![tactic(auto)]
 
+mod database;
 mod file;
 mod sql_store;
 mod statements;

@@ -2,9 +2,8 @@
 ghost use Rattle.std.specs.Prelude.{◌≡◌, ◌≤◌, IfOk};
 ghost use Rattle.pq_store.specs.Content.{HasRisen};
 
-use crate::statements::{
-    Shape, change, make_table, number_within, pairs_within, read_shape, value_at,
-};
+use crate::database::Database;
+use crate::statements::{Shape, make_table, read_shape};
 use pq_base::{Bytes, List};
 use pq_store::{Guard, Meter, Pair, Store, StoreErr, is_part};
 use sqlite::{Alter, Connection, Error, ErrorCode};
@@ -15,10 +14,12 @@ use std::sync::ledger::Ledger;
 /// A store of pairs in the table `kv(k BLOB PRIMARY KEY, v BLOB NOT NULL)` of a database, seen as its
 /// count of faults.
 ///
-/// Each call is one statement, which the database makes whole or not at all. Each refusal of the
-/// database but want of memory is a fault that is counted, and so is an answer that no store gives.
+/// The writes from the put of the intent to its removal are one transaction, and so are the writes of entries in a
+/// row outside it; each other write is one by itself. Each refusal of the database is a fault that is counted, but for
+/// want of memory where no transaction is open. So is an answer that no store gives. A fault undoes the transaction
+/// that is open, and behind it each call is a fault.
 pub struct SqlStore<D: Alter> {
-    connection: Connection<D>,
+    database: Database<D>,
     faults: u64,
 }
 
@@ -37,7 +38,7 @@ impl<D: Alter> Model for SqlStore<D> {
 impl<D: Alter + Drop> Drop for SqlStore<D> {
     fn drop(self) {
         let SqlStore {
-            connection: _,
+            database: _,
             faults: _,
         } = self;
     }
@@ -63,32 +64,23 @@ fn have_table<D: Alter>(connection: &mut Connection<D>) -> Result<bool, Error> {
     }
 }
 
-// Whether a write that changed so many rows was made; None where no write changes as many.
-fn is_done(guard: Guard, new: Option<&[u8]>, changed: usize) -> Option<bool> {
-    match (guard, new, changed) {
-        (_, _, 1) => Some(true),
-        (Guard::Any, None, 0) => Some(true),
-        (Guard::Absent | Guard::Is(_), _, 0) => Some(false),
-        _ => None,
-    }
-}
-
 impl<D: Alter> SqlStore<D> {
     fn fault(&mut self) -> StoreErr
         ensures failed { result ≡ StoreErr.Failed }
         ensures later { self.old ≤ self.new }
         ensures risen { HasRisen self.old self.new }
     {
+        self.database.undo();
         self.faults = self.faults.saturating_add(1);
         StoreErr::Failed
     }
 
-    // Any refusal but want of memory is a fault.
+    // Any refusal is a fault but for want of memory, which is one too where a transaction is open.
     fn refused(&mut self, error: &Error) -> StoreErr
         ensures later { self.old ≤ self.new }
         ensures risen { result ≡ StoreErr.Failed → HasRisen self.old self.new }
     {
-        match store_err(error) {
+        match self.database.refusal(error) {
             StoreErr::NoMem => StoreErr::NoMem,
             StoreErr::Failed => self.fault(),
         }
@@ -104,7 +96,7 @@ impl<D: Alter + Drop> SqlStore<D> {
         let mut connection = connection;
         match have_table(&mut connection) {
             Ok(true) => Ok(SqlStore {
-                connection,
+                database: Database::over(connection),
                 faults: 0,
             }),
             Ok(false) => Err(StoreErr::Failed),
@@ -112,13 +104,14 @@ impl<D: Alter + Drop> SqlStore<D> {
         }
     }
 
-    /// The connection, after the last call.
-    pub(crate) fn into_connection(self) -> Connection<D> {
+    /// The connection, after the last call. Entries that wait for a commit are committed, and a statement that was
+    /// broken off is undone.
+    pub(crate) fn into_connection(self) -> Result<Connection<D>, Error> {
         let SqlStore {
-            connection,
+            database,
             faults: _,
         } = self;
-        connection
+        database.into_connection()
     }
 }
 
@@ -131,11 +124,11 @@ impl<L: Ledger, D: Alter> Store<L> for SqlStore<D> {
 
     fn get(
         &mut self,
-        _alloc: Global,
+        alloc: Global,
         key: &[u8],
         meter: &mut Meter<L>,
     ) -> Result<Option<Bytes>, StoreErr> {
-        match value_at(&mut self.connection, key) {
+        match self.database.get(alloc, key) {
             Ok(Some(value)) => {
                 meter.charge(1);
                 Ok(Some(value))
@@ -159,7 +152,7 @@ impl<L: Ledger, D: Alter> Store<L> for SqlStore<D> {
         limit: u32,
         meter: &mut Meter<L>,
     ) -> Result<List<Pair>, StoreErr> {
-        match pairs_within(alloc, &mut self.connection, low, high, limit) {
+        match self.database.range(alloc, low, high, limit) {
             Ok(pairs) => {
                 if is_part(low, high, limit, pairs.items()) {
                     meter.charge(pairs.items().len() as u32);
@@ -184,7 +177,7 @@ impl<L: Ledger, D: Alter> Store<L> for SqlStore<D> {
         cap: u32,
         meter: &mut Meter<L>,
     ) -> Result<u32, StoreErr> {
-        match number_within(&mut self.connection, low, high, cap) {
+        match self.database.count(low, high, cap) {
             Ok(n) => {
                 if n <= cap {
                     meter.charge(n);
@@ -203,18 +196,16 @@ impl<L: Ledger, D: Alter> Store<L> for SqlStore<D> {
 
     fn write(
         &mut self,
-        _alloc: Global,
+        alloc: Global,
         key: &[u8],
         guard: Guard,
         new: Option<&[u8]>,
         meter: &mut Meter<L>,
     ) -> Result<bool, StoreErr> {
         meter.charge(0);
-        match change(&mut self.connection, key, guard, new) {
-            Ok(changed) => match is_done(guard, new, changed) {
-                Some(done) => Ok(done),
-                None => Err(self.fault()),
-            },
+        match self.database.write(alloc, key, guard, new) {
+            Ok(Some(done)) => Ok(done),
+            Ok(None) => Err(self.fault()),
             Err(error) => Err(self.refused(&error)),
         }
     }

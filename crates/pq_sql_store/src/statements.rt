@@ -85,6 +85,24 @@ pub fn make_table<D: Alter>(connection: &mut Connection<D>) -> Result<(), Error>
     Ok(())
 }
 
+/// Begins a transaction.
+pub fn begin<D: Alter>(connection: &mut Connection<D>) -> Result<(), Error> {
+    run(connection, "BEGIN", &[])?;
+    Ok(())
+}
+
+/// Commits the transaction. One whose commit is refused is rolled back.
+pub fn commit<D: Alter>(connection: &mut Connection<D>) -> Result<(), Error> {
+    run(connection, "COMMIT", &[])?;
+    Ok(())
+}
+
+/// Rolls the transaction back.
+pub fn rollback<D: Alter>(connection: &mut Connection<D>) -> Result<(), Error> {
+    run(connection, "ROLLBACK", &[])?;
+    Ok(())
+}
+
 /// The value of the key.
 pub fn value_at<D: Alter>(
     connection: &mut Connection<D>,

@@ -14,7 +14,7 @@ use std::{fs, test};
 
 // How a run leaves its file.
 #[derive(Clone, Copy)]
-enum End {
+pub(crate) enum End {
     Closed,
     Dropped,
 }
@@ -35,7 +35,7 @@ impl End {
     }
 }
 
-fn leave(store: FileSqlStore, end: End) -> Result<(), StoreErr> {
+pub(crate) fn leave(store: FileSqlStore, end: End) -> Result<(), StoreErr> {
     match end {
         End::Closed => store.close(),
         End::Dropped => Ok(()),
@@ -83,7 +83,7 @@ fn unlike_in_file(rt: &HostRuntime, end: End) -> Result<Option<usize>, StoreErr>
 }
 
 // Removes the file and the log beside it, where they are.
-fn remove(rt: &HostRuntime, path: &str, log: &str) {
+pub(crate) fn remove(rt: &HostRuntime, path: &str, log: &str) {
     let _ = fs::remove_file(rt, path);
     let _ = fs::remove_file(rt, log);
 }

@@ -19,6 +19,12 @@ mod files;
 #[cfg(test)]
 mod frozen;
 #[cfg(test)]
+mod held_intent;
+#[cfg(test)]
 mod parts;
 #[cfg(test)]
 mod scarce;
+#[cfg(test)]
+mod transactions;
+#[cfg(test)]
+mod undone;
