@@ -177,7 +177,7 @@ module _ (number : ℕ) (def : CounterDef) where
     counter_broke old mid now before between after n error counted zero same takes may sound within shows kept =
         let few_ops = within.ops in
         let few_entries = within.entries in
-        define_broken (bound 2 1) number [] (action.Counts def) old now schema next (counter_defines old n counted zero) refl (λ reads. reads) refl before after error
+        define_broken (bound 2 1) number [] (action.Counts def) old now schema next (counter_defines old n counted zero) refl (λ reads. reads) refl before after error tt
         (subst (λ (o : Option Content). MayPut (last_key next) (last_value next) o now) same may)
         (subst (λ (o : Option Content). IfSome o (λ pairs. get pairs (last_key next) ≡ None → IsUndamaged error)) same sound)
         (record { ops = omega (arith, takes.ops_are, few_ops); entries = omega (arith, takes.entries_are, zero, few_entries) })

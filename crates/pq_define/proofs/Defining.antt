@@ -40,7 +40,7 @@ use Rattle.pq_print.specs.declared.report.Report.{Report}
 use Rattle.pq_schema.specs.Tables.{table_at, no_table}
 use Rattle.pq_catalog.specs.Extends.{Extends}
 use Rattle.pq_intent.specs.Spending.{TakesAtMost}
-use Rattle.pq_reports.specs.Promise.{OnlyReads, DoneStatement as Promised, BrokenStatement, Promises, IsBound, IsWithinFixed}
+use Rattle.pq_reports.specs.Promise.{OnlyReads, DoneStatement as Promised, BrokenStatement, LacksMemory, Promises, IsBound, IsWithinFixed}
 use Rattle.pq_reports.specs.Reports.{define_report, used_numbers}
 use Rattle.pq_catalog.specs.Stands.{HoldsModel, Stands, content_of, value_at, last_key, last_value}
 use Rattle.pq_builds.specs.Bounds.{bound}
@@ -164,11 +164,11 @@ module _ (most : Bound) (number : ℕ) (lines : List Line) (action : Action) (ol
   }
 
   -- the key is absent, so that no damage is found
-  pub define_broken : (before after : Counts) (broke : Broke) → MayPut (last_key next) (last_value next) old now
+  pub define_broken : (before after : Counts) (broke : Broke) → LacksMemory (Ok action) old now broke → MayPut (last_key next) (last_value next) old now
       → IfSome old (λ pairs. get pairs (last_key next) ≡ None → IsUndamaged broke) → TakesAtMost most before after
       → length schema.definitions + 1 ≡ length next.definitions → IfSome old (λ pairs. IfDamaged (IsPresent (last_key next) pairs) broke)
       → IfDamagedSame old now broke → BrokenStatement number (Ok action) old now schema before after broke
-  define_broken before after broke may sound within more shows same = record {
+  define_broken before after broke lacks may sound within more shows same = record {
     stopped = λ m s. elim (subst (λ o. MayPut (last_key next) (last_value next) o now) s.settled.told may) [
       | inl same ↦ inl (settled_opens (record { valid = s.settled.valid; keeps = s.settled.keeps; few = s.settled.few; told = same }))
       | inr put ↦ inr (settled_opens (added m s put.1))
@@ -177,6 +177,7 @@ module _ (most : Bound) (number : ℕ) (lines : List Line) (action : Action) (ol
     within = subst (λ (b : Option Bound). IsWithinFixed b before after) (sym one) within;
     within_own = λ m s. within_step number action old schema most before after one within m s;
     kept = damaged_kept schema (Ok action) old now broke same;
+    memory = λ m s. lacks;
     reads = λ reads. absurd (writes reads);
     shown = here more shows;
     lasting = shown_still old now schema broke same (here more shows);
@@ -214,13 +215,13 @@ IsWritten old now next number lines before after result =
     × IfErr result (IfDamagedSame old now)
 
 written_as : (action : Action) (old now : Option Content) (schema next : Schema) (number : ℕ) (lines : List Line) (before after : Counts) (result : Result (Schema × Report) Broke)
-    → ((m : Model) → Stands old schema m → Defines (bound 1 0) m next number lines (action_step m number action)) → action_bound schema action ≡ Some (bound 1 0) → (OnlyReads (Ok action) → ⊥) → next ≡ action_schema schema action
+    → ((m : Model) → Stands old schema m → Defines (bound 1 0) m next number lines (action_step m number action)) → action_bound schema action ≡ Some (bound 1 0) → (OnlyReads (Ok action) → ⊥) → ((broke : Broke) → LacksMemory (Ok action) old now broke) → next ≡ action_schema schema action
     → length schema.definitions + 1 ≡ length next.definitions → IsWritten old now next number lines before after result → Promises number (Ok action) old now schema before after result
-written_as action old now schema next number lines before after (Ok made) defines one writes behind more h =
+written_as action old now schema next number lines before after (Ok made) defines one writes lacks behind more h =
     rw (h.0.0, h.0.1, h.4)
     (define_done (bound 1 0) number lines action old now schema next defines one writes behind (used_numbers 1 0) before (charged_counts before 0) (lit≤ tt) (lit≤ tt) refl refl h.1)
-written_as action old now schema next number lines before after (Err broke) defines one writes behind more h =
-    define_broken (bound 1 0) number lines action old now schema next defines one writes behind before after broke h.2 h.3 h.5 more h.6 h.7
+written_as action old now schema next number lines before after (Err broke) defines one writes lacks behind more h =
+    define_broken (bound 1 0) number lines action old now schema next defines one writes behind before after broke (lacks broke) h.2 h.3 h.5 more h.6 h.7
 
 pub table_written : (old now : Option Content) (schema planned : Schema) (number : ℕ) (def : TableDef) → IsTableDef def → (t : ℕ) (before after : Counts) (result : Result (Schema × Report) Broke)
     → Extends schema def planned (Ok t) → IsWritten old now planned number (table_lines (table_at planned.tables t)) before after result
@@ -232,7 +233,7 @@ table_written old now schema planned number def is_def t before after result e a
     let lined = subst (λ (x : Table). IsWritten old now next number (table_lines x) before after result) (last_table schema.tables table t e.3) there in
     subst (λ (r : Result Table Refusal). Promises number (action_from Creates r) old now schema before after result) (sym e.1)
     (written_as (Creates table) old now schema next number (table_lines table) before after result (table_defines old schema number def table is_def e.1)
-    refl (λ reads. reads) refl (one_more schema.definitions (OfTable (length schema.tables + 1) (length table.columns) (length table.indexes))) lined)
+    refl (λ reads. reads) (λ broke. tt) refl (one_more schema.definitions (OfTable (length schema.tables + 1) (length table.columns) (length table.indexes))) lined)
 
 -- ---- columns
 
@@ -252,7 +253,7 @@ column_written old now schema planned number def is_def n before after result ad
     let is : IsAddition schema def next = record { names = is_def; fits = adds.fits; accepted = made } in
     subst (λ (r : Result Schema Refusal). Promises number (action_from (λ next. Adds def) r) old now schema before after result) (sym made)
     (written_as (Adds def) old now schema next number [] before after result (column_defines old schema number def is)
-    refl (λ reads. reads) refl (one_more schema.definitions (OfColumn (altered_table schema def) (length (table_at schema.tables (altered_table schema def)).columns)))
+    refl (λ reads. reads) (λ broke. tt) refl (one_more schema.definitions (OfColumn (altered_table schema def) (length (table_at schema.tables (altered_table schema def)).columns)))
     (subst (λ (s : Schema). IsWritten old now s number [] before after result) adds.added all))
 
 -- ---- queries
@@ -274,5 +275,5 @@ module _ (schema : Schema) (number : ℕ) (query : Query) (best : Candidate) whe
       → Promises number (Ok (Prepares plain)) old now schema before after result
   query_written old now before after result lines is lined all =
       written_as (Prepares plain) old now schema (with_query schema query None) number (query_lines schema.tables plain) before after result (query_defines old is)
-      refl (λ reads. reads) refl (one_more schema.definitions (OfQuery query None))
+      refl (λ reads. reads) (λ broke. tt) refl (one_more schema.definitions (OfQuery query None))
       (subst (λ (ls : List Line). IsWritten old now (with_query schema query None) number ls before after result) lined all)

@@ -268,6 +268,7 @@ module _ (number : ℕ) (query : Query) (new : NewIndex) (best : Candidate) wher
       within = within;
       within_own = λ m s. step_within m before after (at_model (λ o t q. TakesAtMost (build_bound (rows_in o t)) before after) old m s bounded);
       kept = stops_damaged old now broke ended;
+      memory = λ m s. tt;
       reads = λ none. absurd none;
       shown = shown;
       lasting = lasting;
@@ -289,6 +290,7 @@ module _ (number : ℕ) (query : Query) (new : NewIndex) (best : Candidate) wher
           step_within m before after (subst (λ (b : Bound). TakesAtMost b before after) (filled_bound (rows_at m) made.1)
           (record { ops = omega (arith, takes.ops_are, ap build_ops made.0); entries = omega (arith, takes.entries_are, made.0) }));
       kept = sound_kept schema (Ok (Prepares plan)) old now broke.NoMem tt;
+      memory = λ m s. tt;
       reads = λ none. absurd none;
       shown = sound_shown old schema broke.NoMem tt;
       lasting = sound_shown now schema broke.NoMem tt;

@@ -25,7 +25,7 @@ use Rattle.pq_store.specs.declared.damage.Broke.{Broke}
 use Rattle.pq_store.specs.declared.damage.Broke.TheVariants as broke
 use Rattle.pq_intent.specs.Changing.{IfDamagedSame}
 use Rattle.pq_statement.specs.Actions as action
-use Rattle.pq_statement.specs.Actions.{Action, Creates, Adds, Writes, Prepares, Explains, Runs, Shows, action_bound, action_schema, action_of, asked_bound, asked_schema, schema_after, statement_bound}
+use Rattle.pq_statement.specs.Actions.{Action, Creates, Adds, Writes, Prepares, Explains, Runs, Reads, Shows, action_bound, action_schema, action_of, asked_bound, asked_schema, schema_after, statement_bound}
 use Rattle.pq_reports.specs.Evidence.{TellsEvidence}
 use Rattle.pq_catalog.specs.Model.{Model}
 use Rattle.pq_catalog.specs.Stands.{HoldsModel, Stands, Opens}
@@ -37,7 +37,7 @@ use Rattle.pq_planning.specs.Lines.{show_lines}
 use Rattle.pq_store.specs.Breaks.{IsUndamaged}
 use Rattle.pq_reports.specs.Matches.{Matches}
 use Rattle.pq_intent.specs.Spending.{TakesAtMost}
-use Rattle.pq_reports.specs.Promise.{DoneStatement, BrokenStatement, Promises, IsBound, IsRefusal, IsWithinFixed, KeepsDamaged, OnlyReads, StopsAction, StopsAsked, StopsIndex}
+use Rattle.pq_reports.specs.Promise.{DoneStatement, BrokenStatement, Promises, IsBound, IsRefusal, IsWithinFixed, KeepsDamaged, LacksMemory, OnlyReads, StopsAction, StopsAsked, StopsIndex}
 use Rattle.pq_reports.specs.Refusing.{CanEnd}
 use Rattle.pq_catalog.proofs.Standing.{settled_opens}
 
@@ -105,6 +105,21 @@ same_kept schema asked None now broke same = tt
 same_kept schema asked (Some content) now broke.Failed same = tt
 same_kept schema asked (Some content) now broke.NoMem same = tt
 same_kept schema asked (Some content) now (broke.Damaged damage) same = asked_same schema asked content now same
+
+-- where nothing is changed, no write is made
+pub unchanged_lacks : (asked : Result Action Refusal) (old now : Option Content) (broke : Broke) → now ≡ old → LacksMemory asked old now broke
+unchanged_lacks (Err why) old now broke same = tt
+unchanged_lacks (Ok (Creates table)) old now broke same = tt
+unchanged_lacks (Ok (Adds def)) old now broke same = tt
+unchanged_lacks (Ok (Writes write)) old now broke.Failed same = tt
+unchanged_lacks (Ok (Writes write)) old now broke.NoMem same = inl same
+unchanged_lacks (Ok (Writes write)) old now (broke.Damaged damage) same = tt
+unchanged_lacks (Ok (Prepares plan)) old now broke same = tt
+unchanged_lacks (Ok (Explains plan)) old now broke same = tt
+unchanged_lacks (Ok (Runs running)) old now broke same = tt
+unchanged_lacks (Ok (action.Counts def)) old now broke same = tt
+unchanged_lacks (Ok (Reads reading)) old now broke same = tt
+unchanged_lacks (Ok Shows) old now broke same = tt
 
 -- where damage left the content as it was, what showed it shows it still
 pub shown_still : (old now : Option Content) (schema : Schema) (broke : Broke) → IfDamagedSame old now broke → IfSome old (λ content. TellsEvidence schema content broke)
@@ -206,6 +221,7 @@ broken_same number asked old schema counts broke sound = record {
   within = within_none (asked_bound schema asked) counts;
   within_own = λ m s. record { ops = omega arith; entries = omega arith };
   kept = same_kept schema asked old old broke refl;
+  memory = λ m s. unchanged_lacks asked old old broke refl;
   reads = λ _. refl;
   shown = sound_shown old schema broke sound;
   lasting = sound_shown old schema broke sound;
@@ -222,6 +238,7 @@ broken_kept number asked old now schema before after broke same sound within own
   within = within;
   within_own = own;
   kept = same_kept schema asked old now broke same;
+  memory = λ m s. unchanged_lacks asked old now broke same;
   reads = λ _. same;
   shown = shown;
   lasting = subst (λ (o : Option Content). IfSome o (λ content. TellsEvidence schema content broke)) (sym same) shown;

@@ -9,6 +9,7 @@ use Rattle.pq_base.specs.declared.refusal.Refusal.{Refusal}
 use Rattle.pq_builds.specs.Bounds.{build_bound}
 use Rattle.pq_builds.specs.Stages.{IsWithinBuild as BuildsWithin, StopsBuilding, build_ops}
 use Rattle.pq_builds.specs.Targets.{target_of}
+use Rattle.pq_intent.specs.Settling.{HasIntent}
 use Rattle.pq_intent.specs.Spending.{TakesAtMost}
 use Rattle.pq_print.specs.declared.report.End.{End}
 use Rattle.pq_print.specs.declared.report.End.TheVariants as end
@@ -16,6 +17,7 @@ use Rattle.pq_print.specs.declared.report.Report.{Report}
 use Rattle.pq_store.specs.Counts.{Counts}
 use Rattle.pq_store.specs.Content.{Content}
 use Rattle.pq_store.specs.declared.damage.Broke.{Broke}
+use Rattle.pq_store.specs.declared.damage.Broke.TheVariants.{NoMem}
 use Rattle.pq_statement.specs.Actions as action
 use Rattle.pq_statement.specs.Actions.{Action, Creates, Adds, Writes, Prepares, Explains, Runs, Reads, Shows, asked_bound, asked_schema}
 use Rattle.pq_reports.specs.Evidence.{TellsEvidence}
@@ -81,6 +83,11 @@ abbrev pub KeepsDamaged : Schema → Result Action Refusal → Option Content �
 KeepsDamaged schema asked old now broke =
     IfSome old (λ content. IfDamaged (λ damage. StopsAsked schema asked content now) broke)
 
+-- a write for which memory was wanting isn't made: nothing is changed, or its intent stands
+abbrev pub LacksMemory : Result Action Refusal → Option Content → Option Content → Broke → Type 0
+LacksMemory (Ok (Writes write)) old now NoMem = (now ≡ old) ⊎ HasIntent now
+LacksMemory asked old now broke = Unit {0}
+
 -- what was asked for was made: whatever the content stood for, the report matches the step and the content
 -- stands for what it makes
 pub record DoneStatement (number : ℕ) (asked : Result Action Refusal) (old now : Option Content) (schema next : Schema)
@@ -107,6 +114,7 @@ pub record BrokenStatement (number : ℕ) (asked : Result Action Refusal) (old n
   pub within : IsWithinFixed (asked_bound schema asked) before after
   pub within_own : (m : Model) → Stands old schema m → TakesAtMost (acted_as m number asked).report.bound before after
   pub kept : KeepsDamaged schema asked old now broke
+  pub memory : (m : Model) → Stands old schema m → LacksMemory asked old now broke
   pub reads : OnlyReads asked → now ≡ old
   pub shown : IfSome old (λ content. TellsEvidence schema content broke)
   pub lasting : IfSome now (λ content. TellsEvidence schema content broke)

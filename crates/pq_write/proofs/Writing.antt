@@ -1,5 +1,5 @@
 -- What a write makes of what a content stands for.
-use Rattle.std.proofs.Common.{lit≤, ◌≡◌, ℕ, ◌+◌, ◌≤◌, ◌==◌, Bool, true, false, cond, List, [], map, Option, Some, None, Result, Ok, Err, refl, sym, ap, ◌∙◌, subst, arith, inl, inr, ◌⊎◌}
+use Rattle.std.proofs.Common.{lit≤, ◌≡◌, ℕ, ◌+◌, ◌≤◌, ◌==◌, Bool, true, false, cond, List, [], length, map, Option, Some, None, Result, Ok, Err, refl, sym, ap, ◌∙◌, subst, arith, inl, inr, ◌⊎◌}
 use Rattle.std.specs.Prelude.{MatchResult, IfSome}
 use Rattle.std.proofs.lemmas.Bool.{eq-eqb, eqb-true, false≢true}
 use Rattle.pq_base.specs.declared.number.Bound.{Bound}
@@ -8,14 +8,14 @@ use Rattle.pq_row_code.specs.declared.changes.Change.{Change}
 use Rattle.pq_schema.specs.Schema.{Schema}
 use Rattle.pq_print.specs.declared.report.End.TheVariants as end
 use Rattle.pq_content.specs.Pairs.{Pair, HoldsRows, changed_content, content_pairs}
-use Rattle.pq_content.specs.Standing.{change_of, write_ops}
+use Rattle.pq_content.specs.Standing.{change_of, write_ops, AreIntended}
 use Rattle.pq_content.specs.Tables.{Rows, Keeps}
 use Rattle.pq_store.specs.Content.{Content}
 use Rattle.pq_store.specs.Counts.{Counts, AllowedCounts, granted_counts, used_of}
 use Rattle.pq_store.specs.declared.damage.Broke.{Broke}
 use Rattle.pq_store.specs.declared.damage.Broke.TheVariants as broke
 use Rattle.pq_store.specs.Breaks.{IfDamaged, IsPresent, IsUndamaged}
-use Rattle.pq_intent.specs.Changing.{IfDamagedSame}
+use Rattle.pq_intent.specs.Changing.{IfDamagedSame, WantsMemory, intent_writes}
 use Rattle.pq_reports.specs.Evidence.{TellsEvidence}
 use Rattle.pq_intent.specs.Settling.{IsSettled, Settles}
 use Rattle.pq_intent.specs.Spending.{TakesAtMost, Spends}
@@ -40,7 +40,8 @@ use Rattle.pq_catalog.specs.Stands.{HoldsModel, Stands, Opens, content_of, catal
 use Rattle.pq_reports.specs.Step.{Step, report_of, refusal_report, refused_step, write_step, effected_as}
 use Rattle.pq_catalog.proofs.Counted.{others_beside, settled_counted}
 use Rattle.pq_catalog.proofs.Standing.{no_intent_in, settled_opens}
-use Rattle.pq_reports.proofs.Promises.{damaged_kept, same_kept, shown_still, within_step}
+use Rattle.pq_write.proofs.Unmade.{write_lacks}
+use Rattle.pq_reports.proofs.Promises.{damaged_kept, same_kept, shown_still, unchanged_lacks, within_step}
 
 -- ---- the operations of a commit
 
@@ -260,6 +261,7 @@ planning_broke number write error old now schema most f0 f1 given left before af
   within_own = λ m s. within_step number (Writes write) old schema (whole_bound schema write) before after refl
       (within_effected write schema most before after is_most (planned_within most old now f0 f1 given left before after ops entries is_given reads)) m s;
   kept = same_kept schema (Ok (Writes write)) old now error reads.same;
+  memory = λ m s. unchanged_lacks (Ok (Writes write)) old now error reads.same;
   reads = λ none. absurd none;
   shown = explained_shown old schema error f0 f1 given left before after now explains;
   lasting = subst (λ (o : Option Content). IfSome o (λ content. TellsEvidence schema content error)) (sym reads.same) (explained_shown old schema error f0 f1 given left before after now explains);
@@ -279,14 +281,17 @@ pub commit_broke : (number : ℕ) (write : Write) (changes : List Change) (error
     → ((rows : Rows) (others : List Pair) → HoldsCounted old schema rows others → PlansWhole schema rows others write q)
     → ((pairs : Content) → IsSettled mid pairs → Settles now pairs ⊎ Settles now (changed_content (map change_of changes) pairs))
     → ((pairs : Content) → IsSettled mid pairs → IsUndamaged error) → IfSome mid (λ pairs. IfDamaged (IsPresent intent_key pairs) error)
-    → IfDamagedSame mid now error → BrokenStatement number (Ok (Writes write)) old now schema before after error
-commit_broke number write changes error old mid now schema most f0 f1 given left allowed before between after ops entries limit q is_most is_given is reads spends answer stops sound shows same = record {
+    → IfDamagedSame mid now error → (error ≡ broke.NoMem → (pairs : Content) → IsSettled mid pairs → WantsMemory (intent_writes changes) between after mid now)
+    → AreIntended (map change_of changes) → after.ops ≤ between.ops + write_ops (length changes)
+    → BrokenStatement number (Ok (Writes write)) old now schema before after error
+commit_broke number write changes error old mid now schema most f0 f1 given left allowed before between after ops entries limit q is_most is_given is reads spends answer stops sound shows same wants intended few = record {
   stopped = λ m s. stopped_at m number write changes now s.settled.valid s.settled.keeps s.settled.few (made_of schema m old write changes s (planned_as old schema write q changes is answer)) (stops (content_of m) (settled_for old mid schema m reads.same s));
   sound = λ m s. sound (content_of m) (settled_for old mid schema m reads.same s);
   within = within_effected write schema most before after is_most (committed_within most old mid f0 f1 given left allowed before between after ops entries limit is_given reads spends);
   within_own = λ m s. within_step number (Writes write) old schema (whole_bound schema write) before after refl
       (within_effected write schema most before after is_most (committed_within most old mid f0 f1 given left allowed before between after ops entries limit is_given reads spends)) m s;
   kept = subst (λ (o : Option Content). KeepsDamaged schema (Ok (Writes write)) o now error) reads.same (damaged_kept schema (Ok (Writes write)) mid now error same);
+  memory = λ m s. write_lacks write changes error old mid now between after reads.same (content_of m) (settled_for old mid schema m reads.same s) wants intended few;
   reads = λ none. absurd none;
   shown = intent_shown old schema error (subst (λ (o : Option Content). IfSome o (λ pairs. IfDamaged (IsPresent intent_key pairs) error)) reads.same shows);
   lasting = shown_still mid now schema error same (intent_shown mid schema error shows);

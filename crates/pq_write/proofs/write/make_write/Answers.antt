@@ -1,4 +1,4 @@
-use Rattle.std.proofs.Common.{◌≤◌, length, subst, arith}
+use Rattle.std.proofs.Common.{◌≤◌, Err, length, ap, subst, arith}
 use Rattle.std.proofs.lemmas.Result.{err_from_is_err_and}
 use Rattle.pq_content.specs.Standing.{write_ops}
 use Rattle.pq_counters.specs.Whole.{AreWhole, IsWholeWithin, whole_changes}
@@ -22,8 +22,11 @@ returns-in_err-why-clause-step g c =
 pub returns-in_err-commit-in-Changes-clause-step : goal.returns-in_err-commit-in-Changes-clause-step
 returns-in_err-commit-in-Changes-clause-step g c =
     let p = err_from_is_err_and c.from_residual-in_err-commit-in-Changes.result c.from_residual-in_err-commit-in-Changes.ensures.1 in
+    let most = whole_changes c.catalog-catalog.result.now c.args.write.now in
+    let whole : AreWhole most c.in-Changes.changes = subst (IsWholeWithin most) c.in-Changes.is c.in_ok-why.ensures.plan in
     rw (p.1, p.2, ← c.catalog-catalog.ensures) (commit_broke c.args.number c.args.write.now c.in-Changes.changes c.in_err-commit-in-Changes.field-0.0 _ _ _ c.catalog-catalog.result.now c.whole_bound-bound.result _ _ _ _ _ _ _ _ _ _ _ _
-    c.whole_bound-bound.ensures.is c.grant-allowance.ensures c.in-Changes.is c.in_ok-why.ensures.reads c.in_err-commit-in-Changes.ensures.spends c.in_ok-why.ensures.answer c.in_err-commit-in-Changes.ensures.stopped c.in_err-commit-in-Changes.ensures.sound c.in_err-commit-in-Changes.ensures.damage c.in_err-commit-in-Changes.ensures.kept)
+    c.whole_bound-bound.ensures.is c.grant-allowance.ensures c.in-Changes.is c.in_ok-why.ensures.reads c.in_err-commit-in-Changes.ensures.spends c.in_ok-why.ensures.answer c.in_err-commit-in-Changes.ensures.stopped c.in_err-commit-in-Changes.ensures.sound c.in_err-commit-in-Changes.ensures.damage c.in_err-commit-in-Changes.ensures.kept
+    (λ is. c.in_err-commit-in-Changes.ensures.memory (ap Err is)) whole.intended c.in_err-commit-in-Changes.ensures.spends.few)
 
 pub returns-in-Refused-clause-step : goal.returns-in-Refused-clause-step
 returns-in-Refused-clause-step g c =
