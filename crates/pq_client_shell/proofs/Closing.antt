@@ -1,5 +1,5 @@
 -- How a run of clients ends.
-use Rattle.std.proofs.Common.{◌≡◌, ℕ, ◌+◌, ◌⊎◌, inl, inr, Bool, true, false, ◌||◌, Option, Some, Result, Ok, Err, IfOk, IfErr, List, [], ◌∷◌, ◌++◌, length, take, refl, sym, ap, ◌∙◌, subst, arith, length-append}
+use Rattle.std.proofs.Common.{◌≡◌, ℕ, ◌⊎◌, inl, inr, Bool, true, false, ◌||◌, Option, Some, Result, Ok, Err, IfOk, IfErr, List, [], ◌∷◌, length, take, refl, sym, ap, ◌∙◌, subst}
 use Rattle.std.specs.Io.KnownBytes.{append_known}
 use Rattle.std.proofs.Math.Seq.{take-append_seam}
 use Rattle.pq_base.specs.Members.{In}
@@ -8,9 +8,6 @@ use Rattle.pq_schema.specs.Schema.{Schema}
 use Rattle.pq_schema.specs.declared.table.Table.{Table}
 use Rattle.pq_store.specs.Content.{Content}
 use Rattle.pq_store.specs.Counts.{Counts}
-use Rattle.pq_store.specs.Breaks.{IsUndamaged}
-use Rattle.pq_store.specs.declared.damage.Broke.{Broke}
-use Rattle.pq_store.specs.declared.damage.Broke.TheVariants as broke
 use Rattle.pq_store.specs.declared.damage.Damage.{Damage}
 use Rattle.pq_text.specs.declared.piece.Piece.{Piece}
 use Rattle.pq_content.specs.Pairs.{Pair}
@@ -29,9 +26,11 @@ use Rattle.pq_catalog.proofs.Standing.{settled_opens}
 use Rattle.pq_shell.specs.Fold.{Moment, MadeReports, ServedItems, StoppedItem, after}
 use Rattle.pq_shell.specs.Items.{cut_items}
 use Rattle.pq_shell.specs.Making.{moment}
-use Rattle.pq_console.specs.Reading.{TookBytes}
-use Rattle.pq_shell.specs.Run.{RunWorld, EndsDamaged, Closes, IsPlain, IsScript, status_of, run_world, written_world}
-use Rattle.pq_console.specs.Stops.{CutsOff, stop_of_broke}
+use Rattle.pq_opening.proofs.Leaving.{quiet_stays}
+use Rattle.pq_shell.specs.Openings.{StoppedOpening}
+use Rattle.pq_shell.proofs.Opening.{cut_opening}
+use Rattle.pq_shell.specs.Run.{RunWorld, EndsDamaged, Closes, IsPlain, status_of, run_world, written_world}
+use Rattle.pq_console.specs.Stops.{CutsOff}
 use Rattle.pq_console.specs.declared.reading.Ending.{Ending}
 use Rattle.pq_console.specs.declared.reading.Ending.TheVariants.{Whole, Faulted, TooLong}
 use Rattle.pq_shell.specs.declared.serving.Ended.{Ended}
@@ -39,9 +38,9 @@ use Rattle.pq_shell.specs.declared.status.Status.{Status}
 use Rattle.pq_shell.specs.declared.status.Status.TheVariants as status
 use Rattle.pq_console.specs.declared.stop.Stop.{Stop}
 use Rattle.pq_console.specs.declared.stop.Stop.TheVariants as stops
-use Rattle.pq_console.proofs.Known.{append_known-none, known-length}
+use Rattle.pq_console.proofs.Known.{append_known-none}
 use Rattle.pq_client_shell.specs.Lines.{between_text, told_text}
-use Rattle.pq_client_shell.specs.Runs.{OpensStore, StopsOpening, IsRead, MadeGathered, HaltsGathered, MadeRead, HaltsRead, Opened, FinishedClients, BrokenClients, Ends, Suffices}
+use Rattle.pq_client_shell.specs.Runs.{OpensStore, IsRead, MadeGathered, HaltsGathered, MadeRead, HaltsRead, Opened, FinishedClients, BrokenClients, Ends}
 use Rattle.pq_client_shell.specs.Runs.BrokenClients.{Early, Among}
 use Rattle.pq_client_shell.specs.Telling.{fault_of, first_fault}
 use Rattle.pq_client_shell.proofs.Outcomes.{fault_in, none_some, same_stop, IsSoundStop}
@@ -79,23 +78,23 @@ halts_front k first script stop from now ps ps_is count count_is stopped =
 -- ---- the whole run
 
 -- a session that could not be started
-pub broke_opening : (error : Broke) (old now : Option Content) → ((m : Model) → Opens old m → Opens now m) → ((m : Model) → Opens old m → IsUndamaged error) → StopsOpening (stop_of_broke error) old now
-broke_opening broke.Failed old now kept sound m opens = (kept m opens, tt)
-broke_opening broke.NoMem old now kept sound m opens = (kept m opens, tt)
-broke_opening (broke.Damaged damage) old now kept sound m opens = absurd (sound m opens)
+pub stops_opening : (k : ℕ) (stop : Stop) (left left' : Option (List ℕ)) (old now : Option Content) (held : Option (List ℕ)) (before after : Counts)
+    → ((held : Option (List ℕ)) → StoppedOpening stop (moment old held before) (moment now held after)) → BrokenClients k stop (run_world left old held before) (run_world left' now held after)
+stops_opening k stop left left' old now held before after stopped = Early (record { stopped = stopped held; silent = refl })
 
-pub stops_opening : (k : ℕ) (stop : Stop) (left left' : Option (List ℕ)) (old now : Option Content) (held : Option (List ℕ)) (before after : Counts) → StopsOpening stop old now → BrokenClients k stop (run_world left old held before) (run_world left' now held after)
-stops_opening k stop left left' old now held before after opens = Early (record { opens = opens; silent = refl })
+-- one that was started, behind which memory was wanting
+pub stops_reading : (k : ℕ) (left left' : Option (List ℕ)) (old now : Option Content) (held : Option (List ℕ)) (before after : Counts) (first : Schema) → OpensStore old now first before after → BrokenClients k stops.NoMem (run_world left old held before) (run_world left' now held after)
+stops_reading k left left' old now held before after first opening = Early (record {
+  stopped = cut_opening old now before after opening.line opening.bounded opening.ops opening.entries (λ m opens. (opening.opens m opens).0) opening.left (quiet_stays old now opening.left)
+      stops.NoMem held held (λ m opens. settled_opens (opening.opens m opens).1.settled) refl;
+  silent = refl;
+})
 
-pub stops_reading : (k : ℕ) (left left' : Option (List ℕ)) (old now : Option Content) (held : Option (List ℕ)) (before after : Counts) (first : Schema) → OpensStore old now first → BrokenClients k stops.NoMem (run_world left old held before) (run_world left' now held after)
-stops_reading k left left' old now held before after first opening =
-    Early (record { opens = λ m opens. (settled_opens (opening.stands m opens).settled, tt); silent = refl })
-
-abbrev opened_so : (left left' : Option (List ℕ)) (old mid : Option Content) (held : Option (List ℕ)) (before between : Counts) (first : Schema) (script : Script) → OpensStore old mid first → IsRead left left' script → Opened (run_world left old held before) left' script
+abbrev opened_so : (left left' : Option (List ℕ)) (old mid : Option Content) (held : Option (List ℕ)) (before between : Counts) (first : Schema) (script : Script) → OpensStore old mid first before between → IsRead left left' script → Opened (run_world left old held before) left' script
 opened_so left left' old mid held before between first script opening read = record { read = read; first = first; content = mid; counts = between; opening = opening }
 
 pub finished_clients : (k : ℕ) (left left' : Option (List ℕ)) (old mid now : Option Content) (held held' : Option (List ℕ)) (before between after : Counts) (first : Schema) (script : Script) (ended : Ended)
-    → OpensStore old mid first → IsRead left left' script → MadeRead k first script ended (moment mid held between) (moment now held' after) → FinishedClients k ended.ending ended.refused (run_world left old held before) (run_world left' now held' after)
+    → OpensStore old mid first before between → IsRead left left' script → MadeRead k first script ended (moment mid held between) (moment now held' after) → FinishedClients k ended.ending ended.refused (run_world left old held before) (run_world left' now held' after)
 finished_clients k left left' old mid now held held' before between after first script ended opening read made = record {
   script = script;
   opened = opened_so left left' old mid held before between first script opening read;
@@ -103,7 +102,7 @@ finished_clients k left left' old mid now held held' before between after first 
 }
 
 pub broken_clients : (k : ℕ) (stop : Stop) (left left' : Option (List ℕ)) (old mid now : Option Content) (held held' : Option (List ℕ)) (before between after : Counts) (first : Schema) (script : Script)
-    → OpensStore old mid first → IsRead left left' script → HaltsRead k first script stop (moment mid held between) (moment now held' after) → BrokenClients k stop (run_world left old held before) (run_world left' now held' after)
+    → OpensStore old mid first before between → IsRead left left' script → HaltsRead k first script stop (moment mid held between) (moment now held' after) → BrokenClients k stop (run_world left old held before) (run_world left' now held' after)
 broken_clients k stop left left' old mid now held held' before between after first script opening read halts =
     Among (record { script = script; opened = opened_so left left' old mid held before between first script opening read; halts = halts })
 
@@ -139,14 +138,6 @@ ends_of k (Err (stops.Damaged damage)) is before mid h' ok err closes = damaged 
 
 -- ---- completeness
 
-too_long : (left left' : Option (List ℕ)) (script : Script) → script.ending ≡ TooLong → IsRead left left' script → IsScript left → ⊥
-too_long left left' script is read enough = by (subst (λ (e : Ending). TookBytes e left left' read.bytes) is read.took)
-  where
-    by : TookBytes TooLong left left' read.bytes → ⊥
-    by took =
-        let long = known-length left' (read.bytes ++ took.0 ∷ []) enough.script (sym enough.told ∙ took.1) in
-        omega (arith, long, took.2, enough.short, length-append read.bytes (took.0 ∷ []))
-
 -- damage is told of nothing else
 no_reason : (tables : List Table) (v : View) (c : Content) (o : Outcome) (damage : Damage) → fault_of o ≡ Some (stops.Damaged damage) → HasReason tables v c o → ⊥
 no_reason tables v c outcome.Done damage is reason = none_some (stops.Damaged damage) is
@@ -180,25 +171,26 @@ module _ (k : ℕ) (schema : Schema) (script : Script) (damage : Damage) (stood 
       by (inl cut) = cut
       by (inr (first, text)) = never_damaged _ _ _ _ _ _ _ _ _ (telling.stepped.ran.promised m stands) damage first
 
-sound : (k : ℕ) (damage : Damage) (before now : RunWorld) → BrokenClients k (stops.Damaged damage) before now → Suffices before → ⊥
-sound k damage before now (Early b) enough = (b.opens enough.1.0 enough.1.1).1
-sound k damage before now (Among b) enough = by b.halts
+sound : (k : ℕ) (damage : Damage) (before now : RunWorld) → BrokenClients k (stops.Damaged damage) before now → (m : Model) → Opens before.moment.content m → ⊥
+sound k damage before now (Early b) m opens = (b.stopped.stands m opens).1
+sound k damage before now (Among b) m opens = by b.halts
   where
-    stands : Stands b.opened.content b.opened.first enough.1.0
-    stands = b.opened.opening.stands enough.1.0 enough.1.1
+    stands : Stands b.opened.content b.opened.first m
+    stands = (b.opened.opening.opens m opens).1
 
     by : HaltsRead k b.opened.first b.script (stops.Damaged damage) (moment b.opened.content before.moment.held b.opened.counts) now.moment → ⊥
-    by (inl stopped) = (stopped.stands enough.1.0 stands).1
-    by (inr behind) = no_damage k behind.last b.script damage behind.stood now.moment _ (behind.made.folds enough.1.0 stands).0 behind.halts
+    by (inl stopped) = (stopped.stands m stands).1
+    by (inr behind) = no_damage k behind.last b.script damage behind.stood now.moment _ (behind.made.folds m stands).0 behind.halts
 
--- where no fault came and there was enough, the run is plain
-pub ends_plain : (k : ℕ) (is : Status) (before now : RunWorld) → Ends k is before now → (is ≡ status.ReadFault → ⊥) → (is ≡ status.WriteFault → ⊥) → (is ≡ status.StoreFault → ⊥) → Suffices before → IsPlain is
-ends_plain k status.Good before now ends read write store enough = tt
-ends_plain k status.SomeRefused before now ends read write store enough = tt
-ends_plain k status.NoMem before now ends read write store enough = tt
-ends_plain k status.Usage before now ends read write store enough = ends
-ends_plain k status.ReadFault before now ends read write store enough = read refl
-ends_plain k status.WriteFault before now ends read write store enough = write refl
-ends_plain k status.StoreFault before now ends read write store enough = store refl
-ends_plain k status.TooLong before now ends read write store enough = too_long before.left now.left ends.1.script (sym ends.1.made.ending_is) ends.1.opened.read enough.0
-ends_plain k status.Damaged before now ends read write store enough = sound k ends.damage before _ ends.broken enough
+-- where no fault came, the script wasn't too long and the store opens, the run is plain
+pub ends_plain : (k : ℕ) (is : Status) (before now : RunWorld) → Ends k is before now → (m : Model) → Opens before.moment.content m → (is ≡ status.TooLong → ⊥) → (is ≡ status.ReadFault → ⊥) → (is ≡ status.WriteFault → ⊥) → (is ≡ status.StoreFault → ⊥)
+    → IsPlain is
+ends_plain k status.Good before now ends m opens long read write store = tt
+ends_plain k status.SomeRefused before now ends m opens long read write store = tt
+ends_plain k status.NoMem before now ends m opens long read write store = tt
+ends_plain k status.Usage before now ends m opens long read write store = ends
+ends_plain k status.ReadFault before now ends m opens long read write store = read refl
+ends_plain k status.WriteFault before now ends m opens long read write store = write refl
+ends_plain k status.StoreFault before now ends m opens long read write store = store refl
+ends_plain k status.TooLong before now ends m opens long read write store = long refl
+ends_plain k status.Damaged before now ends m opens long read write store = sound k ends.damage before _ ends.broken m opens

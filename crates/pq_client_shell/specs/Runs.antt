@@ -1,5 +1,5 @@
 -- How a run of clients ends: what stands at each status.
-use Rattle.std.specs.Prelude.{◌≡◌, ℕ, ◌≤◌, ◌⊎◌, Bool, true, false, ◌||◌, Option, Some, None, IfSome, List, [], All}
+use Rattle.std.specs.Prelude.{◌≡◌, ℕ, ◌+◌, ◌≤◌, ◌⊎◌, Bool, true, false, ◌||◌, Option, Some, None, IfSome, List, [], All}
 use Rattle.std.specs.List.{AllByRecursion, list_any}
 use Rattle.std.specs.Io.KnownBytes.{append_known}
 use Rattle.pq_base.specs.Members.{In}
@@ -11,6 +11,7 @@ use Rattle.pq_store.specs.Counts.{Counts}
 use Rattle.pq_store.specs.declared.damage.Damage.{Damage}
 use Rattle.pq_text.specs.Pieces.{pieces_of}
 use Rattle.pq_print.specs.Report.{damage_line, is_refusal}
+use Rattle.pq_print.specs.declared.report.Opened.{Opened as OpeningLine}
 use Rattle.pq_print.specs.declared.report.Report.{Report}
 use Rattle.pq_index_keep.specs.declared.write.Write.{Write}
 use Rattle.pq_tallies.specs.Counters.{AreFewRows}
@@ -26,12 +27,15 @@ use Rattle.pq_clients.specs.declared.outcome.Told.{Told}
 use Rattle.pq_clients.specs.declared.outcome.Wrote.{Wrote}
 use Rattle.pq_catalog.specs.Model.{Model}
 use Rattle.pq_catalog.specs.Stands.{Opens, Stands, content_of, others_of}
+use Rattle.pq_opening.specs.Opening.{IsOpening, LeavesRead, TellsSchema}
+use Rattle.pq_opening.specs.Within.{IsBounded}
 use Rattle.pq_shell.specs.Fold.{Moment, MadeReports, StoppedItem}
 use Rattle.pq_shell.specs.Items.{cut_items}
 use Rattle.pq_shell.specs.Making.{moment}
 use Rattle.pq_console.specs.Outside.{IsCut}
 use Rattle.pq_console.specs.Reading.{TookBytes}
-use Rattle.pq_shell.specs.Run.{RunWorld, written_world, IsScript}
+use Rattle.pq_shell.specs.Openings.{StoppedOpening}
+use Rattle.pq_shell.specs.Run.{RunWorld, written_world}
 use Rattle.pq_console.specs.Stops.{CutsOff}
 use Rattle.pq_console.specs.declared.reading.Ending.{Ending}
 use Rattle.pq_console.specs.declared.reading.Ending.TheVariants.{Whole, Faulted, TooLong}
@@ -48,21 +52,17 @@ use Rattle.pq_client_shell.specs.declared.script.Script.{Script}
 
 -- ---- the parts of a run
 
--- valid definitions are known, and these of every model that the store opened to
-pub record OpensStore (old now : Option Content) (schema : Schema) : Type 0 where
-  pub stands : (m : Model) → Opens old m → Stands now schema m
+-- valid definitions are known: those that a told content tells, without a flaw, and those of every model that the store
+-- opened to; the calls are those of an opening, within the bound that its line would have
+pub record OpensStore (old now : Option Content) (schema : Schema) (before after : Counts) : Type 0 where
+  pub line : OpeningLine
+  pub opens : (m : Model) → Opens old m → IsOpening old m line × Stands now schema m
   pub valid : IsValid schema
-
--- no damage
-abbrev pub IsSound : Stop → Type 0
-IsSound stops.StoreFailed = Unit {0}
-IsSound stops.WriteFailed = Unit {0}
-IsSound stops.NoMem = Unit {0}
-IsSound (stops.Damaged damage) = ⊥
-
--- the store opens still to every model that it opened to, and then no damage was found
-abbrev pub StopsOpening : Stop → Option Content → Option Content → Type 0
-StopsOpening stop old now = (m : Model) → Opens old m → Opens now m × IsSound stop
+  pub tells : IfSome old (λ content. TellsSchema content schema)
+  pub left : IfSome old (λ content. LeavesRead content now)
+  pub bounded : IsBounded line
+  pub ops : after.ops ≡ before.ops + line.used.ops
+  pub entries : after.entries ≡ before.entries + line.used.entries
 
 -- the pieces of the bytes that the source gave, and whether they have an unfinished rest
 pub record IsRead (left left_now : Option (List ℕ)) (script : Script) : Type 0 where
@@ -193,7 +193,7 @@ pub record Opened (before : RunWorld) (left_now : Option (List ℕ)) (script : S
   pub first : Schema
   pub content : Option Content
   pub counts : Counts
-  pub opening : OpensStore before.moment.content content first
+  pub opening : OpensStore before.moment.content content first before.moment.counts counts
 
 -- what then stood
 abbrev pub stood_at : {before : RunWorld} {left_now : Option (List ℕ)} {script : Script} → Opened before left_now script → Moment
@@ -207,9 +207,9 @@ pub record FinishedClients (k : ℕ) (ending : Ending) (refused : Bool) (before 
 
 -- ---- a run that stopped
 
--- before the first piece was made, with nothing written
+-- before the first piece was made, as a run stops at its opening, with nothing written
 pub record StopsEarly (stop : Stop) (before now : RunWorld) : Type 0 where
-  pub opens : StopsOpening stop before.moment.content now.moment.content
+  pub stopped : StoppedOpening stop before.moment now.moment
   pub silent : now.moment.held ≡ before.moment.held
 
 -- among the pieces
@@ -245,7 +245,3 @@ Ends k status.Damaged before now = NamesDamage k (λ line whole. line ≡ whole)
 Ends k status.NoMem before now =
     BrokenClients k stops.NoMem before now ⊎ NamesDamage k (λ line whole. line ≡ []) before now
 Ends k status.TooLong before now = (refused : Bool) × FinishedClients k TooLong refused before now
-
--- a script within the limit, and a store that opens
-abbrev pub Suffices : RunWorld → Type 0
-Suffices before = IsScript before.left × ((m : Model) × Opens before.moment.content m)

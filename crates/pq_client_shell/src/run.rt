@@ -1,12 +1,15 @@
 //! The top call for clients.
-ghost use Rattle.std.specs.Prelude.{◌≡◌, ◌↔◌, ◌≤◌, ◌<◌, ◌+◌, ◌^◌, ℕ, List, IfOk, IfErr, length};
+ghost use Rattle.std.specs.Prelude.{◌≡◌, ◌↔◌, ◌≤◌, ◌<◌, ◌+◌, ◌^◌, ℕ, List, Option, IfOk, IfErr, length};
 ghost use Rattle.std.specs.Io.KnownBytes.{prepend_known};
 ghost use Rattle.pq_store.specs.Content.{HasRisen};
+ghost use Rattle.pq_catalog.specs.Model.{Model};
+ghost use Rattle.pq_catalog.specs.Stands.{Opens};
 ghost use Rattle.pq_shell.specs.Making.{moment};
+ghost use Rattle.pq_shell.specs.Openings.{StoppedOpening};
 ghost use Rattle.pq_console.specs.Reading.{CountsBytes, script_limit};
 ghost use Rattle.pq_shell.specs.Run.{IsPlain, run_world};
 ghost use Rattle.pq_console.specs.Stops.{Causes};
-ghost use Rattle.pq_client_shell.specs.Runs.{OpensStore, StopsOpening, MadeRead, HaltsRead, FinishedClients, BrokenClients, Ends, Suffices};
+ghost use Rattle.pq_client_shell.specs.Runs.{OpensStore, MadeRead, HaltsRead, FinishedClients, BrokenClients, Ends};
 ghost use Rattle.pq_client_shell.specs.Words.{AreWords};
 ghost use Rattle.pq_client_shell.specs.Writes.{front_count};
 
@@ -30,8 +33,11 @@ fn open<S: Store<L>, L: Ledger>(
     store: &mut S,
     meter: &mut Meter<L>,
 ) -> Result<PlannedCatalog, Stop>
-    ensures ok { IfOk result (λ session. OpensStore (S.content store.old) (S.content store.new) session) }
-    ensures err { IfErr result (λ stop. StopsOpening stop (S.content store.old) (S.content store.new)) }
+    ensures ok { IfOk result (λ session. OpensStore (S.content store.old) (S.content store.new) session
+        meter.old meter.new) }
+    // With whatever text, nothing is written.
+    ensures err { IfErr result (λ stop. (held : Option (List ℕ)) → StoppedOpening stop
+        (moment (S.content store.old) held meter.old) (moment (S.content store.new) held meter.new)) }
     ensures causes { Causes (S.faults store.old) (S.faults store.new) 0 0 result }
 {
     match start(alloc, store, meter) {
@@ -141,12 +147,13 @@ pub fn run_piql_clients<S: Store<L>, I: Source, O: Sink, L: Ledger>(
     // where the script is too long.
     ensures reads { I.count source.new ≤ I.count source.old + (script_limit + 1) }
     ensures too_long { result ≡ Status.TooLong → I.count source.new ≡ I.count source.old + (script_limit + 1) }
-    // With a script within the limit, over a store that opens, and without a fault, the run is made to its end.
-    ensures complete { (k : ℕ) → AreWords k words.now
+    // Over a store that opens, without a fault, and where the source had no more bytes than a script may have, the
+    // run is made to its end, whether the source tells or not.
+    ensures complete { (k : ℕ) → AreWords k words.now → (m : Model) → Opens (S.content store.old) m
+        → I.count source.new ≤ I.count source.old + script_limit
         → ¬ HasRisen (I.faults source.old) (I.faults source.new)
         → ¬ HasRisen (O.faults sink.old) (O.faults sink.new)
         → ¬ HasRisen (S.faults store.old) (S.faults store.new)
-        → Suffices (run_world (I.left source.old) (S.content store.old) (O.held sink.old) meter.old)
         → IsPlain result }
 {
     match clients_of(words) {

@@ -1,5 +1,5 @@
 -- How a run ends.
-use Rattle.std.proofs.Common.{◌≡◌, ℕ, ◌+◌, inl, inr, Bool, true, false, ◌||◌, Option, Result, Ok, Err, IfOk, IfErr, List, [], ◌∷◌, ◌++◌, length, refl, sym, ap, ◌∙◌, subst, arith, lit≤, true≢false, append-nil, length-append}
+use Rattle.std.proofs.Common.{◌≡◌, ℕ, ◌+◌, inl, inr, Bool, true, false, ◌||◌, Option, Result, Ok, Err, IfOk, IfErr, List, [], ◌∷◌, ◌++◌, length, refl, sym, ap, ◌∙◌, subst, arith, lit≤, true≢false, append-nil}
 use Rattle.std.proofs.lemmas.List.{length-map}
 use Rattle.std.specs.Io.KnownBytes.{append_known, prepend_known}
 use Rattle.pq_fill.specs.declared.words.Form.{Form}
@@ -24,7 +24,7 @@ use Rattle.pq_shell.specs.Items.{Item, Cut, Rest, cut_items, rest_items, items_o
 use Rattle.pq_shell.specs.Making.{ReadsSource, MakesItem, moment}
 use Rattle.pq_shell.specs.Openings.{Opening, StoppedOpening}
 use Rattle.pq_console.specs.Reading.{TookBytes}
-use Rattle.pq_shell.specs.Run.{RunWorld, FinishedRun, BrokenRun, HasRead, IsReadInParts, Ends, EndsDamaged, Closes, IsPlain, IsScript, Suffices, status_of, written_world}
+use Rattle.pq_shell.specs.Run.{RunWorld, FinishedRun, BrokenRun, HasRead, IsReadInParts, Ends, EndsDamaged, Closes, IsPlain, OpensFor, status_of, written_world}
 use Rattle.pq_shell.specs.Run.BrokenRun.{AtOpening, AtItem, AtClose}
 use Rattle.pq_shell.specs.Serving.{FedPieces, ConsumedSource, StoppedAmong, ReportsRest, StoppedAtRest, has_rest, rest_report, rest_text}
 use Rattle.pq_console.specs.Stops.{CutsOff}
@@ -36,7 +36,7 @@ use Rattle.pq_shell.specs.declared.status.Status.{Status}
 use Rattle.pq_shell.specs.declared.status.Status.TheVariants as status
 use Rattle.pq_console.specs.declared.stop.Stop.{Stop}
 use Rattle.pq_console.specs.declared.stop.Stop.TheVariants as stops
-use Rattle.pq_console.proofs.Known.{append_known-none, known-length}
+use Rattle.pq_console.proofs.Known.{append_known-none}
 use Rattle.pq_shell.proofs.Folding.{Made-one, Served-append, Served-one, Stopped-after, Stopped-writing, Rises-none, from_done, from_number, length_after}
 
 -- what stands opens
@@ -268,35 +268,22 @@ Ends-of f (Err (stops.Damaged damage)) is before mid h' ok err closes = damaged 
 
 -- ---- completeness
 
-too_long : (left left' : Option (List ℕ)) (bytes : List ℕ) → TookBytes TooLong left left' bytes → IsScript left → ⊥
-too_long left left' bytes took script =
-    let long = known-length left' (bytes ++ took.0 ∷ []) script.script (sym script.told ∙ took.1) in
-    omega (arith, long, took.2, script.short, length-append bytes (took.0 ∷ []))
-
-never_too_long : (f : Form) (before : RunWorld) (left' : Option (List ℕ)) (items : List Item) → HasItems f TooLong before.left left' items → Suffices f before → ⊥
-never_too_long Run before left' items read enough = too_long before.left left' read.0 read.1 enough.0
-never_too_long Check before left' items read enough = too_long before.left left' read.0 read.1 enough
-never_too_long (Fill n) before left' items read enough = not_whole read.0
-  where
-    IsWhole : Ending → Type 0
-    IsWhole Whole = Unit {0}
-    IsWhole Faulted = ⊥
-    IsWhole TooLong = ⊥
-
-    not_whole : TooLong ≡ Whole → ⊥
-    not_whole e = subst IsWhole (sym e) tt
+abbrev IsWhole : Ending → Type 0
+IsWhole Whole = Unit {0}
+IsWhole Faulted = ⊥
+IsWhole TooLong = ⊥
 
 -- over what opens no damage is found, and a check finds none
-sound : (f : Form) (damage : Damage) (before now : RunWorld) → BrokenRun f (stops.Damaged damage) before now → Suffices f before → ⊥
-sound Run damage before now (AtOpening b) enough = (b.stopped.stands enough.1.0 enough.1.1).1
-sound Run damage before now (AtItem b) enough = (b.stopped.stands enough.1.0 (b.opening.opens enough.1.0 enough.1.1).1).1
-sound Run damage before now (AtClose b) enough = b.part_is
-sound Check damage before now (AtOpening b) enough = b.some
-sound Check damage before now (AtItem b) enough = b.stopped.part_is.0
-sound Check damage before now (AtClose b) enough = b.part_is
-sound (Fill n) damage before now (AtOpening b) enough = (b.stopped.stands enough.0 enough.1).1
-sound (Fill n) damage before now (AtItem b) enough = (b.stopped.stands enough.0 (b.opening.opens enough.0 enough.1).1).1
-sound (Fill n) damage before now (AtClose b) enough = b.part_is
+sound : (f : Form) (damage : Damage) (before now : RunWorld) → BrokenRun f (stops.Damaged damage) before now → OpensFor f before.moment.content → ⊥
+sound Run damage before now (AtOpening b) opens = (b.stopped.stands (opens tt).0 (opens tt).1).1
+sound Run damage before now (AtItem b) opens = (b.stopped.stands (opens tt).0 (b.opening.opens (opens tt).0 (opens tt).1).1).1
+sound Run damage before now (AtClose b) opens = b.part_is
+sound Check damage before now (AtOpening b) opens = b.some
+sound Check damage before now (AtItem b) opens = b.stopped.part_is.0
+sound Check damage before now (AtClose b) opens = b.part_is
+sound (Fill n) damage before now (AtOpening b) opens = (b.stopped.stands (opens tt).0 (opens tt).1).1
+sound (Fill n) damage before now (AtItem b) opens = (b.stopped.stands (opens tt).0 (b.opening.opens (opens tt).0 (opens tt).1).1).1
+sound (Fill n) damage before now (AtClose b) opens = b.part_is
 
 -- a form that fails at the store opens it
 opens_store : (f : Form) (before now : RunWorld) → BrokenRun f stops.StoreFailed before now → HasOpening f
@@ -304,32 +291,28 @@ opens_store f before now (AtOpening b) = b.some
 opens_store f before now (AtItem b) = b.stopped.part_is.0
 opens_store f before now (AtClose b) = absurd b.part_is
 
--- and one that fails at the source reads it
-reads_source : (f : Form) (left left' : Option (List ℕ)) (items : List Item) → HasItems f Faulted left left' items → ReadsSource f
-reads_source Run left left' items read = tt
-reads_source Check left left' items read = tt
-reads_source (Fill n) left left' items read = not_whole read.0
-  where
-    IsWhole : Ending → Type 0
-    IsWhole Whole = Unit {0}
-    IsWhole Faulted = ⊥
-    IsWhole TooLong = ⊥
+-- and one that ends short of the source's end reads it
+reads_source : (f : Form) (ending : Ending) (left left' : Option (List ℕ)) (items : List Item) → HasItems f ending left left' items → (ending ≡ Whole → ⊥) → ReadsSource f
+reads_source Run ending left left' items read other = tt
+reads_source Check ending left left' items read other = tt
+reads_source (Fill n) ending left left' items read other = other read.0
 
-    not_whole : Faulted ≡ Whole → ⊥
-    not_whole e = subst IsWhole (sym e) tt
-
--- where no fault came and there was enough, the run is plain
-pub Ends-plain : (f : Form) (is : Status) (before now : RunWorld) → Ends f is before now → (ReadsSource f → is ≡ status.ReadFault → ⊥) → (is ≡ status.WriteFault → ⊥) → (HasOpening f → is ≡ status.StoreFault → ⊥) → Suffices f before → IsPlain is
-Ends-plain f status.Good before now ends read write store enough = tt
-Ends-plain f status.SomeRefused before now ends read write store enough = tt
-Ends-plain f status.NoMem before now ends read write store enough = tt
-Ends-plain f status.Usage before now ends read write store enough = ends
-Ends-plain f status.ReadFault before now ends read write store enough = read (reads_source f before.left now.left ends.1.items ends.1.read) refl
-Ends-plain f status.WriteFault before now ends read write store enough = write refl
-Ends-plain f status.StoreFault before now ends read write store enough = store (opens_store f before now ends) refl
-Ends-plain f status.TooLong before now ends read write store enough = never_too_long f before now.left ends.1.items ends.1.read enough
-Ends-plain f status.Damaged before now ends read write store enough = sound f ends.damage before _ ends.broken enough
+-- where no fault came, the script wasn't too long and the store opens, the run is plain
+pub Ends-plain : (f : Form) (is : Status) (before now : RunWorld) → Ends f is before now → OpensFor f before.moment.content → (ReadsSource f → is ≡ status.TooLong → ⊥) → (ReadsSource f → is ≡ status.ReadFault → ⊥)
+    → (is ≡ status.WriteFault → ⊥) → (HasOpening f → is ≡ status.StoreFault → ⊥) → IsPlain is
+Ends-plain f status.Good before now ends opens long read write store = tt
+Ends-plain f status.SomeRefused before now ends opens long read write store = tt
+Ends-plain f status.NoMem before now ends opens long read write store = tt
+Ends-plain f status.Usage before now ends opens long read write store = ends
+Ends-plain f status.ReadFault before now ends opens long read write store =
+    read (reads_source f Faulted before.left now.left ends.1.items ends.1.read (λ e. subst IsWhole (sym e) tt)) refl
+Ends-plain f status.WriteFault before now ends opens long read write store = write refl
+Ends-plain f status.StoreFault before now ends opens long read write store = store (opens_store f before now ends) refl
+Ends-plain f status.TooLong before now ends opens long read write store =
+    long (reads_source f TooLong before.left now.left ends.1.items ends.1.read (λ e. subst IsWhole (sym e) tt)) refl
+Ends-plain f status.Damaged before now ends opens long read write store = sound f ends.damage before _ ends.broken opens
 
 -- by another name of the form
-pub Ends-plain-as : (f g : Form) (is : Status) (before now : RunWorld) → f ≡ g → Ends f is before now → (ReadsSource g → is ≡ status.ReadFault → ⊥) → (is ≡ status.WriteFault → ⊥) → (HasOpening g → is ≡ status.StoreFault → ⊥) → Suffices g before → IsPlain is
-Ends-plain-as f g is before now same ends read write store enough = Ends-plain g is before now (subst (λ (x : Form). Ends x is before now) same ends) read write store enough
+pub Ends-plain-as : (f g : Form) (is : Status) (before now : RunWorld) → f ≡ g → Ends f is before now → OpensFor g before.moment.content → (ReadsSource g → is ≡ status.TooLong → ⊥) → (ReadsSource g → is ≡ status.ReadFault → ⊥)
+    → (is ≡ status.WriteFault → ⊥) → (HasOpening g → is ≡ status.StoreFault → ⊥) → IsPlain is
+Ends-plain-as f g is before now same ends = Ends-plain g is before now (subst (λ (x : Form). Ends x is before now) same ends)

@@ -15,7 +15,8 @@ use Rattle.pq_print.specs.Report.{opening_line}
 use Rattle.pq_print.specs.declared.report.Opened.{Opened}
 use Rattle.pq_check.specs.Checks.{without_rows}
 use Rattle.pq_catalog.specs.Model.{Model}
-use Rattle.pq_opening.specs.Opening.{IsOpeningBound, IsQuiet, LeavesFlawed, LeavesRead, NamesFlaw, IsOpening}
+use Rattle.pq_opening.specs.Opening.{IsOpeningBound, IsQuiet, LeavesFlawed, LeavesRead, LeavesStopped, NamesFlaw, IsOpening}
+use Rattle.pq_opening.proofs.Leaving.{left_stops}
 use Rattle.pq_catalog.specs.Stands.{Opens, Stands}
 use Rattle.pq_opening.specs.Within.{IsBounded, IsWithinOpening, StopsWithin}
 use Rattle.pq_shell.specs.Fold.{Moment}
@@ -56,16 +57,22 @@ begun_none begun a none used = record {
   used_is = sym used;
 }
 
+-- what is left where it stopped
+left_and_quiet : (old now : Option Content) → IfSome old (λ c. LeavesStopped c now) → IfSome old (λ c. IsQuiet c → now ≡ Some c)
+    → IfSome old (λ c. LeavesStopped c now × (IsQuiet c → now ≡ Some c))
+left_and_quiet None now stops rests = tt
+left_and_quiet (Some c) now stops rests = (stops, rests)
+
 -- the session broke off at the opening
 pub broke_opening : (error : Broke) (old now : Option Content) (h : Option (List ℕ)) (before after : Counts) → ((m : Model) → Opens old m → Opens now m) → ((m : Model) → Opens old m → IsUndamaged error)
     → StopsWithin before after → ((m : Model) → Opens old m → IfSome old (IsWithinOpening m before after)) → IfSome old (λ content. NamesFlaw content error)
-    → IfSome old (λ c. IfDamaged (λ damage. LeavesFlawed c now) error) → IfSome old (λ c. IsQuiet c → now ≡ Some c)
+    → IfSome old (λ c. IfDamaged (λ damage. LeavesFlawed c now) error) → IfSome old (λ c. LeavesStopped c now) → IfSome old (λ c. IsQuiet c → now ≡ Some c)
     → StoppedOpening (stop_of_broke error) (moment old h before) (moment now h after)
-broke_opening broke.Failed old now h before after kept sound within own flaw left rests =
-    record { part = []; text = sym (append_known-none h); part_is = (refl, within); left = rests; stands = λ m s. (kept m s, own m s) }
-broke_opening broke.NoMem old now h before after kept sound within own flaw left rests =
-    record { part = []; text = sym (append_known-none h); part_is = (refl, within); left = rests; stands = λ m s. (kept m s, own m s) }
-broke_opening (broke.Damaged damage) old now h before after kept sound within own flaw left rests =
+broke_opening broke.Failed old now h before after kept sound within own flaw left stops rests =
+    record { part = []; text = sym (append_known-none h); part_is = (refl, within); left = left_and_quiet old now stops rests; stands = λ m s. (kept m s, own m s) }
+broke_opening broke.NoMem old now h before after kept sound within own flaw left stops rests =
+    record { part = []; text = sym (append_known-none h); part_is = (refl, within); left = left_and_quiet old now stops rests; stands = λ m s. (kept m s, own m s) }
+broke_opening (broke.Damaged damage) old now h before after kept sound within own flaw left stops rests =
     record { part = []; text = sym (append_known-none h); part_is = (refl, within, flaw); left = left; stands = λ m s. absurd (sound m s) }
 
 -- what was opened took what its line tells
@@ -97,7 +104,7 @@ module _ (old now : Option Content) (before after : Counts) (opened : Opened) (b
     part = [];
     text = cut ∙ sym (append_known-none h);
     part_is = (refl, opened_within);
-    left = rests;
+    left = left_and_quiet old now (left_stops old now left) rests;
     stands = λ m s. (stands m s, opened_own old m (opens m s).most);
   }
   cut_opening stops.WriteFailed h h' stands cut = record {

@@ -9,7 +9,7 @@ use Rattle.pq_store.specs.Counts.{Counts}
 use Rattle.pq_print.specs.Report.{opening_line}
 use Rattle.pq_print.specs.declared.report.Opened.{Opened}
 use Rattle.pq_catalog.specs.Model.{Model}
-use Rattle.pq_opening.specs.Opening.{IsQuiet, LeavesFlawed, LeavesRead, ShowsBuildLeft, ShowsFlaw, IsOpening}
+use Rattle.pq_opening.specs.Opening.{IsQuiet, LeavesFlawed, LeavesRead, LeavesStopped, ShowsBuildLeft, ShowsFlaw, IsOpening}
 use Rattle.pq_catalog.specs.Stands.{Opens}
 use Rattle.pq_opening.specs.Within.{IsBounded, IsWithinOpening, StopsWithin}
 use Rattle.pq_shell.specs.Fold.{Moment}
@@ -64,10 +64,11 @@ HaltsOpening stops.NoMem content m before now = IfSome content (IsWithinOpening 
 HaltsOpening stops.WriteFailed content m before now = IfSome content (IsWithinOpening m before now)
 HaltsOpening (stops.Damaged damage) content m before now = ⊥
 
--- what is left of a told content: of a quiet one, and of one with damage
+-- what is left of a told content: a quiet one is as it was, and of every other one just the changes of its intent are
+-- made, and then a build that it tells of is gone on with
 abbrev pub LeavesOpening : Stop → Content → Option Content → Type 0
-LeavesOpening stops.StoreFailed content now = IsQuiet content → now ≡ Some content
-LeavesOpening stops.NoMem content now = IsQuiet content → now ≡ Some content
+LeavesOpening stops.StoreFailed content now = LeavesStopped content now × (IsQuiet content → now ≡ Some content)
+LeavesOpening stops.NoMem content now = LeavesStopped content now × (IsQuiet content → now ≡ Some content)
 LeavesOpening stops.WriteFailed content now = LeavesRead content now
 LeavesOpening (stops.Damaged damage) content now = LeavesFlawed content now
 

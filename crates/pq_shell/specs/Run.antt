@@ -1,5 +1,5 @@
 -- How a run of each form ends: what stands at each status.
-use Rattle.std.specs.Prelude.{◌≡◌, ℕ, ◌≤◌, ◌⊎◌, Bool, true, false, Option, Some, Result, Ok, Err, List, [], ◌++◌, length}
+use Rattle.std.specs.Prelude.{◌≡◌, ℕ, ◌≤◌, ◌⊎◌, Bool, true, false, Option, Result, Ok, Err, List, [], ◌++◌, length}
 use Rattle.std.specs.List.{list_any}
 use Rattle.std.specs.Io.KnownBytes.{append_known, prepend_known}
 use Rattle.pq_fill.specs.declared.words.Form.{Form}
@@ -18,7 +18,6 @@ use Rattle.pq_shell.specs.Forms.{HasItems, HasOpening, close}
 use Rattle.pq_shell.specs.Items.{Item}
 use Rattle.pq_shell.specs.Openings.{Opening, StoppedOpening}
 use Rattle.pq_console.specs.Outside.{IsCut}
-use Rattle.pq_console.specs.Reading.{script_limit}
 use Rattle.pq_console.specs.declared.reading.Ending.{Ending}
 use Rattle.pq_console.specs.declared.reading.Ending.TheVariants.{Whole, Faulted, TooLong}
 use Rattle.pq_shell.specs.declared.serving.Ended.{Ended}
@@ -173,17 +172,9 @@ IsPlain status.SomeRefused = Unit {0}
 IsPlain status.NoMem = Unit {0}
 IsPlain _ = ⊥
 
--- a source that tells a script within the limit
-pub record IsScript (left : Option (List ℕ)) : Type 0 where
-  pub script : List ℕ
-  pub told : left ≡ Some script
-  pub short : length script ≤ script_limit
-
--- a script within the limit, and a store that opens; the generated script needs no source, and a check no store
-abbrev pub Suffices : Form → RunWorld → Type 0
-Suffices Run before = IsScript before.left × ((m : Model) × Opens before.moment.content m)
-Suffices Check before = IsScript before.left
-Suffices (Fill n) before = (m : Model) × Opens before.moment.content m
+-- a store that opens to a model, for a form that opens one
+abbrev pub OpensFor : Form → Option Content → Type 0
+OpensFor form content = HasOpening form → (m : Model) × Opens content m
 
 -- the numbers of the statuses
 abbrev pub status_code : Status → ℕ

@@ -11,7 +11,7 @@ ghost use Rattle.pq_shell.specs.Forms.{HasOpening};
 ghost use Rattle.pq_shell.specs.Making.{ReadsSource, moment};
 ghost use Rattle.pq_shell.specs.Openings.{OpensWith, StoppedOpening};
 ghost use Rattle.pq_console.specs.Reading.{CountsBytes, script_limit};
-ghost use Rattle.pq_shell.specs.Run.{BrokenRun, Closes, Ends, EndsDamaged, FinishedRun, IsMeant, IsPlain, Suffices, status_of, run_world};
+ghost use Rattle.pq_shell.specs.Run.{BrokenRun, Closes, Ends, EndsDamaged, FinishedRun, IsMeant, IsPlain, OpensFor, status_of, run_world};
 ghost use Rattle.pq_shell.specs.Serving.{ConsumedSource, StoppedAmong};
 ghost use Rattle.pq_console.specs.Stops.{Causes};
 ghost use Rattle.pq_shell.specs.Answered.{IsAnsweredStop, EndsAnswered};
@@ -394,11 +394,14 @@ pub fn run_piql<S: Store<L>, I: Source, O: Sink, L: Ledger>(
     // exactly where the script is too long.
     ensures reads { I.count source.new ≤ I.count source.old + (script_limit + 1) }
     ensures too_long { result ≡ Status.TooLong ↔ I.count source.new ≡ I.count source.old + (script_limit + 1) }
+    // Over a store that opens, without a fault, and where the source had no more bytes than a script may have, the
+    // run is made to its end, whether the source tells or not.
     ensures complete { (form : Declared) → IsForm form words.now
+        → OpensFor form (S.content store.old)
+        → (ReadsSource form → I.count source.new ≤ I.count source.old + script_limit)
         → (ReadsSource form → ¬ HasRisen (I.faults source.old) (I.faults source.new))
         → ¬ HasRisen (O.faults sink.old) (O.faults sink.new)
         → (HasOpening form → ¬ HasRisen (S.faults store.old) (S.faults store.new))
-        → Suffices form (run_world (I.left source.old) (S.content store.old) (O.held sink.old) meter.old)
         → IsPlain result }
 {
     match form_of(words) {

@@ -6,7 +6,7 @@ use Rattle.pq_shell.proofs.Flaws.{broke_at_flaw, told_at_flaw}
 use Rattle.pq_shell.proofs.run.open.Goals as goal
 
 pub returns-in-Err-clause-err : goal.returns-in-Err-clause-err
-returns-in-Err-clause-err g c = rw c.of.ensures (broke_opening c.in-Err.broke _ _ _ _ _ c.in-Err.ensures.kept c.in-Err.ensures.damage c.in-Err.ensures.within c.in-Err.ensures.within_own c.in-Err.ensures.flaw c.in-Err.ensures.left_flawed c.in-Err.ensures.rests)
+returns-in-Err-clause-err g c = rw c.of.ensures (broke_opening c.in-Err.broke _ _ _ _ _ c.in-Err.ensures.kept c.in-Err.ensures.damage c.in-Err.ensures.within c.in-Err.ensures.within_own c.in-Err.ensures.flaw c.in-Err.ensures.left_flawed c.in-Err.ensures.stops c.in-Err.ensures.rests)
 
 pub returns-in_err-write_opening-clause-err : goal.returns-in_err-write_opening-clause-err
 returns-in_err-write_opening-clause-err g c =
