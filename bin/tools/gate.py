@@ -1,5 +1,6 @@
 """The gate, then the tests of the tools."""
 
+import concurrent.futures
 import dataclasses
 import os
 import pathlib
@@ -13,7 +14,7 @@ from tools.repository import TOP
 
 # Where tools stand. Each folder `tests` below one of them is run.
 PLACES = ("bin", "drivers", "site", "trials")
-SECONDS = 300
+SECONDS = 360
 COUNT = re.compile(r"(\d+) passed, (\d+) failed\s*")
 
 
@@ -52,10 +53,9 @@ def run_gate(words: list[str]) -> Outcome:
     return outcome
 
 
-def folders() -> list[pathlib.Path]:
-    """The folders of the tools' tests."""
-    found = (path for place in PLACES for path in (TOP / place).rglob("tests"))
-    return sorted(path for path in found if any(path.glob("test_*.py")))
+def modules() -> list[pathlib.Path]:
+    """The modules of the tools' tests."""
+    return sorted(path for place in PLACES for path in (TOP / place).rglob("tests/test_*.py"))
 
 
 def outcome_of(output: str, status: int) -> Outcome:
@@ -78,41 +78,50 @@ def environment() -> dict[str, str]:
     return dict(os.environ)
 
 
-def run_folder(folder: pathlib.Path, seconds: float) -> Outcome:
-    """Runs the tests of one folder, for at most so many seconds."""
-    top = folder
+def written(module: pathlib.Path, end: float) -> tuple[Outcome, str]:
+    """Runs the tests of one module, which has until then; how it ended, and what it wrote."""
+    top = module.parent
     while (top / "__init__.py").exists():
         top = top.parent
-    words = [sys.executable, "-B", "-m", "unittest", "discover", "-v", "-s", str(folder.relative_to(top)), "-t", "."]
+    words = [sys.executable, "-B", "-m", "unittest", "discover", "-v", "-s", str(module.parent.relative_to(top))]
     how = {"stdout": subprocess.PIPE, "stderr": subprocess.STDOUT, "text": True, "errors": "replace"}
-    run = subprocess.Popen(words, cwd=top, env=environment(), stdin=subprocess.DEVNULL, start_new_session=True, **how)
+    run = subprocess.Popen(
+        [*words, "-t", ".", "-p", module.name],
+        cwd=top,
+        env=environment(),
+        stdin=subprocess.DEVNULL,
+        start_new_session=True,
+        **how,
+    )
     try:
-        output = run.communicate(timeout=seconds)[0]
+        output = run.communicate(timeout=max(end - time.monotonic(), 1))[0]
     except subprocess.TimeoutExpired:
-        print(f"test: stopped after {seconds:.0f} seconds")
         os.killpg(run.pid, signal.SIGKILL)
-        output = run.communicate()[0]
-    outcome = outcome_of(output, run.returncode)
-    if outcome.failed:
-        print(output)
+        output = f"{run.communicate()[0]}test: stopped, since the time of the tests was over\n"
+    return outcome_of(output, run.returncode), output
+
+
+def run_module(module: pathlib.Path, end: float) -> Outcome:
+    """Runs the tests of one module, and tells what failed and what was skipped."""
+    try:
+        outcome, output = written(module, end)
+    except Exception as error:
+        outcome, output = Outcome(0, 1), f"{error}"
     skipped = [line for line in output.split("\n") if " ... skipped " in line]
-    print(*skipped, f"{folder.relative_to(TOP)}: {outcome}", sep="\n", flush=True)
+    told = [output] if outcome.failed else []
+    # One print for each module, since several end at a time.
+    print("\n".join([*told, *skipped, f"{module.relative_to(TOP)}: {outcome}"]) + "\n", end="", flush=True)
     return outcome
 
 
 def run_tools() -> Outcome:
-    """Runs the tests of the tools, all within the seconds that they have."""
-    outcome, end = Outcome(0, 0), time.monotonic() + SECONDS
+    """Runs the tests of the tools, a module on each processor, all within the seconds that they have."""
     for place in PLACES:
         if not (TOP / place).is_dir():
             print(f"{place}: skipped, there is no such folder")
-    for folder in folders():
-        try:
-            outcome += run_folder(folder, max(end - time.monotonic(), 1))
-        except Exception as error:
-            print(f"{folder.relative_to(TOP)}: {error}")
-            outcome += Outcome(0, 1)
-    return outcome
+    found, end = modules(), time.monotonic() + SECONDS
+    with concurrent.futures.ThreadPoolExecutor(os.cpu_count()) as workers:
+        return sum(workers.map(lambda module: run_module(module, end), found), Outcome(0, 0))
 
 
 def tell_stale() -> None:

@@ -47,7 +47,7 @@ class GateTest(unittest.TestCase):
             self.assertEqual(self.told(gate.run_gate, ["sh", "-c", script])[0], outcome, script)
         self.assertEqual(self.told(gate.run_gate, ["./no-such-program"])[0], Outcome(0, 1))
 
-    def test_each_folder_of_tests_is_run(self) -> None:
+    def test_each_module_of_tests_is_run(self) -> None:
         self.write("bin/tools/tests/test_a.py", GOOD)
         self.write("drivers/python/tests/test_b.py", BAD)
         self.write("drivers/python/tests/test_c.py", GOOD)
@@ -58,6 +58,17 @@ class GateTest(unittest.TestCase):
         self.assertIn("test_b", said)
         self.assertIn("no such program", said)
         self.assertIn("trials: skipped", said)
+        for line in ("bin/tools/tests/test_a.py: 1 passed, 0 failed", "drivers/python/tests/test_b.py: 0 passed, 1 failed"):
+            self.assertIn(line, said.split("\n"))
+
+    def test_modules_run_side_by_side(self) -> None:
+        wait = "import pathlib, time\nHERE = pathlib.Path(__file__).parent\n(HERE / '{own}').touch()\n"
+        wait += "end = time.monotonic() + 30\nwhile not (HERE / '{other}').exists():\n    time.sleep(0.01)\n"
+        wait += "    assert time.monotonic() < end\n"
+        self.write("bin/tests/test_a.py", wait.format(own="a", other="b") + GOOD)
+        self.write("bin/tests/test_b.py", wait.format(own="b", other="a") + GOOD)
+        with mock.patch.object(gate.os, "cpu_count", return_value=2):
+            self.assertEqual(self.told(gate.run_tools)[0], Outcome(2, 0))
 
     def test_what_cannot_be_read_fails(self) -> None:
         self.write("bin/tests/test_a.py", "import no_such_module\n")
@@ -78,7 +89,7 @@ class GateTest(unittest.TestCase):
             self.assertEqual((ended, said.split("\n")[-2]), (status, last))
 
     def test_no_flaw_of_the_tools_hides_the_gate(self) -> None:
-        flawed = mock.patch.object(gate, "folders", side_effect=ValueError("flaw"))
+        flawed = mock.patch.object(gate, "modules", side_effect=ValueError("flaw"))
         with flawed, mock.patch.object(gate, "run_gate", return_value=Outcome(3, 0)):
             status, said = self.told(gate.main, [])
         self.assertEqual((status, said.split("\n")[-2]), (1, "3 passed, 1 failed"))
