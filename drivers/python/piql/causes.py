@@ -46,7 +46,9 @@ def stored_cause(path: str) -> str:
     try:
         shape = shape_of(path)
     except sqlite3.Error as error:
-        return LOCKED.format(path=path) if "locked" in str(error) else f"SQLite can't read {path}: {error}"
+        # A disk without room, or without leave to write, keeps SQLite from reading too: it wants a file beside the log.
+        unread = f"SQLite can't read {path}: {error}"
+        return LOCKED.format(path=path) if "locked" in str(error) else place_cause(path) or unread
     return "" if shape in (None, SHAPE) else f"{path} has a table kv of another program"
 
 

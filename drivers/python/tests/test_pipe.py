@@ -273,7 +273,6 @@ class ServerTest(PipeCase):
             return read_frame(made)[0]
 
     def test_frames(self) -> None:
-        self.sent()
         source, whole = random.Random(62), []
         for _ in range(400):
             text = bytes(source.choices(b"'';;-- \n\ta\0", k=source.randrange(1, 12))) + source.choice([b"", b"a;"])
@@ -281,7 +280,8 @@ class ServerTest(PipeCase):
             self.assertEqual(answer == REPORT, is_one_piece(text), text)
             whole += [text] if answer == REPORT else []
         self.assertGreater(len(whole), 20)
-        self.assertEqual(self.sent(), b"".join(whole))
+        # The server itself asks for the definitions, once.
+        self.assertEqual(self.sent(), b"".join([b"SHOW;", *whole]))
 
 
 class PieceTest(unittest.TestCase):
