@@ -1,26 +1,20 @@
--- What the set in memory answers and becomes, as that of the content that it stands for.
-use Rattle.std.proofs.Common.{◌≡◌, ℕ, ◌+◌, ◌*◌, ◌/◌, ◌%◌, ◌<◌, ◌≤◌, suc, zero, take, add-one, Bool, true, false, not, cond, List, [], ◌∷◌, ◌++◌, map, length, min, replicate, IsTrue, Option, Some, refl, sym, ap, ◌∙◌, subst, append_assoc, arith, filter, find}
-use Rattle.std.specs.Option.{option_map}
-use Rattle.std.specs.Ordering.{is_lt, is_le, is_gt, is_eq, match_ordering}
+-- A pair in its bytes, and what lists of pairs answer and become, as the contents that they stand for.
+use Rattle.std.proofs.Common.{◌≡◌, ℕ, ◌+◌, ◌*◌, ◌/◌, ◌%◌, ◌<◌, ◌≤◌, suc, zero, take, add-one, true, false, not, cond, List, [], ◌∷◌, ◌++◌, map, length, replicate, IsTrue, refl, sym, ap, ◌∙◌, subst, append_assoc, arith, filter}
+use Rattle.std.specs.Ordering.{is_lt, is_le, is_gt, is_eq}
 use Rattle.std.specs.declared.cmp.Ordering.{Ordering}
 use Rattle.std.specs.declared.cmp.Ordering.TheVariants.{Less, Equal, Greater}
 use Rattle.std.specs.declared.ops.Bound.TheVariants.{Included, Excluded}
-use Rattle.std.specs.List.{AllByRecursion, list_any}
-use Rattle.std.specs.List.Sorted.{IsStrictlySortedBy}
 use Rattle.std.specs.BTreeMap.{is_at}
 use Rattle.std.specs.BTreeMap.Range.{range_contains}
-use Rattle.std.specs.BTreeSet.{insert_key, replace_key}
 use Rattle.std.specs.Set.{remove_key}
 use Rattle.std.specs.FinMap as fin
-use Rattle.std.specs.FinMap.{put}
-use Rattle.std.specs.FinMap.Entries.{by_order}
 use Rattle.pq_store.specs.Content.{key_cmp, is_rising, is_within, pairs_within, entry}
 use Rattle.pq_mem_store.specs.Held.{len_bytes, key_len, behind_len, held_pair, held_cmp}
-use Rattle.std.proofs.lemmas.List.{length-take, length-append, map-append, append-nil}
+use Rattle.std.proofs.lemmas.List.{length-append, map-append}
 use Rattle.std.proofs.Math.Seq.{take-append_seam, drop-append_seam}
 use Rattle.pq_store.specs.declared.store.Pair.{Pair}
-use Rattle.pq_store.proofs.Places.{Pairs, is_below_all, is_other, turned, same_key, itself, first_below, rest_rises, rising_first, others_below_all, below_below}
-use Rattle.pq_store.proofs.Views.{seen, seen_get, seen_put, seen_others, seen_within}
+use Rattle.pq_store.proofs.Places.{Pairs, is_below_all, is_other, turned, same_key, itself, first_below, rest_rises, others_below_all, below_below}
+use Rattle.pq_store.proofs.Views.{seen, seen_others, seen_within}
 
 -- ---- a pair in its bytes
 
@@ -79,42 +73,7 @@ within_end low high pairs =
       | false ↦ λ is. none_within low low pairs (ap is_lt (itself low)) ∙ sym (none_within low high pairs is)
     ] refl
 
--- ---- the set
-
-below_held : (pair : List ℕ × List ℕ) (pairs : Pairs) → AllByRecursion (λ q. held_cmp pair q ≡ Less) pairs → IsTrue (is_below_all pair.0 pairs)
-below_held pair [] below = refl
-below_held pair (q ∷ pairs) below = rw below.0 (below_held pair pairs below.1)
-
--- its keys rise
-pub rising_held : (pairs : Pairs) → IsStrictlySortedBy held_cmp pairs → IsTrue (is_rising pairs)
-unfolding IsStrictlySortedBy
-rising_held [] up = refl
-rising_held (pair ∷ pairs) up = rising_first pair pairs (below_held pair pairs up.0) (rising_held pairs up.1)
-
--- a look-up
-look_held : (asked : List ℕ × List ℕ) (pairs : Pairs) → option_map (λ pair. pair.1) (find (is_at (held_cmp asked)) pairs) ≡ fin.find key_cmp asked.0 pairs
-look_held asked [] = refl
-look_held asked (pair ∷ pairs) = either (is_eq (key_cmp asked.0 pair.0)) pair (find (is_at (held_cmp asked)) pairs) _ (look_held asked pairs)
-  where
-    either : (b : Bool) (pair : List ℕ × List ℕ) (found : Option (List ℕ × List ℕ)) (value : Option (List ℕ)) → option_map (λ p. p.1) found ≡ value
-        → option_map (λ p. p.1) (cond b (Some pair) found) ≡ cond b (Some pair.1) value
-    either true pair found value is = refl
-    either false pair found value is = is
-
--- a pair that is put
-insert_held : (pair : List ℕ × List ℕ) (pairs : Pairs) → list_any (is_at (held_cmp pair)) pairs ≡ false → insert_key held_cmp pairs pair ≡ put key_cmp pair.0 pair.1 pairs
-insert_held pair [] new = refl
-insert_held pair (first ∷ pairs) new = grind (arith, new, insert_held pair pairs)
-
-replace_held : (pair : List ℕ × List ℕ) (pairs : Pairs) → replace_key held_cmp pairs pair ≡ put key_cmp pair.0 pair.1 pairs
-replace_held pair [] = refl
-replace_held pair (first ∷ pairs) =
-    elim (key_cmp pair.0 first.0) as (λ r. key_cmp pair.0 first.0 ≡ r → match_ordering r (pair ∷ first ∷ pairs) (pair ∷ pairs) (first ∷ replace_key held_cmp pairs pair)
-    ≡ by_order r ((pair.0, pair.1) ∷ first ∷ pairs) ((first.0, pair.1) ∷ pairs) (first ∷ put key_cmp pair.0 pair.1 pairs)) [
-      | Less ↦ λ is. refl
-      | Equal ↦ λ is. ap (λ key. (key, pair.1) ∷ pairs) (same_key pair.0 first.0 is)
-      | Greater ↦ λ is. ap (λ ps. first ∷ ps) (replace_held pair pairs)
-    ] refl
+-- ---- a list of pairs
 
 -- a pair that is taken out
 pub remove_held : (asked : List ℕ × List ℕ) (pairs : Pairs) → IsTrue (is_rising pairs) → filter (is_other asked.0) pairs ≡ remove_key (is_at (held_cmp asked)) pairs
@@ -135,22 +94,8 @@ between_held low high [] = refl
 between_held low high (pair ∷ pairs) =
     rw (← not_past pair.0 high.0) (ap (λ ps. cond (range_contains held_cmp (Included low) (Excluded high) pair) (pair ∷ ps) ps) (between_held low high pairs))
 
-pub is_false : (b : Bool) → not b ≡ true → b ≡ false
-is_false true is = sym is
-is_false false is = refl
-
 -- the content behind each call
 module _ (pairs : Pairs) (up : IsTrue (is_rising pairs)) where
-  pub found_held : (asked : List ℕ × List ℕ) (key : List ℕ) → asked.0 ≡ key → option_map (λ pair. pair.1) (find (is_at (held_cmp asked)) pairs) ≡ fin.get (seen pairs) key
-  found_held asked key is = look_held asked pairs ∙ ap (λ k. fin.find key_cmp k pairs) is ∙ sym (seen_get pairs key up)
-
-  pub seen_inserted : (pair : List ℕ × List ℕ) (new : Pairs) → list_any (is_at (held_cmp pair)) pairs ≡ false → new ≡ insert_key held_cmp pairs pair
-      → seen new ≡ fin.insert (seen pairs) pair.0 pair.1
-  seen_inserted pair new absent is = seen_put pair.0 pair.1 pairs new up (sym (insert_held pair pairs absent) ∙ sym is)
-
-  pub seen_replaced : (pair : List ℕ × List ℕ) (new : Pairs) → new ≡ replace_key held_cmp pairs pair → seen new ≡ fin.insert (seen pairs) pair.0 pair.1
-  seen_replaced pair new is = seen_put pair.0 pair.1 pairs new up (sym (replace_held pair pairs) ∙ sym is)
-
   pub seen_removed : (asked : List ℕ × List ℕ) (new : Pairs) → new ≡ remove_key (is_at (held_cmp asked)) pairs → seen new ≡ fin.remove (seen pairs) asked.0
   seen_removed asked new is = seen_others asked.0 pairs new up (remove_held asked pairs up ∙ sym is)
 
@@ -160,7 +105,7 @@ module _ (pairs : Pairs) (up : IsTrue (is_rising pairs)) where
       is ∙ between_held start end pairs ∙ ap (λ key. filter (is_within key end.0) pairs) starts
       ∙ ap (λ key. filter (is_within low key) pairs) ends ∙ within_end low high pairs ∙ sym (seen_within low high pairs up)
 
--- a loop over the first n pairs of the set that copies them, one further
+-- a loop over the first n pairs that copies them, one further
 pub copied_more : (before after : List Pair) (copy : Pair) (m n : ℕ) (s t : Pairs) (pair : List ℕ × List ℕ) (all : Pairs)
     → after ≡ before ++ copy ∷ [] → entry copy ≡ pair → m + 1 ≡ n → s ≡ pair ∷ t
     → map entry before ++ take n s ≡ all → map entry after ++ take m t ≡ all
@@ -171,11 +116,3 @@ copied_more before after copy m n s t pair all pushed copy_is count next so_far 
     ∙ ap (λ p. map entry before ++ p ∷ take m t) copy_is
     ∙ ap (λ k. map entry before ++ take k (pair ∷ t)) (sym (add-one m) ∙ count)
     ∙ ap (λ ps. map entry before ++ take n ps) (sym next) ∙ so_far
-
--- how many of the first pairs there are
-pub length_first : (cap : ℕ) (range pairs : Pairs) → range ≡ pairs → length (take cap range) ≡ min cap (length pairs)
-length_first cap range pairs is = length-take cap range ∙ ap (λ ps. min cap (length ps)) is
-
--- and at its end: the number or the list has run out
-pub copied_all : (before : List Pair) (n : ℕ) (s all : Pairs) → take n s ≡ [] → map entry before ++ take n s ≡ all → map entry before ≡ all
-copied_all before n s all out so_far = sym (append-nil (map entry before)) ∙ ap (λ pairs. map entry before ++ pairs) (sym out) ∙ so_far

@@ -10,7 +10,7 @@ use Rattle.std.proofs.lemmas.List.Elements.{filter-append}
 use Rattle.pq_store.specs.Content.{key_cmp, is_rising, Content, is_within, pairs_within}
 use Rattle.pq_mem_store.specs.Split.{is_from, are_before, are_from, both_contents}
 use Rattle.pq_store.proofs.Places.{Pairs, is_below_all, is_other, turned, same_key, below_below, first_below, rest_rises, rising_first, others_below_all}
-use Rattle.pq_store.proofs.Views.{seen_none, seen_entries}
+use Rattle.pq_store.proofs.Views.{seen_none, seen_entries, rising_put}
 use Rattle.pq_store.proofs.Uses.{rises, entries-insert, entries-remove}
 
 -- how many there are more
@@ -22,6 +22,15 @@ pub on_ok : {A E P Q : Type 0} (result : Result A E) → (P → Q) → OnOk resu
 on_ok (Ok _) more p = more p
 on_ok (Err _) more p = p
 
+pub on_err : {A E P Q : Type 0} (result : Result A E) → (P → Q) → OnErr result P → OnErr result Q
+on_err (Ok _) more p = p
+on_err (Err _) more p = more p
+
+pub rising_either : {A E : Type 0} (result : Result A E) (key value : List ℕ) (old new : Pairs) → OnOk result (new ≡ put key_cmp key value old) → OnErr result (new ≡ old)
+    → IsTrue (is_rising old) → IsTrue (is_rising new)
+rising_either (Ok _) key value old new ok err up = rising_put key value old new up (sym ok)
+rising_either (Err _) key value old new ok err up = subst (λ pairs. IsTrue (is_rising pairs)) (sym err) up
+
 pub on_ok_value : {A E : Type 0} {P Q : A → Type 0} (result : Result A E) → ((x : A) → P x → Q x) → IfOk result P → IfOk result Q
 on_ok_value (Ok x) more p = more x p
 on_ok_value (Err _) more p = p
@@ -30,6 +39,24 @@ pub either_way : {A E : Type 0} (P : Content → Type 0) (result : Result A E) (
     → P inserted → P old → P new
 either_way P (Ok _) new inserted old ok err p q = subst P (sym ok) p
 either_way P (Err _) new inserted old ok err p q = subst P (sym err) q
+
+-- ---- what stands behind greater keys
+
+pub find_none : (key : List ℕ) (pairs : Pairs) → IsTrue (is_below_all key pairs) → map.find key_cmp key pairs ≡ None
+find_none key [] below = refl
+find_none key (pair ∷ pairs) below = grind (arith, below, find_none key pairs)
+
+pub find_front : (key : List ℕ) (first second : Pairs) → IsTrue (is_below_all key second) → map.find key_cmp key (first ++ second) ≡ map.find key_cmp key first
+find_front key [] second below = find_none key second below
+find_front key (pair ∷ first) second below = ap (cond (eq_by_cmp key_cmp key pair.0) (Some pair.1)) (find_front key first second below)
+
+pub put_first : (key value : List ℕ) (pairs : Pairs) → IsTrue (is_below_all key pairs) → put key_cmp key value pairs ≡ (key, value) ∷ pairs
+put_first key value [] below = refl
+put_first key value (pair ∷ pairs) below = grind (arith, below)
+
+pub put_front : (key value : List ℕ) (first second : Pairs) → IsTrue (is_below_all key second) → put key_cmp key value (first ++ second) ≡ put key_cmp key value first ++ second
+put_front key value [] second below = put_first key value second below
+put_front key value (pair ∷ first) second below = grind (arith, put_front key value first second below)
 
 module _ (bound : List ℕ) where
   -- an early key is below a late one
@@ -53,27 +80,17 @@ module _ (bound : List ℕ) where
         (below_append pair.0 first second (first_below pair first up) (below_late pair.0 second (grind (arith, early)) late))
         (rising_both first (grind (arith, early)) (rest_rises pair first up) more)
 
-    find_none : (key : List ℕ) (pairs : Pairs) → IsTrue (is_below_all key pairs) → map.find key_cmp key pairs ≡ None
-    find_none key [] below = refl
-    find_none key (pair ∷ pairs) below = grind (arith, below, find_none key pairs)
-
     find_early : (key : List ℕ) (first : Pairs) → is_from bound key ≡ false → map.find key_cmp key (first ++ second) ≡ map.find key_cmp key first
-    find_early key [] early = find_none key second (below_late key second early late)
-    find_early key (pair ∷ first) early = ap (cond (eq_by_cmp key_cmp key pair.0) (Some pair.1)) (find_early key first early)
-
-    put_first : (key value : List ℕ) (pairs : Pairs) → IsTrue (is_below_all key pairs) → put key_cmp key value pairs ≡ (key, value) ∷ pairs
-    put_first key value [] below = refl
-    put_first key value (pair ∷ pairs) below = grind (arith, below)
+    find_early key first early = find_front key first second (below_late key second early late)
 
     put_early : (key value : List ℕ) (first : Pairs) → is_from bound key ≡ false → put key_cmp key value (first ++ second) ≡ put key_cmp key value first ++ second
-    put_early key value [] early = put_first key value second (below_late key second early late)
-    put_early key value (pair ∷ first) early = grind (arith, put_early key value first early)
+    put_early key value first early = put_front key value first second (below_late key second early late)
 
-  find_late : (key : List ℕ) (first second : Pairs) → is_from bound key ≡ true → IsTrue (are_before bound first) → map.find key_cmp key (first ++ second) ≡ map.find key_cmp key second
+  pub find_late : (key : List ℕ) (first second : Pairs) → is_from bound key ≡ true → IsTrue (are_before bound first) → map.find key_cmp key (first ++ second) ≡ map.find key_cmp key second
   find_late key [] second late early = refl
   find_late key (pair ∷ first) second late early = grind (arith, early, late, turned key pair.0, early_below pair.0 key, find_late key first second)
 
-  put_late : (key value : List ℕ) (first second : Pairs) → is_from bound key ≡ true → IsTrue (are_before bound first) → put key_cmp key value (first ++ second) ≡ first ++ put key_cmp key value second
+  pub put_late : (key value : List ℕ) (first second : Pairs) → is_from bound key ≡ true → IsTrue (are_before bound first) → put key_cmp key value (first ++ second) ≡ first ++ put key_cmp key value second
   put_late key value [] second late early = refl
   put_late key value (pair ∷ first) second late early = grind (arith, early, late, turned key pair.0, early_below pair.0 key, put_late key value first second)
 
@@ -85,7 +102,7 @@ module _ (bound : List ℕ) where
   late_put key value [] is late = grind (arith, is)
   late_put key value (pair ∷ pairs) is late = grind (arith, is, late, late_put key value pairs)
 
-  others_early : (key : List ℕ) (pairs : Pairs) → is_from bound key ≡ true → IsTrue (are_before bound pairs) → filter (is_other key) pairs ≡ pairs
+  pub others_early : (key : List ℕ) (pairs : Pairs) → is_from bound key ≡ true → IsTrue (are_before bound pairs) → filter (is_other key) pairs ≡ pairs
   others_early key [] late early = refl
   others_early key (pair ∷ pairs) late early = grind (arith, early, late, turned key pair.0, early_below pair.0 key, others_early key pairs)
 
@@ -98,7 +115,7 @@ module _ (bound : List ℕ) where
   late_others key (pair ∷ pairs) late = grind (arith, late, late_others key pairs)
 
   -- a range from a late key on has no early ones
-  none_early : (low high : List ℕ) (pairs : Pairs) → is_from bound low ≡ true → IsTrue (are_before bound pairs) → filter (is_within low high) pairs ≡ []
+  pub none_early : (low high : List ℕ) (pairs : Pairs) → is_from bound low ≡ true → IsTrue (are_before bound pairs) → filter (is_within low high) pairs ≡ []
   none_early low high [] late early = refl
   none_early low high (pair ∷ pairs) late early = grind (arith, early, late, turned low pair.0, early_below pair.0 low, none_early low high pairs)
 

@@ -1,7 +1,5 @@
 -- What a piece of memory stands for, that has the length of a key, the key, and its value.
 use Rattle.std.specs.Prelude.{ℕ, ◌+◌, ◌/◌, ◌%◌, ◌==◌, if◌then◌else◌, List, [], ◌∷◌, ◌++◌, take, drop, replicate}
-use Rattle.std.specs.Cmp.{IsTotalOrder, on_total}
-use Rattle.std.specs.Cmp.Lexicographic.{nat_list_cmp_total}
 use Rattle.std.specs.Coded.{Coded, coded_list, coded_ℕ, coded×}
 use Rattle.std.specs.Ordering.{on}
 use Rattle.std.specs.declared.cmp.Ordering.{Ordering}
@@ -31,6 +29,3 @@ held_code = coded× (coded_list coded_ℕ) (coded_list coded_ℕ)
 -- pairs are ordered by their keys
 abbrev pub held_cmp : List ℕ × List ℕ → List ℕ × List ℕ → Ordering
 held_cmp = on (λ pair. pair.0) key_cmp
-
-pub held_total : IsTotalOrder held_cmp
-held_total = on_total (λ (pair : List ℕ × List ℕ). pair.0) nat_list_cmp_total

@@ -1,3 +1,4 @@
 pub mod Held
 pub mod NotPairs
+pub mod Runs
 pub mod Split

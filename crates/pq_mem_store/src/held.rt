@@ -1,16 +1,12 @@
 //! A key and its value in one piece of memory.
-ghost use Rattle.std.specs.Prelude.{◌≡◌, ◌++◌, ◌<◌, ◌≤◌, ◌^◌, [], length, refl, IfOk, OnOk};
-ghost use Rattle.std.specs.Cmp.{eq_by_cmp_equiv, partial_equiv_from_equiv, partial_order_from_total};
-ghost use Rattle.std.specs.Ordering.{eq_by_cmp, as_partial_cmp};
-ghost use Rattle.pq_mem_store.specs.Held.{len_bytes, key_len, behind_len, held_pair, held_cmp, held_total};
+ghost use Rattle.std.specs.Prelude.{◌≡◌, ◌++◌, ◌<◌, ◌≤◌, ◌^◌, length, IfOk, OnOk};
+ghost use Rattle.pq_mem_store.specs.Held.{len_bytes, key_len, behind_len, held_pair};
 
 use pq_base::NoMem;
 use std::alloc::Global;
-use std::cmp::Ordering;
 use std::marker::Model;
 
-/// A pair as the store in memory holds it: the length of the key, the key, and the value. Pairs are
-/// ordered by their keys.
+/// A pair as the store in memory holds it: the length of the key, the key, and the value.
 #[derive(Drop)]
 pub(crate) struct HeldPair {
     bytes: Vec<u8>,
@@ -42,22 +38,6 @@ impl HeldPair {
         bytes.extend_from_slice(key)?;
         bytes.extend_from_slice(value)?;
         Ok(HeldPair { bytes })
-    }
-
-    /// The pair of a key without a value, for a search, in memory that was used before.
-    pub(crate) fn asked(memory: Vec<u8>, key: &[u8]) -> Result<HeldPair, NoMem>
-        ensures { IfOk result (λ pair. pair ≡ (key.now, [])) }
-    {
-        let mut bytes = memory;
-        bytes.clear();
-        put_len(&mut bytes, key.len())?;
-        bytes.extend_from_slice(key)?;
-        Ok(HeldPair { bytes })
-    }
-
-    /// Its memory, to be used again.
-    pub(crate) fn into_memory(self) -> Vec<u8> {
-        self.bytes
     }
 
     /// The key.
@@ -131,42 +111,4 @@ fn behind_len(bytes: &[u8]) -> &[u8]
         return bytes;
     };
     if *byte == 255 { behind_len(rest) } else { rest }
-}
-
-impl PartialEq for HeldPair {
-    ghost eq = { eq_by_cmp held_cmp };
-
-    ghost laws = { partial_equiv_from_equiv (eq_by_cmp_equiv held_total) };
-
-    fn eq(&self, other: &HeldPair) -> bool {
-        self.cmp(other).is_eq()
-    }
-}
-
-impl Eq for HeldPair {
-    ghost laws = { eq_by_cmp_equiv held_total };
-}
-
-impl PartialOrd for HeldPair {
-    ghost partial_cmp = { as_partial_cmp held_cmp };
-
-    ghost laws = { partial_order_from_total held_total };
-
-    fn partial_cmp(&self, other: &HeldPair) -> Option<Ordering> {
-        Some(self.cmp(other))
-    }
-}
-
-impl Ord for HeldPair {
-    ghost cmp = { held_cmp };
-
-    ghost total = { held_total };
-
-    ghost matches_partial_cmp = { λ x y. refl };
-
-    ghost matches_eq = { λ x y. refl };
-
-    fn cmp(&self, other: &HeldPair) -> Ordering {
-        self.key().cmp(other.key())
-    }
 }

@@ -1,5 +1,5 @@
 //! A store in memory: two parts by the first bytes of keys, seen as one content.
-ghost use Rattle.std.specs.Prelude.{◌≡◌, [], false, IsTrue, IfOk, IfErr, IsOk, OnOk, OnErr, map, take, length, min};
+ghost use Rattle.std.specs.Prelude.{◌≡◌, false, IsTrue, IfOk, IfErr, IsOk, OnOk, OnErr, map, take, length, min};
 ghost use Rattle.std.specs.Option.{option_copied};
 ghost use Rattle.std.specs.FinMap.{empty, entries, get as value_at, insert, remove};
 ghost use Rattle.std.specs.Ordering.{eq_by_cmp};
@@ -7,15 +7,12 @@ ghost use Rattle.pq_store.specs.Content.{is_rising, entry, pairs_within, key_cmp
 ghost use Rattle.pq_mem_store.specs.NotPairs.{GivesBack};
 ghost use Rattle.pq_mem_store.specs.Split.{first_late, is_from};
 
-use crate::held::HeldPair;
-use crate::last_found::LastFound;
 use crate::late_pairs::LatePairs;
 use crate::pair_tree::PairTree;
 use pq_base::{Bytes, List, NoMem};
 use pq_store::{Guard, Meter, Pair, Store, StoreErr, rise};
 use std::alloc::Global;
 use std::marker::Model;
-use std::mem::replace;
 use std::sync::ledger::Ledger;
 
 /// A store in memory, which tells its content and never fails. A look-up and a write take
@@ -31,10 +28,6 @@ use std::sync::ledger::Ledger;
 pub struct MemStore {
     early: PairTree,
     late: LatePairs,
-    // Of the keys in the early part.
-    found: LastFound,
-    // The memory of the key that was searched for last.
-    asked: Vec<u8>,
 }
 
 impl Model for MemStore {
@@ -80,8 +73,6 @@ impl MemStore {
         MemStore {
             early: PairTree::new(alloc),
             late: LatePairs::new(alloc),
-            found: LastFound::new(),
-            asked: Vec::new(alloc),
         }
     }
 
@@ -124,47 +115,20 @@ impl MemStore {
         Ok(store)
     }
 
-    // Memory for the key of a search: that of the last one.
-    fn asked(&mut self, alloc: Global, key: &[u8]) -> Result<HeldPair, NoMem>
-        ensures same { self.new ≡ self.old }
-        ensures pair { IfOk result (λ asked. asked ≡ (key.now, [])) }
-    {
-        HeldPair::asked(replace(&mut self.asked, Vec::new(alloc)), key)
-    }
-
-    // The value of a key that is not late, which is remembered where it has one.
-    fn early_value(&mut self, alloc: Global, key: &[u8]) -> Result<Option<Bytes>, NoMem>
-        requires { is_from first_late key.now ≡ false }
-        ensures same { self.new ≡ self.old }
-        ensures value { IfOk result (λ found. found ≡ value_at self.old key.now) }
-    {
-        let asked = self.asked(alloc, key)?;
-        let value = copied(alloc, self.early.find(&asked))?;
-        self.asked = asked.into_memory();
-        if value.is_some() {
-            self.found.note(key);
-        }
-        Ok(value)
-    }
-
-    fn value(&mut self, alloc: Global, key: &[u8]) -> Result<Option<Bytes>, NoMem>
-        ensures same { self.new ≡ self.old }
-        ensures value { IfOk result (λ found. found ≡ value_at self.old key.now) }
+    fn find(&self, key: &[u8]) -> Option<&[u8]>
+        ensures { option_copied result ≡ value_at self.now key.now }
     {
         if is_late(key) {
-            copied(alloc, self.late.find(key))
+            self.late.find(key)
         } else {
-            self.early_value(alloc, key)
+            self.early.find(key)
         }
     }
 
-    fn find(&self, alloc: Global, key: &[u8]) -> Result<Option<&[u8]>, NoMem>
-        ensures { IfOk result (λ found. option_copied found ≡ value_at self.now key.now) }
+    fn value(&self, alloc: Global, key: &[u8]) -> Result<Option<Bytes>, NoMem>
+        ensures { IfOk result (λ found. found ≡ value_at self.now key.now) }
     {
-        if is_late(key) {
-            return Ok(self.late.find(key));
-        }
-        Ok(self.early.find(&HeldPair::new(alloc, key, &[])?))
+        copied(alloc, self.find(key))
     }
 
     fn part(&self, alloc: Global, low: &[u8], high: &[u8], limit: u32) -> Result<List<Pair>, NoMem>
@@ -190,22 +154,22 @@ impl MemStore {
         if is_late(low) {
             return self.late.number(alloc, low, high, cap);
         }
-        let early = self.early.number(alloc, low, high, cap)?;
+        let early = self.early.number(low, high, cap);
         if !is_late(high) {
             return Ok(early);
         }
         Ok(early + self.late.number(alloc, low, high, cap - early)?)
     }
 
-    fn admits(&self, alloc: Global, key: &[u8], guard: Guard) -> Result<bool, NoMem>
-        ensures { IfOk result (λ admitted. admitted ≡ admits guard.entry (value_at self.now key.now)) }
+    fn admits(&self, key: &[u8], guard: Guard) -> bool
+        ensures { result ≡ admits guard.entry (value_at self.now key.now) }
     {
         match guard {
-            Guard::Any => Ok(true),
-            Guard::Absent => Ok(self.find(alloc, key)?.is_none()),
-            Guard::Is(value) => match self.find(alloc, key)? {
-                Some(held) => Ok(are_same(held, value)),
-                None => Ok(false),
+            Guard::Any => true,
+            Guard::Absent => self.find(key).is_none(),
+            Guard::Is(value) => match self.find(key) {
+                Some(held) => are_same(held, value),
+                None => false,
             },
         }
     }
@@ -217,30 +181,18 @@ impl MemStore {
         if is_late(key) {
             self.late.put(alloc, key, value)
         } else {
-            self.early.put(alloc, key, value, self.found.has(key))
+            self.early.put(alloc, key, value)
         }
     }
 
-    // Takes the pair of a key that is not late out.
-    fn take_out(&mut self, asked: &HeldPair)
-        requires { is_from first_late asked.now.0 ≡ false }
-        ensures { self.new ≡ remove self.old asked.now.0 }
-    {
-        self.early.take_out(asked);
-    }
-
-    fn remove(&mut self, alloc: Global, key: &[u8]) -> Result<(), NoMem>
-        ensures ok { OnOk result (self.new ≡ remove self.old key.now) }
-        ensures err { OnErr result (self.new ≡ self.old) }
+    fn remove(&mut self, key: &[u8])
+        ensures { self.new ≡ remove self.old key.now }
     {
         if is_late(key) {
             self.late.take_out(key);
-            return Ok(());
+        } else {
+            self.early.take_out(key);
         }
-        let asked = self.asked(alloc, key)?;
-        self.take_out(&asked);
-        self.asked = asked.into_memory();
-        Ok(())
     }
 
     // Makes a write that is admitted.
@@ -249,7 +201,10 @@ impl MemStore {
         ensures err { OnErr result (self.new ≡ self.old) }
     {
         match new {
-            None => self.remove(alloc, key),
+            None => {
+                self.remove(key);
+                Ok(())
+            }
             Some(value) => self.set(alloc, key, value),
         }
     }
@@ -349,10 +304,8 @@ impl<L: Ledger> Store<L> for MemStore {
         meter: &mut Meter<L>,
     ) -> Result<bool, StoreErr> {
         meter.charge(0);
-        match self.admits(alloc, key, guard) {
-            Ok(true) => {}
-            Ok(false) => return Ok(false),
-            Err(_) => return Err(StoreErr::NoMem),
+        if !self.admits(key, guard) {
+            return Ok(false);
         }
         match self.change(alloc, key, new) {
             Ok(()) => Ok(true),

@@ -1,22 +1,23 @@
-//! An ordered set of pairs, each in one piece of memory, seen as its content.
-ghost use Rattle.std.specs.Prelude.{◌≡◌, ◌++◌, IfOk, OnOk, OnErr, map, take, length, min, if◌then◌else◌};
-ghost use Rattle.std.specs.Option.{option_map, option_copied};
+//! Pairs in the order of their keys, each in one piece of memory, seen as their content.
+ghost use Rattle.std.specs.Prelude.{◌≡◌, ◌++◌, IfOk, OnOk, OnErr, map, take, length, min};
+ghost use Rattle.std.specs.Option.{option_copied};
 ghost use Rattle.std.specs.FinMap.{empty, entries, get as value_at, insert, remove};
-ghost use Rattle.std.specs.Ordering.{is_lt};
-ghost use Rattle.pq_store.specs.Content.{entry, pairs_within, key_cmp};
+ghost use Rattle.pq_store.specs.Content.{entry, pairs_within};
 
+use crate::block::Block;
 use crate::held::HeldPair;
+use crate::run::Run;
+use crate::runs::Runs;
 use pq_base::{List, NoMem};
-use pq_store::{Pair, pair_of};
+use pq_store::Pair;
 use std::alloc::Global;
-use std::collections::{BTreeSet, btree_set};
 use std::marker::Model;
-use std::ops::Range;
 
-/// Pairs in the order of their keys.
+/// Pairs in the order of their keys, in blocks. A list of lists of blocks holds them, so that a write moves a short
+/// part of one list, or of each where a block is cut.
 #[derive(Drop)]
 pub(crate) struct PairTree {
-    held: BTreeSet<HeldPair>,
+    runs: Runs<Runs<Block>>,
 }
 
 impl Model for PairTree {
@@ -28,9 +29,9 @@ impl Model for PairTree {
 
     ghost coded = { content_code };
 
-    ghost view = { λ a. from_sorted a.held.keys };
+    ghost view = { λ a. from_sorted a.runs };
 
-    ghost invariant = { λ a. IsTrue (is_rising a.held.keys) };
+    ghost invariant = { λ a. IsTrue (is_rising a.runs) };
 }
 
 impl PairTree {
@@ -39,7 +40,7 @@ impl PairTree {
         ensures { result ≡ empty }
     {
         PairTree {
-            held: BTreeSet::new(alloc),
+            runs: Runs::new(alloc),
         }
     }
 
@@ -48,27 +49,14 @@ impl PairTree {
     pub(crate) fn copy_all(&self, alloc: Global, copies: &mut List<Pair>) -> Result<(), NoMem>
         ensures { OnOk result (map entry copies.new ≡ map entry copies.old ++ entries self.now) }
     {
-        for pair in &self.held {
-            copies.push(alloc, pair_of(alloc, pair.key(), pair.value())?)?;
-        }
-        Ok(())
-    }
-
-    // The pair of a key.
-    fn find_pair(&self, asked: &HeldPair) -> Option<&HeldPair>
-        ensures { option_map (λ pair. pair.1) (option_copied result) ≡ value_at self.now asked.now.0 }
-    {
-        self.held.get(asked)
+        self.runs.copy_all(alloc, copies)
     }
 
     /// The value of a key.
-    pub(crate) fn find(&self, asked: &HeldPair) -> Option<&[u8]>
-        ensures { option_copied result ≡ value_at self.now asked.now.0 }
+    pub(crate) fn find(&self, key: &[u8]) -> Option<&[u8]>
+        ensures { option_copied result ≡ value_at self.now key.now }
     {
-        match self.find_pair(asked) {
-            Some(pair) => Some(pair.value()),
-            None => None,
-        }
+        self.runs.find(key)
     }
 
     /// Puts copies of the first pairs of a range, or of all where there are fewer, behind those that are there.
@@ -83,93 +71,30 @@ impl PairTree {
         ensures { OnOk result (map entry copies.new
             ≡ map entry copies.old ++ take limit (pairs_within self.now low.now high.now)) }
     {
-        let bounds = bounds_of(alloc, low, high)?;
-        copy_range(alloc, self.held.range(bounds), limit, copies)
+        let most = copies.items().len() + limit as usize;
+        self.runs.copy_range(alloc, low, high, most, copies)
     }
 
     /// The lesser of `cap` and the number of pairs of a range.
-    pub(crate) fn number(
-        &self,
-        alloc: Global,
-        low: &[u8],
-        high: &[u8],
-        cap: u32,
-    ) -> Result<u32, NoMem>
-        ensures { IfOk result (λ n. n ≡ min cap (length (pairs_within self.now low.now high.now))) }
+    pub(crate) fn number(&self, low: &[u8], high: &[u8], cap: u32) -> u32
+        ensures { result ≡ min cap (length (pairs_within self.now low.now high.now)) }
     {
-        let bounds = bounds_of(alloc, low, high)?;
-        Ok(self.held.range(bounds).take(cap as usize).count() as u32)
+        self.runs.number(low, high, cap)
     }
 
-    // Puts a pair, by one search where it is new. One that is there already stays at first, and the new one is made
-    // again.
-    fn put_new(&mut self, alloc: Global, key: &[u8], value: &[u8]) -> Result<(), NoMem>
+    /// Puts a pair.
+    pub(crate) fn put(&mut self, alloc: Global, key: &[u8], value: &[u8]) -> Result<(), NoMem>
         ensures ok { OnOk result (self.new ≡ insert self.old key.now value.now) }
         ensures err { OnErr result (self.new ≡ self.old) }
     {
-        if !self.held.insert(HeldPair::new(alloc, key, value)?)? {
-            self.held.replace(HeldPair::new(alloc, key, value)?)?;
-        }
-        Ok(())
-    }
-
-    // Puts a pair, by one search where it is there already, and by two where it is new.
-    fn put_over(&mut self, alloc: Global, key: &[u8], value: &[u8]) -> Result<(), NoMem>
-        ensures ok { OnOk result (self.new ≡ insert self.old key.now value.now) }
-        ensures err { OnErr result (self.new ≡ self.old) }
-    {
-        self.held.replace(HeldPair::new(alloc, key, value)?)?;
-        Ok(())
-    }
-
-    /// Puts a pair, by one search where it is there already as `is_likely` has it, or isn't.
-    pub(crate) fn put(
-        &mut self,
-        alloc: Global,
-        key: &[u8],
-        value: &[u8],
-        is_likely: bool,
-    ) -> Result<(), NoMem>
-        ensures ok { OnOk result (self.new ≡ insert self.old key.now value.now) }
-        ensures err { OnErr result (self.new ≡ self.old) }
-    {
-        if is_likely {
-            self.put_over(alloc, key, value)
-        } else {
-            self.put_new(alloc, key, value)
-        }
+        let pair = HeldPair::new(alloc, key, value)?;
+        self.runs.put(alloc, pair)
     }
 
     /// Takes the pair of a key out.
-    pub(crate) fn take_out(&mut self, asked: &HeldPair)
-        ensures { self.new ≡ remove self.old asked.now.0 }
+    pub(crate) fn take_out(&mut self, key: &[u8])
+        ensures { self.new ≡ remove self.old key.now }
     {
-        self.held.remove(asked);
+        self.runs.take_out(key);
     }
-}
-
-// The bounds of a range from a low key up to a high one. Where that is below the low one, they are both the low one.
-fn bounds_of(alloc: Global, low: &[u8], high: &[u8]) -> Result<Range<HeldPair>, NoMem>
-    ensures start { IfOk result (λ bounds. bounds.start.0 ≡ low.now) }
-    ensures end { IfOk result (λ bounds. bounds.end.0
-        ≡ (if is_lt (key_cmp low.now high.now) then high.now else low.now)) }
-{
-    let start = HeldPair::new(alloc, low, &[])?;
-    let end = if low.cmp(high).is_lt() { high } else { low };
-    Ok(start..HeldPair::new(alloc, end, &[])?)
-}
-
-// Copies of the first pairs of a range, or of all where there are fewer.
-fn copy_range(
-    alloc: Global,
-    range: btree_set::Range<'_, HeldPair>,
-    limit: u32,
-    copies: &mut List<Pair>,
-) -> Result<(), NoMem>
-    ensures { OnOk result (map entry copies.new ≡ map entry copies.old ++ take limit range.entry) }
-{
-    for pair in range.take(limit as usize) {
-        copies.push(alloc, pair_of(alloc, pair.key(), pair.value())?)?;
-    }
-    Ok(())
 }

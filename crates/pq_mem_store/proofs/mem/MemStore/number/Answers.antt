@@ -10,9 +10,9 @@ returns-then-is_late c = on_ok_value c.number.result
 
 pub returns-then-not-is_late : goal.returns-then-not-is_late
 returns-then-not-is_late c = rw (← c.self.view_is)
-    (c.in_ok-early.ensures ∙ number_early first_late c.self.inside.early c.self.inside.late c.self.invariant c.args.low.now c.args.high.now c.args.cap
+    (c.number-early.ensures ∙ number_early first_late c.self.inside.early c.self.inside.late c.self.invariant c.args.low.now c.args.high.now c.args.cap
     (sym c.is_late-2.ensures ∙ c.if-not-is_late.true))
 
 pub returns : goal.returns
 returns c = rw (← c.self.view_is)
-    (number_both first_late c.self.inside.early c.self.inside.late c.self.invariant c.args.low.now c.args.high.now c.args.cap _ _ c.in_ok-early.ensures c.in_ok-number.ensures)
+    (number_both first_late c.self.inside.early c.self.inside.late c.self.invariant c.args.low.now c.args.high.now c.args.cap _ _ c.number-early.ensures c.in_ok-number.ensures)

@@ -1,0 +1,63 @@
+use Rattle.std.proofs.Common.{◌<◌, ◌++◌, ◌∙◌, ap, sym, map, filter, take, drop, length, arith}
+use Rattle.std.specs.List.{flat_map}
+use Rattle.std.specs.Ordering.{is_le}
+use Rattle.std.proofs.lemmas.List.{take_all}
+use Rattle.pq_store.specs.Content.{entry, is_within, key_cmp}
+use Rattle.pq_mem_store.proofs.Seats.{have_read, range_start, range_more, range_full, within_more, within_rest, within_whole, within_done}
+use Rattle.pq_mem_store.proofs.runs.RunsRun.copy_range.Goals as goal
+
+pub key-requires : goal.key-requires
+key-requires g c =
+    let within : c.loop-run.run-index < length c.from_seat-run-items.result.now = omega arith in
+    have_read g.R.Begins.pairs c.from_seat-run-items.result.now c.loop-run.run-index c.run-item.result c.from_seat-run-items.ensures.have within c.run-item.is
+
+pub loop-run-init : goal.loop-run-init
+loop-run-init g c = record {
+  few = c.requires;
+  so_far = range_start c.args.most c.args.copies.now c.requires;
+}
+
+pub loop-run-preserved : goal.loop-run-preserved
+loop-run-preserved g c =
+    let within : c.loop-run.run-index < length c.from_seat-run-items.result.now = omega arith in
+    record {
+      few = c.in_ok-copy_range.ensures.few;
+      so_far = range_more c.args.most (map entry c.args.copies.now) (map entry c.loop-run.copies) (map entry c.copy_range.new.copies) _ _ _ c.loop-run.invariant.so_far c.in_ok-copy_range.ensures.ok
+          (within_more g.R.Begins.pairs c.args.low.now c.args.high.now c.from_seat-run-items.result.now c.loop-run.run-index c.run-item.result within c.run-item.is);
+    }
+
+pub returns-then-items-most : goal.returns-then-items-most
+returns-then-items-most g c =
+    let pairs = g.R.Begins.pairs in
+    let runs = c.from_seat-run-items.result.now in
+    record {
+      few = c.loop-run.invariant.few;
+      ok = range_full c.args.most (map entry c.args.copies.now) _ (filter (is_within c.args.low.now c.args.high.now) (flat_map pairs (drop c.loop-run.run-index runs))) (filter (is_within c.args.low.now c.args.high.now) c.args.self.now)
+          c.loop-run.copies c.loop-run.invariant.so_far (ap length (sym c.items.ensures) ∙ c.if-items-most.true)
+          (within_whole pairs c.args.low.now c.args.high.now c.self.inside.runs.items c.as_slice.result.now runs c.args.self.now c.self.view_is c.as_slice.ensures.value (c.from_seat-run-items.ensures.same c.args.high.now)
+          ∙ within_rest pairs c.args.low.now c.args.high.now runs c.loop-run.run-index);
+    }
+
+pub returns-then-is_le : goal.returns-then-is_le
+returns-then-is_le g c =
+    let pairs = g.R.Begins.pairs in
+    let runs = c.from_seat-run-items.result.now in
+    let within : c.loop-run.run-index < length runs = omega arith in
+    record {
+      few = c.loop-run.invariant.few;
+      ok = c.loop-run.invariant.so_far ∙ ap (λ ps. take c.args.most (map entry c.args.copies.now ++ ps)) (sym
+          (within_whole pairs c.args.low.now c.args.high.now c.self.inside.runs.items c.as_slice.result.now runs c.args.self.now c.self.view_is c.as_slice.ensures.value (c.from_seat-run-items.ensures.same c.args.high.now)
+          ∙ within_done pairs c.args.low.now c.args.high.now runs c.loop-run.run-index c.run-item.result c.from_seat-run-items.ensures.have c.from_seat-run-items.ensures.rising within c.run-item.is
+          (ap (λ k. is_le (key_cmp c.args.high.now k)) (sym c.key.ensures) ∙ ap is_le (sym c.cmp.ensures) ∙ sym c.is_le.ensures ∙ c.if-is_le.true)));
+    }
+
+pub returns : goal.returns
+returns g c = record {
+  few = c.loop-run.invariant.few;
+  ok = c.loop-run.invariant.so_far ∙ ap (λ rs. take c.args.most (map entry c.args.copies.now ++ filter (is_within c.args.low.now c.args.high.now) (flat_map g.R.Begins.pairs rs)))
+      (take_all c.loop-run.run-index c.from_seat-run-items.result.now c.loop-run-test.false)
+      ∙ ap (λ ps. take c.args.most (map entry c.args.copies.now ++ ps)) (
+      c.from_seat-run-items.ensures.same c.args.high.now
+      ∙ ap (λ rs. filter (is_within c.args.low.now c.args.high.now) (flat_map g.R.Begins.pairs rs)) c.as_slice.ensures.value
+      ∙ ap (filter (is_within c.args.low.now c.args.high.now)) c.self.view_is);
+}
