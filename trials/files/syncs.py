@@ -7,18 +7,23 @@ import subprocess
 
 from common import answers, fail, remove
 
-COUNTED = re.compile(r"^\S+ +\S+ +\S+ +(\d+) .*\bf(?:data)?sync$", re.MULTILINE)
+COUNTED = re.compile(r"^ *\S+ +\S+ +\S+ +(\d+) .*\bf(?:data)?sync$", re.MULTILINE)
 # How many statements of a kind are counted together.
 NUMBER = 20
 # Numbers of indexes of a table, and of rows over which one is filled.
 INDEXES, ROWS = (0, 1, 9), (600, 2000)
 
 
+def prepare(column: int) -> bytes:
+    """A query that makes an index."""
+    return f"PREPARE q{column} AS SELECT m.id FROM m ORDER BY m.c{column} LIMIT 10;\n".encode()
+
+
 def table(indexes: int) -> bytes:
-    """A table with so many indexes: each limit makes one."""
-    columns = [f"c{i}" for i in range(max(indexes, 1))]
-    limits = "".join(f", CARDINALITY LIMIT 9999 ({column})" for column in columns[:indexes])
-    return f"CREATE TABLE m (id INT, {' INT, '.join(columns)} INT, PRIMARY KEY (id){limits});\n".encode()
+    """A table with so many indexes."""
+    columns = "".join(f"c{i} INT, " for i in range(max(indexes, 1)))
+    made = f"CREATE TABLE m (id INT, {columns}PRIMARY KEY (id));\n".encode()
+    return made + b"".join(prepare(column) for column in range(indexes))
 
 
 def inserts(first: int, number: int, columns: int) -> bytes:
@@ -29,7 +34,8 @@ def inserts(first: int, number: int, columns: int) -> bytes:
 def updates(number: int, columns: int) -> bytes:
     """Each changes all columns, and so an entry of each index."""
     changes = ", ".join(f"c{i} = [v]" for i in range(columns))
-    return "".join(f"UPDATE m SET {changes.replace('[v]', str(key + 1))} WHERE id = {key};\n" for key in range(number)).encode()
+    texts = (f"UPDATE m SET {changes.replace('[v]', str(key + 1))} WHERE id = {key};\n" for key in range(number))
+    return "".join(texts).encode()
 
 
 def deletes(number: int) -> bytes:
@@ -47,11 +53,13 @@ def waited(program: pathlib.Path, path: pathlib.Path, script: bytes) -> int:
 
 
 def waits(program: pathlib.Path, path: pathlib.Path, before: bytes, script: bytes) -> int:
-    """How many syncs a script waits for over a file that another has made, beyond those of the opening and the closing."""
+    """How many syncs a script waits for over a file that another has made, beyond those of its opening and closing.
+
+    Those are of a run with one definition, which is one write of the store and one sync."""
     remove(path)
     answers(program, path, before)
-    empty = waited(program, path, b"")
-    return waited(program, path, script) - empty
+    ends = waited(program, path, b"CREATE TABLE other (id INT, PRIMARY KEY (id));\n") - 1
+    return waited(program, path, script) - ends
 
 
 def tell(program: pathlib.Path, folder: pathlib.Path) -> None:
@@ -70,6 +78,5 @@ def tell(program: pathlib.Path, folder: pathlib.Path) -> None:
         ]
         print(f"{program.name}, {indexes} indexes: {found} syncs of {NUMBER} INSERTs, UPDATEs, DELETEs", flush=True)
     for number in ROWS:
-        script = b"PREPARE q AS SELECT m.id FROM m ORDER BY m.c0 LIMIT 10;\n"
-        found = waits(program, path, table(0) + inserts(0, number, 1), script)
+        found = waits(program, path, table(0) + inserts(0, number, 1), prepare(0))
         print(f"{program.name}: {found} syncs of a PREPARE with an index over {number} rows", flush=True)
