@@ -1,4 +1,4 @@
-"""Tries piql_file on real files: what it refuses, kills, syncs that fail, losses of power, and other versions.
+"""Tries piql_file on real files: what it refuses, a full disk, kills, syncs that fail, losses of power, and other versions.
 
     python3 trials/files                  all of it but what needs an older program
     python3 trials/files refusals losses  these trials alone
@@ -22,6 +22,7 @@ import tempfile
 from collections.abc import Callable
 from dataclasses import dataclass
 
+import full
 import losses
 import recorded
 import refusals
@@ -93,6 +94,10 @@ def try_refusals(given: Given) -> None:
     refusals.try_all(given.program, given.folder)
 
 
+def try_full(given: Given) -> None:
+    full.try_all(given.program, given.folder)
+
+
 def try_syncs(given: Given) -> None:
     for program in filter(None, (given.older, given.program)):
         syncs.tell(program, given.folder)
@@ -100,6 +105,7 @@ def try_syncs(given: Given) -> None:
 
 TRIALS: dict[str, Callable[[Given], None]] = {
     "refusals": try_refusals,
+    "full": try_full,
     "losses": try_losses,
     "older": try_older,
     "syncs": try_syncs,
