@@ -28,7 +28,7 @@ from .hosts.urls import is_url, open_link
 from .links import FileLink, Link, MemoryLink
 from .migrate import migrate
 from .page import Page, page
-from .plain import plain_path, plain_seconds
+from .plain import plain_count, plain_path, plain_seconds
 from .reports import Row, Value, Work
 from .socketlink import SocketLink
 from .types import (
@@ -62,6 +62,7 @@ def connect(
     reader: bool = False,
     step: float | None = None,
     error_on_missing: bool = False,
+    index_rows: int = 0,
 ) -> Connection:
     """Opens a store: a file, `unix:SOCKET` of a piql-serve, `etcd://..`, `postgresql://..` or `:memory:`.
 
@@ -72,11 +73,13 @@ def connect(
     file or in memory, or a server, until the report; over a cluster the engine and each call of the store. Then the
     wait is ended, and the error says what stands. None is 60 over a cluster, and no limit elsewhere. Over a cluster,
     any number of connections with reader=True read beside the one that writes. An UPDATE or a DELETE that finds no row
-    has the rowcount 0; with error_on_missing=True it raises an IntegrityError, E504.
+    has the rowcount 0; with error_on_missing=True it raises an IntegrityError, E504. A piql-serve refuses a PREPARE
+    whose index would go over more rows than it allows, as all its clients wait for it; `index_rows` allows so many.
     """
     target = plain_path(path, "the store")
     timeout = plain_seconds(timeout, "timeout")
     seconds = None if step is None else plain_seconds(step, "step")
+    rows = plain_count(index_rows, "index_rows")
     if reader and not is_url(target):
         raise InterfaceError(f"{target} has no readers beside its writer: reader=True is for the store of a cluster")
     link: Link
@@ -85,7 +88,7 @@ def connect(
     elif is_url(target):
         link = open_link(target, program, timeout, CLUSTER_STEP if seconds is None else seconds, reader)
     elif target.startswith("unix:"):
-        link = SocketLink(target[len("unix:") :], timeout, seconds)
+        link = SocketLink(target[len("unix:") :], timeout, seconds, rows)
     else:
         link = FileLink(target, program, timeout, seconds)
     try:

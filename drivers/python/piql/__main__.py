@@ -48,7 +48,7 @@ def run_new(given: argparse.Namespace) -> int:
 
 def run_migrate(given: argparse.Namespace) -> int:
     """Grows a schema."""
-    with connect(given.file) as connection:
+    with connect(given.file, index_rows=given.index_rows) as connection:
         made = migrate(connection, given.schema, out=sys.stdout)
     print(f"{len(made)} definitions made")
     return 0
@@ -155,7 +155,8 @@ def parser() -> argparse.ArgumentParser:
         return made
 
     command("new", run_new, "folder")
-    command("migrate", run_migrate, "file", "schema")
+    migrating = command("migrate", run_migrate, "file", "schema")
+    migrating.add_argument("--index-rows", type=int, default=0, metavar="N", help="if a server allows an index fewer")
     bounds = command("bounds", run_bounds, "file")
     bounds.add_argument("--write", metavar="PATH")
     bounds.add_argument("--check", metavar="PATH")

@@ -44,6 +44,13 @@ def plain_seconds(given: object, what: str) -> float:
     return float(min(given, LONGEST))
 
 
+def plain_count(given: object, what: str) -> int:
+    """A number that a frame has room for."""
+    if type(given) is not int or not 0 <= given < 1 << 32:
+        raise InterfaceError(f"{what} is a number, from 0 and below 2^32")
+    return given
+
+
 def plain_list(given: object) -> tuple[object, ...]:
     """The values of a list, a tuple or another sequence, which is read once."""
     if type(given) not in (tuple, list) and (isinstance(given, (str, bytes)) or not isinstance(given, Sequence)):

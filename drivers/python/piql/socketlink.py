@@ -56,20 +56,21 @@ def told_end(said: bytes) -> DatabaseError:
     return with_status(status, text)
 
 
-def milliseconds(seconds: float) -> int:
-    """A limit as a frame has it, where 0 would say that there is none."""
-    return max(1, round(min(seconds * 1000, 2.0**32 - 1)))
+def milliseconds(seconds: float | None) -> int:
+    """A limit as a frame has it, where 0 says that there is none."""
+    return 0 if seconds is None else max(1, round(min(seconds * 1000, 2.0**32 - 1)))
 
 
 class SocketLink:
     """A server's socket. A statement that only reads is sent again where the server was stopped and started.
 
     `timeout` is for how many seconds a server that isn't there is tried again, `seconds` for how long it may take for a
-    report, the statements of others before this one among it; None is without an end.
+    report, the statements of others before this one among it; None is without an end. An index may be made over `rows`
+    rows where the server allows fewer.
     """
 
-    def __init__(self, path: str, timeout: float, seconds: float | None = None) -> None:
-        self.path, self.timeout, self.seconds = path, timeout, seconds
+    def __init__(self, path: str, timeout: float, seconds: float | None = None, rows: int = 0) -> None:
+        self.path, self.timeout, self.seconds, self.rows = path, timeout, seconds, rows
         self.owner = os.getpid()
         self.socket: TimedSocket | None = None
         self.reach()
@@ -125,11 +126,11 @@ class SocketLink:
 
     def reported(self, statement: bytes, seconds: float | None) -> str:
         """The one whole report that the server sends. Its number is that of the server's run, which checks it."""
-        kind, text, wait = STATEMENT, statement, seconds
-        if seconds is not None:
-            # The server's own word comes first: it knows whether the statement was still waiting.
-            kind, text, wait = LIMITED, LIMITS.pack(milliseconds(seconds), 0) + statement, seconds + GRACE_SECONDS
-        report = self.asked(kind, text, REPORT, wait)
+        kind, text = STATEMENT, statement
+        if seconds is not None or self.rows:
+            kind, text = LIMITED, LIMITS.pack(milliseconds(seconds), self.rows) + statement
+        # The server's own word comes first: it knows whether the statement was still waiting.
+        report = self.asked(kind, text, REPORT, None if seconds is None else seconds + GRACE_SECONDS)
         if number_of(report) is None:
             self.close()
             raise InternalError(NO_ANSWER)

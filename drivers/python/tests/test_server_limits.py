@@ -19,6 +19,7 @@ from piql.server.observed import Observed
 from piql.server.requests import Request
 from piql.server.watch import Watch
 from piql.server.worker import Worker
+from piql.socketlink import SocketLink
 from served import ServedCase, asked, greeted
 
 WRITE = "INSERT INTO t VALUES (1, 'x');"
@@ -151,6 +152,28 @@ class IndexTest(ServedCase):
         self.assertEqual(len(self.made()), 3)
         errors = server.end()[1]
         self.assertEqual(errors.count("event=index-not-counted table=t\n"), 1)
+
+    def test_what_a_client_allows_goes_with_each_statement(self) -> None:
+        sent: list[tuple[bytes, bytes]] = []
+
+        def answer(_: object, kind: bytes, text: bytes, wanted: bytes, seconds: float | None) -> bytes:
+            sent.append((kind, text))
+            return b"1 ok bound 0 0 used 0 0\n"
+
+        self.serve()
+        with mock.patch.object(SocketLink, "asked", answer):
+            for rows, seconds, wanted in (
+                (0, None, (STATEMENT, b"SHOW;")),
+                (7, None, (LIMITED, LIMITS.pack(0, 7) + b"SHOW;")),
+                (7, 2.0, (LIMITED, LIMITS.pack(2000, 7) + b"SHOW;")),
+            ):
+                link = SocketLink(str(self.at), 5.0, seconds, rows)
+                self.addCleanup(link.close)
+                link.exchange(b"SHOW;", True)
+                self.assertEqual(sent.pop(), wanted)
+        for rows in (-1, 1 << 32, "7", True):
+            with self.assertRaises(piql.InterfaceError):
+                piql.connect(f"unix:{self.at}", index_rows=rows)
 
     def test_the_query_of_a_prepare(self) -> None:
         for text, found in (

@@ -18,7 +18,8 @@ from .requests import Request
 ROWS = 2
 REFUSED = (
     "this PREPARE makes the index {table} ({columns}) over more than {rows} rows. No other statement is made meanwhile,"
-    " and it can't be given up: so it wasn't made. A client may allow more rows, and so does --index-rows of the server"
+    " and it can't be given up: so it wasn't made. A client may allow more rows (connect(.., index_rows=N)), and"
+    " so may the server (--index-rows N)"
 )
 
 
