@@ -214,7 +214,7 @@ class Interrupt:
     KINDS = (TimeoutError, ConnectionResetError, BrokenPipeError, BlockingIOError, OSError, ZeroDivisionError)
 
     def __init__(self, case: unittest.TestCase, seconds: float) -> None:
-        self.count, self.seconds, self.is_armed = 0, seconds, False
+        self.count, self.runs, self.seconds, self.is_armed = 0, 0, seconds, False
         before = signal.signal(signal.SIGALRM, self.handle)
         case.addCleanup(signal.signal, signal.SIGALRM, before)
         case.addCleanup(signal.setitimer, signal.ITIMER_REAL, 0)
@@ -230,7 +230,9 @@ class Interrupt:
         try:
             try:
                 self.is_armed = True
-                signal.setitimer(signal.ITIMER_REAL, self.seconds * (1 + self.count % 7))
+                # From times in which nothing is done yet to some in which all is, also on a machine that does much else.
+                signal.setitimer(signal.ITIMER_REAL, self.seconds * 2 ** (self.runs % 13))
+                self.runs += 1
                 run()
                 return True
             finally:
@@ -264,10 +266,10 @@ class SentOnceTest(PipeCase):
         return {int(text.split(b"(")[1].split(b")")[0]) for text in texts}
 
     def test_over_a_file(self) -> None:
-        connection, interrupt = self.open(), Interrupt(self, 0.0002)
+        connection, interrupt = self.open(), Interrupt(self, 0.00002)
         link = connection.link()
         assert isinstance(link, FileLink)
-        told = [self.was_told(interrupt, link, number) for number in range(60)]
+        told = [self.was_told(interrupt, link, number) for number in range(130)]
         connection.close()
         sent = self.sent()
         asked = Counter(sent[it.start : it.end] for it in pieces(sent) if b"INSERT" in sent[it.start : it.end])
