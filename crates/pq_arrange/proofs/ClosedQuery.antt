@@ -17,7 +17,8 @@ use Rattle.pq_schema.specs.declared.query.Pred.{Pred}
 use Rattle.pq_schema.specs.declared.query.OrderItem.{OrderItem}
 use Rattle.pq_schema.specs.declared.query.Query.{Query}
 use Rattle.pq_base.specs.Values.{same_kind}
-use Rattle.pq_schema.specs.Relations.{table_of, is_equality, is_null_test}
+use Rattle.pq_base.specs.Comparing.{is_null_test}
+use Rattle.pq_schema.specs.Relations.{table_of, is_equality}
 use Rattle.pq_schema.specs.Resolved.{IsResolved, IsPredicate, IsOperand, IsColumnOf, IsParam, ref_type, param_type, is_param}
 use Rattle.pq_base.proofs.Members.{each_by_in, in_filter, in_map, map_in, in_flat_map, flat_map_in, in_either, in_left, in_right, in_range, all_member, any_at, any_from}
 use Rattle.pq_arrange.specs.Classes.{is_ref, is_given, class_of, is_in, classes, column_refs_at, members, gives, equality_of, is_later, beside, class_joins, class_preds, others, closed_query}

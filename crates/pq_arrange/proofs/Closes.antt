@@ -7,15 +7,16 @@ use Rattle.pq_base.specs.declared.value.Value.{Value}
 use Rattle.pq_base.specs.Members.{In}
 use Rattle.pq_schema.specs.declared.table.Table.{Table}
 use Rattle.pq_schema.specs.declared.query.ColRef.{ColRef}
-use Rattle.pq_schema.specs.declared.query.Op.{Op}
-use Rattle.pq_schema.specs.declared.query.Op.TheVariants as op
+use Rattle.pq_base.specs.declared.op.Op.{Op}
+use Rattle.pq_base.specs.declared.op.Op.TheVariants as op
 use Rattle.pq_schema.specs.declared.query.Operand.{Operand}
 use Rattle.pq_schema.specs.declared.query.Operand.TheVariants as operand
 use Rattle.pq_schema.specs.declared.query.Pred.{Pred}
 use Rattle.pq_schema.specs.declared.query.Query.{Query}
 use Rattle.pq_schema.specs.Relations.{is_equality}
 use Rattle.pq_schema.specs.Resolved.{IsColumnOf, IsPredicate, IsOperand, same_ref}
-use Rattle.pq_plan.specs.Answer.{cell, side, compares, holds, product}
+use Rattle.pq_base.specs.Comparing.{compares}
+use Rattle.pq_plan.specs.Answer.{cell, side, holds, product}
 use Rattle.pq_base.proofs.Members.{in_filter, filter_in, in_map, map_in, in_flat_map, flat_map_in, in_either, in_left, in_right, all_at, all_from, any_from, all_member, filter_same, each_by_in}
 use Rattle.pq_arrange.specs.Classes.{is_ref, is_join, is_given, class_of, is_in, is_joined, has, is_new, classes_after, classes, members, gives, equality_of, is_later, beside, class_joins, class_preds, others_after, others, closed_query}
 use Rattle.pq_arrange.specs.Laws.{Chain, ends, rightward, leftward, SameWhenClosed, ClassesAreChains}

@@ -9,13 +9,14 @@ use Rattle.pq_base.specs.declared.value.Value.{Value}
 use Rattle.pq_base.specs.Members.{In}
 use Rattle.pq_base.specs.Values.{is_null}
 use Rattle.pq_schema.specs.declared.query.ColRef.{ColRef}
-use Rattle.pq_schema.specs.declared.query.Op.{Op}
-use Rattle.pq_schema.specs.declared.query.Op.TheVariants as op
+use Rattle.pq_base.specs.declared.op.Op.{Op}
+use Rattle.pq_base.specs.declared.op.Op.TheVariants as op
 use Rattle.pq_schema.specs.declared.query.Operand.{Operand}
 use Rattle.pq_schema.specs.declared.query.Operand.TheVariants as operand
 use Rattle.pq_schema.specs.declared.query.Pred.{Pred}
 use Rattle.pq_schema.specs.Relations.{is_equality}
-use Rattle.pq_plan.specs.Answer.{row_of, cell, side, compares, holds}
+use Rattle.pq_base.specs.Comparing.{compares}
+use Rattle.pq_plan.specs.Answer.{row_of, cell, side, holds}
 use Rattle.pq_plan.proofs.ValueOrder.{value_cmp_total}
 use Rattle.pq_arrange.specs.Moves.{order_place, move, move_operand, swap_sides, later_left_with, move_pred, permuted_combo}
 

@@ -8,9 +8,9 @@ ghost use Rattle.pq_arrange.specs.Classes.{beside, class_of, class_preds, classe
 use crate::labels::{Classes, same_column};
 use crate::moves::copy_operand;
 use crate::numbers::numbers;
-use pq_base::{List, NoMem};
+use pq_base::{List, NoMem, Op};
 use pq_predicates::table_of;
-use pq_schema::{Catalog, ColRef, Op, Operand, Pred, Query};
+use pq_schema::{Catalog, ColRef, Operand, Pred, Query};
 use std::alloc::Global;
 
 pub(crate) fn is_ref(operand: &Operand) -> bool

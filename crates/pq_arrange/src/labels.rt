@@ -4,8 +4,8 @@ ghost use Rattle.pq_schema.specs.Resolved.{same_ref};
 ghost use Rattle.pq_arrange.specs.Classes.{class_of, is_in};
 ghost use Rattle.pq_arrange.specs.Labels.{class_in, AreLabelsOf, relabelled_column, joined_labels};
 
-use pq_base::{List, NoMem};
-use pq_schema::{ColRef, Op, Operand, Pred};
+use pq_base::{List, NoMem, Op};
+use pq_schema::{ColRef, Operand, Pred};
 use std::alloc::Global;
 use std::marker::Model;
 

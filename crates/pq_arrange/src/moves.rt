@@ -4,8 +4,8 @@ ghost use Rattle.pq_schema.specs.Relations.{relation_at};
 ghost use Rattle.pq_arrange.specs.Moves.{order_place, places, move, move_operand, later_left, move_pred, move_item, reordered_query};
 
 use crate::numbers::numbers;
-use pq_base::{ColType, List, NoMem};
-use pq_schema::{ColRef, Op, Operand, OrderItem, Pred, Query, Relation};
+use pq_base::{ColType, List, NoMem, Op};
+use pq_schema::{ColRef, Operand, OrderItem, Pred, Query, Relation};
 use std::alloc::Global;
 
 /// The new number of the relation with this old one.

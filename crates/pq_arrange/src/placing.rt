@@ -11,9 +11,9 @@ ghost use Rattle.pq_arrange.specs.Placing.{arranged_order, bound_next, first_of_
 use crate::closing::is_given;
 use crate::labels::{Classes, same_column};
 use crate::numbers::numbers;
-use pq_base::{ColSet, List, NoMem};
+use pq_base::{ColSet, List, NoMem, Op};
 use pq_predicates::{data_bound, table_of};
-use pq_schema::{Catalog, ColRef, Op, Operand, Pred, Query};
+use pq_schema::{Catalog, ColRef, Operand, Pred, Query};
 use std::alloc::Global;
 
 fn is_placed(placed: &[u8], rel: u8) -> bool

@@ -1,6 +1,7 @@
 pub mod Answers
 pub mod Cells
 pub mod Columns
+pub mod Comparing
 pub mod Members
 pub mod Order
 pub mod Shapes

@@ -82,6 +82,7 @@ refusals =
     ∷ codes "E403"
     ∷ codes "E404"
     ∷ codes "E405"
+    ∷ codes "E406"
     ∷ codes "E501"
     ∷ codes "E502"
     ∷ codes "E503"
@@ -90,7 +91,11 @@ refusals =
     ∷ codes "E506"
     ∷ codes "E507"
     ∷ codes "E508"
-    ∷ codes "E510" ∷ []
+    ∷ codes "E510"
+    ∷ codes "E511"
+    ∷ codes "E512"
+    ∷ codes "E513"
+    ∷ codes "E514" ∷ []
 
 -- the words for counts outside their limits
 abbrev pub counts : List (List ℕ)
@@ -110,16 +115,19 @@ counts =
     ∷ codes "selected"
     ∷ codes "stop"
     ∷ codes "tables"
-    ∷ codes "text" ∷ []
+    ∷ codes "text"
+    ∷ codes "writes" ∷ []
 
 -- the words that are known in their places alone
 abbrev pub softs : List (List ℕ)
 softs =
     codes "ADD"
     ∷ codes "ALTER"
+    ∷ codes "BATCH"
     ∷ codes "COLUMN"
     ∷ codes "COUNTER"
     ∷ codes "DEFAULT"
+    ∷ codes "IF"
     ∷ codes "IS"
     ∷ codes "NULL"
     ∷ codes "OF"

@@ -1,7 +1,7 @@
 //! What is counted, each by the place of its word in `count_words` (docs/FORMATS.md, "Refusals").
 
 /// How many words there are.
-pub const WORDS: usize = 16;
+pub const WORDS: usize = 17;
 
 /// N of a CARDINALITY LIMIT.
 pub const CARDINALITY: u8 = 0;
@@ -50,3 +50,6 @@ pub const TABLES: u8 = 14;
 
 /// N of TEXT(n).
 pub const TEXT: u8 = 15;
+
+/// Writes of a batch.
+pub const WRITES: u8 = 16;

@@ -10,6 +10,7 @@ pub mod count_word;
 pub mod laws;
 mod list;
 mod number;
+mod op;
 mod refusal;
 pub mod refusal_place;
 mod text;
@@ -20,6 +21,7 @@ pub use cell::{copied_value, no_value, value_of};
 pub use col_set::ColSet;
 pub use list::{Bytes, List, NoMem};
 pub use number::{Bound, Choice, Used};
+pub use op::{Op, compares, meets};
 pub use refusal::{Refusal, Stopped};
 pub use text::PText;
 pub use value::{

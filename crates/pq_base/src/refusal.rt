@@ -32,8 +32,8 @@ pub enum Refusal {
     NotEmpty { table: PText },
     /// E301: the alias is unknown or repeated.
     Alias { name: PText },
-    /// E302: the operand of this predicate, counted from 1, is of another kind than its column, a text of
-    /// more than 1,000 bytes, or a column of the same relation.
+    /// E302: the operand of this predicate, or of this condition of a write, counted from 1, is of another kind
+    /// than its column, a text of more than 1,000 bytes, or a column of the same relation.
     OperandKind { pred: u8 },
     /// E303: the parameters aren't numbered from 1 without a gap, or one has two kinds.
     Params,
@@ -51,6 +51,8 @@ pub enum Refusal {
     NotPaged,
     /// E405: no counter has the name.
     NoCounter { name: PText },
+    /// E406: a SELECT that isn't prepared wants a new index over this table.
+    IndexWanted { table: PText },
     /// E501: a value does not fit its column's type.
     ValueKind { table: PText, column: PText },
     /// E502: the statement names other columns than it has to, or has another number of values.
@@ -69,6 +71,12 @@ pub enum Refusal {
     RowLong { table: PText, length: u32 },
     /// E510: a group of this counter that would grow has the greatest number of rows.
     CounterFull { name: PText },
+    /// E511: the row is there, and this condition, counted from 1, doesn't hold of it.
+    Condition { table: PText, number: u8 },
+    /// E512: the code of the batch's changes is too long.
+    BatchLong { length: u32 },
+    /// E514: what this column has is NULL, or leaves 64 bits by its ADD.
+    Sum { table: PText, column: PText },
 }
 
 // Written out, so that whoever drops a refusal makes one call for it.
@@ -101,6 +109,7 @@ impl Drop for Refusal {
             Refusal::Cursor => {}
             Refusal::NotPaged => {}
             Refusal::NoCounter { name: _name } => {}
+            Refusal::IndexWanted { table: _table } => {}
             Refusal::ValueKind {
                 table: _table,
                 column: _column,
@@ -126,6 +135,15 @@ impl Drop for Refusal {
                 length: _length,
             } => {}
             Refusal::CounterFull { name: _name } => {}
+            Refusal::Condition {
+                table: _table,
+                number: _number,
+            } => {}
+            Refusal::BatchLong { length: _length } => {}
+            Refusal::Sum {
+                table: _table,
+                column: _column,
+            } => {}
         }
     }
 }

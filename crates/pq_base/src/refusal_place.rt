@@ -69,29 +69,44 @@ pub const NOT_PAGED: usize = 21;
 /// E405.
 pub const NO_COUNTER: usize = 22;
 
+/// E406.
+pub const INDEX_WANTED: usize = 23;
+
 /// E501.
-pub const VALUE_KIND: usize = 23;
+pub const VALUE_KIND: usize = 24;
 
 /// E502.
-pub const WRONG_COLUMNS: usize = 24;
+pub const WRONG_COLUMNS: usize = 25;
 
 /// E503.
-pub const DUPLICATE_KEY: usize = 25;
+pub const DUPLICATE_KEY: usize = 26;
 
 /// E504.
-pub const NO_ROW: usize = 26;
+pub const NO_ROW: usize = 27;
 
 /// E505.
-pub const NO_PARENT: usize = 27;
+pub const NO_PARENT: usize = 28;
 
 /// E506.
-pub const REFERENCED: usize = 28;
+pub const REFERENCED: usize = 29;
 
 /// E507.
-pub const CARDINALITY: usize = 29;
+pub const CARDINALITY: usize = 30;
 
 /// E508.
-pub const ROW_LONG: usize = 30;
+pub const ROW_LONG: usize = 31;
 
 /// E510.
-pub const COUNTER_FULL: usize = 31;
+pub const COUNTER_FULL: usize = 32;
+
+/// E511.
+pub const CONDITION: usize = 33;
+
+/// E512.
+pub const BATCH_LONG: usize = 34;
+
+/// E513.
+pub const IN_BATCH: usize = 35;
+
+/// E514.
+pub const SUM: usize = 36;

@@ -176,20 +176,21 @@ pub fn keyword_table() -> WordTable<35>
     WordTable { words: &KEYWORDS }
 }
 
-const REFUSALS: [&'static str; 32] = [
+const REFUSALS: [&'static str; 37] = [
     "E101", "E102", "E103", "E104", "E201", "E202", "E203", "E204", "E205", "E206", "E207", "E208",
-    "E209", "E301", "E302", "E303", "E304", "E305", "E401", "E402", "E403", "E404", "E405", "E501",
-    "E502", "E503", "E504", "E505", "E506", "E507", "E508", "E510",
+    "E209", "E301", "E302", "E303", "E304", "E305", "E401", "E402", "E403", "E404", "E405", "E406",
+    "E501", "E502", "E503", "E504", "E505", "E506", "E507", "E508", "E510", "E511", "E512", "E513",
+    "E514",
 ];
 
 /// The table of the numbers of refusals.
-pub fn refusal_numbers() -> WordTable<32>
+pub fn refusal_numbers() -> WordTable<37>
     ensures { result ≡ refusals }
 {
     WordTable { words: &REFUSALS }
 }
 
-const COUNTS: [&'static str; 16] = [
+const COUNTS: [&'static str; 17] = [
     "cardinality",
     "columns",
     "counters",
@@ -206,21 +207,22 @@ const COUNTS: [&'static str; 16] = [
     "stop",
     "tables",
     "text",
+    "writes",
 ];
 
 /// The table of the words that name a count outside its limit.
-pub fn count_words() -> WordTable<16>
+pub fn count_words() -> WordTable<17>
     ensures { result ≡ counts }
 {
     WordTable { words: &COUNTS }
 }
 
-const SOFT: [&'static str; 9] = [
-    "ADD", "ALTER", "COLUMN", "COUNTER", "DEFAULT", "IS", "NULL", "OF", "READ",
+const SOFT: [&'static str; 11] = [
+    "ADD", "ALTER", "BATCH", "COLUMN", "COUNTER", "DEFAULT", "IF", "IS", "NULL", "OF", "READ",
 ];
 
 /// The table of the words that are known where the grammar has them, and are names elsewhere.
-pub fn soft_words() -> WordTable<9>
+pub fn soft_words() -> WordTable<11>
     ensures { result ≡ softs }
 {
     WordTable { words: &SOFT }

@@ -9,9 +9,9 @@ ghost use Rattle.pq_local_ops.specs.Codes.{is_above};
 ghost use Rattle.pq_local_ops.specs.Lists.{AreKept, ArePast, ArePart, meets_all};
 
 use crate::position::{code_at, places_of};
-use pq_base::{Dir, List, NoMem, Row};
+use pq_base::{Dir, List, NoMem, Row, compares};
 use pq_key_code::encode_key;
-use pq_operands::{cell, compares, side};
+use pq_operands::{cell, side};
 use pq_plan::Combo;
 use pq_predicates::belongs_to;
 use pq_schema::{Catalog, ColRef, Pred, Query};

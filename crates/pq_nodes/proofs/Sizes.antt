@@ -10,14 +10,15 @@ use Rattle.pq_base.specs.Members.{In}
 use Rattle.pq_base.specs.declared.value.Value.{Value}
 use Rattle.pq_base.specs.Values.{is_null, has_null}
 use Rattle.pq_base.proofs.Sorts.{length-sort_by}
-use Rattle.pq_schema.specs.declared.query.Op.TheVariants as op
+use Rattle.pq_base.specs.declared.op.Op.TheVariants as op
 use Rattle.pq_schema.specs.declared.table.Table.{Table}
 use Rattle.pq_schema.specs.declared.query.Query.{Query}
 use Rattle.pq_schema.specs.Candidates.{no_limit}
 use Rattle.pq_schema.specs.Relations.{relation_at, table_of}
 use Rattle.pq_schema.specs.Rows.{no_value, cells}
 use Rattle.pq_schema.specs.Sound.{IsQuery}
-use Rattle.pq_plan.specs.Answer.{Question, rows_at, compares, by_position, position, in_order, past}
+use Rattle.pq_base.specs.Comparing.{compares}
+use Rattle.pq_plan.specs.Answer.{Question, rows_at, by_position, position, in_order, past}
 use Rattle.pq_plan.specs.Executing.{Makes}
 use Rattle.pq_plan.specs.Kept.{row_cmp, KeepsSchema}
 use Rattle.pq_plan.specs.Meaning.{keeps, read, key_of}

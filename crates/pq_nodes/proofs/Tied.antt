@@ -10,18 +10,20 @@ use Rattle.pq_base.specs.declared.value.Value.TheVariants as value
 use Rattle.pq_base.specs.declared.value.ColType.{ColType}
 use Rattle.pq_base.specs.declared.value.ColType.TheVariants as type
 use Rattle.pq_base.specs.declared.value.Value.{Value}
-use Rattle.pq_schema.specs.declared.query.Op.TheVariants as op
+use Rattle.pq_base.specs.declared.op.Op.TheVariants as op
 use Rattle.pq_schema.specs.declared.query.Operand.{Operand}
 use Rattle.pq_schema.specs.declared.query.Operand.TheVariants as operand
 use Rattle.pq_schema.specs.declared.query.Pred.{Pred}
 use Rattle.pq_schema.specs.declared.query.Query.{Query}
 use Rattle.pq_schema.specs.declared.table.Table.{Table}
-use Rattle.pq_schema.specs.Relations.{relation_at, table_of, is_equality, is_null_test, is_before, ties, tied_set}
+use Rattle.pq_base.specs.Comparing.{is_null_test}
+use Rattle.pq_schema.specs.Relations.{relation_at, table_of, is_equality, is_before, ties, tied_set}
 use Rattle.pq_schema.specs.Resolved.{IsOperand, IsPredicate, IsResolved, ref_type, param_type}
 use Rattle.pq_schema.specs.Rows.{Rows, rows_of, no_value, value_of, types_of, same_value, agrees, row_at, KeepsSchema}
 use Rattle.pq_schema.specs.Tables.{type_at}
 use Rattle.pq_schema.proofs.TypeKinds.{kind_as, kind_from_fit, kind_from_param}
-use Rattle.pq_plan.specs.Answer.{Question, row_of, side, compares}
+use Rattle.pq_base.specs.Comparing.{compares}
+use Rattle.pq_plan.specs.Answer.{Question, row_of, side}
 use Rattle.pq_plan.specs.Meaning.{key_of}
 use Rattle.pq_plan.specs.Running.{tied_value, is_match, matching}
 use Rattle.pq_plan.proofs.Kept.{row_fits}

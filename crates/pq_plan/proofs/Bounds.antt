@@ -17,7 +17,8 @@ use Rattle.pq_schema.specs.Tables.{table_at, is_lookup, applies, least_of, least
 use Rattle.pq_schema.specs.Relations.{relation_at, no_relation, table_of, later, ties, tied_set}
 use Rattle.pq_schema.specs.Candidates.{bound_at}
 use Rattle.pq_base.specs.Members.{In, Apart}
-use Rattle.pq_plan.specs.Answer.{Question, rows_of, rows_at, compares}
+use Rattle.pq_base.specs.Comparing.{compares}
+use Rattle.pq_plan.specs.Answer.{Question, rows_of, rows_at}
 use Rattle.pq_plan.specs.Kept.{row_cmp, cells, IsNumber, KeepsSchema}
 use Rattle.pq_plan.specs.Meaning.{key_of}
 use Rattle.pq_base.proofs.Members.{each_in, each_by_in, in_filter, filter_none, all_member, at_in}

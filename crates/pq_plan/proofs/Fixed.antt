@@ -8,15 +8,16 @@ use Rattle.std.proofs.lemmas.Option.{get_or_from_slice_get}
 use Rattle.pq_base.specs.declared.value.Value.{Value}
 use Rattle.pq_base.specs.Order.{value_cmp}
 use Rattle.pq_base.specs.Values.{is_null, has_null}
-use Rattle.pq_schema.specs.declared.query.Op.{Op}
-use Rattle.pq_schema.specs.declared.query.Op.TheVariants as op
+use Rattle.pq_base.specs.declared.op.Op.{Op}
+use Rattle.pq_base.specs.declared.op.Op.TheVariants as op
 use Rattle.pq_schema.specs.declared.query.Operand.{Operand}
 use Rattle.pq_schema.specs.declared.query.Operand.TheVariants as operand
 use Rattle.pq_schema.specs.declared.query.Pred.{Pred}
 use Rattle.pq_schema.specs.Sound.{IsNamedSide, IsNamedPred}
 use Rattle.pq_schema.specs.Relations.{later, belongs_to, is_equality, is_before, ties}
 use Rattle.pq_base.specs.Members.{In}
-use Rattle.pq_plan.specs.Answer.{Question, row_of, cell, side, may_hold, compares, holds, no_value}
+use Rattle.pq_base.specs.Comparing.{may_hold, compares}
+use Rattle.pq_plan.specs.Answer.{Question, row_of, cell, side, holds, no_value}
 use Rattle.pq_plan.specs.Kept.{cells}
 use Rattle.pq_plan.specs.Meaning.{keeps}
 use Rattle.pq_plan.specs.Running.{tied_value, is_match}

@@ -5,12 +5,13 @@ use Rattle.std.specs.List.{AllByRecursion}
 use Rattle.std.proofs.lemmas.Bool.{false_from_ne_true, and_parts}
 use Rattle.std.proofs.lemmas.Option.{get_or_from_slice_get}
 use Rattle.pq_base.specs.declared.value.Value.{Value}
-use Rattle.pq_schema.specs.declared.query.Op.TheVariants as op
+use Rattle.pq_base.specs.declared.op.Op.TheVariants as op
 use Rattle.pq_schema.specs.declared.query.Pred.{Pred}
 use Rattle.pq_schema.specs.Sound.{IsNamedPred}
 use Rattle.pq_schema.specs.Relations.{ties}
 use Rattle.pq_base.specs.Members.{In, Apart}
-use Rattle.pq_plan.specs.Answer.{Question, rows_at, compares, no_value}
+use Rattle.pq_base.specs.Comparing.{compares}
+use Rattle.pq_plan.specs.Answer.{Question, rows_at, no_value}
 use Rattle.pq_plan.specs.Kept.{row_cmp, cells}
 use Rattle.pq_plan.specs.Meaning.{keeps, partners, read, key_of}
 use Rattle.pq_plan.specs.Running.{tied_value, is_match, matching, looked_up, ranged}

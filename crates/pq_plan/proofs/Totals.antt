@@ -24,7 +24,8 @@ use Rattle.pq_schema.specs.Tables.{table_at, type_at, have_no_null}
 use Rattle.pq_schema.specs.Relations.{relation_at, table_of, belongs_to, is_column, is_before, ties, spells, is_spelt, spells_one, is_whole, is_tied, is_total}
 use Rattle.pq_schema.specs.Candidates.{bound_at, can_stop_at, stop_size}
 use Rattle.pq_base.specs.Members.{In}
-use Rattle.pq_plan.specs.Answer.{Question, rows_of, row_of, rows_at, cell, side, compares, holds, no_value, answered}
+use Rattle.pq_base.specs.Comparing.{compares}
+use Rattle.pq_plan.specs.Answer.{Question, rows_of, row_of, rows_at, cell, side, holds, no_value, answered}
 use Rattle.pq_plan.specs.Kept.{cells, IsNumber, KeepsSchema}
 use Rattle.pq_plan.specs.Meaning.{keeps, mean}
 use Rattle.pq_plan.specs.Rewrites.{tree_of_reads, placed_stops, pushed_tree}

@@ -12,13 +12,14 @@ use Rattle.pq_base.specs.Order.{value_cmp, position_cmp}
 use Rattle.pq_base.specs.Values.{is_null}
 use Rattle.pq_schema.specs.declared.table.Table.{Table}
 use Rattle.pq_schema.specs.declared.query.ColRef.{ColRef}
-use Rattle.pq_schema.specs.declared.query.Op.{Op}
-use Rattle.pq_schema.specs.declared.query.Op.TheVariants as op
+use Rattle.pq_base.specs.declared.op.Op.{Op}
+use Rattle.pq_base.specs.declared.op.Op.TheVariants as op
 use Rattle.pq_schema.specs.declared.query.Operand.{Operand}
 use Rattle.pq_schema.specs.declared.query.Operand.TheVariants as operand
 use Rattle.pq_schema.specs.declared.query.Pred.{Pred}
 use Rattle.pq_schema.specs.declared.query.Query.{Query}
-use Rattle.pq_schema.specs.Relations.{relation_at, position_columns, is_null_test}
+use Rattle.pq_base.specs.Comparing.{is_null_test}
+use Rattle.pq_schema.specs.Relations.{relation_at, position_columns}
 pub use Rattle.pq_schema.specs.Rows.{rows_of, no_value}
 use Rattle.pq_schema.specs.Candidates.{stop_size}
 use Rattle.pq_base.specs.Sorting.{sort_by}
@@ -38,25 +39,6 @@ abbrev pub side : List Value → List (List Value) → Operand → Option Value
 side params combo (operand.Const value) = Some value
 side params combo (operand.Param number) = slice_get params (number - 1)
 side params combo (operand.Col col) = cell combo col
-
-abbrev pub meets : Op → Ordering → Bool
-meets op.Eq order = is_eq order
-meets op.Ne order = not (is_eq order)
-meets op.Lt order = is_lt order
-meets op.Le order = not (is_gt order)
-meets op.Gt order = is_gt order
-meets op.Ge order = not (is_lt order)
-meets op.IsNull order = is_eq order
-
--- neither value is NULL, or it is asked whether one is
-abbrev pub may_hold : Op → Value → Value → Bool
-may_hold op left right = is_null_test op || not (is_null left || is_null right)
-
--- both values are there, neither is NULL but behind IS NULL, and their order meets the operator
-abbrev pub compares : Op → Option Value → Option Value → Bool
-compares op (Some left) (Some right) = may_hold op left right && meets op (value_cmp left right)
-compares op (Some left) None = false
-compares op None right = false
 
 abbrev pub holds : List Value → List (List Value) → Pred → Bool
 holds params combo pred = compares pred.op (cell combo pred.left) (side params combo pred.right)

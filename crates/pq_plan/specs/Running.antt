@@ -2,13 +2,14 @@
 use Rattle.std.specs.Prelude.{◌≡◌, ℕ, ◌-◌, Bool, ◌==◌, ◌&&◌, List, [], ◌∷◌, ◌++◌, map, filter, flat_map, fold, take, slice_get, slice_index_or, Option, option_and_then}
 use Rattle.std.specs.List.{list_all, find}
 use Rattle.pq_base.specs.declared.value.Value.{Value}
-use Rattle.pq_schema.specs.declared.query.Op.TheVariants as op
+use Rattle.pq_base.specs.declared.op.Op.TheVariants as op
 use Rattle.pq_schema.specs.Relations.{table_of, ties}
 use Rattle.pq_schema.specs.Candidates.{no_limit}
 use Rattle.pq_plan.specs.declared.physical.Physical.{Physical}
 use Rattle.pq_schema.specs.declared.table.Table.{Table}
 use Rattle.pq_schema.specs.declared.query.Query.{Query}
-use Rattle.pq_plan.specs.Answer.{Question, side, compares, rows_at, in_order, first_past, selected_values, answer}
+use Rattle.pq_base.specs.Comparing.{compares}
+use Rattle.pq_plan.specs.Answer.{Question, side, rows_at, in_order, first_past, selected_values, answer}
 use Rattle.pq_plan.specs.Kept.{KeepsSchema}
 use Rattle.pq_plan.specs.Meaning.{keeps, read, key_of}
 use Rattle.pq_plan.specs.Nodes.{Node, lookup, limit_range, stop_scan, keep, sort, cut, project, nodes}

@@ -4,8 +4,8 @@ ghost use Rattle.std.specs.Prelude.{◌≡◌, ◌<◌, filter, map};
 ghost use Rattle.pq_schema.specs.Sound.{AreRefs};
 ghost use Rattle.pq_schema.specs.Relations.{belongs_to, ties, tied_set, is_rest, order_rest, part_of, first_column, is_column_at, keeps_range, is_range, range_on};
 
-use pq_base::ColSet;
-use pq_schema::{KeyPart, Op, Operand, OrderItem, Pred, Query};
+use pq_base::{ColSet, Op};
+use pq_schema::{KeyPart, Operand, OrderItem, Pred, Query};
 use smallvec::SmallVec;
 use std::alloc::Global;
 

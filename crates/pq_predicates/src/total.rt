@@ -8,7 +8,8 @@ ghost use Rattle.pq_schema.specs.Relations.{relation_at, table_of, is_column, sp
 
 use crate::relations::belongs_to;
 use crate::tables::{table_number, table_of};
-use pq_schema::{Catalog, Column, Foreign, Op, Operand, Pred, Query, type_at};
+use pq_base::Op;
+use pq_schema::{Catalog, Column, Foreign, Operand, Pred, Query, type_at};
 
 fn is_column(operand: &Operand, rel: u8, col: u8) -> bool
     ensures { result ≡ is_column operand.now rel col }

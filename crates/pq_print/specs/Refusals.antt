@@ -28,6 +28,7 @@ refusal_number (refusal.ParamValue number) = codes "E402"
 refusal_number refusal.Cursor = codes "E403"
 refusal_number refusal.NotPaged = codes "E404"
 refusal_number (refusal.NoCounter name) = codes "E405"
+refusal_number (refusal.IndexWanted table) = codes "E406"
 refusal_number (refusal.ValueKind table column) = codes "E501"
 refusal_number (refusal.WrongColumns table) = codes "E502"
 refusal_number (refusal.DuplicateKey table) = codes "E503"
@@ -37,6 +38,9 @@ refusal_number (refusal.Referenced table number) = codes "E506"
 refusal_number (refusal.Cardinality table number n) = codes "E507"
 refusal_number (refusal.RowLong table length) = codes "E508"
 refusal_number (refusal.CounterFull name) = codes "E510"
+refusal_number (refusal.Condition table number) = codes "E511"
+refusal_number (refusal.BatchLong length) = codes "E512"
+refusal_number (refusal.Sum table column) = codes "E514"
 
 abbrev pub refusal_field : List ℕ → List ℕ
 refusal_field text = codes " " ++ text
@@ -66,6 +70,7 @@ refusal_fields (refusal.ParamValue number) = refusal_field (decimal number)
 refusal_fields refusal.Cursor = []
 refusal_fields refusal.NotPaged = []
 refusal_fields (refusal.NoCounter name) = refusal_field name
+refusal_fields (refusal.IndexWanted table) = refusal_field table
 refusal_fields (refusal.ValueKind table column) = refusal_field table ++ refusal_field column
 refusal_fields (refusal.WrongColumns table) = refusal_field table
 refusal_fields (refusal.DuplicateKey table) = refusal_field table
@@ -76,6 +81,9 @@ refusal_fields (refusal.Cardinality table number n) =
     refusal_field table ++ refusal_field (decimal number) ++ refusal_field (decimal n)
 refusal_fields (refusal.RowLong table length) = refusal_field table ++ refusal_field (decimal length)
 refusal_fields (refusal.CounterFull name) = refusal_field name
+refusal_fields (refusal.Condition table number) = refusal_field table ++ refusal_field (decimal number)
+refusal_fields (refusal.BatchLong length) = refusal_field (decimal length)
+refusal_fields (refusal.Sum table column) = refusal_field table ++ refusal_field column
 
 abbrev pub refusal_text : Refusal → List ℕ
 refusal_text why = refusal_number why ++ refusal_fields why

@@ -6,8 +6,8 @@ use crate::names::{column_name, relation_alias, relation_table, table_columns, t
 use crate::number::put_number;
 use crate::part::{Part, put_clause, put_separated};
 use crate::print::put_dir;
-use pq_base::{Bytes, List, NoMem};
-use pq_schema::{ColRef, Op, Operand, OrderItem, Pred, Query, Relation, Stop, Table};
+use pq_base::{Bytes, List, NoMem, Op};
+use pq_schema::{ColRef, Operand, OrderItem, Pred, Query, Relation, Stop, Table};
 use std::alloc::{AllocError, Global};
 
 /// A query and the tables that it is over.

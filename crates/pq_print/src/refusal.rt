@@ -53,6 +53,7 @@ fn number_of(refusal: &Refusal) -> &'static str
         Refusal::Cursor => number_at(refusal_place::CURSOR),
         Refusal::NotPaged => number_at(refusal_place::NOT_PAGED),
         Refusal::NoCounter { .. } => number_at(refusal_place::NO_COUNTER),
+        Refusal::IndexWanted { .. } => number_at(refusal_place::INDEX_WANTED),
         Refusal::ValueKind { .. } => number_at(refusal_place::VALUE_KIND),
         Refusal::WrongColumns { .. } => number_at(refusal_place::WRONG_COLUMNS),
         Refusal::DuplicateKey { .. } => number_at(refusal_place::DUPLICATE_KEY),
@@ -62,6 +63,9 @@ fn number_of(refusal: &Refusal) -> &'static str
         Refusal::Cardinality { .. } => number_at(refusal_place::CARDINALITY),
         Refusal::RowLong { .. } => number_at(refusal_place::ROW_LONG),
         Refusal::CounterFull { .. } => number_at(refusal_place::COUNTER_FULL),
+        Refusal::Condition { .. } => number_at(refusal_place::CONDITION),
+        Refusal::BatchLong { .. } => number_at(refusal_place::BATCH_LONG),
+        Refusal::Sum { .. } => number_at(refusal_place::SUM),
     }
 }
 
@@ -108,6 +112,7 @@ fn put_fields(refusal: &Refusal, out: &mut String) -> Result<(), AllocError>
         Refusal::NoBound { alias } => put_name(alias, out),
         Refusal::TooManyRows { table }
         | Refusal::NotEmpty { table }
+        | Refusal::IndexWanted { table }
         | Refusal::WrongColumns { table }
         | Refusal::DuplicateKey { table }
         | Refusal::NoRow { table } => put_name(table, out),
@@ -115,16 +120,19 @@ fn put_fields(refusal: &Refusal, out: &mut String) -> Result<(), AllocError>
             put_count(*number, out)
         }
         Refusal::OperandKind { pred } => put_count(*pred, out),
+        Refusal::BatchLong { length } => put_count(*length, out),
         Refusal::Count { word } => put_field(count_word(*word), out),
         Refusal::BoundLarge { ops, entries } => {
             put_count(*ops, out)?;
             put_count(*entries, out)
         }
-        Refusal::ValueKind { table, column } => {
+        Refusal::ValueKind { table, column } | Refusal::Sum { table, column } => {
             put_name(table, out)?;
             put_name(column, out)
         }
-        Refusal::NoParent { table, number } | Refusal::Referenced { table, number } => {
+        Refusal::NoParent { table, number }
+        | Refusal::Referenced { table, number }
+        | Refusal::Condition { table, number } => {
             put_name(table, out)?;
             put_count(*number, out)
         }

@@ -5,7 +5,7 @@ use Rattle.std.specs.List.{AllByRecursion, IsDistinct, list_any}
 use Rattle.std.proofs.lemmas.Bool.{and_parts, not-false, not-true, ltb-true, ltb-false, leb-true, eqb-false, cases_eq, false≢true}
 use Rattle.std.proofs.lemmas.Option.{none-some, same_Some}
 use Rattle.pq_base.specs.Values.{fits_type}
-use Rattle.pq_schema.specs.Relations.{is_null_test}
+use Rattle.pq_base.specs.Comparing.{is_null_test}
 use Rattle.pq_base.specs.declared.count_word.TheConstants as count_word
 use Rattle.pq_base.specs.declared.refusal.Refusal.{Refusal}
 use Rattle.pq_base.specs.declared.refusal.Refusal.TheVariants as refusal
@@ -17,8 +17,8 @@ use Rattle.pq_base.specs.Values.{same_kind}
 use Rattle.pq_base.proofs.TypeFits.{fits_exact}
 use Rattle.pq_schema.proofs.TypeKinds.{kind_flip}
 use Rattle.pq_schema.specs.declared.query.ColRef.{ColRef}
-use Rattle.pq_schema.specs.declared.query.Op.{Op}
-use Rattle.pq_schema.specs.declared.query.Op.TheVariants as op
+use Rattle.pq_base.specs.declared.op.Op.{Op}
+use Rattle.pq_base.specs.declared.op.Op.TheVariants as op
 use Rattle.pq_schema.specs.declared.query.Operand.{Operand}
 use Rattle.pq_schema.specs.declared.query.Operand.TheVariants as operand
 use Rattle.pq_schema.specs.declared.query.OrderItem.{OrderItem}

@@ -3,7 +3,7 @@ use Rattle.std.proofs.Common.{◌≡◌, ℕ, ℤ, Bool, true, false, List, [], 
 use Rattle.std.proofs.lemmas.Bool.{false≢true}
 use Rattle.pq_base.specs.declared.value.Value.{Value}
 use Rattle.pq_base.specs.declared.value.Value.TheVariants as value
-use Rattle.pq_schema.specs.Relations.{is_null_test}
+use Rattle.pq_base.specs.Comparing.{is_null_test}
 use Rattle.pq_shape.specs.declared.soft.Soft.TheVariants as soft_word
 use Rattle.pq_grammar.specs.Language.{◌⋅◌, optional, made_from}
 use Rattle.pq_grammar.specs.Reader.{begins, pair_at, skip_at, map_at}
@@ -17,8 +17,8 @@ use Rattle.pq_shape.specs.Parts.{mark, soft, name, number, a_constant}
 use Rattle.pq_shape.proofs.Tokens.{soft_reads, soft_passes, mark_reads, name_reads, number_reads, constant_reads, constant_opens}
 use Rattle.pq_shape.specs.declared.shape.Shape.{Shape}
 use Rattle.pq_shape.specs.declared.shape.Shape.TheVariants as shape
-use Rattle.pq_schema.specs.declared.query.Op.{Op}
-use Rattle.pq_schema.specs.declared.query.Op.TheVariants as op
+use Rattle.pq_base.specs.declared.op.Op.{Op}
+use Rattle.pq_base.specs.declared.op.Op.TheVariants as op
 use Rattle.pq_shape.specs.declared.mark.TheConstants.{CLOSE_SQUARE, COLON, EQUAL, GREATER, LESS, LESS_EQUAL, OPEN_SQUARE, POINT, UNEQUAL}
 use Rattle.pq_query_read.specs.Grammar.{ref, operator, param, compare, null_test, comparison, pred}
 use Rattle.pq_query_read.specs.Reading.{ref_at, op_at, label_at, param_at, plain_at, operand_at, equality_at, compare_at, null_test_at, comparison_at, pred_at}

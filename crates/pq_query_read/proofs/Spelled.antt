@@ -3,10 +3,10 @@ use Rattle.std.specs.Prelude.{◌≡◌, true, false}
 use Rattle.std.specs.List.{AllByRecursion}
 use Rattle.pq_base.specs.Values.{IsValue}
 use Rattle.pq_base.specs.declared.value.Value.TheVariants as value
-use Rattle.pq_schema.specs.Relations.{is_null_test}
+use Rattle.pq_base.specs.Comparing.{is_null_test}
 use Rattle.pq_schema.specs.Names.{IsName}
-use Rattle.pq_schema.specs.declared.query.Op.{Op}
-use Rattle.pq_schema.specs.declared.query.Op.TheVariants as op
+use Rattle.pq_base.specs.declared.op.Op.{Op}
+use Rattle.pq_base.specs.declared.op.Op.TheVariants as op
 use Rattle.pq_query_read.specs.Resolving.{alias_of}
 use Rattle.pq_query_read.specs.declared.select.OperandDef.{OperandDef}
 use Rattle.pq_query_read.specs.declared.select.OperandDef.TheVariants as operand_def

@@ -27,9 +27,9 @@ use Rattle.pq_shape.specs.declared.keyword.TheConstants.{AND, FALSE, TRUE}
 use Rattle.pq_shape.specs.declared.shape.Shape.{Shape}
 use Rattle.pq_shape.specs.declared.shape.Shape.TheVariants as shape
 use Rattle.pq_schema.specs.Names.{IsName}
-use Rattle.pq_schema.specs.Relations.{is_null_test}
-use Rattle.pq_schema.specs.declared.query.Op.{Op}
-use Rattle.pq_schema.specs.declared.query.Op.TheVariants as op
+use Rattle.pq_base.specs.Comparing.{is_null_test}
+use Rattle.pq_base.specs.declared.op.Op.{Op}
+use Rattle.pq_base.specs.declared.op.Op.TheVariants as op
 use Rattle.pq_query_read.proofs.Named.{IsNamed, AreNamed, named_tokens}
 use Rattle.pq_query_read.proofs.Within.{GivesWithin, both_within, separated_gives}
 use Rattle.pq_query_read.specs.Grammar.{alias, relation, comma_or_join, compare, comparison, pred, conditions, SpellsSelect}

@@ -4,9 +4,9 @@ use Rattle.pq_base.specs.declared.value.Value.TheVariants as value
 use Rattle.pq_base.specs.declared.value.Dir.{Dir}
 use Rattle.pq_base.specs.declared.value.Dir.TheVariants as dir
 use Rattle.pq_grammar.specs.Language.{◌⋅◌, nothing, optional, separated_by, made_from}
-use Rattle.pq_schema.specs.Relations.{is_null_test}
-use Rattle.pq_schema.specs.declared.query.Op.{Op}
-use Rattle.pq_schema.specs.declared.query.Op.TheVariants as op
+use Rattle.pq_base.specs.Comparing.{is_null_test}
+use Rattle.pq_base.specs.declared.op.Op.{Op}
+use Rattle.pq_base.specs.declared.op.Op.TheVariants as op
 use Rattle.pq_shape.specs.Parts.{word, mark, comma, name, number, soft, a_constant}
 use Rattle.pq_shape.specs.declared.keyword.TheConstants.{AND, AS, ASC, BY, DESC, FROM, JOIN, LIMIT, ORDER, PAGINATE, SELECT, WHERE}
 use Rattle.pq_shape.specs.declared.mark.TheConstants.{CLOSE_SQUARE, COLON, EQUAL, GREATER, GREATER_EQUAL, LESS, LESS_EQUAL, OPEN_SQUARE, POINT, SEMICOLON, STAR, UNEQUAL}

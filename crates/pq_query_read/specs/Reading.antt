@@ -3,8 +3,8 @@ use Rattle.std.specs.Prelude.{ℕ, Bool, true, List, Option, Result, if◌then�
 use Rattle.pq_base.specs.declared.value.Dir.{Dir}
 use Rattle.pq_base.specs.declared.value.Dir.TheVariants as dir
 use Rattle.pq_grammar.specs.Reader.{Reader, pair_at, skip_at, close_at, map_at, choice_at, option_at, nothing_at, separated_at, option_items, all_at}
-use Rattle.pq_schema.specs.declared.query.Op.{Op}
-use Rattle.pq_schema.specs.declared.query.Op.TheVariants as op
+use Rattle.pq_base.specs.declared.op.Op.{Op}
+use Rattle.pq_base.specs.declared.op.Op.TheVariants as op
 use Rattle.pq_text.specs.declared.token.Token.{Token}
 use Rattle.pq_shape.specs.Front.{is_word_shape, is_mark_shape, is_name_shape, is_soft_shape, soft_at, is_between, word_at, mark_at, between_at, name_at, number_at, constant_shape_at}
 use Rattle.pq_shape.specs.Shapes.{shapes_of}

@@ -8,7 +8,7 @@ use Rattle.pq_base.specs.declared.count_word.TheConstants as count_word
 use Rattle.pq_base.specs.declared.refusal.Refusal.{Refusal}
 use Rattle.pq_base.specs.declared.refusal.Refusal.TheVariants as refusal
 use Rattle.pq_schema.specs.declared.query.ColRef.{ColRef}
-use Rattle.pq_schema.specs.declared.query.Op.{Op}
+use Rattle.pq_base.specs.declared.op.Op.{Op}
 use Rattle.pq_schema.specs.declared.query.Operand.{Operand}
 use Rattle.pq_schema.specs.declared.query.Operand.TheVariants as operand
 use Rattle.pq_schema.specs.declared.query.OrderItem.{OrderItem}
@@ -22,7 +22,7 @@ use Rattle.pq_schema.specs.ColumnNames.{repeated_name}
 use Rattle.pq_schema.specs.Definitions.{is_outside, refused_if}
 use Rattle.pq_schema.specs.Resolved.{same_ref, param_type}
 use Rattle.pq_schema.specs.Schema.{Schema, find_table}
-use Rattle.pq_schema.specs.Relations.{is_null_test}
+use Rattle.pq_base.specs.Comparing.{is_null_test}
 use Rattle.pq_base.specs.Values.{same_kind}
 use Rattle.pq_query_read.specs.Columns.{has_alias, ref_of, type_of, selected_of}
 use Rattle.pq_query_read.specs.Parameters.{param_number, uses, params_of}

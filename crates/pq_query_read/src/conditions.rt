@@ -9,8 +9,8 @@ ghost use Rattle.pq_query_read.specs.Resolving.{operand_of, is_comparable, pred_
 
 use crate::columns::{column, type_of};
 use crate::select::{OperandDef, PredDef};
-use pq_base::{ColType, DataKind, List, Refusal, Stopped, fits};
-use pq_schema::{Catalog, ColRef, Op, Operand, Pred, Relation, same_kind};
+use pq_base::{ColType, DataKind, List, Op, Refusal, Stopped, fits};
+use pq_schema::{Catalog, ColRef, Operand, Pred, Relation, same_kind};
 use std::alloc::Global;
 
 /// The greatest number of a parameter.

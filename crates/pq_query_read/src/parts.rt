@@ -4,9 +4,9 @@ ghost use Rattle.pq_grammar.specs.Answers.{Gives};
 ghost use Rattle.pq_query_read.specs.Reading.{part_at, ref_at, alias_at, relation_clause_at, op_at, label_at, param_at, plain_at, operand_at, equality_at, compare_at, null_test_at, comparison_at, pred_at, dir_at, item_at, stop_clause_at};
 
 use crate::select::{ItemDef, OperandDef, PredDef, RefDef, RelationDef, StopDef};
-use pq_base::{Dir, PText, Value};
+use pq_base::{Dir, Op, PText, Value};
 use pq_grammar::ReadError;
-use pq_schema::Op;
+
 use pq_shape::{
     AS, ASC, CLOSE_SQUARE, COLON, Cursor, DESC, EQUAL, GREATER, GREATER_EQUAL, LESS, LESS_EQUAL,
     LIMIT, OPEN_SQUARE, PAGINATE, POINT, Part, Soft, UNEQUAL,

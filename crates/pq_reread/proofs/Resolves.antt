@@ -18,8 +18,9 @@ use Rattle.pq_schema.specs.Candidates.{stop_size}
 use Rattle.pq_schema.specs.ColumnNames.{repeated_name}
 use Rattle.pq_schema.specs.Definitions.{is_outside, refused_if}
 use Rattle.pq_schema.specs.ColumnNames.{no_column as unknown}
-use Rattle.pq_schema.specs.declared.query.Op.{Op}
-use Rattle.pq_schema.specs.Relations.{no_relation, table_of, is_null_test}
+use Rattle.pq_base.specs.declared.op.Op.{Op}
+use Rattle.pq_base.specs.Comparing.{is_null_test}
+use Rattle.pq_schema.specs.Relations.{no_relation, table_of}
 use Rattle.pq_schema.specs.Relations.{relation_at as relation_of_query}
 use Rattle.pq_schema.specs.Resolved.{IsRelation, IsColumnOf, IsOperand, IsConstant, IsPredicate, IsResolved, same_ref, ref_type, param_type}
 use Rattle.pq_schema.specs.Schema.{Schema, find_table, find_column, number_of}

@@ -3,7 +3,7 @@ use Rattle.std.specs.Prelude.{ℕ, Bool, true, false, cond, not, ◌==◌, ◌||
 use Rattle.pq_base.specs.declared.value.Dir.{Dir}
 use Rattle.pq_base.specs.declared.value.Value.{Value}
 use Rattle.pq_base.specs.declared.value.Value.TheVariants as value
-use Rattle.pq_schema.specs.declared.query.Op.{Op}
+use Rattle.pq_base.specs.declared.op.Op.{Op}
 use Rattle.pq_schema.specs.declared.query.Pred.{Pred}
 use Rattle.pq_schema.specs.Relations.{belongs_to}
 use Rattle.pq_plan.specs.Answer.{Question, side}

@@ -17,12 +17,12 @@ use crate::passing::is_tied;
 use crate::places::{constants, position};
 use crate::prepared::Scan;
 use crate::starts::{Start, start_at};
-use pq_base::{Bytes, Dir, List, NoMem, Row, Value};
+use pq_base::{Bytes, Dir, List, NoMem, Op, Row, Value};
 use pq_key_code::{encode_key, past};
 use pq_operands::{side, tied_cells};
 use pq_plan::Combo;
 use pq_predicates::belongs_to;
-use pq_schema::{Access, KeyPart, Op, Pred};
+use pq_schema::{Access, KeyPart, Pred};
 use std::alloc::Global;
 use std::cmp::Ordering;
 

@@ -6,8 +6,8 @@ ghost use Rattle.pq_scan.specs.Ends.{passes_own};
 ghost use Rattle.pq_scan.specs.Prepared.{asked_over, IsPrepared};
 
 use crate::prepared::Scan;
-use pq_base::Value;
-use pq_operands::{compares, side, tied_value};
+use pq_base::{Value, compares};
+use pq_operands::{side, tied_value};
 use pq_plan::Combo;
 use pq_predicates::belongs_to;
 use pq_schema::Pred;

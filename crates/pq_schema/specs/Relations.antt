@@ -5,8 +5,8 @@ use Rattle.pq_base.specs.Columns.{has_col, set_of}
 use Rattle.pq_base.specs.declared.value.Dir.TheVariants.{Asc}
 use Rattle.pq_schema.specs.declared.table.KeyPart.{KeyPart}
 use Rattle.pq_schema.specs.declared.table.Table.{Table}
-use Rattle.pq_schema.specs.declared.query.Op.{Op}
-use Rattle.pq_schema.specs.declared.query.Op.TheVariants as op
+use Rattle.pq_base.specs.declared.op.Op.{Op}
+use Rattle.pq_base.specs.declared.op.Op.TheVariants as op
 use Rattle.pq_schema.specs.declared.query.Operand.{Operand}
 use Rattle.pq_schema.specs.declared.query.Operand.TheVariants as operand
 use Rattle.pq_schema.specs.declared.query.Pred.{Pred}
@@ -44,16 +44,6 @@ is_equality op.Le = false
 is_equality op.Gt = false
 is_equality op.Ge = false
 is_equality op.IsNull = false
-
--- IS NULL, whose operand is the constant NULL
-abbrev pub is_null_test : Op → Bool
-is_null_test op.Eq = false
-is_null_test op.Ne = false
-is_null_test op.Lt = false
-is_null_test op.Le = false
-is_null_test op.Gt = false
-is_null_test op.Ge = false
-is_null_test op.IsNull = true
 
 abbrev pub is_range : Op → Bool
 is_range op.Eq = false

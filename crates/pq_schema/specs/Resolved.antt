@@ -11,8 +11,8 @@ use Rattle.pq_base.specs.declared.value.ColType.{ColType}
 use Rattle.pq_base.specs.declared.value.ColType.TheVariants as type
 use Rattle.pq_schema.specs.declared.table.Table.{Table}
 use Rattle.pq_schema.specs.declared.query.ColRef.{ColRef}
-use Rattle.pq_schema.specs.declared.query.Op.{Op}
-use Rattle.pq_schema.specs.declared.query.Op.TheVariants as op
+use Rattle.pq_base.specs.declared.op.Op.{Op}
+use Rattle.pq_base.specs.declared.op.Op.TheVariants as op
 use Rattle.pq_schema.specs.declared.query.Operand.{Operand}
 use Rattle.pq_schema.specs.declared.query.Operand.TheVariants as operand
 use Rattle.pq_schema.specs.declared.query.Pred.{Pred}
@@ -21,7 +21,8 @@ use Rattle.pq_schema.specs.declared.query.Query.{Query}
 use Rattle.pq_schema.specs.Names.{IsName}
 use Rattle.pq_base.specs.Values.{same_kind}
 use Rattle.pq_schema.specs.Tables.{type_at}
-use Rattle.pq_schema.specs.Relations.{table_of, is_null_test}
+use Rattle.pq_base.specs.Comparing.{is_null_test}
+use Rattle.pq_schema.specs.Relations.{table_of}
 use Rattle.pq_schema.specs.Candidates.{stop_size}
 
 -- a table that is there, under a name

@@ -11,11 +11,12 @@ use Rattle.pq_base.specs.declared.value.Value.{Value}
 use Rattle.pq_base.specs.declared.value.Value.TheVariants as value
 use Rattle.pq_base.specs.Values.{is_null}
 use Rattle.pq_base.specs.Order.{value_cmp, directed_order}
-use Rattle.pq_schema.specs.declared.query.Op.{Op}
-use Rattle.pq_schema.specs.declared.query.Op.TheVariants as op
-use Rattle.pq_schema.specs.Relations.{is_range, is_null_test}
+use Rattle.pq_base.specs.declared.op.Op.{Op}
+use Rattle.pq_base.specs.declared.op.Op.TheVariants as op
+use Rattle.pq_base.specs.Comparing.{is_null_test}
+use Rattle.pq_schema.specs.Relations.{is_range}
 use Rattle.pq_key_code.specs.KeyOrder.{common_cmp}
-use Rattle.pq_plan.specs.Answer.{may_hold, meets, compares}
+use Rattle.pq_base.specs.Comparing.{may_hold, meets, compares}
 use Rattle.pq_plan.proofs.ValueOrder.{value_cmp_total}
 use Rattle.pq_serving.specs.Starts.{reaches, at_value, past_value, lower, upper}
 

@@ -13,11 +13,12 @@ use Rattle.pq_key_code.specs.KeyOrder.{common_cmp}
 use Rattle.pq_base.specs.Values.{is_null}
 use Rattle.pq_schema.specs.Keys.{dirs_of}
 use Rattle.pq_schema.specs.declared.table.KeyPart.{KeyPart}
-use Rattle.pq_schema.specs.declared.query.Op.{Op}
+use Rattle.pq_base.specs.declared.op.Op.{Op}
 use Rattle.pq_schema.specs.declared.query.Pred.{Pred}
 use Rattle.pq_schema.specs.Sequences.{columns_of}
 use Rattle.pq_schema.specs.Relations.{belongs_to, tied_set, position_columns}
-use Rattle.pq_plan.specs.Answer.{Question, row_of, cell, side, compares, holds, no_value, position, by_position}
+use Rattle.pq_base.specs.Comparing.{compares}
+use Rattle.pq_plan.specs.Answer.{Question, row_of, cell, side, holds, no_value, position, by_position}
 use Rattle.pq_plan.specs.Kept.{cells}
 use Rattle.pq_plan.specs.Meaning.{keeps}
 use Rattle.pq_plan.specs.Running.{tied_value}

@@ -16,17 +16,19 @@ use Rattle.pq_base.specs.Values.{FitsType, AllFit}
 use Rattle.pq_base.specs.Members.{In}
 use Rattle.pq_schema.specs.declared.table.KeyPart.{KeyPart}
 use Rattle.pq_schema.specs.declared.table.Table.{Table}
-use Rattle.pq_schema.specs.declared.query.Op.{Op}
-use Rattle.pq_schema.specs.declared.query.Op.TheVariants as op
+use Rattle.pq_base.specs.declared.op.Op.{Op}
+use Rattle.pq_base.specs.declared.op.Op.TheVariants as op
 use Rattle.pq_schema.specs.declared.query.Operand.{Operand}
 use Rattle.pq_schema.specs.declared.query.Operand.TheVariants as operand
 use Rattle.pq_schema.specs.declared.query.Pred.{Pred}
 use Rattle.pq_schema.specs.declared.query.OrderItem.{OrderItem}
 use Rattle.pq_schema.specs.Resolved.{IsOperand, IsJoined, IsParam, IsPredicate, IsResolved, ref_type, param_type}
 use Rattle.pq_schema.specs.Sequences.{columns_of}
-use Rattle.pq_schema.specs.Relations.{table_of, is_null_test, belongs_to, ties, tied_set, is_rest, part_of, position_columns}
+use Rattle.pq_base.specs.Comparing.{is_null_test}
+use Rattle.pq_schema.specs.Relations.{table_of, belongs_to, ties, tied_set, is_rest, part_of, position_columns}
 use Rattle.pq_content.specs.Tables.{types_of, type_at, types_at, IsOfKind}
-use Rattle.pq_plan.specs.Answer.{Question, row_of, side, compares, no_value}
+use Rattle.pq_base.specs.Comparing.{compares}
+use Rattle.pq_plan.specs.Answer.{Question, row_of, side, no_value}
 use Rattle.pq_plan.specs.Running.{tied_value}
 use Rattle.pq_base.proofs.Members.{all_at, found}
 use Rattle.pq_base.proofs.Members.{all_member, each_by_in, in_map, map_in, in_filter, filter_in, in_flat_map, in_either}

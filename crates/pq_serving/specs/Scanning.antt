@@ -16,7 +16,8 @@ use Rattle.pq_schema.specs.declared.query.OrderItem.{OrderItem}
 use Rattle.pq_schema.specs.Sequences.{columns_of}
 use Rattle.pq_schema.specs.Keys.{dirs_of}
 use Rattle.pq_schema.specs.Relations.{belongs_to, tied_set, is_rest, position_columns}
-use Rattle.pq_plan.specs.Answer.{Question, row_of, rows_at, side, compares, no_value}
+use Rattle.pq_base.specs.Comparing.{compares}
+use Rattle.pq_plan.specs.Answer.{Question, row_of, rows_at, side, no_value}
 use Rattle.pq_plan.specs.Kept.{cells}
 use Rattle.pq_plan.specs.Running.{tied_value}
 use Rattle.pq_nodes.specs.Tied.{tied_cells}

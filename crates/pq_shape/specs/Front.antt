@@ -16,9 +16,11 @@ use Rattle.pq_shape.specs.declared.shape.Shape.TheVariants as shape
 abbrev pub soft_name : Soft → List ℕ
 soft_name soft_word.Add = codes "add"
 soft_name soft_word.Alter = codes "alter"
+soft_name soft_word.Batch = codes "batch"
 soft_name soft_word.Column = codes "column"
 soft_name soft_word.Counter = codes "counter"
 soft_name soft_word.Default = codes "default"
+soft_name soft_word.If = codes "if"
 soft_name soft_word.Is = codes "is"
 soft_name soft_word.Null = codes "null"
 soft_name soft_word.Of = codes "of"

@@ -74,6 +74,6 @@ NamesMarks = map (λ p. mark_code p.1) marks ≡ map (λ p. p.0) marks
 -- each soft word is the name that has the letters of a word of the table
 abbrev pub NamesSoftWords : Type 0
 NamesSoftWords = map soft_name (
-    soft_word.Add ∷ soft_word.Alter ∷ soft_word.Column ∷ soft_word.Counter ∷ soft_word.Default ∷ soft_word.Is
-    ∷ soft_word.Null ∷ soft_word.Of ∷ soft_word.Read ∷ []
+    soft_word.Add ∷ soft_word.Alter ∷ soft_word.Batch ∷ soft_word.Column ∷ soft_word.Counter ∷ soft_word.Default
+    ∷ soft_word.If ∷ soft_word.Is ∷ soft_word.Null ∷ soft_word.Of ∷ soft_word.Read ∷ []
     ) ≡ map lowercase_bytes softs

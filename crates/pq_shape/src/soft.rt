@@ -7,9 +7,11 @@ ghost use Rattle.pq_shape.specs.Front.{soft_name};
 pub enum Soft {
     Add,
     Alter,
+    Batch,
     Column,
     Counter,
     Default,
+    If,
     Is,
     Null,
     Of,
@@ -24,9 +26,11 @@ impl Soft {
         match self {
             Soft::Add => b"add",
             Soft::Alter => b"alter",
+            Soft::Batch => b"batch",
             Soft::Column => b"column",
             Soft::Counter => b"counter",
             Soft::Default => b"default",
+            Soft::If => b"if",
             Soft::Is => b"is",
             Soft::Null => b"null",
             Soft::Of => b"of",
