@@ -6,6 +6,7 @@ pub mod Members
 pub mod Order
 pub mod Shapes
 pub mod Sorting
+pub mod Sums
 pub mod Values
 pub mod Words
 pub mod WordPlaces

@@ -13,6 +13,7 @@ mod number;
 mod op;
 mod refusal;
 pub mod refusal_place;
+mod sum;
 mod text;
 mod value;
 mod word_table;
@@ -23,6 +24,7 @@ pub use list::{Bytes, List, NoMem};
 pub use number::{Bound, Choice, Used};
 pub use op::{Op, compares, meets};
 pub use refusal::{Refusal, Stopped};
+pub use sum::added;
 pub use text::PText;
 pub use value::{
     ColType, DataKind, Dir, Row, Value, all_fit, cmp_positions, cmp_values, fits, has_null,

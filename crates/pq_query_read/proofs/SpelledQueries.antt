@@ -19,7 +19,9 @@ use Rattle.pq_grammar.specs.Language.{◌⋅◌, optional}
 use Rattle.pq_grammar.proofs.Steps.{never}
 use Rattle.pq_grammar.proofs.Whole.{whole_found}
 use Rattle.pq_shape.specs.Front.{truth_of, constant_in}
-use Rattle.pq_shape.specs.Numbers.{has_64_bits, fitting_number, signed_number}
+use Rattle.pq_base.specs.Sums.{has_64_bits}
+use Rattle.pq_base.proofs.Sums.{bits_fit}
+use Rattle.pq_shape.specs.Numbers.{fitting_number, signed_number}
 use Rattle.pq_shape.specs.Parts.{word, name as a_name, a_constant}
 use Rattle.pq_base.specs.Words.{keywords, uppercase_byte}
 use Rattle.pq_shape.specs.Shapes.{shape_of, shapes_of, kind_shape, utf8_text, between_quotes, text_shape, number_or_other, keyword_or, named_shape, name_shape, word_place, lowercase_bytes, mark_code}
@@ -52,11 +54,6 @@ IsKnown s = IsNamed s × IsValued s
 abbrev AreKnown : List Shape → Type 0
 AreKnown shapes = AllByRecursion IsKnown shapes
 
-number_fits : (z : ℤ) → has_64_bits z ≡ true → FitsSigned w64 z
-unfolding has_64_bits
-number_fits (pos n) is = record { sfits = ltb-true n (2 ^ 63) is }
-number_fits (negsuc n) is = record { sfits = ltb-true n (2 ^ 63) is }
-
 -- the value of a number or of a text
 is_int : (z : ℤ) (v : Value) → ◌≡◌ {A = Option Value} (Some (value.Int z)) (Some v) → FitsSigned w64 z → IsValue v
 is_int z v e fits = subst IsValue (same_Some (value.Int z) v e) fits
@@ -65,7 +62,7 @@ number_valued : (z : ℤ) → IsValued (number_or_other (fitting_number z))
 unfolding IsValued constant_in fitting_number
 number_valued z =
     elim (has_64_bits z) as (λ b. has_64_bits z ≡ b → (v : Value) → constant_in (number_or_other (cond b (Some z) None)) ≡ Some v → IsValue v) [
-      | true ↦ λ is v e. is_int z v e (number_fits z is)
+      | true ↦ λ is v e. is_int z v e (bits_fit z is)
       | false ↦ λ _ v e. absurd (none-some v e)
     ] refl
 

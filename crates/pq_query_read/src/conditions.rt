@@ -1,7 +1,6 @@
 //! WHERE: what each column is compared with.
 ghost use Rattle.std.specs.Prelude.{◌≡◌, ◌≤◌, ◌<◌, ◌+◌, IfOk, All, length};
 ghost use Rattle.pq_base.specs.Answers.{Answers};
-ghost use Rattle.pq_schema.specs.Resolved.{param_type};
 ghost use Rattle.pq_query_read.specs.Columns.{AreRelations, IsIn};
 ghost use Rattle.pq_query_read.specs.Compared.{IsSideIn, IsLeftIn};
 ghost use Rattle.pq_query_read.specs.Parameters.{param_number};
@@ -9,15 +8,12 @@ ghost use Rattle.pq_query_read.specs.Resolving.{operand_of, is_comparable, pred_
 
 use crate::columns::{column, type_of};
 use crate::select::{OperandDef, PredDef};
-use pq_base::{ColType, DataKind, List, Op, Refusal, Stopped, fits};
-use pq_schema::{Catalog, ColRef, Operand, Pred, Relation, same_kind};
+use pq_base::{List, Op, Refusal, Stopped, fits};
+use pq_schema::{Catalog, ColRef, Operand, Pred, Relation, param_type, same_kind};
 use std::alloc::Global;
 
 /// The greatest number of a parameter.
 const PARAMS: i64 = 16;
-
-/// The greatest length of a text that a column is compared with.
-const TEXT_BYTES: u16 = 1000;
 
 /// The number of a parameter as it is kept: 0, which none has, for one that is too small or too large.
 fn param_number(number: i64) -> u8
@@ -27,17 +23,6 @@ fn param_number(number: i64) -> u8
         number as u8
     } else {
         0
-    }
-}
-
-/// The type of what is compared with a column of this type.
-pub fn param_type(ty: ColType) -> ColType
-    ensures { result ≡ param_type ty }
-{
-    match ty.kind() {
-        DataKind::Int => ColType::Int,
-        DataKind::Bool => ColType::Bool,
-        DataKind::Text => ColType::Text(TEXT_BYTES),
     }
 }
 

@@ -12,7 +12,6 @@ mod reading;
 mod relations;
 mod select;
 
-pub use conditions::param_type;
 pub use params::ParamUse;
 pub use query::read_query;
 pub use reading::read_select;

@@ -7,9 +7,8 @@ ghost use Rattle.pq_query_read.specs.Compared.{IsLeftIn};
 ghost use Rattle.pq_query_read.specs.Parameters.{use_in, uses, has_number, has_param_number, agrees_with_all, are_params, param_count, param_type_of, param_types, params_of};
 
 use crate::columns::type_of;
-use crate::conditions::param_type;
 use pq_base::{ColType, List, NoMem, Refusal, Stopped};
-use pq_schema::{Catalog, Operand, Pred, Relation, same_kind};
+use pq_schema::{Catalog, Operand, Pred, Relation, param_type, same_kind};
 use std::alloc::Global;
 
 /// A parameter where a predicate uses it: its number, and the type of what is compared there.

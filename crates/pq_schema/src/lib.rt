@@ -16,7 +16,7 @@ pub use column_names::{check_known, check_names, check_repeated, names_of, place
 pub use counter::Counter;
 pub use definition::{AlterDef, ColumnDef, CounterDef, ForeignDef, LimitDef, TableDef};
 pub use made::{Def, Definition, Made};
-pub use query::{ColRef, Operand, OrderItem, Pred, Query, Relation, Stop};
+pub use query::{ColRef, Operand, OrderItem, Pred, Query, Relation, Stop, param_type};
 pub use sequences::{
     begins, columns_in, dirs_of, group_access, index_begins, index_sequence, part_at,
     primary_begins, sequence,

@@ -6,7 +6,8 @@ use Rattle.std.specs.Prelude.{nat_lt, nat_eq, slice_index, ◌-ℤ◌}
 use Rattle.std.specs.Int.{w64}
 use Rattle.std.proofs.lemmas.Int.{to_z-of_z, to_z_pos, ints}
 use Rattle.std.proofs.Math.IntN.{neg_ℤ}
-use Rattle.pq_shape.specs.Numbers.{digits_after, has_64_bits, fitting_number, digits_number}
+use Rattle.pq_base.specs.Sums.{has_64_bits}
+use Rattle.pq_shape.specs.Numbers.{digits_after, fitting_number, digits_number}
 
 -- more digits write no smaller number
 pub digits_above : (n : ℕ) (bs : List ℕ) → n ≤ digits_after n bs

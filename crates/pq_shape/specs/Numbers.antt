@@ -1,6 +1,7 @@
 -- The numbers that digits write.
-use Rattle.std.specs.Prelude.{ℕ, ℤ, pos, negsuc, ◌+◌, ◌-◌, ◌*◌, ◌^◌, ◌==◌, Bool, nat_lt, slice_index, drop, List, [], ◌∷◌, Option, Some, None, if◌then◌else◌}
+use Rattle.std.specs.Prelude.{ℕ, ℤ, pos, ◌+◌, ◌-◌, ◌*◌, ◌==◌, slice_index, drop, List, [], ◌∷◌, Option, Some, None, if◌then◌else◌}
 use Rattle.std.proofs.Math.IntN.{neg_ℤ}
+use Rattle.pq_base.specs.Sums.{has_64_bits}
 
 -- the number that digits write behind those of n
 unfoldable pub digits_after : ℕ → List ℕ → ℕ
@@ -10,11 +11,6 @@ digits_after n (b ∷ bs) = digits_after (n * 10 + (b - 48)) bs
 -- the number that digits write, a `-` before them or not
 abbrev pub signed_number : List ℕ → ℤ
 signed_number bs = if slice_index bs 0 == 45 then neg_ℤ (pos (digits_after 0 (drop 1 bs))) else pos (digits_after 0 bs)
-
--- from -2^63 to 2^63 - 1
-unfoldable pub has_64_bits : ℤ → Bool
-has_64_bits (pos n) = nat_lt n (2 ^ 63)
-has_64_bits (negsuc n) = nat_lt n (2 ^ 63)
 
 unfoldable pub fitting_number : ℤ → Option ℤ
 fitting_number z = if has_64_bits z then Some z else None

@@ -20,9 +20,8 @@ use pq_def_read::{Statement, read_statement};
 use pq_definitions::DEFINITIONS;
 use pq_index_keep::{Write, check_write};
 use pq_planning::{PlannedQuery, plan_arranged};
-use pq_query_read::param_type;
 use pq_running::{begin, check_params};
-use pq_schema::{AlterDef, Catalog, Column, CounterDef, TableDef, type_at};
+use pq_schema::{AlterDef, Catalog, Column, CounterDef, TableDef, param_type, type_at};
 use pq_text::{Piece, Token, tokens};
 use std::alloc::Global;
 

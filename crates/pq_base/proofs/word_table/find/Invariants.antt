@@ -1,4 +1,4 @@
-use Rattle.std.proofs.Common.{◌-◌, ◌≤◌, [], length, map}
+use Rattle.std.proofs.Common.{◌-◌, ◌≤◌, length, map}
 use Rattle.pq_base.specs.Words.{uppercase_byte, texts}
 use Rattle.pq_base.proofs.WordOrder.{AllBelow, AllAbove}
 use Rattle.pq_base.proofs.word_table.find.Given as goal
