@@ -19,7 +19,7 @@ use Rattle.pq_shape.specs.declared.mark.TheConstants.{CLOSE, COMMA, EQUAL, OPEN,
 use Rattle.pq_def_read.specs.Definitions.{cols_at, table_definition_at, counter_definition_at, alter_at, statement_end_at}
 use Rattle.pq_def_read.specs.Reading.{values_clause_at, assign_at, sets_at, key_clause_at, create_statement_at, insert_at, update_at, delete_at, prepare_at, explain_at, listed_values_at, arguments_at, after_at, run_at, read_counter_at, show_at, statement_at}
 use Rattle.pq_def_read.specs.Grammar.{cols, alter, insert, assign, key, update, delete, arguments, cursor, run, read, Spells}
-use Rattle.pq_def_read.specs.declared.statement.Assign.{Assign}
+use Rattle.pq_def_read.specs.declared.write.Assign.{Assign}
 use Rattle.pq_def_read.specs.declared.statement.Statement.{Statement}
 use Rattle.pq_def_read.specs.declared.statement.Statement.TheVariants.{Create, Insert, Update, Delete, Prepare, Explain, Run, Alter, Counter, Read, Show}
 use Rattle.pq_def_read.proofs.Parts.{cols_reads}

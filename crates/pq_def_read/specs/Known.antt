@@ -1,7 +1,7 @@
 -- The values of statements are in their kinds' ranges.
 use Rattle.std.specs.Prelude.{All, List}
 use Rattle.pq_base.specs.Values.{IsValue}
-use Rattle.pq_def_read.specs.declared.statement.Assign.{Assign}
+use Rattle.pq_def_read.specs.declared.write.Assign.{Assign}
 use Rattle.pq_def_read.specs.declared.statement.Statement.{Statement}
 use Rattle.pq_def_read.specs.declared.statement.Statement.TheVariants.{Create, Insert, Update, Delete, Prepare, Explain, Run, Alter, Counter, Read, Show}
 

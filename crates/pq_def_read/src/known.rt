@@ -3,7 +3,8 @@ ghost use Rattle.std.specs.Prelude.{All};
 ghost use Rattle.pq_base.specs.Values.{IsValue};
 ghost use Rattle.pq_def_read.specs.Known.{HasValues};
 
-use crate::statement::{Assign, Statement};
+use crate::statement::Statement;
+use crate::write::Assign;
 use pq_base::{known_value, known_values};
 
 fn known_assign(assign: &Assign)

@@ -9,6 +9,8 @@ mod definition;
 mod known;
 mod reading;
 mod statement;
+mod write;
 
 pub use reading::read_statement;
-pub use statement::{Assign, Statement};
+pub use statement::Statement;
+pub use write::{Assign, CondDef, SetDef, Setting, WriteDef};

@@ -14,7 +14,8 @@ ghost use Rattle.pq_def_read.specs.declared.statement.Statement as declared;
 
 use crate::definition::{alter, cols, counter_definition, stop, table_definition};
 use crate::known::known_statement;
-use crate::statement::{Assign, Statement};
+use crate::statement::Statement;
+use crate::write::Assign;
 use pq_base::{List, PText, Stopped, Value};
 use pq_grammar::ReadError;
 use pq_shape::{

@@ -1,13 +1,7 @@
 //! Statements, with names in place of numbers.
+use crate::write::Assign;
 use pq_base::{List, PText, Value};
 use pq_schema::{AlterDef, CounterDef, TableDef};
-
-/// A column and the value that it is to have.
-#[derive(Drop)]
-pub struct Assign {
-    pub col: PText,
-    pub value: Value,
-}
 
 /// A statement. Names are in small letters.
 #[derive(Drop)]

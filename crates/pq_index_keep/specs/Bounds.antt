@@ -45,16 +45,16 @@ tests of table = record {
 
 abbrev pub write_tests : List Table → Write → Bound
 write_tests tables (write.Insert t row) = tests scope.All (table_at tables t)
-write_tests tables (write.Update t key sets) = tests (scope_of sets) (table_at tables t)
-write_tests tables (write.Delete t key) =
+write_tests tables (write.Update t key sets conds) = tests (scope_of sets) (table_at tables t)
+write_tests tables (write.Delete t key conds) =
     record { ops = 1 + referring_count tables t; entries = 1 + referring_count tables t }
 
 -- the greatest number of pairs that change
 abbrev pub most_changes : List Table → Write → ℕ
 most_changes tables (write.Insert t row) = 1 + length (table_at tables t).indexes
-most_changes tables (write.Update t key sets) =
+most_changes tables (write.Update t key sets conds) =
     1 + 2 * count_by (touches_index (scope_of sets) (table_at tables t)) (table_at tables t).indexes
-most_changes tables (write.Delete t key) = 1 + length (table_at tables t).indexes
+most_changes tables (write.Delete t key conds) = 1 + length (table_at tables t).indexes
 
 abbrev pub write_bound : List Table → Write → Bound
 write_bound tables write = record {

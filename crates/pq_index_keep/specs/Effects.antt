@@ -5,6 +5,8 @@ use Rattle.pq_base.specs.declared.refusal.Refusal.{Refusal}
 use Rattle.pq_base.specs.declared.refusal.Refusal.TheVariants as refusal
 use Rattle.pq_base.specs.declared.value.Value.{Value}
 use Rattle.pq_base.specs.Values.{has_null}
+use Rattle.std.specs.List.{find}
+use Rattle.pq_schema.specs.ColumnNames.{names_of}
 use Rattle.pq_schema.specs.Definitions.{refused_if, or_ok}
 use Rattle.pq_schema.specs.declared.table.Foreign.{Foreign}
 use Rattle.pq_schema.specs.declared.table.Limit.{Limit}
@@ -14,10 +16,11 @@ use Rattle.pq_content.specs.Pairs.{Change, puts, removals, pairs_of_row, update_
 use Rattle.pq_content.specs.Tables.{Rows, cells, key_of, same_values, row_at, rows_without, group_of, stored_code}
 use Rattle.pq_index_keep.specs.declared.write.Scope.{Scope}
 use Rattle.pq_index_keep.specs.declared.write.Scope.TheVariants as scope
+use Rattle.pq_index_keep.specs.declared.write.Cond.{Cond}
 use Rattle.pq_index_keep.specs.declared.write.SetCol.{SetCol}
 use Rattle.pq_index_keep.specs.declared.write.Write.{Write}
 use Rattle.pq_index_keep.specs.declared.write.Write.TheVariants as write
-use Rattle.pq_index_keep.specs.Tested.{touches, scope_of, with_sets}
+use Rattle.pq_index_keep.specs.Tested.{touches, scope_of, set_value, with_sets, holds_of}
 use Rattle.pq_schema.specs.Candidates.{no_limit}
 
 -- ---- foreign keys of the table
@@ -100,21 +103,47 @@ update_refusal tables rows of t old new =
 abbrev pub no_row : List Table → ℕ → Refusal
 no_row tables t = refusal.NoRow (table_at tables t).name
 
-abbrev pub updated_rows : List Table → Rows → ℕ → List Value → List SetCol → Option (List Value) → Result Rows Refusal
-updated_rows tables rows t key sets None = Err (no_row tables t)
-updated_rows tables rows t key sets (Some old) =
-    or_ok (update_refusal tables rows (scope_of sets) t old (with_sets sets old))
+-- ---- conditions and sums, of the row that is there
+
+-- conditions are numbered from 1
+abbrev pub unmet : Table → ℕ → Refusal
+unmet table place = refusal.Condition table.name (place + 1)
+
+-- the first condition that doesn't hold of the row
+abbrev pub condition_refusal : Table → List Cond → List Value → Option Refusal
+condition_refusal table conds row = option_map (unmet table) (position (λ cond. not (holds_of row cond)) conds)
+
+abbrev pub no_sum : Table → SetCol → Refusal
+no_sum table set = refusal.Sum table.name (slice_index_or (names_of table.columns) set.col [])
+
+-- the first column whose ADD has no sum
+abbrev pub sum_refusal : Table → List SetCol → List Value → Option Refusal
+sum_refusal table sets row = option_map (no_sum table) (find (λ set. is_none (set_value row set)) sets)
+
+-- the conditions, and then the sums
+abbrev pub held_refusal : Table → List SetCol → List Cond → List Value → Option Refusal
+held_refusal table sets conds row = or_else (condition_refusal table conds row) (sum_refusal table sets row)
+
+abbrev pub updated_rows : List Table → Rows → ℕ → List Value → List SetCol → List Cond → Option (List Value)
+    → Result Rows Refusal
+updated_rows tables rows t key sets conds None = Err (no_row tables t)
+updated_rows tables rows t key sets conds (Some old) =
+    or_ok (or_else (held_refusal (table_at tables t) sets conds old)
+    (update_refusal tables rows (scope_of sets) t old (with_sets sets old)))
     ((t, with_sets sets old) ∷ rows_without tables t key rows)
 
-abbrev pub deleted_rows : List Table → Rows → ℕ → List Value → Option (List Value) → Result Rows Refusal
-deleted_rows tables rows t key None = Err (no_row tables t)
-deleted_rows tables rows t key (Some old) = or_ok (child_refusal rows t key 1 tables) (rows_without tables t key rows)
+abbrev pub deleted_rows : List Table → Rows → ℕ → List Value → List Cond → Option (List Value) → Result Rows Refusal
+deleted_rows tables rows t key conds None = Err (no_row tables t)
+deleted_rows tables rows t key conds (Some old) =
+    or_ok (or_else (condition_refusal (table_at tables t) conds old) (child_refusal rows t key 1 tables))
+    (rows_without tables t key rows)
 
 -- the rows after the write, or its first refusal
 unfoldable pub effect : List Table → Rows → Write → Result Rows Refusal
 effect tables rows (write.Insert t row) = or_ok (insert_refusal tables rows t row) ((t, row) ∷ rows)
-effect tables rows (write.Update t key sets) = updated_rows tables rows t key sets (row_at tables rows t key)
-effect tables rows (write.Delete t key) = deleted_rows tables rows t key (row_at tables rows t key)
+effect tables rows (write.Update t key sets conds) =
+    updated_rows tables rows t key sets conds (row_at tables rows t key)
+effect tables rows (write.Delete t key conds) = deleted_rows tables rows t key conds (row_at tables rows t key)
 
 -- ---- the changes of the pairs
 
@@ -129,5 +158,6 @@ removal_of table t (Some old) = removals (pairs_of_row t table old)
 -- the changes that a write makes where nothing refuses it
 unfoldable pub changes_of : List Table → Rows → Write → List Change
 changes_of tables rows (write.Insert t row) = puts (pairs_of_row t (table_at tables t) row)
-changes_of tables rows (write.Update t key sets) = update_of (table_at tables t) t sets (row_at tables rows t key)
-changes_of tables rows (write.Delete t key) = removal_of (table_at tables t) t (row_at tables rows t key)
+changes_of tables rows (write.Update t key sets conds) =
+    update_of (table_at tables t) t sets (row_at tables rows t key)
+changes_of tables rows (write.Delete t key conds) = removal_of (table_at tables t) t (row_at tables rows t key)

@@ -1,5 +1,5 @@
 -- What the calls of a plan promise, whatever the store tells.
-use Rattle.std.specs.Prelude.{◌≡◌, All, ℕ, ◌≤◌, List, ◌∷◌, map, length, Option, Some, None, Err, MatchResult, IfSome, option_map}
+use Rattle.std.specs.Prelude.{◌≡◌, All, ℕ, ◌≤◌, List, ◌∷◌, map, length, Option, Some, None, is_none, if◌then◌else◌, Err, MatchResult, IfSome}
 use Rattle.std.specs.FinMap.{get}
 use Rattle.pq_base.specs.declared.value.Value.{Value}
 use Rattle.pq_base.specs.Values.{AllFit}
@@ -14,7 +14,7 @@ use Rattle.pq_content.specs.Standing.{change_of, AreOfRows}
 use Rattle.pq_content.specs.Tables.{Rows, AllOfKinds, types_of, shape_of, key_types, cells, Keeps}
 use Rattle.pq_store.specs.Content.{Content}
 use Rattle.pq_calls.specs.Evidence.{IsRead}
-use Rattle.pq_index_keep.specs.Effects.{effect, changes_of}
+use Rattle.pq_index_keep.specs.Effects.{effect, changes_of, held_refusal}
 use Rattle.pq_index_keep.specs.Tested.{with_sets}
 use Rattle.pq_index_keep.specs.declared.plan.Planned.{Planned}
 use Rattle.pq_index_keep.specs.declared.plan.Planned.TheVariants as planned
@@ -57,9 +57,9 @@ IsPlannedWithin most (planned.Refused refusal) = Unit {0}
 -- at the row's key, and a DELETE removes it
 abbrev pub HasOwn : List Table → Write → List (List ℕ × Option (List ℕ)) → Type 0
 HasOwn tables (write.Insert t row) changes = changes ≡ puts (pairs_of_row t (table_at tables t) row)
-HasOwn tables (write.Update t key sets) changes =
+HasOwn tables (write.Update t key sets conds) changes =
     (value : List ℕ) × (rest : List (List ℕ × Option (List ℕ))) × (changes ≡ (row_key t key, Some value) ∷ rest)
-HasOwn tables (write.Delete t key) changes =
+HasOwn tables (write.Delete t key conds) changes =
     (rest : List (List ℕ × Option (List ℕ))) × (changes ≡ (row_key t key, None) ∷ rest)
 
 -- what is planned changes the row's own pair, whatever the store tells
@@ -70,19 +70,21 @@ ChangesOwn tables write (planned.Refused refusal) = Unit {0}
 -- what was read of the old row, where the store tells: none for an INSERT
 abbrev pub IsReadFor : List Table → Write → Content → Option (List Value) → Type 0
 IsReadFor tables (write.Insert t row) content old = old ≡ None
-IsReadFor tables (write.Update t key sets) content old =
+IsReadFor tables (write.Update t key sets conds) content old =
     IsRead (shape_of (table_at tables t)) (get content (row_key t key)) old
-IsReadFor tables (write.Delete t key) content old =
+IsReadFor tables (write.Delete t key conds) content old =
     IsRead (shape_of (table_at tables t)) (get content (row_key t key)) old
 
 -- the old row fits its table's columns
 abbrev pub FitsItsTable : List Table → Write → Option (List Value) → Type 0
 FitsItsTable tables (write.Insert t row) old = old ≡ None
-FitsItsTable tables (write.Update t key sets) old = IfSome old (AllFit (types_of (table_at tables t)))
-FitsItsTable tables (write.Delete t key) old = IfSome old (AllFit (types_of (table_at tables t)))
+FitsItsTable tables (write.Update t key sets conds) old = IfSome old (AllFit (types_of (table_at tables t)))
+FitsItsTable tables (write.Delete t key conds) old = IfSome old (AllFit (types_of (table_at tables t)))
 
--- the row that comes in its place, of an UPDATE alone
-abbrev pub IsNewFor : Write → Option (List Value) → Option (List Value) → Type 0
-IsNewFor (write.Insert t row) old new = new ≡ None
-IsNewFor (write.Update t key sets) old new = new ≡ option_map (with_sets sets) old
-IsNewFor (write.Delete t key) old new = new ≡ None
+-- the row that comes in the old one's place: of an UPDATE alone, whose conditions hold and whose sums are there
+abbrev pub IsNewFor : List Table → Write → Option (List Value) → Option (List Value) → Type 0
+IsNewFor tables (write.Insert t row) old new = new ≡ None
+IsNewFor tables (write.Update t key sets conds) None new = new ≡ None
+IsNewFor tables (write.Update t key sets conds) (Some old) new =
+    new ≡ (if is_none (held_refusal (table_at tables t) sets conds old) then Some (with_sets sets old) else None)
+IsNewFor tables (write.Delete t key conds) old new = new ≡ None

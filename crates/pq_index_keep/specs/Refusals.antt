@@ -4,9 +4,12 @@ use Rattle.pq_base.specs.declared.refusal.Refusal.{Refusal}
 use Rattle.pq_base.specs.declared.refusal.Refusal.TheVariants as refusal
 use Rattle.pq_schema.specs.Tables.{no_table, table_at}
 use Rattle.pq_schema.specs.declared.table.Table.{Table}
-use Rattle.pq_index_keep.specs.Effects.{no_parent, no_room, no_row, referenced_refusal}
+use Rattle.pq_base.specs.Members.{In}
+use Rattle.pq_index_keep.specs.Effects.{no_parent, no_room, no_row, no_sum, referenced_refusal, unmet}
 use Rattle.pq_index_keep.specs.declared.plan.Planned.{Planned}
 use Rattle.pq_index_keep.specs.declared.plan.Planned.TheVariants as planned
+use Rattle.pq_index_keep.specs.declared.write.Cond.{Cond}
+use Rattle.pq_index_keep.specs.declared.write.SetCol.{SetCol}
 use Rattle.pq_index_keep.specs.declared.write.Write.{Write}
 use Rattle.pq_index_keep.specs.declared.write.Write.TheVariants as write
 
@@ -31,11 +34,22 @@ IsDeleteRefusal tables why = (child : ℕ) × (child < length tables) × (place 
     × (place < length (slice_index_or tables child no_table).foreign)
     × (why ≡ referenced_refusal (slice_index_or tables child no_table) place)
 
--- the row that an UPDATE and a DELETE name may not be there
+-- by one of its conditions
+abbrev pub IsUnmet : Table → List Cond → Refusal → Type 0
+IsUnmet table conds why = (place : ℕ) × (place < length conds) × (why ≡ unmet table place)
+
+-- by the ADD of one of the columns that are set
+abbrev pub IsNoSum : Table → List SetCol → Refusal → Type 0
+IsNoSum table sets why = (set : SetCol) × In set sets × (why ≡ no_sum table set)
+
+-- the row that an UPDATE and a DELETE name may not be there, and be another than the write says
 abbrev pub CanRefuse : List Table → Write → Refusal → Type 0
 CanRefuse tables (write.Insert t row) why = IsInsertRefusal (table_at tables t) why
-CanRefuse tables (write.Update t key sets) why = (why ≡ no_row tables t) ⊎ IsUpdateRefusal (table_at tables t) why
-CanRefuse tables (write.Delete t key) why = (why ≡ no_row tables t) ⊎ IsDeleteRefusal tables why
+CanRefuse tables (write.Update t key sets conds) why =
+    (why ≡ no_row tables t) ⊎ IsUnmet (table_at tables t) conds why ⊎ IsNoSum (table_at tables t) sets why
+    ⊎ IsUpdateRefusal (table_at tables t) why
+CanRefuse tables (write.Delete t key conds) why =
+    (why ≡ no_row tables t) ⊎ IsUnmet (table_at tables t) conds why ⊎ IsDeleteRefusal tables why
 
 -- what is planned is refused as the write can be
 abbrev pub RefusesAs : List Table → Write → Planned → Type 0

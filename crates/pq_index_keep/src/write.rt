@@ -2,12 +2,21 @@
 ghost use Rattle.std.specs.Prelude.{◌≡◌, ◌<◌, All};
 ghost use Rattle.pq_index_keep.specs.Tested.{touches, scope_of};
 
-use pq_base::{ColSet, List, Row, Value};
+use pq_base::{ColSet, List, Op, Row, Value};
+use pq_def_read::Setting;
 
-/// A column and the value that it is to have.
+/// A column and what it is set to.
 #[derive(Drop)]
 pub struct SetCol {
     pub col: u8,
+    pub to: Setting,
+}
+
+/// What a column of the row has to be like; the value beside IsNull is NULL.
+#[derive(Drop)]
+pub struct Cond {
+    pub col: u8,
+    pub op: Op,
     pub value: Value,
 }
 
@@ -18,16 +27,18 @@ pub enum Write {
         table: u8,
         row: Row,
     },
-    /// The row with this key gets these values.
+    /// The row with this key is set so, where the conditions hold of it.
     Update {
         table: u8,
         key: Row,
         sets: List<SetCol>,
+        conds: List<Cond>,
     },
-    /// The row with this key.
+    /// The row with this key, where the conditions hold of it.
     Delete {
         table: u8,
         key: Row,
+        conds: List<Cond>,
     },
 }
 
@@ -43,10 +54,12 @@ impl Drop for Write {
                 table: _table,
                 key: _key,
                 sets: _sets,
+                conds: _conds,
             } => {}
             Write::Delete {
                 table: _table,
                 key: _key,
+                conds: _conds,
             } => {}
         }
     }
