@@ -13,15 +13,17 @@ use Rattle.pq_grammar.proofs.Options.{option_reads}
 use Rattle.pq_grammar.proofs.Lists.{one_opens, then_opens, one_shuts, then_shuts, pair_free, skip_free, same_set}
 use Rattle.pq_grammar.proofs.Choices.{made_reads, choice_reads, one_or_other}
 use Rattle.pq_shape.specs.Front.{is_mark_shape, is_name_shape, is_constant, is_soft_shape, soft_name, soft_at, mark_at, name_at, number_at, constant_shape_at}
+use Rattle.pq_shape.specs.Operators.{operator, op_at}
 use Rattle.pq_shape.specs.Parts.{mark, soft, name, number, a_constant}
+use Rattle.pq_shape.proofs.Operators.{others, op_reads, IsOther, others_is, others_from, others_marked, others_not_equal}
 use Rattle.pq_shape.proofs.Tokens.{soft_reads, soft_passes, mark_reads, name_reads, number_reads, constant_reads, constant_opens}
 use Rattle.pq_shape.specs.declared.shape.Shape.{Shape}
 use Rattle.pq_shape.specs.declared.shape.Shape.TheVariants as shape
 use Rattle.pq_base.specs.declared.op.Op.{Op}
 use Rattle.pq_base.specs.declared.op.Op.TheVariants as op
-use Rattle.pq_shape.specs.declared.mark.TheConstants.{CLOSE_SQUARE, COLON, EQUAL, GREATER, LESS, LESS_EQUAL, OPEN_SQUARE, POINT, UNEQUAL}
-use Rattle.pq_query_read.specs.Grammar.{ref, operator, param, compare, null_test, comparison, pred}
-use Rattle.pq_query_read.specs.Reading.{ref_at, op_at, label_at, param_at, plain_at, operand_at, equality_at, compare_at, null_test_at, comparison_at, pred_at}
+use Rattle.pq_shape.specs.declared.mark.TheConstants.{CLOSE_SQUARE, COLON, EQUAL, OPEN_SQUARE, POINT}
+use Rattle.pq_query_read.specs.Grammar.{ref, param, compare, null_test, comparison, pred}
+use Rattle.pq_query_read.specs.Reading.{ref_at, label_at, param_at, plain_at, operand_at, equality_at, compare_at, null_test_at, comparison_at, pred_at}
 use Rattle.pq_query_read.specs.declared.select.OperandDef.{OperandDef}
 use Rattle.pq_query_read.specs.declared.select.OperandDef.TheVariants as operand
 use Rattle.pq_query_read.specs.declared.select.RefDef.{RefDef}
@@ -109,70 +111,6 @@ operand_reads =
     choice_reads ref_made plain is_name_shape _ plain_at (is_mark_shape POINT) (made_reads (λ r. operand.Ref r) ref (is_mark_shape POINT) ref_at ref_reads) (wide plain (is_mark_shape POINT) plain_at plain_reads)
     (λ x w h. ref_opens h.0 w h.2) (λ x w rest h e. plain_no_name x w rest h)
 
--- ---- operators
-
-abbrev op_made : Op → Op → List Shape → Type 0
-op_made o = made_from (λ (u : Unit {0}). o) (λ u. mark (operator o))
-
-op_made_reads : (o : Op) → Reads (op_made o) never (map_at (λ u. o) (mark_at (operator o)))
-op_made_reads o = made_reads (λ u. o) (λ u. mark (operator o)) never (mark_at (operator o)) (mark_reads (operator o))
-
-abbrev from_greater : Op → List Shape → Type 0
-from_greater = one_or_other (op_made op.Gt) (op_made op.Ge)
-
-abbrev from_less_equal : Op → List Shape → Type 0
-from_less_equal = one_or_other (op_made op.Le) from_greater
-
-abbrev from_less : Op → List Shape → Type 0
-from_less = one_or_other (op_made op.Lt) from_less_equal
-
-abbrev others : Op → List Shape → Type 0
-others = one_or_other (op_made op.Ne) from_less
-
--- such an operator is not this mark
-other_mark : (c : ℕ) (o x : Op) (w rest : List Shape) → is_mark_shape c (shape.Mark (operator o)) ≡ false → op_made o x w → begins (is_mark_shape c) (w ++ rest) ≡ false
-other_mark c o x w rest e h = one_shuts (is_mark_shape c) (shape.Mark (operator o)) e w rest h.2
-
-no_less_equal : (x : Op) (w rest : List Shape) → from_greater x w → begins (is_mark_shape LESS_EQUAL) (w ++ rest) ≡ false
-unfolding is_mark_shape
-no_less_equal x w rest (inl h) = other_mark LESS_EQUAL op.Gt x w rest refl h
-no_less_equal x w rest (inr h) = other_mark LESS_EQUAL op.Ge x w rest refl h
-
-no_less : (x : Op) (w rest : List Shape) → from_less_equal x w → begins (is_mark_shape LESS) (w ++ rest) ≡ false
-unfolding is_mark_shape
-no_less x w rest (inl h) = other_mark LESS op.Le x w rest refl h
-no_less x w rest (inr (inl h)) = other_mark LESS op.Gt x w rest refl h
-no_less x w rest (inr (inr h)) = other_mark LESS op.Ge x w rest refl h
-
-no_unequal : (x : Op) (w rest : List Shape) → from_less x w → begins (is_mark_shape UNEQUAL) (w ++ rest) ≡ false
-unfolding is_mark_shape
-no_unequal x w rest (inl h) = other_mark UNEQUAL op.Lt x w rest refl h
-no_unequal x w rest (inr (inl h)) = other_mark UNEQUAL op.Le x w rest refl h
-no_unequal x w rest (inr (inr (inl h))) = other_mark UNEQUAL op.Gt x w rest refl h
-no_unequal x w rest (inr (inr (inr h))) = other_mark UNEQUAL op.Ge x w rest refl h
-
-others_shut : (c : ℕ) → ((o : Op) → (o ≡ op.Eq → ⊥) → is_mark_shape c (shape.Mark (operator o)) ≡ false) → (x : Op) (w rest : List Shape) → others x w → begins (is_mark_shape c) (w ++ rest) ≡ false
-others_shut c e x w rest (inl h) = other_mark c op.Ne x w rest (e op.Ne (λ q. absurd cc)) h
-others_shut c e x w rest (inr (inl h)) = other_mark c op.Lt x w rest (e op.Lt (λ q. absurd cc)) h
-others_shut c e x w rest (inr (inr (inl h))) = other_mark c op.Le x w rest (e op.Le (λ q. absurd cc)) h
-others_shut c e x w rest (inr (inr (inr (inl h)))) = other_mark c op.Gt x w rest (e op.Gt (λ q. absurd cc)) h
-others_shut c e x w rest (inr (inr (inr (inr h)))) = other_mark c op.Ge x w rest (e op.Ge (λ q. absurd cc)) h
-
-opens_op : (o x : Op) (w : List Shape) → is_mark_shape (operator o) (shape.Mark (operator o)) ≡ true → op_made o x w → begins (is_mark_shape (operator o)) w ≡ true
-opens_op o x w e h = one_opens (is_mark_shape (operator o)) (shape.Mark (operator o)) e w h.2
-
-op_reads : Reads others never op_at
-unfolding op_at is_mark_shape
-op_reads =
-    choice_reads (op_made op.Ne) from_less (is_mark_shape UNEQUAL) _ _ never (op_made_reads op.Ne)
-    (choice_reads (op_made op.Lt) from_less_equal (is_mark_shape LESS) _ _ never (op_made_reads op.Lt)
-    (choice_reads (op_made op.Le) from_greater (is_mark_shape LESS_EQUAL) _ _ never (op_made_reads op.Le)
-    (choice_reads (op_made op.Gt) (op_made op.Ge) (is_mark_shape GREATER) _ _ never (op_made_reads op.Gt) (op_made_reads op.Ge)
-    (λ x w h. opens_op op.Gt x w refl h) (λ x w rest h e. other_mark GREATER op.Ge x w rest refl h))
-    (λ x w h. opens_op op.Le x w refl h) (λ x w rest h e. no_less_equal x w rest h))
-    (λ x w h. opens_op op.Lt x w refl h) (λ x w rest h e. no_less x w rest h))
-    (λ x w h. opens_op op.Ne x w refl h) (λ x w rest h e. no_unequal x w rest h)
-
 -- ---- comparisons
 
 abbrev operand_set : OperandDef → List Shape → Type 0
@@ -210,29 +148,6 @@ operand_from : (o : OperandDef) (w : List Shape) → operand_set o w → any_ope
 operand_from (operand.Const v) w h = inr (inr (v, refl, h))
 operand_from (operand.Param z) w h = inr (inl ((z, h.0), refl, h.1))
 operand_from (operand.Ref r) w h = inl (r, refl, h)
-
-op_is : (p o : Op) (w : List Shape) → op_made p o w → mark (operator o) w
-op_is p o w h = subst (λ (q : Op). mark (operator q) w) h.1 h.2
-
--- an operator with a mark other than =
-abbrev IsOther : Op → Type 0
-IsOther o = (o ≡ op.Eq → ⊥) × (is_null_test o ≡ false)
-
-others_is : (o : Op) (w : List Shape) → others o w → mark (operator o) w
-others_is o w (inl h) = op_is op.Ne o w h
-others_is o w (inr (inl h)) = op_is op.Lt o w h
-others_is o w (inr (inr (inl h))) = op_is op.Le o w h
-others_is o w (inr (inr (inr (inl h)))) = op_is op.Gt o w h
-others_is o w (inr (inr (inr (inr h)))) = op_is op.Ge o w h
-
-others_from : (o : Op) (w : List Shape) → IsOther o → mark (operator o) w → others o w
-others_from op.Eq w n h = absurd (n.0 refl)
-others_from op.Ne w n h = inl (tt, refl, h)
-others_from op.Lt w n h = inr (inl (tt, refl, h))
-others_from op.Le w n h = inr (inr (inl (tt, refl, h)))
-others_from op.Gt w n h = inr (inr (inr (inl (tt, refl, h))))
-others_from op.Ge w n h = inr (inr (inr (inr (tt, refl, h))))
-others_from op.IsNull w n h = absurd (false≢true (sym n.1))
 
 abbrev equality : OperandDef → List Shape → Type 0
 equality o = mark EQUAL ⋅ any_operand o
@@ -283,16 +198,6 @@ other_from o (operand.Ref r) w n h = absurd (no_other_ref o r w n.0 h)
 abbrev marked : Op × OperandDef → List Shape → Type 0
 marked y w = (is_null_test y.0 ≡ false) × compares y w
 
-op_marked : (p o : Op) (w : List Shape) → is_null_test p ≡ false → op_made p o w → is_null_test o ≡ false
-op_marked p o w test h = subst (λ (q : Op). is_null_test q ≡ false) h.1 test
-
-others_marked : (o : Op) (w : List Shape) → others o w → is_null_test o ≡ false
-others_marked o w (inl h) = op_marked op.Ne o w refl h
-others_marked o w (inr (inl h)) = op_marked op.Lt o w refl h
-others_marked o w (inr (inr (inl h))) = op_marked op.Le o w refl h
-others_marked o w (inr (inr (inr (inl h)))) = op_marked op.Gt o w refl h
-others_marked o w (inr (inr (inr (inr h)))) = op_marked op.Ge o w refl h
-
 compare_to : (y : Op × OperandDef) (w : List Shape) → one_or_other eq_made other_pair y w → marked y w
 compare_to y w (inl h) = subst (λ (z : Op × OperandDef). marked z w) h.1 (refl, eq_to h.0 w h.2)
 compare_to y w (inr h) = (others_marked y.0 h.front h.fits_front, other_to y.0 y.1 w h)
@@ -306,18 +211,8 @@ compare_from_at op.Gt x w t h = inr (other_from op.Gt x w ((λ q. absurd cc), re
 compare_from_at op.Ge x w t h = inr (other_from op.Ge x w ((λ q. absurd cc), refl) h)
 compare_from_at op.IsNull x w t h = absurd (false≢true (sym t))
 
-not_equal : (o : Op) → (o ≡ op.Eq → ⊥) → is_mark_shape EQUAL (shape.Mark (operator o)) ≡ false
-unfolding is_mark_shape
-not_equal op.Eq n = absurd (n refl)
-not_equal op.Ne n = refl
-not_equal op.Lt n = refl
-not_equal op.Le n = refl
-not_equal op.Gt n = refl
-not_equal op.Ge n = refl
-not_equal op.IsNull n = refl
-
 pair_shuts : (y : Op × OperandDef) (w rest : List Shape) → other_pair y w → begins (is_mark_shape EQUAL) (w ++ rest) ≡ false
-pair_shuts y w rest h = ap (λ (v : List Shape). begins (is_mark_shape EQUAL) (v ++ rest)) h.parts ∙ ap (begins (is_mark_shape EQUAL)) (append_assoc h.front h.back rest) ∙ others_shut EQUAL not_equal y.0 h.front (h.back ++ rest) h.fits_front
+pair_shuts y w rest h = ap (λ (v : List Shape). begins (is_mark_shape EQUAL) (v ++ rest)) h.parts ∙ ap (begins (is_mark_shape EQUAL)) (append_assoc h.front h.back rest) ∙ others_not_equal y.0 h.front (h.back ++ rest) h.fits_front
 
 compare_reads : Reads marked (is_mark_shape POINT) compare_at
 unfolding compare_at equality_at is_mark_shape

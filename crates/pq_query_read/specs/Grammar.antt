@@ -7,9 +7,10 @@ use Rattle.pq_grammar.specs.Language.{◌⋅◌, nothing, optional, separated_by
 use Rattle.pq_base.specs.Comparing.{is_null_test}
 use Rattle.pq_base.specs.declared.op.Op.{Op}
 use Rattle.pq_base.specs.declared.op.Op.TheVariants as op
+use Rattle.pq_shape.specs.Operators.{operator}
 use Rattle.pq_shape.specs.Parts.{word, mark, comma, name, number, soft, a_constant}
 use Rattle.pq_shape.specs.declared.keyword.TheConstants.{AND, AS, ASC, BY, DESC, FROM, JOIN, LIMIT, ORDER, PAGINATE, SELECT, WHERE}
-use Rattle.pq_shape.specs.declared.mark.TheConstants.{CLOSE_SQUARE, COLON, EQUAL, GREATER, GREATER_EQUAL, LESS, LESS_EQUAL, OPEN_SQUARE, POINT, SEMICOLON, STAR, UNEQUAL}
+use Rattle.pq_shape.specs.declared.mark.TheConstants.{CLOSE_SQUARE, COLON, EQUAL, OPEN_SQUARE, POINT, SEMICOLON, STAR}
 use Rattle.pq_shape.specs.declared.soft.Soft.TheVariants as soft_word
 use Rattle.pq_shape.specs.declared.shape.Shape.{Shape}
 use Rattle.pq_query_read.specs.declared.select.ItemDef.{ItemDef}
@@ -39,16 +40,6 @@ relation r = name r.table ⋅ optional alias r.alias
 -- "," | JOIN
 abbrev pub comma_or_join : List Shape → Type 0
 comma_or_join w = comma w ⊎ word JOIN w
-
--- the mark of a comparison; IS NULL has none, and no mark is 0
-abbrev pub operator : Op → ℕ
-operator op.Eq = EQUAL
-operator op.Ne = UNEQUAL
-operator op.Lt = LESS
-operator op.Le = LESS_EQUAL
-operator op.Gt = GREATER
-operator op.Ge = GREATER_EQUAL
-operator op.IsNull = 0
 
 -- "[" number [ ":" name ] "]": the name is for the reader alone
 abbrev pub param : ℤ → List Shape → Type 0

@@ -7,10 +7,11 @@ use Rattle.pq_base.specs.declared.op.Op.{Op}
 use Rattle.pq_base.specs.declared.op.Op.TheVariants as op
 use Rattle.pq_text.specs.declared.token.Token.{Token}
 use Rattle.pq_shape.specs.Front.{is_word_shape, is_mark_shape, is_name_shape, is_soft_shape, soft_at, is_between, word_at, mark_at, between_at, name_at, number_at, constant_shape_at}
+use Rattle.pq_shape.specs.Operators.{op_at}
 use Rattle.pq_shape.specs.Shapes.{shapes_of}
 use Rattle.pq_shape.specs.declared.between.Between.TheVariants as between
 use Rattle.pq_shape.specs.declared.keyword.TheConstants.{AND, AS, ASC, BY, DESC, FROM, LIMIT, ORDER, PAGINATE, SELECT, WHERE}
-use Rattle.pq_shape.specs.declared.mark.TheConstants.{CLOSE_SQUARE, COLON, COMMA, EQUAL, GREATER, GREATER_EQUAL, LESS, LESS_EQUAL, OPEN_SQUARE, POINT, SEMICOLON, STAR, UNEQUAL}
+use Rattle.pq_shape.specs.declared.mark.TheConstants.{CLOSE_SQUARE, COLON, COMMA, EQUAL, OPEN_SQUARE, POINT, SEMICOLON, STAR}
 use Rattle.pq_base.specs.declared.value.Value.TheVariants as value
 use Rattle.pq_shape.specs.declared.soft.Soft.TheVariants as soft_word
 use Rattle.pq_shape.specs.declared.shape.Shape.{Shape}
@@ -46,15 +47,6 @@ unfoldable pub relation_clause_at : Reader Shape RelationDef
 relation_clause_at = map_at (λ x. record { table = x.0; alias = x.1 }) (pair_at name_at alias_at)
 
 -- ---- predicates
-
--- an operator other than "="
-unfoldable pub op_at : Reader Shape Op
-op_at =
-    choice_at (is_mark_shape UNEQUAL) (map_at (λ u. op.Ne) (mark_at UNEQUAL))
-    (choice_at (is_mark_shape LESS) (map_at (λ u. op.Lt) (mark_at LESS))
-    (choice_at (is_mark_shape LESS_EQUAL) (map_at (λ u. op.Le) (mark_at LESS_EQUAL))
-    (choice_at (is_mark_shape GREATER) (map_at (λ u. op.Gt) (mark_at GREATER)) (map_at
-    (λ u. op.Ge) (mark_at GREATER_EQUAL)))))
 
 -- a colon and a name, which is for the reader alone
 unfoldable pub label_at : Reader Shape (Option (List ℕ))

@@ -3,15 +3,15 @@ use Rattle.std.proofs.Common.{ℕ}
 use Rattle.pq_base.specs.declared.value.Dir.TheVariants as dir
 use Rattle.pq_grammar.specs.Reader.{pair_at, skip_at, close_at, map_at, nothing_at, test_of}
 use Rattle.pq_grammar.specs.Shrinking.{Shrinks, Keeps, token_shrinks, shrinks_keeps, nothing_keeps, pair_shrinks, pair_keeps, close_shrinks, skip_shrinks, map_shrinks, map_keeps, option_keeps, choice_keeps}
-use Rattle.pq_base.specs.declared.op.Op.{Op}
 use Rattle.pq_base.specs.declared.op.Op.TheVariants as op
 use Rattle.pq_shape.specs.Front.{is_word_shape, is_mark_shape, is_name_shape, is_soft_shape, soft_at, word_at, mark_at, name_of, name_at, number_in, number_at, constant_in, constant_shape_at}
+use Rattle.pq_shape.specs.Operators.{op_at, op_keeps}
 use Rattle.pq_base.specs.declared.value.Value.TheVariants as value
 use Rattle.pq_shape.specs.declared.soft.Soft.{Soft}
 use Rattle.pq_shape.specs.declared.soft.Soft.TheVariants as soft_word
 use Rattle.pq_shape.specs.declared.keyword.TheConstants.{AS, ASC, DESC}
-use Rattle.pq_shape.specs.declared.mark.TheConstants.{CLOSE_SQUARE, COLON, EQUAL, GREATER, GREATER_EQUAL, LESS, LESS_EQUAL, OPEN_SQUARE, POINT, UNEQUAL}
-use Rattle.pq_query_read.specs.Reading.{part_at, ref_at, is_alias, alias_at, relation_clause_at, op_at, label_at, param_at, plain_at, operand_at, equality_at, compare_at, null_test_at, comparison_at, pred_at, dir_at, item_at}
+use Rattle.pq_shape.specs.declared.mark.TheConstants.{CLOSE_SQUARE, COLON, EQUAL, OPEN_SQUARE, POINT}
+use Rattle.pq_query_read.specs.Reading.{part_at, ref_at, is_alias, alias_at, relation_clause_at, label_at, param_at, plain_at, operand_at, equality_at, compare_at, null_test_at, comparison_at, pred_at, dir_at, item_at}
 use Rattle.pq_query_read.specs.declared.select.OperandDef.TheVariants as operand
 
 word_shrinks : (k : ℕ) → Shrinks (word_at k)
@@ -60,17 +60,6 @@ operand_keeps : Keeps operand_at
 unfolding operand_at
 operand_keeps = choice_keeps is_name_shape _ plain_at (map_keeps
     (λ r. operand.Ref r) ref_at (shrinks_keeps ref_at ref_shrinks)) plain_keeps
-
-mark_keeps : (o : Op) (k : ℕ) → Keeps (map_at (λ u. o) (mark_at k))
-mark_keeps o k = map_keeps (λ u. o) (mark_at k) (shrinks_keeps _ (mark_shrinks k))
-
-op_keeps : Keeps op_at
-unfolding op_at
-op_keeps =
-    choice_keeps (is_mark_shape UNEQUAL) _ _ (mark_keeps op.Ne UNEQUAL)
-    (choice_keeps (is_mark_shape LESS) _ _ (mark_keeps op.Lt LESS)
-    (choice_keeps (is_mark_shape LESS_EQUAL) _ _ (mark_keeps op.Le LESS_EQUAL)
-    (choice_keeps (is_mark_shape GREATER) _ _ (mark_keeps op.Gt GREATER) (mark_keeps op.Ge GREATER_EQUAL))))
 
 compare_keeps : Keeps compare_at
 unfolding compare_at equality_at

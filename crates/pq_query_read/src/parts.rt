@@ -1,15 +1,15 @@
 //! Reading the parts of a query.
 ghost use Rattle.std.specs.Prelude.{◌≡◌, Ok};
 ghost use Rattle.pq_grammar.specs.Answers.{Gives};
-ghost use Rattle.pq_query_read.specs.Reading.{part_at, ref_at, alias_at, relation_clause_at, op_at, label_at, param_at, plain_at, operand_at, equality_at, compare_at, null_test_at, comparison_at, pred_at, dir_at, item_at, stop_clause_at};
+ghost use Rattle.pq_query_read.specs.Reading.{part_at, ref_at, alias_at, relation_clause_at, label_at, param_at, plain_at, operand_at, equality_at, compare_at, null_test_at, comparison_at, pred_at, dir_at, item_at, stop_clause_at};
 
 use crate::select::{ItemDef, OperandDef, PredDef, RefDef, RelationDef, StopDef};
 use pq_base::{Dir, Op, PText, Value};
 use pq_grammar::ReadError;
 
 use pq_shape::{
-    AS, ASC, CLOSE_SQUARE, COLON, Cursor, DESC, EQUAL, GREATER, GREATER_EQUAL, LESS, LESS_EQUAL,
-    LIMIT, OPEN_SQUARE, PAGINATE, POINT, Part, Soft, UNEQUAL,
+    AS, ASC, CLOSE_SQUARE, COLON, Cursor, DESC, EQUAL, LIMIT, OPEN_SQUARE, PAGINATE, POINT, Part,
+    Soft, operator,
 };
 use std::alloc::Global;
 
@@ -83,31 +83,6 @@ impl Part for RelationDef {
     }
 
     ghost shrinks = { relation_shrinks };
-}
-
-/// Reads an operator other than `=`.
-#[tactic(auto, unfolding(crate::specs::Reading::op_at))]
-fn operator(c: &mut Cursor) -> Result<Op, ReadError>
-    ensures { Gives (λ x. (x, c.new)) result (op_at c.old) }
-{
-    if c.is_mark(UNEQUAL) {
-        c.mark(UNEQUAL)?;
-        return Ok(Op::Ne);
-    }
-    if c.is_mark(LESS) {
-        c.mark(LESS)?;
-        return Ok(Op::Lt);
-    }
-    if c.is_mark(LESS_EQUAL) {
-        c.mark(LESS_EQUAL)?;
-        return Ok(Op::Le);
-    }
-    if c.is_mark(GREATER) {
-        c.mark(GREATER)?;
-        return Ok(Op::Gt);
-    }
-    c.mark(GREATER_EQUAL)?;
-    Ok(Op::Ge)
 }
 
 #[tactic(auto, unfolding(crate::specs::Reading::label_at))]

@@ -42,7 +42,8 @@ use Rattle.pq_print.specs.Canonical.{absent_column, column_name, ref_text, relat
 use Rattle.pq_print.specs.Lists.{separate_texts as separated_texts, clause}
 use Rattle.pq_print.specs.Report.{dir_text}
 use Rattle.pq_print.specs.Values.{value_text}
-use Rattle.pq_query_read.specs.Grammar.{ref as a_ref, relation as a_relation, comma_or_join, operator, param, comparison, pred as a_pred, direction, item as an_item, stop_tokens, conditions, order_tokens, SpellsSelect}
+use Rattle.pq_shape.specs.Operators.{operator}
+use Rattle.pq_query_read.specs.Grammar.{ref as a_ref, relation as a_relation, comma_or_join, param, comparison, pred as a_pred, direction, item as an_item, stop_tokens, conditions, order_tokens, SpellsSelect}
 use Rattle.pq_query_read.specs.declared.select.OperandDef.TheVariants as operand_def
 use Rattle.pq_reread.specs.Orderly.{IsOrderly, AreOrderly}
 use Rattle.pq_reread.specs.Printed.{joins_none, is_quote}

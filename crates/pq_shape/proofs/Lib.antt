@@ -2,3 +2,4 @@ pub mod Places
 pub mod Made
 pub mod Digits
 pub mod Tokens
+pub mod Operators

@@ -2,5 +2,6 @@ pub mod Numbers
 pub mod Shapes
 pub mod Front
 pub mod Parts
+pub mod Operators
 pub mod Faults
 pub mod Laws

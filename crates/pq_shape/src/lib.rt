@@ -11,6 +11,7 @@ mod keyword;
 pub mod laws;
 mod mark;
 mod number;
+mod op;
 mod part;
 mod shape;
 mod soft;
@@ -27,6 +28,7 @@ pub use mark::{
     CLOSE, CLOSE_SQUARE, COLON, COMMA, EQUAL, GREATER, GREATER_EQUAL, LESS, LESS_EQUAL, OPEN,
     OPEN_SQUARE, POINT, SEMICOLON, STAR, UNEQUAL,
 };
+pub use op::operator;
 pub use part::{Part, separated};
 pub use shape::{Shape, shapes};
 pub use soft::Soft;
