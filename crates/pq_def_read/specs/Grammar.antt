@@ -1,6 +1,10 @@
 -- The grammar: how each part of a statement is spelled, and each statement.
 use Rattle.std.specs.Prelude.{◌≡◌, ℕ, ℤ, Bool, true, false, List, [], Option, ◌⊎◌}
+use Rattle.pq_base.specs.Comparing.{is_null_test}
+use Rattle.pq_base.specs.declared.op.Op.{Op}
+use Rattle.pq_base.specs.declared.op.Op.TheVariants as op
 use Rattle.pq_base.specs.declared.value.Value.{Value}
+use Rattle.pq_base.specs.declared.value.Value.TheVariants as value
 use Rattle.pq_grammar.specs.Language.{◌⋅◌, nothing, anything, each, optional, separated_by, listed_by, made_from}
 use Rattle.pq_schema.specs.declared.definition.AlterDef.{AlterDef}
 use Rattle.pq_schema.specs.declared.definition.ColumnDef.{ColumnDef}
@@ -8,8 +12,9 @@ use Rattle.pq_schema.specs.declared.definition.CounterDef.{CounterDef}
 use Rattle.pq_schema.specs.declared.definition.LimitDef.{LimitDef}
 use Rattle.pq_schema.specs.declared.definition.ForeignDef.{ForeignDef}
 use Rattle.pq_schema.specs.declared.definition.TableDef.{TableDef}
-use Rattle.pq_shape.specs.Parts.{word, soft, mark, comma, name, number, text, a_value}
-use Rattle.pq_shape.specs.declared.keyword.TheConstants.{AFTER, AND, AS, BOOL, CARDINALITY, CREATE, DELETE, EXPLAIN, FOREIGN, FROM, INSERT, INT, INTO, KEY, LIMIT, PREPARE, PRIMARY, REFERENCES, RUN, SET, SHOW, TABLE, TEXT, UPDATE, VALUES, WHERE}
+use Rattle.pq_shape.specs.Operators.{operator}
+use Rattle.pq_shape.specs.Parts.{word, soft, mark, comma, name, number, text, a_constant, a_value}
+use Rattle.pq_shape.specs.declared.keyword.TheConstants.{AFTER, AND, AS, BOOL, CARDINALITY, CREATE, DELETE, EXPLAIN, FOREIGN, FROM, INSERT, INT, INTO, KEY, LIMIT, PREPARE, PRIMARY, REFERENCES, RUN, SELECT, SET, SHOW, TABLE, TEXT, UPDATE, VALUES, WHERE}
 use Rattle.pq_shape.specs.declared.mark.TheConstants.{CLOSE, EQUAL, OPEN, SEMICOLON}
 use Rattle.pq_shape.specs.declared.soft.Soft.TheVariants as soft_word
 use Rattle.pq_shape.specs.declared.shape.Shape.{Shape}
@@ -18,9 +23,15 @@ use Rattle.pq_def_read.specs.declared.definition.Constraint.{Constraint}
 use Rattle.pq_def_read.specs.declared.definition.Constraint.TheVariants as constraint
 use Rattle.pq_def_read.specs.declared.definition.Constraints.{Constraints}
 use Rattle.pq_def_read.specs.declared.definition.Kind.{Kind}
-use Rattle.pq_def_read.specs.declared.write.Assign.{Assign}
 use Rattle.pq_def_read.specs.declared.statement.Statement.{Statement}
-use Rattle.pq_def_read.specs.declared.statement.Statement.TheVariants.{Create, Insert, Update, Delete, Prepare, Explain, Run, Alter, Counter, Read, Show}
+use Rattle.pq_def_read.specs.declared.statement.Statement.TheVariants.{Create, Write, Prepare, Explain, Run, Alter, Counter, Read, Show, Select}
+use Rattle.pq_def_read.specs.declared.write.Assign.{Assign}
+use Rattle.pq_def_read.specs.declared.write.CondDef.{CondDef}
+use Rattle.pq_def_read.specs.declared.write.SetDef.{SetDef}
+use Rattle.pq_def_read.specs.declared.write.Setting.{Setting}
+use Rattle.pq_def_read.specs.declared.write.Setting.TheVariants as setting
+use Rattle.pq_def_read.specs.declared.write.WriteDef.{WriteDef}
+use Rattle.pq_def_read.specs.declared.write.WriteDef.TheVariants.{Insert, Update, Delete}
 
 -- "(" name { "," name } ")"
 abbrev pub cols : List (List ℕ) → List Shape → Type 0
@@ -80,7 +91,16 @@ alter d =
 -- INSERT INTO name [ cols ] VALUES "(" value { "," value } ")"
 abbrev pub insert : List ℕ → Option (List (List ℕ)) → List Value → List Shape → Type 0
 insert table columns values = word INSERT ⋅ word INTO ⋅ name table ⋅ optional cols columns ⋅ word VALUES
-    ⋅ mark OPEN ⋅ separated_by comma a_value values ⋅ mark CLOSE ⋅ mark SEMICOLON
+    ⋅ mark OPEN ⋅ separated_by comma a_value values ⋅ mark CLOSE
+
+-- "=" value | ADD number
+abbrev pub set_to : Setting → List Shape → Type 0
+set_to (setting.Is v) = mark EQUAL ⋅ a_value v
+set_to (setting.Add z) = soft soft_word.Add ⋅ number z
+
+-- name "=" value | name ADD number
+abbrev pub set : SetDef → List Shape → Type 0
+set s = name s.col ⋅ set_to s.to
 
 -- name "=" value
 abbrev pub assign : Assign → List Shape → Type 0
@@ -90,14 +110,44 @@ assign a = name a.col ⋅ mark EQUAL ⋅ a_value a.value
 abbrev pub key : List Assign → List Shape → Type 0
 key = separated_by (word AND) assign
 
--- UPDATE name SET assign { "," assign } WHERE key
-abbrev pub update : List ℕ → List Assign → List Assign → List Shape → Type 0
-update table sets row = word UPDATE ⋅ name table ⋅ word SET ⋅ separated_by comma assign sets ⋅ word WHERE ⋅ key row
-    ⋅ mark SEMICOLON
+-- op const
+abbrev pub compare : Op × Value → List Shape → Type 0
+compare y = mark (operator y.0) ⋅ a_constant y.1
 
--- DELETE FROM name WHERE key
-abbrev pub delete : List ℕ → List Assign → List Shape → Type 0
-delete table row = word DELETE ⋅ word FROM ⋅ name table ⋅ word WHERE ⋅ key row ⋅ mark SEMICOLON
+-- IS NULL
+abbrev pub null_test : Op × Value → List Shape → Type 0
+null_test = made_from (λ (u : Unit {0}). (op.IsNull, value.Null)) (λ u. soft soft_word.Is ⋅ soft soft_word.Null)
+
+-- a comparison by an operator with a mark, or IS NULL
+abbrev pub comparison : Op × Value → List Shape → Type 0
+comparison y w = ((is_null_test y.0 ≡ false) × compare y w) ⊎ null_test y w
+
+-- name op const | name IS NULL
+abbrev pub cond : CondDef → List Shape → Type 0
+cond c = name c.col ⋅ comparison (c.op, c.value)
+
+-- cond { AND cond }
+abbrev pub conds : List CondDef → List Shape → Type 0
+conds = separated_by (word AND) cond
+
+-- [ IF cond { AND cond } ]
+abbrev pub conditions : List CondDef → List Shape → Type 0
+conditions cs w = ((cs ≡ []) × nothing w) ⊎ (soft soft_word.If ⋅ conds cs) w
+
+-- UPDATE name SET set { "," set } WHERE key [ IF cond { AND cond } ]
+abbrev pub update : List ℕ → List SetDef → List Assign → List CondDef → List Shape → Type 0
+update table sets row cs = word UPDATE ⋅ name table ⋅ word SET ⋅ separated_by comma set sets ⋅ word WHERE ⋅ key row
+    ⋅ conditions cs
+
+-- DELETE FROM name WHERE key [ IF cond { AND cond } ]
+abbrev pub delete : List ℕ → List Assign → List CondDef → List Shape → Type 0
+delete table row cs = word DELETE ⋅ word FROM ⋅ name table ⋅ word WHERE ⋅ key row ⋅ conditions cs
+
+-- a write, without a mark behind it
+abbrev pub write : WriteDef → List Shape → Type 0
+write (Insert table columns values) = insert table columns values
+write (Update table sets row cs) = update table sets row cs
+write (Delete table row cs) = delete table row cs
 
 -- [ "(" [ value { "," value } ] ")" ]
 abbrev pub arguments : List Value → List Shape → Type 0
@@ -116,12 +166,11 @@ abbrev pub read : List ℕ → List Value → List Shape → Type 0
 read n values = soft soft_word.Read ⋅ name n ⋅ mark OPEN ⋅ separated_by comma a_value values ⋅ mark CLOSE
     ⋅ mark SEMICOLON
 
--- these tokens spell this statement; of PREPARE and EXPLAIN the head alone, with the number of its tokens
+-- these tokens spell this statement; of PREPARE and EXPLAIN the head alone, with the number of its tokens, and of
+-- SELECT its word
 abbrev pub Spells : Statement → List Shape → Type 0
 Spells (Create d) w = create d w
-Spells (Insert table columns values) w = insert table columns values w
-Spells (Update table sets row) w = update table sets row w
-Spells (Delete table row) w = delete table row w
+Spells (Write x) w = (write x ⋅ mark SEMICOLON) w
 Spells (Prepare n from) w = (3 ≡ from) × (word PREPARE ⋅ name n ⋅ word AS ⋅ anything) w
 Spells (Explain from) w = (1 ≡ from) × (word EXPLAIN ⋅ anything) w
 Spells (Run query values after) w = run query values after w
@@ -129,3 +178,4 @@ Spells (Alter d) w = alter d w
 Spells (Counter d) w = counter d w
 Spells (Read n values) w = read n values w
 Spells Show w = (word SHOW ⋅ mark SEMICOLON) w
+Spells Select w = (word SELECT ⋅ anything) w

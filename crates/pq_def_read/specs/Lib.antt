@@ -1,4 +1,5 @@
 pub mod Definitions
+pub mod Writes
 pub mod Reading
 pub mod Shrinking
 pub mod Grammar

@@ -1,53 +1,27 @@
 -- Reading a statement from left to right.
 use Rattle.std.specs.Prelude.{ℕ, List, Option, Result}
 use Rattle.pq_base.specs.declared.value.Value.{Value}
-use Rattle.pq_grammar.specs.Reader.{Reader, pair_at, skip_at, close_at, map_at, choice_at, option_at, rest_at, separated_at, listed_at, option_items, all_at}
+use Rattle.pq_grammar.specs.Reader.{Reader, pair_at, skip_at, close_at, map_at, choice_at, option_at, rest_at, listed_at, option_items, all_at}
 use Rattle.pq_text.specs.declared.token.Token.{Token}
 use Rattle.pq_shape.specs.Front.{is_word_shape, is_mark_shape, is_soft_shape, is_value, word_at, soft_at, mark_at, name_at, text_at, value_shape_at}
 use Rattle.pq_shape.specs.Shapes.{shapes_of}
-use Rattle.pq_shape.specs.declared.keyword.TheConstants.{AFTER, AND, AS, CREATE, DELETE, EXPLAIN, FROM, INSERT, INTO, PREPARE, RUN, SET, SHOW, TABLE, UPDATE, VALUES, WHERE}
-use Rattle.pq_shape.specs.declared.mark.TheConstants.{CLOSE, COMMA, EQUAL, OPEN, SEMICOLON}
+use Rattle.pq_shape.specs.declared.keyword.TheConstants.{AFTER, AS, CREATE, EXPLAIN, PREPARE, RUN, SELECT, SHOW, TABLE}
+use Rattle.pq_shape.specs.declared.mark.TheConstants.{CLOSE, COMMA, OPEN, SEMICOLON}
 use Rattle.pq_shape.specs.declared.soft.Soft.TheVariants as soft_word
 use Rattle.pq_shape.specs.declared.shape.Shape.{Shape}
-use Rattle.pq_def_read.specs.Definitions.{cols_at, table_definition_at, counter_definition_at, alter_at, statement_end_at}
-use Rattle.pq_def_read.specs.declared.write.Assign.{Assign}
+use Rattle.pq_def_read.specs.Definitions.{table_definition_at, counter_definition_at, alter_at, statement_end_at}
+use Rattle.pq_def_read.specs.Writes.{values_clause_at, write_at}
 use Rattle.pq_def_read.specs.declared.statement.Statement.{Statement}
-use Rattle.pq_def_read.specs.declared.statement.Statement.TheVariants.{Create, Insert, Update, Delete, Prepare, Explain, Run, Alter, Counter, Read, Show}
-
-unfoldable pub values_clause_at : Reader Shape (List Value)
-values_clause_at = separated_at (is_mark_shape COMMA) (mark_at COMMA) value_shape_at
-
-abbrev pub assign_at : Reader Shape Assign
-assign_at = map_at (λ x. record { col = x.0; value = x.1 }) (pair_at name_at (skip_at (mark_at EQUAL) value_shape_at))
-
-unfoldable pub sets_at : Reader Shape (List Assign)
-sets_at = separated_at (is_mark_shape COMMA) (mark_at COMMA) assign_at
-
-unfoldable pub key_clause_at : Reader Shape (List Assign)
-key_clause_at = separated_at (is_word_shape AND) (word_at AND) assign_at
+use Rattle.pq_def_read.specs.declared.statement.Statement.TheVariants.{Create, Write, Prepare, Explain, Run, Alter, Counter, Read, Show, Select}
 
 -- a table or a counter
 unfoldable pub create_statement_at : Reader Shape Statement
 create_statement_at = skip_at (word_at CREATE) (choice_at (is_word_shape TABLE)
     (map_at (λ d. Create d) table_definition_at) (map_at (λ d. Counter d) counter_definition_at))
 
-unfoldable pub insert_at : Reader Shape Statement
-insert_at =
-    map_at (λ x. Insert x.0 x.1.0 x.1.1)
-    (skip_at (word_at INSERT) (skip_at (word_at INTO)
-    (pair_at name_at (pair_at (option_at (is_mark_shape OPEN) cols_at)
-    (skip_at (word_at VALUES) (skip_at (mark_at OPEN) (close_at values_clause_at statement_end_at)))))))
-
-unfoldable pub update_at : Reader Shape Statement
-update_at =
-    map_at (λ x. Update x.0 x.1.0 x.1.1)
-    (skip_at (word_at UPDATE) (pair_at name_at
-    (skip_at (word_at SET) (pair_at sets_at
-    (skip_at (word_at WHERE) (close_at key_clause_at (mark_at SEMICOLON)))))))
-
-unfoldable pub delete_at : Reader Shape Statement
-delete_at = map_at (λ x. Delete x.0 x.1) (skip_at (word_at DELETE)
-    (skip_at (word_at FROM) (pair_at name_at (skip_at (word_at WHERE) (close_at key_clause_at (mark_at SEMICOLON))))))
+-- a write and the mark behind it
+unfoldable pub written_at : Reader Shape Statement
+written_at = map_at (λ x. Write x) (close_at write_at (mark_at SEMICOLON))
 
 -- three tokens, and then any
 unfoldable pub prepare_at : Reader Shape Statement
@@ -56,6 +30,10 @@ prepare_at = map_at (λ n. Prepare n 3) (skip_at (word_at PREPARE) (close_at nam
 -- one token, and then any
 unfoldable pub explain_at : Reader Shape Statement
 explain_at = map_at (λ u. Explain 1) (skip_at (word_at EXPLAIN) rest_at)
+
+-- a word, and then any: the query begins with it
+unfoldable pub select_at : Reader Shape Statement
+select_at = map_at (λ u. Select) (skip_at (word_at SELECT) rest_at)
 
 unfoldable pub listed_values_at : Reader Shape (List Value)
 listed_values_at = listed_at is_value (is_mark_shape COMMA) (mark_at COMMA) value_shape_at
@@ -81,14 +59,13 @@ show_at = map_at (λ u. Show) (skip_at (word_at SHOW) (mark_at SEMICOLON))
 unfoldable pub statement_at : Reader Shape Statement
 statement_at =
     choice_at (is_word_shape CREATE) create_statement_at
-    (choice_at (is_word_shape INSERT) insert_at
-    (choice_at (is_word_shape UPDATE) update_at
-    (choice_at (is_word_shape DELETE) delete_at
     (choice_at (is_word_shape PREPARE) prepare_at
     (choice_at (is_word_shape EXPLAIN) explain_at
     (choice_at (is_word_shape RUN) run_at
+    (choice_at (is_word_shape SELECT) select_at
+    (choice_at (is_word_shape SHOW) show_at
     (choice_at (is_soft_shape soft_word.Alter) (map_at (λ d. Alter d) alter_at)
-    (choice_at (is_soft_shape soft_word.Read) read_counter_at show_at))))))))
+    (choice_at (is_soft_shape soft_word.Read) read_counter_at written_at)))))))
 
 unfoldable pub read_at : List Shape → Result Statement ℕ
 read_at = all_at statement_at

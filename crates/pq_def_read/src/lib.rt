@@ -1,8 +1,8 @@
 //! Reading every statement but a query: what its tokens spell, or the place of the first token that fits none.
 //!
 //! `read_statement` answers a statement exactly where the tokens spell it, and otherwise refuses with the offset
-//! of the first token such that no statement begins with the tokens up to and with it. Of PREPARE and EXPLAIN it
-//! reads the head alone.
+//! of the first token such that no statement begins with the tokens up to and with it. Of PREPARE, EXPLAIN and SELECT
+//! it reads the head alone.
 #![tactic(auto)]
 
 mod definition;
@@ -10,6 +10,7 @@ mod known;
 mod reading;
 mod statement;
 mod write;
+mod writes;
 
 pub use reading::read_statement;
 pub use statement::Statement;

@@ -1,10 +1,7 @@
 //! Reading statements.
 ghost use Rattle.std.specs.Prelude.{◌≡◌, ◌-◌, ◌≤◌, ◌^◌, length, Ok, IfOk, IfErr, MatchResult, min};
 ghost use Rattle.pq_grammar.specs.Answers.{Gives};
-ghost use Rattle.pq_grammar.specs.Reader.{option_at};
-ghost use Rattle.pq_shape.specs.Front.{is_mark_shape};
-ghost use Rattle.pq_def_read.specs.Definitions.{cols_at};
-ghost use Rattle.pq_def_read.specs.Reading.{assign_at, values_clause_at, sets_at, key_clause_at, create_statement_at, insert_at, update_at, delete_at, prepare_at, explain_at, listed_values_at, arguments_at, after_at, run_at, read_counter_at, show_at, statement_at, read_at, statement_of};
+ghost use Rattle.pq_def_read.specs.Reading.{create_statement_at, written_at, prepare_at, explain_at, select_at, listed_values_at, arguments_at, after_at, run_at, read_counter_at, show_at, statement_at, read_at, statement_of};
 ghost use Rattle.pq_shape.specs.Shapes.{shapes_of};
 ghost use Rattle.pq_shape.specs.Faults.{IsRefusalOf, IsNoMem};
 ghost use Rattle.pq_def_read.specs.Grammar.{Spells};
@@ -12,16 +9,15 @@ ghost use Rattle.pq_def_read.specs.Faults.{IsFault};
 ghost use Rattle.pq_def_read.specs.Known.{HasValues};
 ghost use Rattle.pq_def_read.specs.declared.statement.Statement as declared;
 
-use crate::definition::{alter, cols, counter_definition, stop, table_definition};
+use crate::definition::{alter, counter_definition, stop, table_definition};
 use crate::known::known_statement;
 use crate::statement::Statement;
-use crate::write::Assign;
+use crate::writes::{any_write, values};
 use pq_base::{List, PText, Stopped, Value};
 use pq_grammar::ReadError;
 use pq_shape::{
-    AFTER, AND, AS, Between, CLOSE, COMMA, CREATE, Cursor, DELETE, EQUAL, EXPLAIN, FROM, INSERT,
-    INTO, OPEN, PREPARE, Part, RUN, SEMICOLON, SET, SHOW, Shape, Soft, TABLE, UPDATE, VALUES,
-    WHERE, separated, shapes, syntax,
+    AFTER, AS, CLOSE, CREATE, Cursor, EXPLAIN, OPEN, PREPARE, RUN, SELECT, SEMICOLON, SHOW, Shape,
+    Soft, TABLE, shapes, syntax,
 };
 use pq_text::Token;
 use std::alloc::Global;
@@ -31,53 +27,6 @@ macro_rules! by_word {
     ($c:expr; $($word:ident => $arm:expr,)+ _ => $other:expr) => {
         $(if $c.is_word($word) { $arm } else)+ { $other }
     };
-}
-
-impl Part for Assign {
-    ghost use Rattle.pq_def_read.specs.Reading.{assign_at};
-    ghost use Rattle.pq_def_read.specs.Shrinking.{assign_shrinks};
-
-    ghost reads = { assign_at };
-
-    fn part(alloc: Global, c: &mut Cursor) -> Result<Assign, ReadError> {
-        let col = c.name(alloc)?;
-        c.mark(EQUAL)?;
-        let value = c.value(alloc)?;
-        Ok(Assign { col, value })
-    }
-
-    ghost shrinks = { assign_shrinks };
-}
-
-#[tactic(auto, unfolding(crate::specs::Reading::values_clause_at))]
-fn values(alloc: Global, c: &mut Cursor) -> Result<List<Value>, ReadError>
-    ensures { Gives (λ x. (x, c.new)) result (values_clause_at c.old) }
-{
-    separated(alloc, c, Between::Comma)
-}
-
-#[tactic(auto, unfolding(crate::specs::Reading::sets_at))]
-fn sets(alloc: Global, c: &mut Cursor) -> Result<List<Assign>, ReadError>
-    ensures { Gives (λ x. (x, c.new)) result (sets_at c.old) }
-{
-    separated(alloc, c, Between::Comma)
-}
-
-#[tactic(auto, unfolding(crate::specs::Reading::key_clause_at))]
-fn key(alloc: Global, c: &mut Cursor) -> Result<List<Assign>, ReadError>
-    ensures { Gives (λ x. (x, c.new)) result (key_clause_at c.old) }
-{
-    separated(alloc, c, Between::And)
-}
-
-fn option_cols(alloc: Global, c: &mut Cursor) -> Result<Option<List<PText>>, ReadError>
-    ensures { Gives (λ x. (x, c.new)) result (option_at (is_mark_shape OPEN) cols_at c.old) }
-{
-    if c.is_mark(OPEN) {
-        let names = cols(alloc, c)?;
-        return Ok(Some(names));
-    }
-    Ok(None)
 }
 
 /// Reads CREATE TABLE or CREATE COUNTER.
@@ -92,50 +41,14 @@ fn create(alloc: Global, c: &mut Cursor) -> Result<Statement, ReadError>
     Ok(Statement::Counter(counter_definition(alloc, c)?))
 }
 
-#[tactic(auto, unfolding(crate::specs::Reading::insert_at))]
-fn insert(alloc: Global, c: &mut Cursor) -> Result<Statement, ReadError>
-    ensures { Gives (λ x. (x, c.new)) result (insert_at c.old) }
+/// Reads a write and the mark behind it.
+#[tactic(auto, unfolding(crate::specs::Reading::written_at))]
+fn write(alloc: Global, c: &mut Cursor) -> Result<Statement, ReadError>
+    ensures { Gives (λ x. (x, c.new)) result (written_at c.old) }
 {
-    c.word(INSERT)?;
-    c.word(INTO)?;
-    let table = c.name(alloc)?;
-    let cols = option_cols(alloc, c)?;
-    c.word(VALUES)?;
-    c.mark(OPEN)?;
-    let values = values(alloc, c)?;
-    stop(c)?;
-    Ok(Statement::Insert {
-        table,
-        cols,
-        values,
-    })
-}
-
-#[tactic(auto, unfolding(crate::specs::Reading::update_at))]
-fn update(alloc: Global, c: &mut Cursor) -> Result<Statement, ReadError>
-    ensures { Gives (λ x. (x, c.new)) result (update_at c.old) }
-{
-    c.word(UPDATE)?;
-    let table = c.name(alloc)?;
-    c.word(SET)?;
-    let sets = sets(alloc, c)?;
-    c.word(WHERE)?;
-    let key = key(alloc, c)?;
+    let write = any_write(alloc, c)?;
     c.mark(SEMICOLON)?;
-    Ok(Statement::Update { table, sets, key })
-}
-
-#[tactic(auto, unfolding(crate::specs::Reading::delete_at))]
-fn delete(alloc: Global, c: &mut Cursor) -> Result<Statement, ReadError>
-    ensures { Gives (λ x. (x, c.new)) result (delete_at c.old) }
-{
-    c.word(DELETE)?;
-    c.word(FROM)?;
-    let table = c.name(alloc)?;
-    c.word(WHERE)?;
-    let key = key(alloc, c)?;
-    c.mark(SEMICOLON)?;
-    Ok(Statement::Delete { table, key })
+    Ok(Statement::Write(write))
 }
 
 /// Reads the head of a PREPARE, and passes over the query.
@@ -160,7 +73,17 @@ fn explain(c: &mut Cursor) -> Result<Statement, ReadError>
     Ok(Statement::Explain { from: 1 })
 }
 
-#[tactic(auto, unfolding(crate::specs::Reading::listed_values_at, crate::specs::Reading::values_clause_at))]
+/// Reads the head of a SELECT, and passes over the rest.
+#[tactic(auto, unfolding(crate::specs::Reading::select_at))]
+fn select(c: &mut Cursor) -> Result<Statement, ReadError>
+    ensures { Gives (λ x. (x, c.new)) result (select_at c.old) }
+{
+    c.word(SELECT)?;
+    c.pass_rest();
+    Ok(Statement::Select)
+}
+
+#[tactic(auto, unfolding(crate::specs::Reading::listed_values_at, crate::specs::Writes::values_clause_at))]
 fn listed_values(alloc: Global, c: &mut Cursor) -> Result<List<Value>, ReadError>
     ensures { Gives (λ x. (x, c.new)) result (listed_values_at c.old) }
 {
@@ -242,18 +165,17 @@ fn any_statement(alloc: Global, c: &mut Cursor) -> Result<Statement, ReadError>
 {
     by_word!(c;
         CREATE => create(alloc, c),
-        INSERT => insert(alloc, c),
-        UPDATE => update(alloc, c),
-        DELETE => delete(alloc, c),
         PREPARE => prepare(alloc, c),
         EXPLAIN => explain(c),
         RUN => run(alloc, c),
+        SELECT => select(c),
+        SHOW => show(c),
         _ => if c.is_soft(Soft::Alter) {
             Ok(Statement::Alter(alter(alloc, c)?))
         } else if c.is_soft(Soft::Read) {
             read_counter(alloc, c)
         } else {
-            show(c)
+            write(alloc, c)
         }
     )
 }

@@ -1,5 +1,5 @@
 //! Statements, with names in place of numbers.
-use crate::write::Assign;
+use crate::write::WriteDef;
 use pq_base::{List, PText, Value};
 use pq_schema::{AlterDef, CounterDef, TableDef};
 
@@ -8,23 +8,8 @@ use pq_schema::{AlterDef, CounterDef, TableDef};
 pub enum Statement {
     /// CREATE TABLE.
     Create(TableDef),
-    /// INSERT, with the columns where they are listed.
-    Insert {
-        table: PText,
-        cols: Option<List<PText>>,
-        values: List<Value>,
-    },
-    /// UPDATE of the row with this key.
-    Update {
-        table: PText,
-        sets: List<Assign>,
-        key: List<Assign>,
-    },
-    /// DELETE of the row with this key.
-    Delete {
-        table: PText,
-        key: List<Assign>,
-    },
+    /// INSERT, UPDATE or DELETE.
+    Write(WriteDef),
     /// PREPARE, with the place of the token after its head.
     Prepare {
         name: PText,
@@ -51,4 +36,6 @@ pub enum Statement {
     },
     /// SHOW.
     Show,
+    /// SELECT: the query is all of the text.
+    Select,
 }

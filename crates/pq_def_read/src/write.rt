@@ -1,19 +1,12 @@
 //! Writes, with names in place of numbers.
 use pq_base::{List, Op, PText, Value};
 
-/// A column and the value that it is to have.
-#[derive(Drop)]
-pub struct Assign {
-    pub col: PText,
-    pub value: Value,
-}
-
 /// What a column is set to.
 #[derive(Drop)]
 pub enum Setting {
     /// This value.
     Is(Value),
-    /// What the row has there and this number.
+    /// What the row has there and this number, by ADD.
     Add(i64),
 }
 
@@ -24,7 +17,14 @@ pub struct SetDef {
     pub to: Setting,
 }
 
-/// A condition on a column; the value beside IsNull is NULL.
+/// A column of the key and the value that it has.
+#[derive(Drop)]
+pub struct Assign {
+    pub col: PText,
+    pub value: Value,
+}
+
+/// What a column of the row must be like. The value beside IS NULL is NULL.
 #[derive(Drop)]
 pub struct CondDef {
     pub col: PText,
@@ -32,7 +32,7 @@ pub struct CondDef {
     pub value: Value,
 }
 
-/// An INSERT, UPDATE or DELETE. Names are in small letters.
+/// A write. Names are in small letters.
 #[derive(Drop)]
 pub enum WriteDef {
     /// INSERT, with the columns where they are listed.
@@ -41,14 +41,14 @@ pub enum WriteDef {
         cols: Option<List<PText>>,
         values: List<Value>,
     },
-    /// UPDATE of the row with this key, where the conditions hold of it.
+    /// UPDATE of the row with this key, where it meets the conditions.
     Update {
         table: PText,
         sets: List<SetDef>,
         key: List<Assign>,
         conds: List<CondDef>,
     },
-    /// DELETE of the row with this key, where the conditions hold of it.
+    /// DELETE of the row with this key, where it meets the conditions.
     Delete {
         table: PText,
         key: List<Assign>,

@@ -72,13 +72,12 @@ statement_one schema next text tokens (statement.Create def) is = made_one schem
 statement_one schema next text tokens (statement.Prepare name from) is = planned_one schema next (plan_from schema name text tokens from) is
 statement_one schema next text tokens (statement.Alter def) is = column_one schema next def is
 statement_one schema next text tokens (statement.Counter def) is = counter_one schema next def is
-statement_one schema next text tokens (statement.Insert table cols values) is = absurd (none-some _ is)
-statement_one schema next text tokens (statement.Update table sets key) is = absurd (none-some _ is)
-statement_one schema next text tokens (statement.Delete table key) is = absurd (none-some _ is)
+statement_one schema next text tokens (statement.Write write) is = absurd (none-some _ is)
 statement_one schema next text tokens (statement.Explain from) is = absurd (none-some _ is)
 statement_one schema next text tokens (statement.Run name values after) is = absurd (none-some _ is)
 statement_one schema next text tokens (statement.Read name values) is = absurd (none-some _ is)
 statement_one schema next text tokens statement.Show is = absurd (none-some _ is)
+statement_one schema next text tokens statement.Select is = absurd (none-some _ is)
 
 result_one : (schema next : Schema) (text : List ℕ) (tokens : List Token) (read : Result Statement ℕ) → defined_as schema text tokens read ≡ Some next → IsOneMore schema next
 result_one schema next text tokens (Ok read) is = statement_one schema next text tokens read is

@@ -101,14 +101,13 @@ defined_by schema text tokens (statement.Create def) = with_made schema (new_tab
 defined_by schema text tokens (statement.Prepare name from) =
     with_planned schema (plan_from schema name text tokens from)
 defined_by schema text tokens (statement.Alter def) = result_ok (new_column schema def)
-defined_by schema text tokens (statement.Insert table cols values) = None
-defined_by schema text tokens (statement.Update table sets key) = None
-defined_by schema text tokens (statement.Delete table key) = None
+defined_by schema text tokens (statement.Write write) = None
 defined_by schema text tokens (statement.Explain from) = None
 defined_by schema text tokens (statement.Run name params after) = None
 defined_by schema text tokens (statement.Counter def) = result_ok (new_counter schema def)
 defined_by schema text tokens (statement.Read name values) = None
 defined_by schema text tokens statement.Show = None
+defined_by schema text tokens statement.Select = None
 
 abbrev pub defined_as : Schema → List ℕ → List Token → Result Statement ℕ → Option Schema
 defined_as schema text tokens (Ok read) = defined_by schema text tokens read

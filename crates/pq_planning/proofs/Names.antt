@@ -36,11 +36,10 @@ named_statement text tokens (statement.Create def) same read = created_named tex
 named_statement text tokens (statement.Alter def) same read = altered_named text def (ap (statement_of text) (sym same) ∙ read)
 named_statement text tokens (statement.Prepare name from) same read =
     (prepared_named text name from (ap (statement_of text) (sym same) ∙ read), prepared_within text tokens name from (spelled text tokens (statement.Prepare name from) read))
-named_statement text tokens (statement.Insert table cols values) same read = tt
-named_statement text tokens (statement.Update table sets key) same read = tt
-named_statement text tokens (statement.Delete table key) same read = tt
+named_statement text tokens (statement.Write write) same read = tt
 named_statement text tokens (statement.Explain from) same read = explained_within text tokens from (spelled text tokens (statement.Explain from) read)
 named_statement text tokens (statement.Run query values after) same read = tt
 named_statement text tokens (statement.Counter def) same read = counted_named text def (ap (statement_of text) (sym same) ∙ read)
 named_statement text tokens (statement.Read name values) same read = tt
 named_statement text tokens statement.Show same read = tt
+named_statement text tokens statement.Select same read = tt

@@ -10,11 +10,10 @@ abbrev pub IsNamedStatement : List Token → Statement → Type 0
 IsNamedStatement tokens (statement.Create def) = IsTableDef def
 IsNamedStatement tokens (statement.Alter def) = IsAlterDef def
 IsNamedStatement tokens (statement.Prepare name from) = IsName name × (from ≤ length tokens)
-IsNamedStatement tokens (statement.Insert table cols values) = Unit {0}
-IsNamedStatement tokens (statement.Update table sets key) = Unit {0}
-IsNamedStatement tokens (statement.Delete table key) = Unit {0}
+IsNamedStatement tokens (statement.Write write) = Unit {0}
 IsNamedStatement tokens (statement.Explain from) = from ≤ length tokens
 IsNamedStatement tokens (statement.Run name params after) = Unit {0}
 IsNamedStatement tokens (statement.Counter def) = IsCounterDef def
 IsNamedStatement tokens (statement.Read name values) = Unit {0}
 IsNamedStatement tokens statement.Show = Unit {0}
+IsNamedStatement tokens statement.Select = Unit {0}

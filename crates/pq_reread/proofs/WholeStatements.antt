@@ -1,13 +1,14 @@
 -- The head and the query together read just what whole statements spell, and stop at the least place.
 use Rattle.std.proofs.Common.{◌≡◌, ℕ, zero, suc, ◌+◌, ◌-◌, ◌<◌, ◌≤◌, List, [], ◌∷◌, ◌++◌, length, take, drop, Result, Ok, Err, inl, inr, refl, sym, ap, ◌∙◌, subst, arith}
 use Rattle.std.proofs.lemmas.List.{take-append-drop}
-use Rattle.pq_grammar.specs.Language.{◌⋅◌, anything, IsViable, IsFaultPlace}
+use Rattle.pq_grammar.specs.Language.{◌⋅◌, anything, separated_by, IsViable, IsFaultPlace}
 use Rattle.pq_grammar.specs.Reader.{◌>>=◌}
 use Rattle.pq_grammar.proofs.Options.{always}
 use Rattle.pq_grammar.proofs.Steps.{bind_ok, bind_err, ok_is, ok_not_err, never}
 use Rattle.pq_grammar.proofs.Whole.{whole_found, whole_again, whole_place}
-use Rattle.pq_shape.specs.Parts.{word, name}
-use Rattle.pq_shape.specs.declared.keyword.TheConstants.{AS, EXPLAIN, PREPARE}
+use Rattle.pq_shape.specs.Parts.{word, name, mark}
+use Rattle.pq_shape.specs.declared.mark.TheConstants.{SEMICOLON}
+use Rattle.pq_shape.specs.declared.keyword.TheConstants.{AS, EXPLAIN, FROM, PREPARE, SELECT}
 use Rattle.pq_shape.specs.declared.shape.Shape.{Shape}
 use Rattle.pq_shape.specs.declared.shape.Shape.TheVariants as shape
 use Rattle.pq_def_read.specs.Grammar.{Spells}
@@ -15,12 +16,12 @@ use Rattle.pq_def_read.specs.Reading.{statement_at, read_at}
 use Rattle.pq_def_read.specs.declared.statement.Statement.{Statement}
 use Rattle.pq_def_read.specs.declared.statement.Statement.TheVariants as statement
 use Rattle.pq_def_read.proofs.Statements.{statement_reads}
-use Rattle.pq_query_read.specs.Grammar.{SpellsSelect}
+use Rattle.pq_query_read.specs.Grammar.{comma_or_join, relation, stop_tokens, selected_tokens, conditions, order_tokens, SpellsSelect}
 use Rattle.pq_query_read.specs.Reading.{select_at as one_select_at}
 use Rattle.pq_query_read.specs.Reading.{select_read_at as select_at}
 use Rattle.pq_query_read.specs.declared.select.SelectDef.{SelectDef}
 use Rattle.pq_query_read.proofs.Selects.{select_reads}
-use Rattle.pq_reread.specs.WholeStatements.{WholeStatement, Plain, Prepares, Explains, HasNoQuery, SpellsWhole, with_query_read, whole_of}
+use Rattle.pq_reread.specs.WholeStatements.{WholeStatement, Plain, Prepares, Explains, Selects, HasNoQuery, SpellsWhole, with_query_read, whole_of}
 
 -- ---- what the two readers give
 
@@ -101,6 +102,15 @@ is_preparing n rest = (refl, prepare_of anything n rest tt)
 is_explaining : (rest : List Shape) → Spells (statement.Explain 1) (explaining rest)
 is_explaining rest = (refl, explain_of anything rest tt)
 
+-- a query from behind its word on
+abbrev select_tail : SelectDef → List Shape → Type 0
+select_tail s = selected_tokens s.selected ⋅ word FROM ⋅ separated_by comma_or_join relation s.relations ⋅ conditions s.preds
+    ⋅ order_tokens s.order ⋅ stop_tokens s.stop ⋅ mark SEMICOLON
+
+-- what begins with the word of a SELECT
+select_of : (A : List Shape → Type 0) (w : List Shape) → (word SELECT ⋅ A) w → Spells statement.Select w
+select_of A w h = record { front = h.front; back = h.back; fits_front = h.fits_front; fits_back = tt; parts = h.parts }
+
 -- ---- what is read is spelled
 
 prepare_found : (w : List Shape) (n : List ℕ) (from : ℕ) (def : SelectDef) → Spells (statement.Prepare n from) w → select_at (drop from w) ≡ Ok def → SpellsWhole (Prepares n def) w
@@ -125,10 +135,11 @@ with_found w (statement.Prepare n from) whole h e =
 with_found w (statement.Explain from) whole h e =
     let def = bind_ok (select_at (drop from w)) (λ def. Ok (Explains def)) whole e in
     same_whole (Explains def.0) whole w def.2 (explain_found w from def.0 h def.1)
+with_found w statement.Select whole h e =
+    let def = bind_ok (select_at w) (λ def. Ok (Selects def)) whole e in
+    same_whole (Selects def.0) whole w def.2 (select_found w def.0 def.1)
 with_found w (statement.Create d) whole h e = same_whole (Plain (statement.Create d)) whole w e (tt, h)
-with_found w (statement.Insert t c v) whole h e = same_whole (Plain (statement.Insert t c v)) whole w e (tt, h)
-with_found w (statement.Update t s k) whole h e = same_whole (Plain (statement.Update t s k)) whole w e (tt, h)
-with_found w (statement.Delete t k) whole h e = same_whole (Plain (statement.Delete t k)) whole w e (tt, h)
+with_found w (statement.Write x) whole h e = same_whole (Plain (statement.Write x)) whole w e (tt, h)
 with_found w (statement.Run n v a) whole h e = same_whole (Plain (statement.Run n v a)) whole w e (tt, h)
 with_found w (statement.Alter d) whole h e = same_whole (Plain (statement.Alter d)) whole w e (tt, h)
 with_found w (statement.Counter d) whole h e = same_whole (Plain (statement.Counter d)) whole w e (tt, h)
@@ -145,10 +156,9 @@ whole_is_spelled w whole e =
 plain_with : (w : List Shape) (s : Statement) → HasNoQuery s → with_query_read w s ≡ Ok (Plain s)
 plain_with w (statement.Prepare n from) none = absurd none
 plain_with w (statement.Explain from) none = absurd none
+plain_with w statement.Select none = absurd none
 plain_with w (statement.Create d) none = refl
-plain_with w (statement.Insert t c v) none = refl
-plain_with w (statement.Update t s k) none = refl
-plain_with w (statement.Delete t k) none = refl
+plain_with w (statement.Write x) none = refl
 plain_with w (statement.Run n v a) none = refl
 plain_with w (statement.Alter d) none = refl
 plain_with w (statement.Counter d) none = refl
@@ -167,6 +177,10 @@ spelled_is_whole w (Explains def) h =
     subst (λ v. whole_of v ≡ Ok (Explains def)) (sym parts.2)
     (ap (λ r. r >>= with_query_read (explaining parts.0)) (head_again (explaining parts.0) (statement.Explain 1) (is_explaining parts.0))
     ∙ ap (λ r. r >>= λ def. Ok (Explains def)) (select_again parts.0 def parts.1))
+
+spelled_is_whole w (Selects def) h =
+    ap (λ r. r >>= with_query_read w) (head_again w statement.Select (select_of (select_tail def) w h))
+    ∙ ap (λ r. r >>= λ def. Ok (Selects def)) (select_again w def h)
 
 -- ---- where reading stops
 
@@ -190,6 +204,8 @@ head_viable front (Prepares n def) rest h =
 head_viable front (Explains def) rest h =
     let parts = explain_parts (SpellsSelect def) (front ++ rest) h in
     (statement.Explain 1, rest, subst (λ v. Spells (statement.Explain 1) v) (sym parts.2) (is_explaining parts.0))
+
+head_viable front (Selects def) rest h = (statement.Select, rest, select_of (select_tail def) (front ++ rest) h)
 
 -- before the end of a head a whole statement goes on
 prepare_begins : (front back w : List Shape) (n : List ℕ) (rest more : List Shape) → w ≡ front ++ back → front ++ rest ≡ preparing n more → ((s : Statement) → Spells s w → ⊥) → IsViable SpellsWhole front
@@ -219,6 +235,14 @@ explain_begins (a ∷ front) back w rest more is e none =
     let whole : w ≡ explaining (front ++ back) = is ∙ ap (λ t. t ∷ (front ++ back)) first in
     absurd (none (statement.Explain 1) (subst (λ v. Spells (statement.Explain 1) v) (sym whole) (is_explaining (front ++ back))))
 
+-- the empty front begins a query, and any other begins with SELECT, as w does
+select_begins : (front back w rest : List Shape) → w ≡ front ++ back → (word SELECT ⋅ anything) (front ++ rest) → ((s : Statement) → Spells s w → ⊥) → IsViable SpellsWhole front
+select_begins [] back w rest is h none = (Selects some_select, some_tokens, some_spelled)
+select_begins (a ∷ front) back w rest is h none =
+    let whole : a ∷ (front ++ rest) ≡ shape.Keyword SELECT ∷ h.back = behind anything (shape.Keyword SELECT) anything (a ∷ (front ++ rest)) h in
+    let first : a ≡ shape.Keyword SELECT = cc in
+    absurd (none statement.Select (record { front = shape.Keyword SELECT ∷ []; back = front ++ back; fits_front = refl; fits_back = tt; parts = is ∙ ap (λ t. t ∷ (front ++ back)) first }))
+
 begins_whole : (front back w : List Shape) (s : Statement) (rest : List Shape) → w ≡ front ++ back → Spells s (front ++ rest) → ((s : Statement) → Spells s w → ⊥) → IsViable SpellsWhole front
 begins_whole front back w (statement.Prepare n from) rest is h none =
     let parts = prepare_parts anything n (front ++ rest) h.1 in
@@ -226,10 +250,9 @@ begins_whole front back w (statement.Prepare n from) rest is h none =
 begins_whole front back w (statement.Explain from) rest is h none =
     let parts = explain_parts anything (front ++ rest) h.1 in
     explain_begins front back w rest parts.0 is parts.2 none
+begins_whole front back w statement.Select rest is h none = select_begins front back w rest is h none
 begins_whole front back w (statement.Create d) rest is h none = (Plain (statement.Create d), rest, (tt, h))
-begins_whole front back w (statement.Insert t c v) rest is h none = (Plain (statement.Insert t c v), rest, (tt, h))
-begins_whole front back w (statement.Update t s k) rest is h none = (Plain (statement.Update t s k), rest, (tt, h))
-begins_whole front back w (statement.Delete t k) rest is h none = (Plain (statement.Delete t k), rest, (tt, h))
+begins_whole front back w (statement.Write x) rest is h none = (Plain (statement.Write x), rest, (tt, h))
 begins_whole front back w (statement.Run n v a) rest is h none = (Plain (statement.Run n v a), rest, (tt, h))
 begins_whole front back w (statement.Alter d) rest is h none = (Plain (statement.Alter d), rest, (tt, h))
 begins_whole front back w (statement.Counter d) rest is h none = (Plain (statement.Counter d), rest, (tt, h))
@@ -259,6 +282,10 @@ behind_prepare n v (Explains def) rest h =
     let same : statement.Explain 1 ≡ statement.Prepare n 3 = one_head (preparing n (v ++ rest)) (statement.Explain 1) (statement.Prepare n 3) (subst (λ u. Spells (statement.Explain 1) u) (sym parts.2) (is_explaining parts.0)) (is_preparing n (v ++ rest)) in
     absurd cc
 
+behind_prepare n v (Selects def) rest h =
+    let same : statement.Select ≡ statement.Prepare n 3 = one_head (preparing n (v ++ rest)) statement.Select (statement.Prepare n 3) (select_of (select_tail def) (preparing n (v ++ rest)) h) (is_preparing n (v ++ rest)) in
+    absurd cc
+
 behind_explain : (v : List Shape) (x : WholeStatement) (rest : List Shape) → SpellsWhole x (explaining (v ++ rest)) → IsViable SpellsSelect v
 behind_explain v (Plain s) rest h = absurd (no_plain s (statement.Explain 1) (explaining (v ++ rest)) h.0 h.1 (is_explaining (v ++ rest)) (λ q. q))
 behind_explain v (Prepares n def) rest h =
@@ -269,6 +296,10 @@ behind_explain v (Explains def) rest h =
     let parts = explain_parts (SpellsSelect def) (explaining (v ++ rest)) h in
     let same : v ++ rest ≡ parts.0 = ap (drop 1) parts.2 in
     (def, rest, subst (λ u. SpellsSelect def u) (sym same) parts.1)
+
+behind_explain v (Selects def) rest h =
+    let same : statement.Select ≡ statement.Explain 1 = one_head (explaining (v ++ rest)) statement.Select (statement.Explain 1) (select_of (select_tail def) (explaining (v ++ rest)) h) (is_explaining (v ++ rest)) in
+    absurd cc
 
 before_prepare : (n : List ℕ) (r : List Shape) (q : ℕ) → IsFaultPlace SpellsSelect r q → (j : ℕ) → j < 3 + q → IsViable SpellsWhole (take (j + 1) (preparing n r))
 before_prepare n r q f zero lt = (Prepares n some_select, shape.Name n ∷ shape.Keyword AS ∷ some_tokens, prepare_of (SpellsSelect some_select) n some_tokens some_spelled)
@@ -334,13 +365,47 @@ explain_stop w from left h e =
     subst (λ v. (left ≤ length v) × IsFaultPlace SpellsWhole v (length v - left)) (sym parts.2)
     ((let le = f.0 in omega (arith, le)), subst (IsFaultPlace SpellsWhole (explaining parts.0)) place (explain_fault parts.0 (length parts.0 - left) f.1))
 
+-- of whole statements only a query begins with SELECT
+only_select : (w : List Shape) (x : WholeStatement) → Spells statement.Select w → SpellsWhole x w → (def : SelectDef) × SpellsSelect def w
+only_select w (Plain s) head h = absurd (no_plain s statement.Select w h.0 h.1 head (λ q. q))
+only_select w (Prepares n def) head h =
+    let parts = prepare_parts (SpellsSelect def) n w h in
+    let same : statement.Prepare n 3 ≡ statement.Select = one_head w (statement.Prepare n 3) statement.Select (subst (λ v. Spells (statement.Prepare n 3) v) (sym parts.2) (is_preparing n parts.0)) head in
+    absurd cc
+only_select w (Explains def) head h =
+    let parts = explain_parts (SpellsSelect def) w h in
+    let same : statement.Explain 1 ≡ statement.Select = one_head w (statement.Explain 1) statement.Select (subst (λ v. Spells (statement.Explain 1) v) (sym parts.2) (is_explaining parts.0)) head in
+    absurd cc
+only_select w (Selects def) head h = (def, h)
+
+-- a front of one token or more begins with SELECT, as the whole does
+select_front : (m : ℕ) (w rest : List Shape) → Spells statement.Select w → m < length w → Spells statement.Select (take (m + 1) w ++ rest)
+select_front m [] rest h lt = absurd (omega (arith, lt))
+select_front m (t ∷ w) rest h lt =
+    let whole : t ∷ w ≡ shape.Keyword SELECT ∷ h.back = behind anything (shape.Keyword SELECT) anything (t ∷ w) h in
+    let first : t ≡ shape.Keyword SELECT = cc in
+    let next : m + 1 ≡ suc m = omega arith in
+    record { front = shape.Keyword SELECT ∷ []; back = take m w ++ rest; fits_front = refl; fits_back = tt; parts = ap (λ (i : ℕ). take i (t ∷ w) ++ rest) next ∙ ap (λ u. u ∷ (take m w ++ rest)) first }
+
+select_stop : (w : List Shape) (left : ℕ) → Spells statement.Select w → select_at w ≡ Err left → IsStop w left
+unfolding IsStop
+select_stop w left h e =
+    let f = select_place w left e in
+    (f.0, record {
+      within = f.1.within;
+      before = λ j lt. let v = f.1.before j lt in (Selects v.0, v.1, v.2);
+      at = λ lt more.
+          let front = take (length w - left + 1) w in
+          let v = only_select (front ++ more.1) more.0 (select_front (length w - left) w more.1 h lt) more.2 in
+          f.1.at lt (v.0, more.1, v.1);
+    })
+
 with_stop : (w : List Shape) (s : Statement) (left : ℕ) → Spells s w → with_query_read w s ≡ Err left → IsStop w left
 with_stop w (statement.Prepare n from) left h e = prepare_stop w n from left h (select_err (drop from w) left (Prepares n) e)
 with_stop w (statement.Explain from) left h e = explain_stop w from left h (select_err (drop from w) left Explains e)
+with_stop w statement.Select left h e = select_stop w left h (select_err w left Selects e)
 with_stop w (statement.Create d) left h e = absurd (ok_not_err (Plain (statement.Create d)) left e)
-with_stop w (statement.Insert t c v) left h e = absurd (ok_not_err (Plain (statement.Insert t c v)) left e)
-with_stop w (statement.Update t s k) left h e = absurd (ok_not_err (Plain (statement.Update t s k)) left e)
-with_stop w (statement.Delete t k) left h e = absurd (ok_not_err (Plain (statement.Delete t k)) left e)
+with_stop w (statement.Write x) left h e = absurd (ok_not_err (Plain (statement.Write x)) left e)
 with_stop w (statement.Run n v a) left h e = absurd (ok_not_err (Plain (statement.Run n v a)) left e)
 with_stop w (statement.Alter d) left h e = absurd (ok_not_err (Plain (statement.Alter d)) left e)
 with_stop w (statement.Counter d) left h e = absurd (ok_not_err (Plain (statement.Counter d)) left e)

@@ -1,4 +1,4 @@
--- Whole statements: a PREPARE and an EXPLAIN are their head and their query.
+-- Whole statements: a PREPARE, an EXPLAIN and a SELECT are their head and their query.
 use Rattle.std.specs.Prelude.{ℕ, List, drop, Result, Ok}
 use Rattle.pq_grammar.specs.Language.{◌⋅◌}
 use Rattle.pq_grammar.specs.Reader.{◌>>=◌}
@@ -17,27 +17,29 @@ pub data WholeStatement : Type 0 where
   Plain : Statement → WholeStatement
   Prepares : List ℕ → SelectDef → WholeStatement
   Explains : SelectDef → WholeStatement
+  Selects : SelectDef → WholeStatement
 
--- neither PREPARE nor EXPLAIN
+-- neither PREPARE nor EXPLAIN nor SELECT
 abbrev pub HasNoQuery : Statement → Type 0
 HasNoQuery (statement.Prepare n from) = ⊥
 HasNoQuery (statement.Explain from) = ⊥
+HasNoQuery statement.Select = ⊥
 HasNoQuery _ = Unit {0}
 
--- PREPARE name AS select, EXPLAIN select, or another statement
+-- PREPARE name AS select, EXPLAIN select, a select, or another statement
 abbrev pub SpellsWhole : WholeStatement → List Shape → Type 0
 SpellsWhole (Plain s) w = HasNoQuery s × Spells s w
 SpellsWhole (Prepares n def) w = (word PREPARE ⋅ name n ⋅ word AS ⋅ SpellsSelect def) w
 SpellsWhole (Explains def) w = (word EXPLAIN ⋅ SpellsSelect def) w
+SpellsWhole (Selects def) w = SpellsSelect def w
 
--- a statement with the query that follows its head
+-- a statement with the query that follows its head, and of a SELECT the query that it is
 abbrev pub with_query_read : List Shape → Statement → Result WholeStatement ℕ
 with_query_read w (statement.Prepare n from) = select_at (drop from w) >>= λ def. Ok (Prepares n def)
 with_query_read w (statement.Explain from) = select_at (drop from w) >>= λ def. Ok (Explains def)
+with_query_read w statement.Select = select_at w >>= λ def. Ok (Selects def)
 with_query_read w (statement.Create def) = Ok (Plain (statement.Create def))
-with_query_read w (statement.Insert table cols values) = Ok (Plain (statement.Insert table cols values))
-with_query_read w (statement.Update table sets key) = Ok (Plain (statement.Update table sets key))
-with_query_read w (statement.Delete table key) = Ok (Plain (statement.Delete table key))
+with_query_read w (statement.Write write) = Ok (Plain (statement.Write write))
 with_query_read w (statement.Run n values after) = Ok (Plain (statement.Run n values after))
 with_query_read w (statement.Alter def) = Ok (Plain (statement.Alter def))
 with_query_read w (statement.Counter def) = Ok (Plain (statement.Counter def))

@@ -1,0 +1,6 @@
+use Rattle.std.proofs.Common.{take}
+use Rattle.pq_def_read.specs.Known.{AreConditions}
+use Rattle.pq_def_read.proofs.known.known_conditions.Given as goal
+
+abbrev pub invariant-loop-cond : goal.invariant-loop-cond
+invariant-loop-cond l = AreConditions (take l.cond-index l.conds)
