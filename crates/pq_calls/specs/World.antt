@@ -2,6 +2,7 @@
 use Rattle.std.specs.Prelude.{◌≡◌, ℕ, ◌≤◌, ◌+◌, Option, IfSome}
 use Rattle.pq_store.specs.Content.{Content, HasRisen}
 use Rattle.pq_store.specs.Counts.{Counts, AllowedCounts}
+pub use Rattle.pq_store.specs.Rounds.{Affords}
 use Rattle.pq_store.specs.declared.damage.Broke.{Broke}
 use Rattle.pq_store.specs.declared.damage.Broke.TheVariants as broke
 use Rattle.pq_store.specs.declared.damage.Damage.{Damage}
@@ -15,11 +16,6 @@ pub record World : Type 0 where
 
 abbrev pub world : Option Content → ℕ → AllowedCounts → Counts → World
 world told faults allowed used = record { told = told; faults = faults; allowed = allowed; used = used }
-
--- so many operations and entries are left
-pub record Affords (allowed : AllowedCounts) (ops entries : ℕ) : Type 0 where
-  pub ops_left : ops ≤ allowed.left.ops
-  pub entries_left : entries ≤ allowed.left.entries
 
 -- the content is as it was, and what the meter rose by was spent, at most so much
 pub record Reads (before after : World) (ops entries : ℕ) : Type 0 where

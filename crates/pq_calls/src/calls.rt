@@ -1,14 +1,15 @@
 //! Single calls on a store, each paid from an allowance.
-ghost use Rattle.std.specs.Prelude.{◌≡◌, ◌≤◌, length, map, take, min, is_some, Some, IfOk, IfErr, IfSome};
-ghost use Rattle.std.specs.List.{AllByRecursion};
+ghost use Rattle.std.specs.Prelude.{◌≡◌, ◌≤◌, ◌<◌, ◌*◌, position, length, map, take, min, is_some, Some, IfOk, IfErr, IfSome};
+ghost use Rattle.std.specs.List.{AllByRecursion, AllZip, sum_by};
 ghost use Rattle.std.specs.FinMap.{get as value_at};
 ghost use Rattle.pq_store.specs.Breaks.{IsAnswered};
-ghost use Rattle.pq_store.specs.Content.{entry, pairs_within, IsPartOf};
+ghost use Rattle.pq_store.specs.Content.{entry, pairs_within, AreAnswers, IsPartOf};
+ghost use Rattle.pq_store.specs.Rounds.{IsValueOf, IsValueAnswered, ArePairsOf, IsPartAsked, test_entries, is_held};
 ghost use Rattle.pq_calls.specs.Calls.{Uses, Fails};
 ghost use Rattle.pq_calls.specs.World.{Affords, no_damage};
 
 use pq_base::{Bytes, List};
-use pq_store::{Allowance, Broke, Meter, Pair, Store};
+use pq_store::{Allowance, Broke, Ends, Meter, Pair, Store, Test};
 use std::alloc::Global;
 use std::sync::ledger::Ledger;
 
@@ -32,10 +33,7 @@ impl<'a, S: Store<L>, L: Ledger> Calls<'a, S, L> {
         ensures answers { IfOk result (λ found. S.answers key.now found) }
     {
         let answer = self.store.get(alloc, key, self.meter);
-        match &answer {
-            Ok(Some(_)) => self.allowance.spend(1),
-            _ => self.allowance.spend(0),
-        }
+        self.allowance.spend_get(&answer);
         Ok(answer?)
     }
 
@@ -60,10 +58,7 @@ impl<'a, S: Store<L>, L: Ledger> Calls<'a, S, L> {
             (λ pair. S.answers pair.0 (Some pair.1)) (map entry found)) }
     {
         let answer = self.store.range(alloc, low, high, limit, self.meter);
-        match &answer {
-            Ok(pairs) => self.allowance.spend(pairs.items().len() as u32),
-            Err(_) => self.allowance.spend(0),
-        }
+        self.allowance.spend_range(&answer);
         Ok(answer?)
     }
 
@@ -79,11 +74,65 @@ impl<'a, S: Store<L>, L: Ledger> Calls<'a, S, L> {
         ensures few { IfOk result (λ n. n ≤ cap) }
     {
         let answer = self.store.count(alloc, low, high, cap, self.meter);
-        match &answer {
-            Ok(n) => self.allowance.spend(*n),
-            Err(_) => self.allowance.spend(0),
-        }
+        self.allowance.spend_count(&answer);
         Ok(answer?)
+    }
+
+    /// The values of keys, and None where none stands: one operation and at most one entry for each.
+    pub fn gets(
+        &mut self,
+        alloc: Global,
+        keys: &[Option<Bytes>],
+    ) -> Result<List<Option<Bytes>>, Broke>
+        requires share { Affords self.old.allowance.now (length keys.now) (length keys.now) }
+        ensures uses { Uses S.content S.faults self.old self.new (length keys.now) (length keys.now) }
+        ensures cause { IfErr result (Fails no_damage S.content S.faults self.old self.new) }
+        ensures answered { IfErr result (IsAnswered S.answers) }
+        ensures long { IfOk result (λ found. length found ≡ length keys.now) }
+        ensures answer { IfOk result (AllZip (IsValueOf (S.content self.old.store.now)) keys.now) }
+        ensures answers { IfOk result (AllZip (IsValueAnswered S.answers) keys.now) }
+    {
+        Ok(self.store.gets(alloc, keys, self.allowance, self.meter)?)
+    }
+
+    /// The first `limit` pairs of each range, and none where no ends stand: one operation for each, and an entry for
+    /// each pair.
+    pub fn ranges(
+        &mut self,
+        alloc: Global,
+        asks: &[Option<Ends>],
+        limit: u32,
+    ) -> Result<List<List<Pair>>, Broke>
+        requires limit { 1 ≤ limit }
+        requires share { Affords self.old.allowance.now (length asks.now) (length asks.now * limit) }
+        ensures uses { Uses S.content S.faults self.old self.new (length asks.now) (length asks.now * limit) }
+        ensures cause { IfErr result (Fails no_damage S.content S.faults self.old self.new) }
+        ensures answered { IfErr result (IsAnswered S.answers) }
+        ensures long { IfOk result (λ found. length found ≡ length asks.now) }
+        ensures answer { IfOk result (AllZip (ArePairsOf (S.content self.old.store.now) limit) asks.now) }
+        ensures parts { IfOk result (AllZip (IsPartAsked limit) asks.now) }
+        ensures answers { IfOk result (AllByRecursion (AreAnswers S.answers)) }
+    {
+        Ok(
+            self.store
+                .ranges(alloc, asks, limit, self.allowance, self.meter)?,
+        )
+    }
+
+    /// The place of the first test that holds. Nothing is spent for those behind it.
+    pub fn first_held(&mut self, alloc: Global, tests: &[Test]) -> Result<Option<usize>, Broke>
+        requires share { Affords self.old.allowance.now (length tests.now) (sum_by test_entries tests.now) }
+        ensures uses { Uses S.content S.faults self.old self.new (length tests.now) (sum_by test_entries tests.now) }
+        ensures cause { IfErr result (Fails no_damage S.content S.faults self.old self.new) }
+        ensures answered { IfErr result (IsAnswered S.answers) }
+        ensures answer { IfOk result (λ at. IfSome (S.content self.old.store.now)
+            (λ c. at ≡ position (is_held c) tests.now)) }
+        ensures within { IfOk result (λ at. IfSome at (λ i. i < length tests.now)) }
+    {
+        Ok(
+            self.store
+                .first_held(alloc, tests, self.allowance, self.meter)?,
+        )
     }
 
     /// Whether the store has a value at this key.

@@ -14,6 +14,10 @@ no_counts = record { ops = 0; entries = 0 }
 abbrev pub charged_counts : Counts → ℕ → Counts
 charged_counts counts n = record { ops = counts.ops + 1; entries = counts.entries + n }
 
+-- so many operations and entries more
+abbrev pub raised_counts : Counts → ℕ → ℕ → Counts
+raised_counts counts ops entries = record { ops = counts.ops + ops; entries = counts.entries + entries }
+
 -- what is left, and what was granted
 pub record AllowedCounts : Type 0 where
   pub left : Counts

@@ -1,3 +1,4 @@
 pub mod Counts
 pub mod Content
 pub mod Breaks
+pub mod Rounds

@@ -1,8 +1,11 @@
 //! What a call may still spend of store operations and entries.
 ghost use Rattle.std.specs.Prelude.{◌≡◌, ◌≤◌, ◌<◌, ◌^◌, ◌-◌};
+ghost use Rattle.pq_store.specs.Content.{got_entries, ranged_entries, counted_entries};
 ghost use Rattle.pq_store.specs.Counts.{granted_counts, spent_counts, used_of};
+ghost use Rattle.pq_store.specs.Rounds.{Affords};
 
-use pq_base::{Bound, Used};
+use crate::store::{Pair, StoreErr};
+use pq_base::{Bound, Bytes, List, Used};
 use std::marker::Model;
 
 /// Numbers of operations and entries: what is left, and what was granted.
@@ -52,6 +55,40 @@ impl Allowance {
     {
         self.ops -= 1;
         self.entries -= entries as u64;
+    }
+
+    /// What a get costs: one operation, and an entry where it found a value.
+    pub fn spend_get(&mut self, answer: &Result<Option<Bytes>, StoreErr>)
+        requires share { Affords self.old 1 (got_entries answer.now) }
+        ensures { self.new ≡ spent_counts self.old (got_entries answer.now) }
+    {
+        match answer {
+            Ok(Some(_)) => self.spend(1),
+            _ => self.spend(0),
+        }
+    }
+
+    /// What a range costs: one operation, and an entry for each pair.
+    pub fn spend_range(&mut self, answer: &Result<List<Pair>, StoreErr>)
+        requires few { ranged_entries answer.now < 2 ^ 32 }
+        requires share { Affords self.old 1 (ranged_entries answer.now) }
+        ensures { self.new ≡ spent_counts self.old (ranged_entries answer.now) }
+    {
+        match answer {
+            Ok(pairs) => self.spend(pairs.items().len() as u32),
+            Err(_) => self.spend(0),
+        }
+    }
+
+    /// What a count costs: one operation, and an entry for each pair that it counted.
+    pub fn spend_count(&mut self, answer: &Result<u32, StoreErr>)
+        requires share { Affords self.old 1 (counted_entries answer.now) }
+        ensures { self.new ≡ spent_counts self.old (counted_entries answer.now) }
+    {
+        match answer {
+            Ok(number) => self.spend(*number),
+            Err(_) => self.spend(0),
+        }
     }
 
     /// How many operations are left.

@@ -15,4 +15,4 @@ pub use allowance::Allowance;
 pub use damage::{Broke, Damage};
 pub use meter::{Meter, Opening};
 pub use part_check::{is_part, rise};
-pub use store::{Guard, Pair, Store, StoreErr, pair_of};
+pub use store::{Ends, Guard, Pair, Store, StoreErr, Test, pair_of};

@@ -2,6 +2,7 @@
 ghost use Rattle.std.specs.Prelude.{◌≡◌, IfOk};
 ghost use Rattle.pq_store.specs.Content.{entry};
 
+use crate::allowance::Allowance;
 use crate::meter::Meter;
 use pq_base::{Bytes, List, NoMem};
 use std::alloc::Global;
@@ -22,6 +23,24 @@ pub fn pair_of(alloc: Global, key: &[u8], value: &[u8]) -> Result<Pair, NoMem>
     let key = Bytes::of_bytes(alloc, key)?;
     let value = Bytes::of_bytes(alloc, value)?;
     Ok(Pair { key, value })
+}
+
+/// The ends of a range of keys: `low <= key < high`.
+#[derive(Drop)]
+pub struct Ends {
+    pub low: Bytes,
+    pub high: Bytes,
+}
+
+/// What is asked of the content before a change of it: a key's value, or how many pairs a range has.
+#[derive(Drop)]
+pub enum Test {
+    /// Whether the key has a value.
+    Has(Bytes),
+    /// Whether it has none.
+    Lacks(Bytes),
+    /// Whether at least so many pairs are in the range.
+    Full(Ends, u32),
 }
 
 /// What the key must have before a write, so that the write is made.
@@ -47,17 +66,31 @@ pub enum StoreErr {
     NoMem,
 }
 
+impl From<NoMem> for StoreErr {
+    ghost use Rattle.pq_store.specs.declared.store.StoreErr.TheVariants as store_err;
+
+    ghost from_gives = { λ _ made. made ≡ store_err.NoMem };
+
+    fn from(_error: NoMem) -> StoreErr {
+        StoreErr::NoMem
+    }
+}
+
 /// A store of pairs with strictly rising keys, whose calls are counted by a meter over `L`.
 ///
 /// Keys are compared by their bytes. Each call raises the meter's operations by one, whatever it
-/// answers, and its entries by those that it answers. A store tells its content or doesn't, and no
-/// call changes that. Its count of faults never falls.
+/// answers, and its entries by those that it answers. `gets`, `ranges` and `first_held` ask several
+/// things at once, and raise the meter as a call for each would: a store that is far away answers them
+/// in one round. A store tells its content or doesn't, and no call changes that. Its count of faults
+/// never falls.
 pub trait Store<L: Ledger> {
-    ghost use Rattle.std.specs.Prelude.{◌≡◌, ◌≤◌, ◌⊎◌, ℕ, List, Option, None, false, IfSome, IfOk, OnOk, IsErrOf, map, take, length, min, ⊤};
+    ghost use Rattle.std.specs.Prelude.{◌≡◌, ◌≤◌, ◌<◌, ◌*◌, ◌⊎◌, ℕ, List, Option, None, false, IfSome, IfOk, OnOk, IsErrOf, map, take, length, min, position, ⊤};
+    ghost use Rattle.std.specs.List.{AllByRecursion, AllZip, sum_by};
     ghost use Rattle.std.specs.Option.{option_map, option_copied};
     ghost use Rattle.std.specs.FinMap.{get as value_at};
-    ghost use Rattle.pq_store.specs.Counts.{charged_counts};
+    ghost use Rattle.pq_store.specs.Counts.{charged_counts, raised_counts};
     ghost use Rattle.pq_store.specs.Content.{Content, AreAnswers, entry, pairs_within, after_write, admits, got_entries, ranged_entries, counted_entries, IsPartOf, HasCause};
+    ghost use Rattle.pq_store.specs.Rounds.{Affords, Pays, IsValueOf, IsValueAnswered, ArePairsOf, IsPartAsked, test_entries, is_held, one_if_some, IsTestCounted, AreTestsCounted};
 
     // What it holds, from keys to values, where it tells.
     ghost content: { Self → Option Content };
@@ -138,4 +171,174 @@ pub trait Store<L: Ledger> {
             (content self.old)) }
         ensures cause { HasCause (faults self.old) (faults self.new) result }
         ensures meter { meter.new ≡ charged_counts meter.old 0 };
+
+    /// The value of a key by a get; where none stands, nothing is asked.
+    fn get_asked(
+        &mut self,
+        alloc: Global,
+        asked: &Option<Bytes>,
+        allowance: &mut Allowance,
+        meter: &mut Meter<L>,
+    ) -> Result<Option<Bytes>, StoreErr>
+        requires share { Affords allowance.old 1 1 }
+        ensures answer { IfOk result (IsValueOf (content self.old) asked.now) }
+        ensures answered { IfOk result (IsValueAnswered answers asked.now) }
+        ensures same { content self.new ≡ content self.old }
+        ensures cause { HasCause (faults self.old) (faults self.new) result }
+        ensures paid { Pays allowance.old allowance.new meter.old meter.new 1 1 }
+        ensures counted { IfOk result (λ found. meter.new ≡ raised_counts meter.old (one_if_some asked.now)
+            (one_if_some found)) }
+    {
+        let Some(key) = asked else {
+            return Ok(None);
+        };
+        let answer = self.get(alloc, key.items(), meter);
+        allowance.spend_get(&answer);
+        answer
+    }
+
+    /// The first pairs of a range; where no ends stand, nothing is asked.
+    fn range_asked(
+        &mut self,
+        alloc: Global,
+        asked: &Option<Ends>,
+        limit: u32,
+        allowance: &mut Allowance,
+        meter: &mut Meter<L>,
+    ) -> Result<List<Pair>, StoreErr>
+        requires limit { 1 ≤ limit }
+        requires share { Affords allowance.old 1 limit }
+        ensures answer { IfOk result (ArePairsOf (content self.old) limit asked.now) }
+        ensures part { IfOk result (IsPartAsked limit asked.now) }
+        ensures answered { IfOk result (AreAnswers answers) }
+        ensures same { content self.new ≡ content self.old }
+        ensures cause { HasCause (faults self.old) (faults self.new) result }
+        ensures paid { Pays allowance.old allowance.new meter.old meter.new 1 limit }
+        ensures counted { IfOk result (λ found. meter.new ≡ raised_counts meter.old (one_if_some asked.now)
+            (length found)) }
+    {
+        let Some(ends) = asked else {
+            return Ok(List::new(alloc));
+        };
+        let answer = self.range(alloc, ends.low.items(), ends.high.items(), limit, meter);
+        allowance.spend_range(&answer);
+        answer
+    }
+
+    /// The values of keys, as a get of each would answer them one after the other: one operation and at most one entry
+    /// for each. Where no key stands, nothing is asked, and the answer is None. The allowance is spent as the meter
+    /// rises.
+    fn gets(
+        &mut self,
+        alloc: Global,
+        keys: &[Option<Bytes>],
+        allowance: &mut Allowance,
+        meter: &mut Meter<L>,
+    ) -> Result<List<Option<Bytes>>, StoreErr>
+        requires share { Affords allowance.old (length keys.now) (length keys.now) }
+        ensures long { IfOk result (λ found. length found ≡ length keys.now) }
+        ensures answer { IfOk result (AllZip (IsValueOf (content self.old)) keys.now) }
+        ensures answered { IfOk result (AllZip (IsValueAnswered answers) keys.now) }
+        ensures same { content self.new ≡ content self.old }
+        ensures cause { HasCause (faults self.old) (faults self.new) result }
+        ensures paid { Pays allowance.old allowance.new meter.old meter.new (length keys.now) (length keys.now) }
+        ensures counted { IfOk result (λ found. meter.new ≡ raised_counts meter.old (sum_by one_if_some keys.now)
+            (sum_by one_if_some found)) }
+    {
+        let mut found = List::new(alloc);
+        for asked in keys {
+            let value = self.get_asked(alloc, asked, allowance, meter)?;
+            found.push(alloc, value)?;
+        }
+        Ok(found)
+    }
+
+    /// The first pairs of ranges, as a range of each with this limit would answer them one after the other. Where no
+    /// ends stand, nothing is asked, and the answer has no pairs.
+    fn ranges(
+        &mut self,
+        alloc: Global,
+        asks: &[Option<Ends>],
+        limit: u32,
+        allowance: &mut Allowance,
+        meter: &mut Meter<L>,
+    ) -> Result<List<List<Pair>>, StoreErr>
+        requires limit { 1 ≤ limit }
+        requires share { Affords allowance.old (length asks.now) (length asks.now * limit) }
+        ensures long { IfOk result (λ found. length found ≡ length asks.now) }
+        ensures answer { IfOk result (AllZip (ArePairsOf (content self.old) limit) asks.now) }
+        ensures parts { IfOk result (AllZip (IsPartAsked limit) asks.now) }
+        ensures answered { IfOk result (AllByRecursion (AreAnswers answers)) }
+        ensures same { content self.new ≡ content self.old }
+        ensures cause { HasCause (faults self.old) (faults self.new) result }
+        ensures paid { Pays allowance.old allowance.new meter.old meter.new (length asks.now) (length asks.now * limit) }
+        ensures counted { IfOk result (λ found. meter.new ≡ raised_counts meter.old (sum_by one_if_some asks.now)
+            (sum_by length found)) }
+    {
+        let mut found = List::new(alloc);
+        for asked in asks {
+            let pairs = self.range_asked(alloc, asked, limit, allowance, meter)?;
+            found.push(alloc, pairs)?;
+        }
+        Ok(found)
+    }
+
+    /// Whether a test holds: one get or one count.
+    fn holds(
+        &mut self,
+        alloc: Global,
+        test: &Test,
+        allowance: &mut Allowance,
+        meter: &mut Meter<L>,
+    ) -> Result<bool, StoreErr>
+        requires share { Affords allowance.old 1 (test_entries test.now) }
+        ensures answer { IfOk result (λ held. IfSome (content self.old) (λ pairs. held ≡ is_held pairs test.now)) }
+        ensures same { content self.new ≡ content self.old }
+        ensures cause { HasCause (faults self.old) (faults self.new) result }
+        ensures paid { Pays allowance.old allowance.new meter.old meter.new 1 (test_entries test.now) }
+        ensures counted { IfOk result (IsTestCounted (content self.old) meter.old meter.new test.now) }
+    {
+        match test {
+            Test::Has(key) => {
+                let answer = self.get(alloc, key.items(), meter);
+                allowance.spend_get(&answer);
+                Ok(answer?.is_some())
+            }
+            Test::Lacks(key) => {
+                let answer = self.get(alloc, key.items(), meter);
+                allowance.spend_get(&answer);
+                Ok(answer?.is_none())
+            }
+            Test::Full(ends, n) => {
+                let answer = self.count(alloc, ends.low.items(), ends.high.items(), *n, meter);
+                allowance.spend_count(&answer);
+                Ok(answer? == *n)
+            }
+        }
+    }
+
+    /// The place of the first test that holds, as a get or a count for each would find it one after the other, up to
+    /// that one: what is behind it is not asked, and nothing is spent for it.
+    fn first_held(
+        &mut self,
+        alloc: Global,
+        tests: &[Test],
+        allowance: &mut Allowance,
+        meter: &mut Meter<L>,
+    ) -> Result<Option<usize>, StoreErr>
+        requires share { Affords allowance.old (length tests.now) (sum_by test_entries tests.now) }
+        ensures answer { IfOk result (λ at. IfSome (content self.old) (λ pairs. at ≡ position (is_held pairs) tests.now)) }
+        ensures within { IfOk result (λ at. IfSome at (λ i. i < length tests.now)) }
+        ensures same { content self.new ≡ content self.old }
+        ensures cause { HasCause (faults self.old) (faults self.new) result }
+        ensures paid { Pays allowance.old allowance.new meter.old meter.new (length tests.now) (sum_by test_entries tests.now) }
+        ensures counted { IfOk result (AreTestsCounted (content self.old) meter.old meter.new tests.now) }
+    {
+        for (i, test) in tests.iter().enumerate() {
+            if self.holds(alloc, test, allowance, meter)? {
+                return Ok(Some(i));
+            }
+        }
+        Ok(None)
+    }
 }
