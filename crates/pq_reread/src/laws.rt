@@ -45,7 +45,7 @@ pub fn names_law()
         → statement_of text (tokens_of text) ≡ Ok (Prepare name from) → IsName name }
 {}
 
-/// Reading a statement, and the query behind the head of a PREPARE or an EXPLAIN, is reading the whole statement.
+/// Reading a statement, and the query of a PREPARE, an EXPLAIN or a SELECT, is reading the whole statement.
 pub fn whole_statements_law()
     // What is read is what the tokens spell.
     ensures found { (text : List ℕ) (tokens : List Token) (whole : WholeStatement)
