@@ -3,22 +3,19 @@
 -- Tables are one list of rows, each with the number of its table. The combinations of a query are the
 -- product of its relations' rows in FROM order, kept where all predicates hold. They come in the order of
 -- their positions. With LIMIT k or PAGINATE k the answer has the first k strictly after the cursor.
-use Rattle.std.specs.Prelude.{ℕ, zero, suc, ◌-◌, Bool, false, not, ◌&&◌, ◌||◌, List, [], ◌∷◌, ◌++◌, map, filter, flat_map, take, length, slice_get, slice_index_or, Option, Some, None}
+use Rattle.std.specs.Prelude.{ℕ, zero, suc, ◌-◌, Bool, List, [], ◌∷◌, ◌++◌, map, filter, flat_map, take, length, slice_get, slice_index_or, Option, Some, None}
 use Rattle.std.specs.List.{list_all}
 use Rattle.std.specs.declared.cmp.Ordering.{Ordering}
-use Rattle.std.specs.Ordering.{is_eq, is_lt, is_gt}
+use Rattle.std.specs.Ordering.{is_lt}
 use Rattle.pq_base.specs.declared.value.Value.{Value}
-use Rattle.pq_base.specs.Order.{value_cmp, position_cmp}
-use Rattle.pq_base.specs.Values.{is_null}
+use Rattle.pq_base.specs.Order.{position_cmp}
 use Rattle.pq_schema.specs.declared.table.Table.{Table}
 use Rattle.pq_schema.specs.declared.query.ColRef.{ColRef}
-use Rattle.pq_base.specs.declared.op.Op.{Op}
-use Rattle.pq_base.specs.declared.op.Op.TheVariants as op
 use Rattle.pq_schema.specs.declared.query.Operand.{Operand}
 use Rattle.pq_schema.specs.declared.query.Operand.TheVariants as operand
 use Rattle.pq_schema.specs.declared.query.Pred.{Pred}
 use Rattle.pq_schema.specs.declared.query.Query.{Query}
-use Rattle.pq_base.specs.Comparing.{is_null_test}
+use Rattle.pq_base.specs.Comparing.{compares}
 use Rattle.pq_schema.specs.Relations.{relation_at, position_columns}
 pub use Rattle.pq_schema.specs.Rows.{rows_of, no_value}
 use Rattle.pq_schema.specs.Candidates.{stop_size}
