@@ -1,5 +1,5 @@
 -- The readers of what is set, of the key and of conditions read what the grammar says.
-use Rattle.std.proofs.Common.{◌≡◌, ℕ, ℤ, true, false, List, [], ◌∷◌, ◌++◌, Option, Some, None, ◌⊎◌, inl, inr, refl, sym, ap, subst, ◌∙◌}
+use Rattle.std.proofs.Common.{◌≡◌, ℕ, ℤ, Bool, false, List, [], ◌++◌, Option, Some, None, ◌⊎◌, inl, inr, refl, sym, ap, subst, ◌∙◌}
 use Rattle.std.proofs.lemmas.Bool.{false≢true}
 use Rattle.pq_base.specs.Comparing.{is_null_test}
 use Rattle.pq_base.specs.declared.op.Op.{Op}
@@ -19,7 +19,7 @@ use Rattle.pq_shape.specs.Parts.{word, soft, mark, comma, name, number, a_consta
 use Rattle.pq_shape.proofs.Operators.{op_made, op_made_reads, others, op_reads, others_is, others_from, others_marked, others_not_equal}
 use Rattle.pq_shape.proofs.Tokens.{word_reads, soft_reads, soft_passes, mark_reads, name_reads, number_reads, constant_reads, value_reads, comma_separated}
 use Rattle.pq_shape.specs.declared.keyword.TheConstants.{AND}
-use Rattle.pq_shape.specs.declared.mark.TheConstants.{EQUAL}
+use Rattle.pq_shape.specs.declared.mark.TheConstants.{COMMA, EQUAL}
 use Rattle.pq_shape.specs.declared.shape.Shape.{Shape}
 use Rattle.pq_shape.specs.declared.shape.Shape.TheVariants as shape
 use Rattle.pq_shape.specs.declared.soft.Soft.{Soft}
@@ -28,7 +28,6 @@ use Rattle.pq_def_read.specs.Grammar.{set_to, set, assign, key, compare, null_te
 use Rattle.pq_def_read.specs.Writes.{setting_at, set_at, sets_at, assign_at, key_clause_at, any_operator_at, compare_at, null_test_at, comparison_at, cond_at, conds_at, conditions_at}
 use Rattle.pq_def_read.specs.declared.write.Assign.{Assign}
 use Rattle.pq_def_read.specs.declared.write.CondDef.{CondDef}
-use Rattle.pq_def_read.specs.declared.write.SetDef.{SetDef}
 use Rattle.pq_def_read.specs.declared.write.Setting.{Setting}
 use Rattle.pq_def_read.specs.declared.write.Setting.TheVariants as setting
 

@@ -2,7 +2,7 @@
 use Rattle.std.specs.Prelude.{ℕ}
 use Rattle.pq_base.specs.declared.op.Op.TheVariants as op
 use Rattle.pq_base.specs.declared.value.Value.TheVariants as value
-use Rattle.pq_grammar.specs.Reader.{pair_at, skip_at, map_at, test_of}
+use Rattle.pq_grammar.specs.Reader.{pair_at, skip_at, test_of}
 use Rattle.pq_grammar.specs.Shrinking.{Shrinks, Keeps, token_shrinks, shrinks_keeps, pair_shrinks, pair_keeps, skip_shrinks, map_shrinks, map_keeps, choice_keeps}
 use Rattle.pq_shape.specs.Front.{is_mark_shape, is_soft_shape, mark_at, soft_at, name_of, name_at, number_in, number_at, constant_in, constant_shape_at, value_in, value_shape_at}
 use Rattle.pq_shape.specs.Operators.{op_at, op_keeps}

@@ -1,5 +1,5 @@
 -- Reading a write from left to right.
-use Rattle.std.specs.Prelude.{ℕ, List}
+use Rattle.std.specs.Prelude.{List}
 use Rattle.pq_base.specs.declared.op.Op.{Op}
 use Rattle.pq_base.specs.declared.op.Op.TheVariants as op
 use Rattle.pq_base.specs.declared.value.Value.{Value}

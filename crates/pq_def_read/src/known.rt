@@ -66,7 +66,10 @@ fn known_write(write: &WriteDef)
     match write {
         WriteDef::Insert { values, .. } => known_values(values.items()),
         WriteDef::Update {
-            sets, key, conds, ..
+            sets,
+            key,
+            conds,
+            ..
         } => {
             known_sets(sets.items());
             known_assigns(key.items());

@@ -1,5 +1,5 @@
 -- The reader of an operator other than "=" reads its mark.
-use Rattle.std.proofs.Common.{◌≡◌, ℕ, Bool, true, false, List, ◌++◌, inl, inr, refl, sym, subst}
+use Rattle.std.proofs.Common.{◌≡◌, ℕ, true, false, List, ◌++◌, inl, inr, refl, sym, subst}
 use Rattle.std.proofs.lemmas.Bool.{false≢true}
 use Rattle.pq_base.specs.Comparing.{is_null_test}
 use Rattle.pq_base.specs.declared.op.Op.{Op}

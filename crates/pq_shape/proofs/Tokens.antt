@@ -6,7 +6,7 @@ use Rattle.pq_base.specs.Values.{is_null}
 use Rattle.pq_base.specs.declared.value.Value.{Value}
 use Rattle.pq_base.specs.declared.value.Value.TheVariants as value
 use Rattle.pq_grammar.specs.Language.{one, separated_by}
-use Rattle.pq_grammar.specs.Reader.{Reader, ◌>>=◌, begins, picked_token, map_at, choice_at, separated_at}
+use Rattle.pq_grammar.specs.Reader.{Reader, begins, picked_token, map_at, choice_at, separated_at}
 use Rattle.pq_grammar.proofs.Steps.{Reads, never, begins-never}
 use Rattle.pq_grammar.proofs.Readers.{one_reads, part_reads}
 use Rattle.pq_grammar.proofs.Lists.{one_opens, same_set, separated_reads}
