@@ -6,11 +6,11 @@ use Rattle.pq_base.specs.declared.value.Value.TheVariants as value
 use Rattle.pq_base.specs.Comparing.{is_null_test}
 use Rattle.pq_shape.specs.declared.soft.Soft.TheVariants as soft_word
 use Rattle.pq_grammar.specs.Language.{◌⋅◌, optional, made_from}
-use Rattle.pq_grammar.specs.Reader.{begins, pair_at, skip_at, map_at}
+use Rattle.pq_grammar.specs.Reader.{begins, pair_at, skip_at}
 use Rattle.pq_grammar.proofs.Steps.{Reads, never}
 use Rattle.pq_grammar.proofs.Readers.{pair_reads, close_reads, map_reads}
 use Rattle.pq_grammar.proofs.Options.{option_reads}
-use Rattle.pq_grammar.proofs.Lists.{one_opens, then_opens, one_shuts, then_shuts, pair_free, skip_free, same_set}
+use Rattle.pq_grammar.proofs.Lists.{then_opens, one_shuts, then_shuts, pair_free, skip_free, same_set}
 use Rattle.pq_grammar.proofs.Choices.{made_reads, choice_reads, one_or_other}
 use Rattle.pq_shape.specs.Front.{is_mark_shape, is_name_shape, is_constant, is_soft_shape, soft_name, soft_at, mark_at, name_at, number_at, constant_shape_at}
 use Rattle.pq_shape.specs.Operators.{operator, op_at}

@@ -1,7 +1,6 @@
 -- What a query's text stands for over a schema, or the first refusal in the written order.
 use Rattle.std.specs.Prelude.{ℕ, ℤ, pos, negsuc, ◌+◌, Bool, true, false, not, nat_le, nat_lt, ◌==◌, ◌&&◌, ◌||◌, if◌then◌else◌, List, [], length, unwrap_or, Option, Some, None, Result, Ok}
 use Rattle.std.specs.List.{list_any}
-use Rattle.std.specs.Str.{bytes_eq}
 use Rattle.pq_base.specs.Answers.{or_else}
 use Rattle.pq_base.specs.Values.{fits_type}
 use Rattle.pq_base.specs.declared.count_word.TheConstants as count_word

@@ -1,7 +1,7 @@
 -- What takes a token at least.
 use Rattle.std.proofs.Common.{ℕ}
 use Rattle.pq_base.specs.declared.value.Dir.TheVariants as dir
-use Rattle.pq_grammar.specs.Reader.{pair_at, skip_at, close_at, map_at, nothing_at, test_of}
+use Rattle.pq_grammar.specs.Reader.{pair_at, skip_at, close_at, nothing_at, test_of}
 use Rattle.pq_grammar.specs.Shrinking.{Shrinks, Keeps, token_shrinks, shrinks_keeps, nothing_keeps, pair_shrinks, pair_keeps, close_shrinks, skip_shrinks, map_shrinks, map_keeps, option_keeps, choice_keeps}
 use Rattle.pq_base.specs.declared.op.Op.TheVariants as op
 use Rattle.pq_shape.specs.Front.{is_word_shape, is_mark_shape, is_name_shape, is_soft_shape, soft_at, word_at, mark_at, name_of, name_at, number_in, number_at, constant_in, constant_shape_at}

@@ -6,7 +6,6 @@ ghost use Rattle.pq_query_read.specs.Reading.{part_at, ref_at, alias_at, relatio
 use crate::select::{ItemDef, OperandDef, PredDef, RefDef, RelationDef, StopDef};
 use pq_base::{Dir, Op, PText, Value};
 use pq_grammar::ReadError;
-
 use pq_shape::{
     AS, ASC, CLOSE_SQUARE, COLON, Cursor, DESC, EQUAL, LIMIT, OPEN_SQUARE, PAGINATE, POINT, Part,
     Soft, operator,

@@ -1,7 +1,6 @@
 //! Queries as their text has them, with names in place of numbers. Names are in small letters.
 use pq_base::{Dir, List, Op, PText, Value};
 
-
 /// A column by its name, with the relation's alias where it stands before a point.
 #[derive(Drop)]
 pub struct RefDef {
