@@ -14,6 +14,8 @@ use Rattle.pq_schema.specs.Rows.{IsTableNumber, shape_of}
 use Rattle.pq_schema.specs.Sequences.{IsAccess}
 use Rattle.pq_schema.specs.Tables.{table_at}
 use Rattle.pq_store.specs.Content.{Content}
+use Rattle.pq_store.specs.declared.damage.Broke.{Broke}
+use Rattle.pq_store.specs.declared.damage.Broke.TheVariants as broke
 use Rattle.pq_store.specs.declared.damage.Damage.{Damage}
 use Rattle.pq_calls.specs.Keys.{sequence_key, sequence_types, named_key}
 
@@ -23,6 +25,12 @@ IsRead shape None None = Unit {0}
 IsRead shape None (Some row) = ⊥
 IsRead shape (Some code) None = ⊥
 IsRead shape (Some code) (Some row) = AllFit shape.types row × (code_as shape row ≡ code)
+
+-- the value of this key, which is told as damage, is the code of no row that fits
+abbrev pub IsUnreadRow : RowShape → List ℕ → List ℕ → Broke → Type 0
+IsUnreadRow shape key code broke.Failed = ⊥
+IsUnreadRow shape key code broke.NoMem = Unit {0}
+IsUnreadRow shape key code (broke.Damaged damage) = (damage.key ≡ key) × (damage.value ≡ Some code) × IsNoRowCode shape code
 
 -- the value at this key is the code of no row that fits
 pub record IsNoRowAt (shape : RowShape) (key : List ℕ) (told : Option Content) (damage : Damage) : Type 0 where

@@ -9,4 +9,4 @@ mod calls;
 mod rows;
 
 pub use calls::Calls;
-pub use rows::{StoredRow, types_of};
+pub use rows::{StoredRow, answered_row, types_of};

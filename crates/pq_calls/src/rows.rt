@@ -7,7 +7,8 @@ ghost use Rattle.pq_key_code.specs.KeyCode.{row_key};
 ghost use Rattle.pq_schema.specs.Rows.{types_of, shape_of};
 ghost use Rattle.pq_store.specs.Breaks.{IsAnswered};
 ghost use Rattle.pq_calls.specs.Calls.{Uses, Fails};
-ghost use Rattle.pq_calls.specs.Evidence.{IsRead, IsNoRowAt};
+ghost use Rattle.pq_row_code.specs.StoredRow.{code_as};
+ghost use Rattle.pq_calls.specs.Evidence.{IsRead, IsNoRowAt, IsUnreadRow};
 ghost use Rattle.pq_calls.specs.World.{Affords};
 
 use crate::calls::Calls;
@@ -37,6 +38,27 @@ pub fn types_of(alloc: Global, table: &Table) -> Result<List<ColType>, NoMem>
     Ok(types)
 }
 
+/// The row that the value at its key is the code of. A value that is the code of no row that fits is damage.
+pub fn answered_row(
+    alloc: Global,
+    at: &[u8],
+    code: &[u8],
+    types: &[ColType],
+    fillers: &List<Option<Value>>,
+) -> Result<Row, Broke>
+    ensures fits { IfOk result (AllFit types.now) }
+    ensures code { IfOk result (λ row. code_as (row_shape types.now fillers.now) row ≡ code.now) }
+    ensures cause { IfErr result (IsUnreadRow (row_shape types.now fillers.now) at.now code.now) }
+{
+    match decode_filled(alloc, code, types, fillers)? {
+        Some(row) => Ok(row),
+        None => Err(Broke::Damaged(Damage {
+            key: Bytes::of_bytes(alloc, at)?,
+            value: Some(Bytes::of_bytes(alloc, code)?),
+        })),
+    }
+}
+
 impl<'a, S: Store<L>, L: Ledger> Calls<'a, S, L> {
     /// The row at a key of the store, which has to fit the types.
     fn row_at(
@@ -60,13 +82,8 @@ impl<'a, S: Store<L>, L: Ledger> Calls<'a, S, L> {
         let Some(code) = self.get(alloc, at.items())? else {
             return Ok(None);
         };
-        match decode_filled(alloc, code.items(), types, fillers)? {
-            Some(row) => Ok(Some(StoredRow { at, row })),
-            None => Err(Broke::Damaged(Damage {
-                key: at,
-                value: Some(code),
-            })),
-        }
+        let row = answered_row(alloc, at.items(), code.items(), types, fillers)?;
+        Ok(Some(StoredRow { at, row }))
     }
 
     /// The row of the table with this key, and its key in the store. A value that is the code of no
