@@ -13,7 +13,6 @@ use Rattle.pq_base.specs.declared.refusal.Refusal.{Refusal}
 use Rattle.pq_base.specs.declared.refusal.Refusal.TheVariants as refusal
 use Rattle.pq_base.specs.declared.value.Dir.{Dir}
 use Rattle.pq_base.specs.declared.value.Value.{Value}
-use Rattle.pq_base.specs.declared.value.Value.TheVariants as value
 use Rattle.pq_schema.specs.Candidates.{stop_size}
 use Rattle.pq_schema.specs.ColumnNames.{repeated_name}
 use Rattle.pq_schema.specs.Definitions.{is_outside, refused_if}

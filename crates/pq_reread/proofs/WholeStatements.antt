@@ -177,7 +177,6 @@ spelled_is_whole w (Explains def) h =
     subst (λ v. whole_of v ≡ Ok (Explains def)) (sym parts.2)
     (ap (λ r. r >>= with_query_read (explaining parts.0)) (head_again (explaining parts.0) (statement.Explain 1) (is_explaining parts.0))
     ∙ ap (λ r. r >>= λ def. Ok (Explains def)) (select_again parts.0 def parts.1))
-
 spelled_is_whole w (Selects def) h =
     ap (λ r. r >>= with_query_read w) (head_again w statement.Select (select_of (select_tail def) w h))
     ∙ ap (λ r. r >>= λ def. Ok (Selects def)) (select_again w def h)
@@ -204,7 +203,6 @@ head_viable front (Prepares n def) rest h =
 head_viable front (Explains def) rest h =
     let parts = explain_parts (SpellsSelect def) (front ++ rest) h in
     (statement.Explain 1, rest, subst (λ v. Spells (statement.Explain 1) v) (sym parts.2) (is_explaining parts.0))
-
 head_viable front (Selects def) rest h = (statement.Select, rest, select_of (select_tail def) (front ++ rest) h)
 
 -- before the end of a head a whole statement goes on
@@ -281,7 +279,6 @@ behind_prepare n v (Explains def) rest h =
     let parts = explain_parts (SpellsSelect def) (preparing n (v ++ rest)) h in
     let same : statement.Explain 1 ≡ statement.Prepare n 3 = one_head (preparing n (v ++ rest)) (statement.Explain 1) (statement.Prepare n 3) (subst (λ u. Spells (statement.Explain 1) u) (sym parts.2) (is_explaining parts.0)) (is_preparing n (v ++ rest)) in
     absurd cc
-
 behind_prepare n v (Selects def) rest h =
     let same : statement.Select ≡ statement.Prepare n 3 = one_head (preparing n (v ++ rest)) statement.Select (statement.Prepare n 3) (select_of (select_tail def) (preparing n (v ++ rest)) h) (is_preparing n (v ++ rest)) in
     absurd cc
@@ -296,7 +293,6 @@ behind_explain v (Explains def) rest h =
     let parts = explain_parts (SpellsSelect def) (explaining (v ++ rest)) h in
     let same : v ++ rest ≡ parts.0 = ap (drop 1) parts.2 in
     (def, rest, subst (λ u. SpellsSelect def u) (sym same) parts.1)
-
 behind_explain v (Selects def) rest h =
     let same : statement.Select ≡ statement.Explain 1 = one_head (explaining (v ++ rest)) statement.Select (statement.Explain 1) (select_of (select_tail def) (explaining (v ++ rest)) h) (is_explaining (v ++ rest)) in
     absurd cc
@@ -390,15 +386,17 @@ select_front m (t ∷ w) rest h lt =
 select_stop : (w : List Shape) (left : ℕ) → Spells statement.Select w → select_at w ≡ Err left → IsStop w left
 unfolding IsStop
 select_stop w left h e =
-    let f = select_place w left e in
-    (f.0, record {
-      within = f.1.within;
-      before = λ j lt. let v = f.1.before j lt in (Selects v.0, v.1, v.2);
-      at = λ lt more.
-          let front = take (length w - left + 1) w in
-          let v = only_select (front ++ more.1) more.0 (select_front (length w - left) w more.1 h lt) more.2 in
-          f.1.at lt (v.0, more.1, v.1);
-    })
+    let f = select_place w left e in (
+      f.0,
+      record {
+        within = f.1.within;
+        before = λ j lt. let v = f.1.before j lt in (Selects v.0, v.1, v.2);
+        at = λ lt more.
+            let front = take (length w - left + 1) w in
+            let v = only_select (front ++ more.1) more.0 (select_front (length w - left) w more.1 h lt) more.2 in
+            f.1.at lt (v.0, more.1, v.1);
+      },
+    )
 
 with_stop : (w : List Shape) (s : Statement) (left : ℕ) → Spells s w → with_query_read w s ≡ Err left → IsStop w left
 with_stop w (statement.Prepare n from) left h e = prepare_stop w n from left h (select_err (drop from w) left (Prepares n) e)
