@@ -29,7 +29,7 @@ use Rattle.pq_content.proofs.KeepingWrites.{keeps_delete}
 use Rattle.pq_store.specs.Content.{Content}
 use Rattle.pq_store.specs.declared.damage.Damage.{Damage}
 use Rattle.std.proofs.lemmas.Option.{same_Some}
-use Rattle.pq_index_keep.specs.Effects.{effect, changes_of, deleted_rows, removal_of, child_refusal, names_key, referenced_refusal, no_row}
+use Rattle.pq_index_keep.specs.Effects.{effect, changes_of, condition_refusal, deleted_rows, removal_of, child_refusal, names_key, referenced_refusal, no_row}
 use Rattle.pq_calls.specs.Evidence.{IsRead, IsNoRow}
 use Rattle.pq_calls.specs.World.{World, Explains, where_told}
 use Rattle.pq_calls.proofs.Steps.{explained_undamaged}
@@ -40,6 +40,7 @@ use Rattle.pq_index_keep.specs.Promises.{HoldsRows, MakesRows, Plans}
 use Rattle.pq_index_keep.specs.Sound.{AreWritable, IsWritable, MayName}
 use Rattle.pq_calls.specs.declared.rows.StoredRow.{StoredRow}
 use Rattle.pq_index_keep.specs.declared.plan.Planned.TheVariants as planned
+use Rattle.pq_index_keep.specs.declared.write.Cond.{Cond}
 use Rattle.pq_index_keep.specs.declared.write.Write.TheVariants as write
 use Rattle.pq_index_keep.proofs.Changing.{own_removals}
 use Rattle.pq_index_keep.proofs.Inserting.{mapped_none, none_passes, each_weaker, each_is, each_by, writable_at}
@@ -190,25 +191,35 @@ module _ (rows : Rows) (t : ℕ) (key : List Value) where
 
 -- ---- the effect
 
-module _ (tables : List Table) (rows : Rows) (others : List Pair) (t : ℕ) (key : List Value) where
-  pub delete_absent : None ≡ row_at tables rows t key → Plans tables rows others (write.Delete t key) (planned.Refused (no_row tables t))
+module _ (tables : List Table) (rows : Rows) (others : List Pair) (t : ℕ) (key : List Value) (conds : List Cond) where
+  pub delete_absent : None ≡ row_at tables rows t key → Plans tables rows others (write.Delete t key conds) (planned.Refused (no_row tables t))
   unfolding effect
-  delete_absent is = ap (deleted_rows tables rows t key) (sym is)
+  delete_absent is = ap (deleted_rows tables rows t key conds) (sym is)
 
-  pub delete_refused : (old : List Value) (refusal : Refusal) → Some old ≡ row_at tables rows t key → Some refusal ≡ child_refusal rows t key 1 tables → Plans tables rows others (write.Delete t key) (planned.Refused refusal)
+  pub delete_unmet : (old : List Value) (refusal : Refusal) → Some old ≡ row_at tables rows t key → Some refusal ≡ condition_refusal (table_at tables t) conds old → Plans tables rows others (write.Delete t key conds) (planned.Refused refusal)
   unfolding effect
-  delete_refused old refusal found is = ap (deleted_rows tables rows t key) (sym found) ∙ ap (λ (o : Option Refusal). or_ok o (rows_without tables t key rows)) (sym is)
+  delete_unmet old refusal found is =
+      ap (deleted_rows tables rows t key conds) (sym found) ∙ ap (λ (o : Option Refusal). or_ok (or_else o (child_refusal rows t key 1 tables)) (rows_without tables t key rows)) (sym is)
 
-  pub delete_made : (told : Option Content) (old : List Value) (changes : List Coded) → HoldsRows told tables rows others → Some old ≡ row_at tables rows t key → None ≡ child_refusal rows t key 1 tables → (at : List ℕ) → at ≡ row_key t key → map change_of changes ≡ (at, None) ∷ removals (entries_from t 1 (table_at tables t) (table_at tables t).indexes old)
-      → Plans tables rows others (write.Delete t key) (planned.Changes changes)
+  -- what comes of a row that is as the write says
+  met : (old : List Value) (found : Option Refusal) → condition_refusal (table_at tables t) conds old ≡ None → found ≡ child_refusal rows t key 1 tables → found ≡ or_else (condition_refusal (table_at tables t) conds old) (child_refusal rows t key 1 tables)
+  met old found holds is = is ∙ sym (ap (λ (o : Option Refusal). or_else o (child_refusal rows t key 1 tables)) holds)
+
+  pub delete_refused : (old : List Value) (refusal : Refusal) → Some old ≡ row_at tables rows t key → condition_refusal (table_at tables t) conds old ≡ None → Some refusal ≡ child_refusal rows t key 1 tables → Plans tables rows others (write.Delete t key conds) (planned.Refused refusal)
+  unfolding effect
+  delete_refused old refusal found holds is =
+      ap (deleted_rows tables rows t key conds) (sym found) ∙ ap (λ (o : Option Refusal). or_ok o (rows_without tables t key rows)) (sym (met old (Some refusal) holds is))
+
+  pub delete_made : (told : Option Content) (old : List Value) (changes : List Coded) → HoldsRows told tables rows others → Some old ≡ row_at tables rows t key → condition_refusal (table_at tables t) conds old ≡ None → None ≡ child_refusal rows t key 1 tables → (at : List ℕ) → at ≡ row_key t key → map change_of changes ≡ (at, None) ∷ removals (entries_from t 1 (table_at tables t) (table_at tables t).indexes old)
+      → Plans tables rows others (write.Delete t key conds) (planned.Changes changes)
   unfolding effect changes_of
-  delete_made told old changes s found none at is own =
+  delete_made told old changes s found holds none at is own =
       let key_is = (row_found tables rows t key old s.keeps (sym found)).key_is in
       let made = own_removals t (table_at tables t) old at (map change_of changes) (is ∙ ap (row_key t) (sym key_is)) own in
-      let makes : MakesRows tables rows others (write.Delete t key) changes (rows_without tables t key rows) = record {
+      let makes : MakesRows tables rows others (write.Delete t key conds) changes (rows_without tables t key rows) = record {
         changes_are = made ∙ ap (removal_of (table_at tables t) t) found;
         content = ap (λ (cs : List Change). changed_content cs (content_pairs tables rows others)) made ∙ delete_row tables rows others t key old s.keeps s.beside (sym found);
         keeps = keeps_delete tables rows t key s.keeps (unreferenced rows t key tables (sym none));
       } in
-      let effect_is : deleted_rows tables rows t key (row_at tables rows t key) ≡ Ok (rows_without tables t key rows) = ap (deleted_rows tables rows t key) (sym found) ∙ ap (λ (o : Option Refusal). or_ok o (rows_without tables t key rows)) (sym none) in
-      subst (λ (r : Result Rows Refusal). MatchResult r (MakesRows tables rows others (write.Delete t key) changes) (λ (refusal : Refusal). ⊥)) (sym effect_is) makes
+      let effect_is : deleted_rows tables rows t key conds (row_at tables rows t key) ≡ Ok (rows_without tables t key rows) = ap (deleted_rows tables rows t key conds) (sym found) ∙ ap (λ (o : Option Refusal). or_ok o (rows_without tables t key rows)) (sym (met old None holds none)) in
+      subst (λ (r : Result Rows Refusal). MatchResult r (MakesRows tables rows others (write.Delete t key conds) changes) (λ (refusal : Refusal). ⊥)) (sym effect_is) makes

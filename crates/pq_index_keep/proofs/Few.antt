@@ -60,14 +60,14 @@ small_of tables (write.Insert t row) sound small is =
     let indexes = table.made.few_indexes in
     let commits = commit_few (1 + length (table_at tables t).indexes) in
     record { ops = omega (arith, few.0, indexes, commits); entries = omega (arith, few.1) }
-small_of tables (write.Update t key sets) sound small is =
+small_of tables (write.Update t key sets conds) sound small is =
     let table = writable_at tables t sound is.number in
     let few = tests_few tables (table_at tables t) (scope_of sets) table in
     let indexes = table.made.few_indexes in
     let touched = count_by-le-length (touches_index (scope_of sets) (table_at tables t)) (table_at tables t).indexes in
-    let commits = commit_few (most_changes tables (write.Update t key sets)) in
+    let commits = commit_few (most_changes tables (write.Update t key sets conds)) in
     record { ops = omega (arith, few.0, indexes, touched, commits); entries = omega (arith, few.1) }
-small_of tables (write.Delete t key) sound small is =
+small_of tables (write.Delete t key conds) sound small is =
     let table = writable_at tables t sound is.number in
     let few = referring_few tables t sound small in
     let indexes = table.made.few_indexes in

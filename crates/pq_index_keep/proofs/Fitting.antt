@@ -1,6 +1,6 @@
 -- What the checks of a statement say of its write.
 use Rattle.std.proofs.Common.{◌≡◌, ℕ, zero, suc, ◌+◌, ◌≤◌, ◌<◌, Bool, true, false, cond, not, ◌||◌, ◌&&◌, List, [], ◌∷◌, ◌++◌, length, map, Option, Some, None, Ok, Err, refl, sym, ap, subst, ◌∙◌, arith}
-use Rattle.std.specs.Prelude.{All, IfSome, slice_index_or, ◌==◌, find, option_map, is_some, unwrap_or, nat_lt}
+use Rattle.std.specs.Prelude.{All, IfSome, slice_index_or, ◌==◌, is_some, unwrap_or, nat_lt}
 use Rattle.std.specs.List.{AllByRecursion, list_all, list_any, range_with_len}
 use Rattle.std.proofs.lemmas.Bool.{cond_both, eqb-true, ltb-false, false≢true}
 use Rattle.pq_schema.proofs.Counts.{place_within}
@@ -9,24 +9,35 @@ use Rattle.pq_base.specs.declared.refusal.Refusal.TheVariants as refusal
 use Rattle.pq_base.specs.declared.value.ColType.{ColType}
 use Rattle.pq_base.specs.declared.value.ColType.TheVariants as type
 use Rattle.pq_base.specs.declared.value.Value.{Value}
-use Rattle.pq_base.specs.Values.{IsValue, FitsType, AllFit, fits_type}
+use Rattle.pq_base.specs.declared.value.Value.TheVariants as value
+use Rattle.pq_base.specs.declared.value.DataKind.{DataKind}
+use Rattle.pq_base.specs.declared.value.DataKind.TheVariants as kind
+use Rattle.pq_base.specs.declared.op.Op.{Op}
+use Rattle.pq_base.specs.Comparing.{is_null_test}
+use Rattle.pq_base.specs.Values.{IsValue, FitsType, AllFit, fits_type, is_kind, is_null, kind_of_type}
 use Rattle.pq_schema.specs.declared.table.Column.{Column}
 use Rattle.pq_schema.specs.declared.table.Table.{Table}
 use Rattle.pq_content.specs.Tables.{types_of, type_at, types_at, key_types}
-use Rattle.pq_index_keep.specs.Checking.{misfit_refusal, are_among, all_columns, default_at, has_value, inserted_value, insert_row, insert_names, insert_places, insert_names_refusal, insert_values_refusal, insert_checked, delete_checked, is_insert_wrong, assign_name, names_in, values_in, assigned_misfit, keyed_refusal, set_of_assign, key_given}
-use Rattle.pq_index_keep.specs.Sound.{is_among, IsSet}
+use Rattle.pq_index_keep.specs.Checking.{misfit_refusal, are_among, all_columns, default_at, has_value, inserted_value, insert_row, insert_names, insert_places, insert_names_refusal, insert_values_refusal, insert_checked, delete_checked, is_insert_wrong, assign_name, names_in, values_in, keyed_refusal, set_names, cond_names, named_type, fits_setting, is_set_misfit, set_misfit, is_constant, is_cond_misfit, cond_misfit, set_of_def, cond_of_def, key_given}
+use Rattle.pq_index_keep.specs.Sound.{is_among, FitsSetting, IsCond, IsSet, IsSetting}
 use Rattle.pq_schema.specs.ColumnNames.{is_unknown, place_of, places_of, no_column, unknown_refusal}
 use Rattle.pq_schema.specs.Definitions.{refused_if, or_ok}
+use Rattle.pq_schema.specs.Resolved.{IsConstant, param_type}
 use Rattle.pq_schema.specs.Rows.{no_value}
 use Rattle.pq_schema.specs.Sound.{AreDefaults}
 use Rattle.pq_base.specs.Answers.{Answers, Passes, or_else}
+use Rattle.pq_index_keep.specs.declared.write.Cond.{Cond}
 use Rattle.pq_index_keep.specs.declared.write.Write.{Write}
 use Rattle.pq_index_keep.specs.declared.write.Write.TheVariants.{Insert, Delete}
 use Rattle.pq_base.specs.declared.refusal.Stopped.{Stopped}
 use Rattle.pq_base.specs.declared.refusal.Stopped.TheVariants.{Refused, NoMem}
 use Rattle.pq_base.proofs.TypeFits.{fits_exact}
-use Rattle.pq_def_read.specs.declared.statement.Assign.{Assign}
-use Rattle.pq_index_keep.proofs.Inserting.{each_by}
+use Rattle.pq_def_read.specs.declared.write.Assign.{Assign}
+use Rattle.pq_def_read.specs.declared.write.CondDef.{CondDef}
+use Rattle.pq_def_read.specs.declared.write.SetDef.{SetDef}
+use Rattle.pq_def_read.specs.declared.write.Setting.{Setting}
+use Rattle.pq_def_read.specs.declared.write.Setting.TheVariants as setting
+use Rattle.pq_index_keep.proofs.Inserting.{each_by, first_none, mapped_none, none_passes}
 use Rattle.pq_schema.specs.Keys.{given_value}
 use Rattle.std.proofs.lemmas.List.{length-map}
 
@@ -133,57 +144,98 @@ or_none : (a b : Option Refusal) → or_else a b ≡ None → (a ≡ None) × (b
 or_none None b h = (refl, h)
 or_none (Some r) b h = absurd (cc)
 
-unknown_none : {X : Type 0} (p : X → Bool) (f : X → Refusal) (x : X) (xs : List X) → option_map f (find p (x ∷ xs)) ≡ None → (p x ≡ false) × (option_map f (find p xs) ≡ None)
-unknown_none p f x xs h =
-    elim (p x) as (λ b. option_map f (cond b (Some x) (find p xs)) ≡ None → (b ≡ false) × (option_map f (find p xs) ≡ None)) [
-      | true ↦ λ e. absurd (cc)
-      | false ↦ λ e. (refl, e)
-    ] h
-
 either_none : (a b : Bool) → (a || b) ≡ false → (a ≡ false) × (b ≡ false)
 either_none true b h = absurd (cc)
 either_none false b h = (refl, h)
 
-sets_ok : (table : Table) (sets : List Assign) → unknown_refusal table.columns (names_in sets) ≡ None → list_any (is_among table.key) (places_of table.columns (names_in sets)) ≡ false → assigned_misfit table sets ≡ None → AllByRecursion (λ (a : Assign). IsValue a.value) sets → AllByRecursion (IsSet table) (map (set_of_assign table) sets)
+yes : (b : Bool) → not b ≡ false → b ≡ true
+yes true h = refl
+yes false h = absurd (cc)
+
+is_int : (k : DataKind) → is_kind k kind.Int ≡ true → k ≡ kind.Int
+is_int kind.Int h = refl
+is_int kind.Bool h = absurd (cc)
+is_int kind.Text h = absurd (cc)
+
+setting_fits : (ty : ColType) (to : Setting) → IsSetting to → fits_setting ty to ≡ true → FitsSetting ty to
+setting_fits ty (setting.Is value) known fits = fits_exact ty value known fits
+setting_fits ty (setting.Add number) known fits = (is_int (kind_of_type ty) fits, known)
+
+sets_ok : (table : Table) (sets : List SetDef) → unknown_refusal table.columns (set_names sets) ≡ None → list_any (is_among table.key) (places_of table.columns (set_names sets)) ≡ false → set_misfit table sets ≡ None → AllByRecursion (λ (set : SetDef). IsSetting set.to) sets → AllByRecursion (IsSet table) (map (set_of_def table) sets)
 sets_ok table [] known other none values = tt
-sets_ok table (a ∷ sets) known other none values =
-    let here = unknown_none (is_unknown table.columns) no_column a.col (names_in sets) known in
-    let apart = either_none (is_among table.key (place_of table.columns a.col)) (list_any (is_among table.key) (places_of table.columns (names_in sets))) other in
-    elim (fits_type (type_at table.columns (place_of table.columns a.col)) a.value) as (λ b. fits_type (type_at table.columns (place_of table.columns a.col)) a.value ≡ b → cond b (assigned_misfit table sets) (Some (refusal.ValueKind table.name a.col)) ≡ None → AllByRecursion (IsSet table) (map (set_of_assign table) (a ∷ sets))) [
-      | true ↦ λ fits rest. (
-        record {
-          inside = place_within table.columns a.col here.0;
-          fits = fits_exact (type_at table.columns (place_of table.columns a.col)) a.value values.0 fits;
-          other = apart.0;
-        },
-        sets_ok table sets here.1 apart.1 rest values.1,
-      )
-      | false ↦ λ fits rest. absurd (cc)
-    ] refl none
+sets_ok table (set ∷ sets) known other none values =
+    let here = first_none (is_unknown table.columns) no_column set.col (set_names sets) known in
+    let apart = either_none (is_among table.key (place_of table.columns set.col)) (list_any (is_among table.key) (places_of table.columns (set_names sets))) other in
+    let fits = first_none (is_set_misfit table) (λ (s : SetDef). refusal.ValueKind table.name s.col) set sets none in (
+      record {
+        inside = place_within table.columns set.col here.0;
+        fits = setting_fits (named_type table set.col) set.to values.0 (yes (fits_setting (named_type table set.col) set.to) fits.0);
+        other = apart.0;
+      },
+      sets_ok table sets here.1 apart.1 fits.1 values.1,
+    )
+
+null_is : (x : Value) → is_null x ≡ true → x ≡ value.Null
+null_is value.Null h = refl
+null_is (value.Int n) h = absurd (cc)
+null_is (value.Bool b) h = absurd (cc)
+null_is (value.Text t) h = absurd (cc)
+
+constant_is : (o : Op) (ty : ColType) (x : Value) → IsValue x → is_constant o ty x ≡ true → IsConstant o ty x
+constant_is o ty x known h = by (is_null_test o) refl h
+  where
+    by : (b : Bool) → is_null_test o ≡ b → cond b (is_null x) (fits_type ty x) ≡ true → IsConstant o ty x
+    by true is null = (λ test. absurd (false≢true (sym test ∙ is)), λ test. null_is x null)
+    by false is fits = (λ test. fits_exact ty x known fits, λ test. absurd (false≢true (sym is ∙ test)))
+
+conds_each : (table : Table) (conds : List CondDef) → unknown_refusal table.columns (cond_names conds) ≡ None → AllByRecursion (λ (cond : CondDef). is_cond_misfit table cond ≡ false) conds → AllByRecursion (λ (cond : CondDef). IsValue cond.value) conds → AllByRecursion (IsCond table) (map (cond_of_def table) conds)
+conds_each table [] known fit values = tt
+conds_each table (cond ∷ conds) known fit values =
+    let here = first_none (is_unknown table.columns) no_column cond.col (cond_names conds) known in
+    let ty = param_type (named_type table cond.col) in (
+      record {
+        inside = place_within table.columns cond.col here.0;
+        constant = constant_is cond.op ty cond.value values.0 (yes (is_constant cond.op ty cond.value) fit.0);
+      },
+      conds_each table conds here.1 fit.1 values.1,
+    )
+
+conds_ok : (table : Table) (conds : List CondDef) → unknown_refusal table.columns (cond_names conds) ≡ None → cond_misfit table conds ≡ None → All (λ (cond : CondDef). IsValue cond.value) conds → AllByRecursion (IsCond table) (map (cond_of_def table) conds)
+conds_ok table conds known none values =
+    conds_each table conds known (none_passes (is_cond_misfit table) conds (mapped_none (λ (place : ℕ). refusal.OperandKind (place + 1)) _ none)) (each_by (λ (cond : CondDef). IsValue cond.value) conds values)
 
 known_values_in : (assigns : List Assign) → AllByRecursion (λ (a : Assign). IsValue a.value) assigns → AllByRecursion IsValue (values_in assigns)
 known_values_in [] h = tt
 known_values_in (a ∷ assigns) h = (h.0, known_values_in assigns h.1)
 
--- what no refusal says of the columns that are set and of the key
-pub keyed_ok : (table : Table) (sets key : List Assign) → keyed_refusal table sets key ≡ None → All (λ (a : Assign). IsValue a.value) sets → All (λ (a : Assign). IsValue a.value) key
-    → AllByRecursion (IsSet table) (map (set_of_assign table) sets) × AllFit (key_types table) (key_given table key)
-keyed_ok table sets key none known_sets known_key =
+-- what no refusal says of the columns that are set, of the key and of the conditions
+pub record IsKeyed (table : Table) (sets : List SetDef) (key : List Assign) (conds : List CondDef) : Type 0 where
+  pub each : AllByRecursion (IsSet table) (map (set_of_def table) sets)
+  pub fits : AllFit (key_types table) (key_given table key)
+  pub tested : AllByRecursion (IsCond table) (map (cond_of_def table) conds)
+
+pub keyed_ok : (table : Table) (sets : List SetDef) (key : List Assign) (conds : List CondDef) → keyed_refusal table sets key conds ≡ None → All (λ (set : SetDef). IsSetting set.to) sets → All (λ (a : Assign). IsValue a.value) key → All (λ (cond : CondDef). IsValue cond.value) conds
+    → IsKeyed table sets key conds
+keyed_ok table sets key conds none known_sets known_key known_conds =
     let names = or_none _ _ none in
     let unknown = or_none _ _ names.0 in
+    let unknown_key = or_none _ _ unknown.1 in
+    let unknown_conds = or_none _ _ unknown_key.1 in
     let values = or_none _ _ names.1 in
     let fits = or_none _ _ values.1 in
+    let rest = or_none _ _ fits.1 in
     let wrong = passed _ _ values.0 in
-    let first = either_none (list_any (is_among table.key) (places_of table.columns (names_in sets)) || not (are_among table.key (places_of table.columns (names_in key)))) (not (are_among (places_of table.columns (names_in key)) table.key)) wrong in
-    let second = either_none (list_any (is_among table.key) (places_of table.columns (names_in sets))) (not (are_among table.key (places_of table.columns (names_in key)))) first.0 in
-    let long : length (values_in key) ≡ length (places_of table.columns (names_in key)) = length-map key (λ (a : Assign). a.value) ∙ sym (length-map key assign_name) ∙ sym (length-map (names_in key) (place_of table.columns)) in (
-      sets_ok table sets unknown.0 second.0 fits.0 (each_by (λ (a : Assign). IsValue a.value) sets known_sets),
-      key_fits table (names_in key) (places_of table.columns (names_in key)) (values_in key) table.key (yes (are_among table.key (places_of table.columns (names_in key))) second.1) long (sym (length-map (names_in key) (place_of table.columns))) fits.1 (known_values_in key (each_by (λ (a : Assign). IsValue a.value) key known_key)),
-    )
-  where
-    yes : (b : Bool) → not b ≡ false → b ≡ true
-    yes true h = refl
-    yes false h = absurd (cc)
+    let first = either_none (list_any (is_among table.key) (places_of table.columns (set_names sets)) || not (are_among table.key (places_of table.columns (names_in key)))) (not (are_among (places_of table.columns (names_in key)) table.key)) wrong in
+    let second = either_none (list_any (is_among table.key) (places_of table.columns (set_names sets))) (not (are_among table.key (places_of table.columns (names_in key)))) first.0 in
+    let long : length (values_in key) ≡ length (places_of table.columns (names_in key)) = length-map key (λ (a : Assign). a.value) ∙ sym (length-map key assign_name) ∙ sym (length-map (names_in key) (place_of table.columns)) in
+    record {
+      each = sets_ok table sets unknown.0 second.0 fits.0 (each_by (λ (set : SetDef). IsSetting set.to) sets known_sets);
+      fits = key_fits table (names_in key) (places_of table.columns (names_in key)) (values_in key) table.key (yes (are_among table.key (places_of table.columns (names_in key))) second.1) long (sym (length-map (names_in key) (place_of table.columns))) rest.0 (known_values_in key (each_by (λ (a : Assign). IsValue a.value) key known_key));
+      tested = conds_ok table conds unknown_conds.0 rest.1 known_conds;
+    }
+
+pub few_conds : (table : Table) (conds : List CondDef) → length conds ≤ 16 → length (map (cond_of_def table) conds) ≤ 16
+few_conds table conds few = let same = length-map conds (cond_of_def table) in omega (arith, same, few)
 
 pub short_code : (n : ℕ) (why : Refusal) → refused_if (nat_lt 4096 n) why ≡ None → n ≤ 4096
 short_code n why h = ltb-false 4096 n (passed (nat_lt 4096 n) why h)
@@ -223,17 +275,18 @@ insert_err table other t cols values stopped is none h =
     subst (λ (tb : Table). Answers {A = Write} (Err stopped) (insert_checked tb t cols values)) is
     (refused_after {X = List Value} {Y = Write} stopped (insert_names_refusal table cols) (insert_values_refusal table (insert_names table cols) (insert_places table cols) values) (insert_row table (insert_places table cols) values) (Insert t (insert_row table (insert_places table cols) values)) none h)
 
-pub delete_err : (table other : Table) (t : ℕ) (key : List Assign) (stopped : Stopped) → table ≡ other → Passes {A = Unit {0}} (Err stopped) (keyed_refusal table [] key) → Answers {A = Write} (Err stopped) (delete_checked other t key)
-delete_err table other t key stopped is h = subst (λ (tb : Table). Answers {A = Write} (Err stopped) (delete_checked tb t key)) is (by stopped (keyed_refusal table [] key) h)
+pub delete_err : (table other : Table) (t : ℕ) (key : List Assign) (conds : List CondDef) (stopped : Stopped) → table ≡ other → Passes {A = Unit {0}} (Err stopped) (keyed_refusal table [] key conds) → Answers {A = Write} (Err stopped) (delete_checked other t key conds)
+delete_err table other t key conds stopped is h = subst (λ (tb : Table). Answers {A = Write} (Err stopped) (delete_checked tb t key conds)) is (by stopped (keyed_refusal table [] key conds) h)
   where
-    by : (stopped : Stopped) (o : Option Refusal) → Passes {A = Unit {0}} (Err stopped) o → Answers {A = Write} (Err stopped) (or_ok o (Delete t (key_given table key)))
+    by : (stopped : Stopped) (o : Option Refusal) → Passes {A = Unit {0}} (Err stopped) o → Answers {A = Write} (Err stopped) (or_ok o (Delete t (key_given table key) (map (cond_of_def table) conds)))
     by NoMem o h = tt
-    by (Refused r) o h = ap (λ (q : Option Refusal). or_ok q (Delete t (key_given table key))) h
+    by (Refused r) o h = ap (λ (q : Option Refusal). or_ok q (Delete t (key_given table key) (map (cond_of_def table) conds))) h
 
-pub delete_ok : (table other : Table) (t : ℕ) (key : List Assign) (row : List Value) → table ≡ other → keyed_refusal table [] key ≡ None → row ≡ key_given table key → delete_checked other t key ≡ Ok (Delete t row)
-delete_ok table other t key row is none given_value =
-    subst (λ (tb : Table). delete_checked tb t key ≡ Ok (Delete t row)) is
-    (ap (λ (o : Option Refusal). or_ok o (Delete t (key_given table key))) none ∙ ap (λ (r : List Value). Ok (Delete t r)) (sym given_value))
+pub delete_ok : (table other : Table) (t : ℕ) (key : List Assign) (conds : List CondDef) (row : List Value) (made : List Cond) → table ≡ other → keyed_refusal table [] key conds ≡ None → row ≡ key_given table key → made ≡ map (cond_of_def table) conds → delete_checked other t key conds ≡ Ok (Delete t row made)
+delete_ok table other t key conds row made is none given made_is =
+    subst (λ (tb : Table). delete_checked tb t key conds ≡ Ok (Delete t row made)) is
+    (ap (λ (o : Option Refusal). or_ok o (Delete t (key_given table key) (map (cond_of_def table) conds))) none
+    ∙ ap (λ (r : List Value). Ok (Delete t r (map (cond_of_def table) conds))) (sym given) ∙ ap (λ (cs : List Cond). Ok (Delete t row cs)) (sym made_is))
 
 pub insert_err_at : (table other : Table) (t : ℕ) (cols : Option (List (List ℕ))) (values : List Value) (stopped : Stopped) (names : List (List ℕ)) (places : List ℕ) → table ≡ other → insert_names_refusal table cols ≡ None → names ≡ insert_names table cols → places ≡ insert_places table cols
     → Answers {A = List Value} (Err stopped) (or_ok (insert_values_refusal table names places values) (insert_row table places values)) → Answers {A = Write} (Err stopped) (insert_checked other t cols values)

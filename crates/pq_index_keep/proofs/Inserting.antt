@@ -1,8 +1,9 @@
 -- What an INSERT makes of settled pairs, and what its tests need.
-use Rattle.std.proofs.Common.{◌≡◌, ℕ, zero, suc, ◌+◌, ◌-◌, ◌≤◌, Bool, true, false, cond, not, ◌&&◌, ltb, List, [], ◌∷◌, length, map, get_or, Option, Some, None, refl, sym, ap, subst, ◌∙◌, arith}
-use Rattle.std.specs.Prelude.{All, IsSome, MatchResult, is_some, is_none, option_map}
+use Rattle.std.proofs.Common.{◌≡◌, ℕ, zero, suc, ◌+◌, ◌-◌, ◌≤◌, ◌<◌, Bool, true, false, cond, not, ◌&&◌, ltb, List, [], ◌∷◌, length, map, get_or, Option, Some, None, refl, sym, ap, subst, ◌∙◌, arith}
+use Rattle.std.specs.Prelude.{All, IsSome, MatchResult, find, is_some, is_none, option_map}
 use Rattle.std.specs.List.{AllByRecursion, position, prefix_len}
-use Rattle.std.proofs.lemmas.Bool.{leb-false, ltb-false}
+use Rattle.std.proofs.lemmas.Bool.{leb-false, ltb-false, ltb-true}
+use Rattle.std.proofs.lemmas.Option.{none-some, same_Some}
 use Rattle.pq_base.specs.Answers.{or_else}
 use Rattle.pq_base.specs.declared.refusal.Refusal.{Refusal}
 use Rattle.pq_base.specs.declared.value.Value.{Value}
@@ -38,6 +39,13 @@ pub mapped_none : {X Y : Type 0} (f : X → Y) (o : Option X) → option_map f o
 mapped_none f None h = refl
 mapped_none f (Some x) h = absurd (cc)
 
+pub first_none : {X : Type 0} (p : X → Bool) (f : X → Refusal) (x : X) (xs : List X) → option_map f (find p (x ∷ xs)) ≡ None → (p x ≡ false) × (option_map f (find p xs) ≡ None)
+first_none p f x xs h =
+    elim (p x) as (λ b. option_map f (cond b (Some x) (find p xs)) ≡ None → (b ≡ false) × (option_map f (find p xs) ≡ None)) [
+      | true ↦ λ e. absurd (cc)
+      | false ↦ λ e. (refl, e)
+    ] h
+
 pub not_refused : (b : Bool) (why : Refusal) → refused_if b why ≡ None → b ≡ false
 not_refused true why h = absurd (cc)
 not_refused false why h = refl
@@ -55,6 +63,15 @@ not_less a b h = elim (ltb a b) as (λ c. cond c (Some a) None ≡ None → c �
 
 pub none_passes : {X : Type 0} (p : X → Bool) (xs : List X) → position p xs ≡ None → AllByRecursion (λ x. p x ≡ false) xs
 none_passes {X} p xs h = all_fail p xs (ltb-false (prefix_len (λ (x : X). not (p x)) xs) (length xs) (not_less (prefix_len (λ (x : X). not (p x)) xs) (length xs) h))
+
+inside_of : (a b i : ℕ) → cond (ltb a b) (Some a) None ≡ Some i → i < b
+inside_of a b i h = elim (ltb a b) as (λ c. ltb a b ≡ c → cond c (Some a) None ≡ Some i → i < b) [
+  | true ↦ λ less e. subst (λ (n : ℕ). n < b) (same_Some a i e) (ltb-true a b less)
+  | false ↦ λ less e. absurd (none-some i e)
+] refl h
+
+pub position_inside : {X : Type 0} (p : X → Bool) (xs : List X) (i : ℕ) → position p xs ≡ Some i → i < length xs
+position_inside {X} p xs i h = inside_of (prefix_len (λ (x : X). not (p x)) xs) (length xs) i h
 
 pub each_weaker : {X : Type 0} (P Q : X → Type 0) → ((x : X) → P x → Q x) → (xs : List X) → AllByRecursion P xs → AllByRecursion Q xs
 each_weaker P Q f [] h = tt

@@ -3,8 +3,9 @@ use Rattle.std.specs.Prelude.{ℕ, ◌+◌, Bool, not, ◌||◌, ◌==◌, nat_l
 use Rattle.std.specs.List.{find, list_all, list_any, range_with_len}
 use Rattle.pq_base.specs.Answers.{or_else}
 use Rattle.pq_base.specs.Comparing.{is_null_test}
-use Rattle.pq_base.specs.Values.{fits_type, is_kind, kind_of_type}
+use Rattle.pq_base.specs.Values.{fits_type, is_kind, is_null, kind_of_type}
 use Rattle.pq_base.specs.declared.count_word.TheConstants.{PREDICATES}
+use Rattle.pq_base.specs.declared.op.Op.{Op}
 use Rattle.pq_base.specs.declared.value.ColType.{ColType}
 use Rattle.pq_base.specs.declared.value.DataKind.TheVariants as kind
 use Rattle.pq_base.specs.declared.refusal.Refusal.{Refusal}
@@ -149,20 +150,27 @@ abbrev pub assigned_misfit : Table → List Assign → Option Refusal
 assigned_misfit table assigns = misfit_refusal table (names_in assigns) (places_of table.columns (names_in assigns))
     (values_in assigns)
 
+-- NULL behind IS NULL, and else a value of the type
+abbrev pub is_constant : Op → ColType → Value → Bool
+is_constant op ty constant = if is_null_test op then is_null constant else fits_type ty constant
+
 -- a constant of another kind than the column, or a text of more than 1,000 bytes
 abbrev pub is_cond_misfit : Table → CondDef → Bool
-is_cond_misfit table cond =
-    not (is_null_test cond.op || fits_type (param_type (named_type table cond.col)) cond.value)
+is_cond_misfit table cond = not (is_constant cond.op (param_type (named_type table cond.col)) cond.value)
 
 -- conditions are numbered from 1
 abbrev pub cond_misfit : Table → List CondDef → Option Refusal
 cond_misfit table conds =
     option_map (λ place. refusal.OperandKind (place + 1)) (position (is_cond_misfit table) conds)
 
+abbrev pub columns_refusal : Table → List SetDef → List Assign → Option Refusal
+columns_refusal table sets key =
+    refused_if (is_keyed_wrong table (places_of table.columns (set_names sets))
+    (places_of table.columns (names_in key))) (refusal.WrongColumns table.name)
+
 abbrev pub keyed_values_refusal : Table → List SetDef → List Assign → List CondDef → Option Refusal
 keyed_values_refusal table sets key conds =
-    or_else (refused_if (is_keyed_wrong table (places_of table.columns (set_names sets))
-    (places_of table.columns (names_in key))) (refusal.WrongColumns table.name))
+    or_else (columns_refusal table sets key)
     (or_else (set_misfit table sets) (or_else (assigned_misfit table key) (cond_misfit table conds)))
 
 abbrev pub keyed_refusal : Table → List SetDef → List Assign → List CondDef → Option Refusal

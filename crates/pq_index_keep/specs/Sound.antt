@@ -4,7 +4,7 @@ use Rattle.std.specs.Int.{w64}
 use Rattle.std.specs.List.{AllByRecursion, list_any}
 use Rattle.pq_base.specs.Columns.{set_of}
 use Rattle.pq_base.specs.declared.value.Value.{Value}
-use Rattle.pq_base.specs.Values.{FitsType, AllFit, kind_of_type}
+use Rattle.pq_base.specs.Values.{IsValue, FitsType, AllFit, kind_of_type}
 use Rattle.pq_base.specs.declared.value.ColType.{ColType}
 use Rattle.pq_base.specs.declared.value.DataKind.TheVariants as kind
 use Rattle.pq_schema.specs.declared.table.Foreign.{Foreign}
@@ -42,6 +42,11 @@ pub record IsWritable (tables : List Table) (table : Table) : Type 0 where
 abbrev pub AreWritable : List Table → Type 0
 AreWritable tables = All (IsWritable tables) tables
 
+-- a value in its kind's range, or a number of 64 bits
+abbrev pub IsSetting : Setting → Type 0
+IsSetting (setting.Is value) = IsValue value
+IsSetting (setting.Add number) = FitsSigned w64 number
+
 -- a value that fits a type, or a number of 64 bits that is added to numbers
 abbrev pub FitsSetting : ColType → Setting → Type 0
 FitsSetting ty (setting.Is value) = FitsType ty value
@@ -73,13 +78,13 @@ pub record IsUpdate (tables : List Table) (t : ℕ) (key : List Value) (sets : L
   pub number : IsTableNumber tables t
   pub fits : AllFit (key_types (table_at tables t)) key
   pub each : AllByRecursion (IsSet (table_at tables t)) sets
-  pub conds : AreConds (table_at tables t) conds
+  pub tested : AreConds (table_at tables t) conds
 
 -- a DELETE by a key that fits
 pub record IsDelete (tables : List Table) (t : ℕ) (key : List Value) (conds : List Cond) : Type 0 where
   pub number : IsTableNumber tables t
   pub fits : AllFit (key_types (table_at tables t)) key
-  pub conds : AreConds (table_at tables t) conds
+  pub tested : AreConds (table_at tables t) conds
 
 -- a write that reading gives
 abbrev pub IsWrite : List Table → Write → Type 0

@@ -1,12 +1,12 @@
 //! Values for columns: which columns have one, and whether it fits.
-ghost use Rattle.std.specs.Prelude.{◌≡◌};
+ghost use Rattle.std.specs.Prelude.{◌≡◌, ◌≤◌, length};
 ghost use Rattle.pq_base.specs.Answers.{Passes};
 ghost use Rattle.pq_schema.specs.Definitions.{refused_if};
-ghost use Rattle.pq_index_keep.specs.Checking.{are_among, misfit_refusal};
+ghost use Rattle.pq_index_keep.specs.Checking.{are_among, misfit_refusal, named_type};
 ghost use Rattle.pq_index_keep.specs.Sound.{is_among};
 
-use pq_base::{PText, Refusal, Stopped, Value, fits};
-use pq_schema::{Table, type_at};
+use pq_base::{ColType, PText, Refusal, Stopped, Value, fits};
+use pq_schema::{Table, place_of, type_at};
 use std::alloc::Global;
 
 pub(crate) fn is_among(cols: &[u8], col: u8) -> bool
@@ -20,6 +20,15 @@ pub(crate) fn are_among(cols: &[u8], others: &[u8]) -> bool
     ensures { result ≡ are_among cols.now others.now }
 {
     cols.iter().all(|col| is_among(others, *col))
+}
+
+/// The type of the column that has the name.
+pub(crate) fn named_type(table: &Table, name: &PText) -> ColType
+    requires { length table.now.columns ≤ 32 }
+    ensures { result ≡ named_type table.now name.now }
+{
+    let col = place_of(table.columns.items(), name) as u8;
+    type_at(table.columns.items(), col)
 }
 
 /// Refuses the columns of a statement where they are wrong.

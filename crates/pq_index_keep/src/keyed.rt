@@ -6,15 +6,17 @@ ghost use Rattle.pq_base.specs.Answers.{Answers, Passes};
 ghost use Rattle.pq_base.specs.Values.{IsValue};
 ghost use Rattle.pq_schema.specs.Tables.{table_at};
 ghost use Rattle.pq_content.specs.Tables.{IsTableNumber};
-ghost use Rattle.pq_index_keep.specs.Checking.{names_in, values_in, keyed_names_refusal, is_keyed_wrong, keyed_values_refusal, keyed_refusal, key_given, set_of_assign, update_checked, delete_checked, assigned_misfit};
+ghost use Rattle.pq_index_keep.specs.Checking.{names_in, values_in, keyed_names_refusal, is_keyed_wrong, keyed_values_refusal, keyed_refusal, columns_refusal, key_given, update_checked, delete_checked, assigned_misfit};
 ghost use Rattle.pq_index_keep.specs.Sound.{is_among, AreWritable, IsWrite};
 
 use crate::column_values::{are_among, check_fit, is_among, refuse_columns};
-use crate::write::{SetCol, Write};
+use crate::conditions::{check_conditions, cond_names, conds_of, known_conds};
+use crate::settings::{check_sets, known_sets, set_names, sets_of};
+use crate::write::Write;
 use pq_base::{List, NoMem, PText, Row, Stopped, known_value};
-use pq_def_read::Assign;
+use pq_def_read::{Assign, CondDef, SetDef};
 use pq_row_keys::all_given;
-use pq_schema::{Catalog, Table, check_known, check_repeated, place_of, places_of};
+use pq_schema::{Catalog, Table, check_known, check_repeated, places_of};
 use std::alloc::Global;
 
 fn names_in(alloc: Global, assigns: &[Assign]) -> Result<List<PText>, NoMem>
@@ -53,17 +55,19 @@ fn is_keyed_wrong(table: &Table, sets: &[u8], key: &[u8]) -> bool
     set || missing || more
 }
 
-/// Refuses an unknown column of SET and WHERE, and then a repeated one of either.
+/// Refuses an unknown column of SET, WHERE and IF, and then a repeated one of SET and of WHERE.
 fn check_keyed_names(
     alloc: Global,
     table: &Table,
     sets: &[PText],
     key: &[PText],
+    conds: &[PText],
 ) -> Result<(), Stopped>
-    ensures { Passes result (keyed_names_refusal table.now sets.now key.now) }
+    ensures { Passes result (keyed_names_refusal table.now sets.now key.now conds.now) }
 {
     check_known(alloc, table.columns.items(), sets)?;
     check_known(alloc, table.columns.items(), key)?;
+    check_known(alloc, table.columns.items(), conds)?;
     check_repeated(alloc, sets)?;
     check_repeated(alloc, key)
 }
@@ -79,33 +83,64 @@ fn check_assigned(alloc: Global, table: &Table, assigns: &[Assign]) -> Result<()
     check_fit(alloc, table, names.items(), places.items(), values.items())
 }
 
-fn check_keyed_values(
+/// Refuses columns of SET and WHERE that aren't right for the table's key.
+fn check_columns(
     alloc: Global,
     table: &Table,
-    sets: &[Assign],
+    sets: &[SetDef],
     key: &[Assign],
 ) -> Result<(), Stopped>
     requires { length table.now.columns ≤ 32 }
-    ensures { Passes result (keyed_values_refusal table.now sets.now key.now) }
+    ensures { Passes result (columns_refusal table.now sets.now key.now) }
 {
-    let set_names = names_in(alloc, sets)?;
-    let key_names = names_in(alloc, key)?;
-    let set_places = places_of(alloc, table.columns.items(), set_names.items())?;
-    let key_places = places_of(alloc, table.columns.items(), key_names.items())?;
-    let wrong = is_keyed_wrong(table, set_places.items(), key_places.items());
-    refuse_columns(alloc, table, wrong)?;
-    check_assigned(alloc, table, sets)?;
-    check_assigned(alloc, table, key)
+    let sets = set_names(alloc, sets)?;
+    let key = names_in(alloc, key)?;
+    let sets = places_of(alloc, table.columns.items(), sets.items())?;
+    let key = places_of(alloc, table.columns.items(), key.items())?;
+    let wrong = is_keyed_wrong(table, sets.items(), key.items());
+    refuse_columns(alloc, table, wrong)
 }
 
-fn check_keyed(alloc: Global, table: &Table, sets: &[Assign], key: &[Assign]) -> Result<(), Stopped>
-    requires { length table.now.columns ≤ 32 }
-    ensures { Passes result (keyed_refusal table.now sets.now key.now) }
+fn check_keyed_values(
+    alloc: Global,
+    table: &Table,
+    sets: &[SetDef],
+    key: &[Assign],
+    conds: &[CondDef],
+) -> Result<(), Stopped>
+    requires columns { length table.now.columns ≤ 32 }
+    requires few { length conds.now ≤ 16 }
+    ensures { Passes result (keyed_values_refusal table.now sets.now key.now conds.now) }
 {
-    let set_names = names_in(alloc, sets)?;
+    check_columns(alloc, table, sets, key)?;
+    check_sets(alloc, table, sets)?;
+    check_assigned(alloc, table, key)?;
+    check_conditions(table, conds)
+}
+
+/// Refuses what is wrong with an UPDATE or DELETE of the table, but for the number of conditions.
+fn check_keyed(
+    alloc: Global,
+    table: &Table,
+    sets: &[SetDef],
+    key: &[Assign],
+    conds: &[CondDef],
+) -> Result<(), Stopped>
+    requires columns { length table.now.columns ≤ 32 }
+    requires few { length conds.now ≤ 16 }
+    ensures { Passes result (keyed_refusal table.now sets.now key.now conds.now) }
+{
+    let set_names = set_names(alloc, sets)?;
     let key_names = names_in(alloc, key)?;
-    check_keyed_names(alloc, table, set_names.items(), key_names.items())?;
-    check_keyed_values(alloc, table, sets, key)
+    let cond_names = cond_names(alloc, conds)?;
+    check_keyed_names(
+        alloc,
+        table,
+        set_names.items(),
+        key_names.items(),
+        cond_names.items(),
+    )?;
+    check_keyed_values(alloc, table, sets, key, conds)
 }
 
 /// The values of the key in its order.
@@ -117,19 +152,6 @@ fn key_given(alloc: Global, table: &Table, key: &[Assign]) -> Result<Row, NoMem>
     let places = places_of(alloc, table.columns.items(), names.items())?;
     let values = values_in(alloc, key)?;
     all_given(alloc, places.items(), values.items(), table.key.items())
-}
-
-fn sets_of(alloc: Global, table: &Table, sets: &[Assign]) -> Result<List<SetCol>, NoMem>
-    requires { length table.now.columns ≤ 32 }
-    ensures { IfOk result (λ made. made ≡ map (set_of_assign table.now) sets.now) }
-{
-    let mut made = List::new(alloc);
-    for assign in sets {
-        let col = place_of(table.columns.items(), &assign.col) as u8;
-        let value = assign.value.copy(alloc)?;
-        made.push(alloc, SetCol { col, value })?;
-    }
-    Ok(made)
 }
 
 fn known_assign(assign: &Assign)
@@ -150,34 +172,41 @@ pub(crate) fn check_update(
     alloc: Global,
     catalog: &Catalog,
     number: u8,
-    sets: &[Assign],
+    sets: &[SetDef],
     key: &[Assign],
+    conds: &[CondDef],
 ) -> Result<Write, Stopped>
     requires sound { AreWritable catalog.now.tables }
     requires number { IsTableNumber catalog.now.tables number }
-    ensures answer { Answers result (update_checked (table_at catalog.now.tables number) number sets.now key.now) }
+    requires few { length conds.now ≤ 16 }
+    ensures answer { Answers result
+        (update_checked (table_at catalog.now.tables number) number sets.now key.now conds.now) }
     ensures write { IfOk result (IsWrite catalog.now.tables) }
 {
-    known_assigns(sets);
+    known_sets(sets);
     known_assigns(key);
+    known_conds(conds);
     let table = catalog.table(number);
-    check_keyed(alloc, table, sets, key)?;
-    let made = sets_of(alloc, table, sets)?;
+    check_keyed(alloc, table, sets, key, conds)?;
+    let sets = sets_of(alloc, table, sets)?;
     let key = key_given(alloc, table, key)?;
+    let conds = conds_of(alloc, table, conds)?;
     Ok(Write::Update {
         table: number,
         key,
-        sets: made,
+        sets,
+        conds,
     })
 }
 
-/// Refuses what isn't exactly the key, or doesn't fit it.
-fn check_key(alloc: Global, table: &Table, key: &[Assign]) -> Result<(), Stopped>
-    requires { length table.now.columns ≤ 32 }
-    ensures { Passes result (keyed_refusal table.now [] key.now) }
+/// The same where no column is set.
+fn check_key(alloc: Global, table: &Table, key: &[Assign], conds: &[CondDef]) -> Result<(), Stopped>
+    requires columns { length table.now.columns ≤ 32 }
+    requires few { length conds.now ≤ 16 }
+    ensures { Passes result (keyed_refusal table.now [] key.now conds.now) }
 {
     let sets = List::new(alloc);
-    check_keyed(alloc, table, sets.items(), key)
+    check_keyed(alloc, table, sets.items(), key, conds)
 }
 
 pub(crate) fn check_delete(
@@ -185,15 +214,23 @@ pub(crate) fn check_delete(
     catalog: &Catalog,
     number: u8,
     key: &[Assign],
+    conds: &[CondDef],
 ) -> Result<Write, Stopped>
     requires sound { AreWritable catalog.now.tables }
     requires number { IsTableNumber catalog.now.tables number }
-    ensures answer { Answers result (delete_checked (table_at catalog.now.tables number) number key.now) }
+    requires few { length conds.now ≤ 16 }
+    ensures answer { Answers result (delete_checked (table_at catalog.now.tables number) number key.now conds.now) }
     ensures write { IfOk result (IsWrite catalog.now.tables) }
 {
     known_assigns(key);
+    known_conds(conds);
     let table = catalog.table(number);
-    check_key(alloc, table, key)?;
+    check_key(alloc, table, key, conds)?;
     let key = key_given(alloc, table, key)?;
-    Ok(Write::Delete { table: number, key })
+    let conds = conds_of(alloc, table, conds)?;
+    Ok(Write::Delete {
+        table: number,
+        key,
+        conds,
+    })
 }

@@ -1,5 +1,5 @@
 //! What a write changes in the store, or why it is refused.
-ghost use Rattle.std.specs.Prelude.{◌≡◌, ◌≤◌, ◌+◌, List, All, length, option_map, IfOk, IfErr, IfSome, IsSome};
+ghost use Rattle.std.specs.Prelude.{◌≡◌, ◌≤◌, ◌+◌, List, All, Some, None, length, option_map, IfOk, IfErr, IfSome, IsSome};
 ghost use Rattle.std.specs.FinMap.{get as value_at};
 ghost use Rattle.pq_base.specs.Columns.{set_of};
 ghost use Rattle.pq_base.specs.Values.{AllFit};
@@ -10,6 +10,7 @@ ghost use Rattle.pq_schema.specs.Tables.{table_at};
 ghost use Rattle.pq_content.specs.Pairs.{Pair};
 ghost use Rattle.pq_content.specs.Tables.{Rows, AllOfKinds, IsTableNumber, key_types, types_of, shape_of, key_of, row_at};
 ghost use Rattle.pq_index_keep.specs.Bounds.{referring_count, tests};
+ghost use Rattle.pq_index_keep.specs.Effects.{condition_refusal};
 ghost use Rattle.pq_store.specs.Breaks.{IsAnswered};
 ghost use Rattle.pq_calls.specs.Calls.{Uses, Fails};
 ghost use Rattle.pq_calls.specs.Evidence.{IsRead, IsNoRow};
@@ -17,11 +18,13 @@ ghost use Rattle.pq_calls.specs.World.{Affords, no_damage, where_told};
 ghost use Rattle.pq_index_keep.specs.Promises.{HoldsRows, Plans, IsPlannedWithin, ChangesOwn, IsReadFor, FitsItsTable, IsNewFor};
 ghost use Rattle.pq_index_keep.specs.Refusals.{RefusesAs};
 ghost use Rattle.pq_index_keep.specs.Sound.{AreWritable, IsInsert, IsDelete};
+ghost use Rattle.pq_index_keep.specs.declared.write.Cond.{Cond as Condition};
 
 use crate::changes::{puts, removals};
+use crate::held::condition_refusal;
 use crate::references::child_refusal;
 use crate::refusals::insert_refusal;
-use crate::write::{Scope, Write};
+use crate::write::{Cond, Scope, Write};
 use pq_base::{Bytes, List, NoMem, Refusal, Row};
 use pq_calls::{Calls, StoredRow};
 use pq_row_code::Change;
@@ -145,7 +148,7 @@ pub(crate) fn find_row<S: Store<L>, L: Ledger>(
     }
 }
 
-/// The removal of a row that is there.
+/// The removal of a row that is there, where its conditions hold.
 fn plan_removal<S: Store<L>, L: Ledger>(
     alloc: Global,
     catalog: &Catalog,
@@ -156,7 +159,8 @@ fn plan_removal<S: Store<L>, L: Ledger>(
     calls: &mut Calls<S, L>,
 ) -> Result<Planned, Broke>
     requires sound { AreWritable catalog.now.tables }
-    requires delete { IsDelete catalog.now.tables number key.now }
+    requires number { IsTableNumber catalog.now.tables number }
+    requires key_fits { AllFit (key_types (table_at catalog.now.tables number)) key.now }
     requires at { at ≡ row_key number key.now }
     requires fits { AllFit (types_of (table_at catalog.now.tables number)) row.now }
     requires share { Affords calls.old.allowance.now (referring_count catalog.now.tables number)
@@ -166,12 +170,15 @@ fn plan_removal<S: Store<L>, L: Ledger>(
     ensures cause { IfErr result (Fails no_damage S.content S.faults calls.old calls.new) }
     ensures answered { IfErr result (IsAnswered S.answers) }
     ensures plan { IfOk result (IsPlannedWithin (1 + length (table_at catalog.now.tables number).indexes)) }
-    ensures own { IfOk result (ChangesOwn catalog.now.tables (Write.Delete number key.now)) }
-    ensures can { IfOk result (RefusesAs catalog.now.tables (Write.Delete number key.now)) }
+    ensures own { IfOk result (λ planned. (conds : List Condition)
+        → ChangesOwn catalog.now.tables (Write.Delete number key.now conds) planned) }
+    ensures can { IfOk result (λ planned. (conds : List Condition)
+        → RefusesAs catalog.now.tables (Write.Delete number key.now conds) planned) }
     ensures answer { IfOk result (λ planned. (rows : Rows) (others : List Pair)
         → HoldsRows (S.content calls.old.store.now) catalog.now.tables rows others →
-        Some row.now ≡ row_at catalog.now.tables rows number key.now
-        → Plans catalog.now.tables rows others (Write.Delete number key.now) planned) }
+        Some row.now ≡ row_at catalog.now.tables rows number key.now → (conds : List Condition)
+        → condition_refusal (table_at catalog.now.tables number) conds row.now ≡ None
+        → Plans catalog.now.tables rows others (Write.Delete number key.now conds) planned) }
 {
     let table = table_of(catalog, number);
     let tables = catalog.tables();
@@ -185,15 +192,52 @@ fn plan_removal<S: Store<L>, L: Ledger>(
     }
 }
 
+/// The plan of a DELETE of a row that is there.
+fn plan_held<S: Store<L>, L: Ledger>(
+    alloc: Global,
+    catalog: &Catalog,
+    number: u8,
+    key: &Row,
+    conds: &List<Cond>,
+    at: Bytes,
+    row: &Row,
+    calls: &mut Calls<S, L>,
+) -> Result<Planned, Broke>
+    requires sound { AreWritable catalog.now.tables }
+    requires delete { IsDelete catalog.now.tables number key.now conds.now }
+    requires at { at ≡ row_key number key.now }
+    requires fits { AllFit (types_of (table_at catalog.now.tables number)) row.now }
+    requires share { Affords calls.old.allowance.now (referring_count catalog.now.tables number)
+        (referring_count catalog.now.tables number) }
+    ensures uses { Uses S.content S.faults calls.old calls.new (referring_count catalog.now.tables number)
+        (referring_count catalog.now.tables number) }
+    ensures cause { IfErr result (Fails no_damage S.content S.faults calls.old calls.new) }
+    ensures answered { IfErr result (IsAnswered S.answers) }
+    ensures plan { IfOk result (IsPlannedWithin (1 + length (table_at catalog.now.tables number).indexes)) }
+    ensures own { IfOk result (ChangesOwn catalog.now.tables (Write.Delete number key.now conds.now)) }
+    ensures can { IfOk result (RefusesAs catalog.now.tables (Write.Delete number key.now conds.now)) }
+    ensures answer { IfOk result (λ planned. (rows : Rows) (others : List Pair)
+        → HoldsRows (S.content calls.old.store.now) catalog.now.tables rows others →
+        Some row.now ≡ row_at catalog.now.tables rows number key.now
+        → Plans catalog.now.tables rows others (Write.Delete number key.now conds.now) planned) }
+{
+    let table = table_of(catalog, number);
+    match condition_refusal(alloc, table, conds.items(), row)? {
+        Some(refusal) => Ok(Planned::Refused(refusal)),
+        None => plan_removal(alloc, catalog, number, key, at, row, calls),
+    }
+}
+
 pub(crate) fn plan_delete<S: Store<L>, L: Ledger>(
     alloc: Global,
     catalog: &Catalog,
     number: u8,
     key: &Row,
+    conds: &List<Cond>,
     calls: &mut Calls<S, L>,
 ) -> Result<PlannedWrite, Broke>
     requires sound { AreWritable catalog.now.tables }
-    requires delete { IsDelete catalog.now.tables number key.now }
+    requires delete { IsDelete catalog.now.tables number key.now conds.now }
     requires share { Affords calls.old.allowance.now (1 + referring_count catalog.now.tables number)
         (1 + referring_count catalog.now.tables number) }
     ensures uses { Uses S.content S.faults calls.old calls.new (1 + referring_count catalog.now.tables number)
@@ -203,15 +247,15 @@ pub(crate) fn plan_delete<S: Store<L>, L: Ledger>(
     ensures answered { IfErr result (IsAnswered S.answers) }
     ensures plan { IfOk result (λ seen.
         IsPlannedWithin (1 + length (table_at catalog.now.tables number).indexes) seen.planned) }
-    ensures own { IfOk result (λ seen. ChangesOwn catalog.now.tables (Write.Delete number key.now) seen.planned) }
-    ensures can { IfOk result (λ seen. RefusesAs catalog.now.tables (Write.Delete number key.now) seen.planned) }
+    ensures own { IfOk result (λ seen. ChangesOwn catalog.now.tables (Write.Delete number key.now conds.now) seen.planned) }
+    ensures can { IfOk result (λ seen. RefusesAs catalog.now.tables (Write.Delete number key.now conds.now) seen.planned) }
     ensures answer { IfOk result (λ seen. (rows : Rows) (others : List Pair)
         → HoldsRows (S.content calls.old.store.now) catalog.now.tables rows others
-        → Plans catalog.now.tables rows others (Write.Delete number key.now) seen.planned) }
+        → Plans catalog.now.tables rows others (Write.Delete number key.now conds.now) seen.planned) }
     ensures read { IfOk result (λ seen. IfSome (S.content calls.old.store.now)
-        (λ c. IsReadFor catalog.now.tables (Write.Delete number key.now) c seen.old)) }
-    ensures fits { IfOk result (λ seen. FitsItsTable catalog.now.tables (Write.Delete number key.now) seen.old) }
-    ensures new { IfOk result (λ seen. IsNewFor (Write.Delete number key.now) seen.old seen.new) }
+        (λ c. IsReadFor catalog.now.tables (Write.Delete number key.now conds.now) c seen.old)) }
+    ensures fits { IfOk result (λ seen. FitsItsTable catalog.now.tables (Write.Delete number key.now conds.now) seen.old) }
+    ensures new { IfOk result (λ seen. IsNewFor catalog.now.tables (Write.Delete number key.now conds.now) seen.old seen.new) }
 {
     match find_row(alloc, catalog, number, key, calls) {
         Err(error) => Err(error),
@@ -225,7 +269,7 @@ pub(crate) fn plan_delete<S: Store<L>, L: Ledger>(
         },
         Ok(Some(found)) => {
             let StoredRow { at, row } = found;
-            match plan_removal(alloc, catalog, number, key, at, &row, calls) {
+            match plan_held(alloc, catalog, number, key, conds, at, &row, calls) {
                 Err(error) => Err(error),
                 Ok(planned) => Ok(PlannedWrite {
                     planned,

@@ -1,6 +1,6 @@
 //! What an UPDATE changes.
-ghost use Rattle.std.specs.Prelude.{◌≡◌, ◌≤◌, ◌<◌, ◌+◌, ◌*◌, List, All, Some, length, slice_set, nat_lt, IfOk, IfErr, IfSome, IsSome};
-ghost use Rattle.std.specs.List.{count_by, sum_by};
+ghost use Rattle.std.specs.Prelude.{◌≡◌, ◌≤◌, ◌<◌, ◌+◌, ◌*◌, List, All, Some, None, length, slice_set, nat_lt, IfOk, IfErr, IfSome, IsSome};
+ghost use Rattle.std.specs.List.{AllByRecursion, count_by, sum_by};
 ghost use Rattle.pq_base.specs.Answers.{or_else};
 ghost use Rattle.pq_base.specs.Columns.{set_of};
 ghost use Rattle.pq_base.specs.Values.{AllFit};
@@ -12,22 +12,24 @@ ghost use Rattle.pq_schema.specs.Sound.{IsTable, AreColumns};
 ghost use Rattle.pq_schema.specs.Tables.{table_at};
 ghost use Rattle.pq_schema.specs.declared.table.Table.{Table as Definition};
 ghost use Rattle.pq_content.specs.Pairs.{Pair};
-ghost use Rattle.pq_content.specs.Tables.{Rows, types_of, row_at, stored_code};
+ghost use Rattle.pq_content.specs.Tables.{Rows, IsTableNumber, key_types, types_of, row_at, stored_code};
 ghost use Rattle.pq_index_keep.specs.Bounds.{tested_foreign, tested_limits, tested_n, tests};
-ghost use Rattle.pq_index_keep.specs.Effects.{parent_refusal, room_refusal};
+ghost use Rattle.pq_index_keep.specs.Effects.{condition_refusal, sum_refusal, parent_refusal, room_refusal};
 ghost use Rattle.pq_store.specs.Breaks.{IsAnswered};
 ghost use Rattle.pq_calls.specs.Calls.{Uses, Fails};
 ghost use Rattle.pq_calls.specs.Evidence.{IsNoRow};
 ghost use Rattle.pq_calls.specs.World.{Affords, no_damage, where_told};
 ghost use Rattle.pq_index_keep.specs.Promises.{HoldsRows, IsTested, Plans, IsPlannedWithin, ChangesOwn, IsReadFor, FitsItsTable, IsNewFor};
 ghost use Rattle.pq_index_keep.specs.Refusals.{IsUpdateRefusal, RefusesAs};
-ghost use Rattle.pq_index_keep.specs.Sound.{AreWritable, IsUpdate};
+ghost use Rattle.pq_index_keep.specs.Sound.{AreWritable, IsSet, IsUpdate};
+ghost use Rattle.pq_index_keep.specs.declared.write.Cond.{Cond as Condition};
 ghost use Rattle.pq_index_keep.specs.Tested.{touches_index, scope_of, with_sets};
 
 use crate::changes::updates;
+use crate::held::{held_refusal, set_value};
 use crate::plan::{Planned, PlannedWrite, find_row, no_row, table_of};
 use crate::refusals::tested_refusal;
-use crate::write::{Scope, SetCol, Write};
+use crate::write::{Cond, Scope, SetCol, Write};
 use pq_base::{Bytes, List, NoMem, Refusal, Row, Value};
 use pq_calls::{Calls, StoredRow};
 use pq_row_code::stored_code_len;
@@ -36,7 +38,7 @@ use pq_store::{Broke, Store};
 use std::alloc::Global;
 use std::sync::ledger::Ledger;
 
-fn set_value(row: Row, col: u8, value: Value) -> Row
+fn put_value(row: Row, col: u8, value: Value) -> Row
     requires { col < length row }
     ensures { result ≡ slice_set row col value }
 {
@@ -45,15 +47,16 @@ fn set_value(row: Row, col: u8, value: Value) -> Row
     List::from_vec(held)
 }
 
-/// The row with the values that are set.
+/// The row with each column set to what it gets, of the row that is there; FALSE where an ADD has no sum, which
+/// `sum_refusal` tells.
 pub fn with_sets(alloc: Global, row: &Row, sets: &[SetCol]) -> Result<Row, NoMem>
     requires { All (λ set. set.col < length row.now) sets.now }
     ensures { IfOk result (λ new. new ≡ with_sets sets.now row.now) }
 {
     let mut new = row.copy(alloc)?;
     for set in sets {
-        let value = set.value.copy(alloc)?;
-        new = set_value(new, set.col, value);
+        let value = set_value(alloc, row, set)?;
+        new = put_value(new, set.col, value);
     }
     Ok(new)
 }
@@ -129,7 +132,7 @@ fn update_refusal<S: Store<L>, L: Ledger>(
     Ok(rest)
 }
 
-/// The change of a row that is there.
+/// The change of a row that is there, where its conditions hold and it has its sums.
 fn plan_change<S: Store<L>, L: Ledger>(
     alloc: Global,
     catalog: &Catalog,
@@ -142,9 +145,12 @@ fn plan_change<S: Store<L>, L: Ledger>(
     calls: &mut Calls<S, L>,
 ) -> Result<Planned, Broke>
     requires sound { AreWritable catalog.now.tables }
-    requires update { IsUpdate catalog.now.tables number key.now sets.now }
+    requires number { IsTableNumber catalog.now.tables number }
+    requires key_fits { AllFit (key_types (table_at catalog.now.tables number)) key.now }
+    requires each { AllByRecursion (IsSet (table_at catalog.now.tables number)) sets.now }
     requires at { at ≡ row_key number key.now }
     requires fits { AllFit (types_of (table_at catalog.now.tables number)) row.now }
+    requires sums { sum_refusal (table_at catalog.now.tables number) sets.now row.now ≡ None }
     requires new { new.now ≡ with_sets sets.now row.now }
     requires share { Affords calls.old.allowance.now
         (tested_foreign (scope_of sets.now) (table_at catalog.now.tables number).foreign
@@ -161,12 +167,15 @@ fn plan_change<S: Store<L>, L: Ledger>(
     ensures plan { IfOk result (IsPlannedWithin
         (1 + 2 * count_by (touches_index (scope_of sets.now) (table_at catalog.now.tables number))
         (table_at catalog.now.tables number).indexes)) }
-    ensures own { IfOk result (ChangesOwn catalog.now.tables (Write.Update number key.now sets.now)) }
-    ensures can { IfOk result (RefusesAs catalog.now.tables (Write.Update number key.now sets.now)) }
+    ensures own { IfOk result (λ planned. (conds : List Condition)
+        → ChangesOwn catalog.now.tables (Write.Update number key.now sets.now conds) planned) }
+    ensures can { IfOk result (λ planned. (conds : List Condition)
+        → RefusesAs catalog.now.tables (Write.Update number key.now sets.now conds) planned) }
     ensures answer { IfOk result (λ planned. (rows : Rows) (others : List Pair)
         → HoldsRows (S.content calls.old.store.now) catalog.now.tables rows others →
-        Some row.now ≡ row_at catalog.now.tables rows number key.now
-        → Plans catalog.now.tables rows others (Write.Update number key.now sets.now) planned) }
+        Some row.now ≡ row_at catalog.now.tables rows number key.now → (conds : List Condition)
+        → condition_refusal (table_at catalog.now.tables number) conds row.now ≡ None
+        → Plans catalog.now.tables rows others (Write.Update number key.now sets.now conds) planned) }
 {
     let table = table_of(catalog, number);
     let scope = scope_of(sets);
@@ -182,6 +191,61 @@ fn plan_change<S: Store<L>, L: Ledger>(
     }
 }
 
+/// The plan of an UPDATE of a row that is there, and the row that comes in its place.
+fn plan_held<S: Store<L>, L: Ledger>(
+    alloc: Global,
+    catalog: &Catalog,
+    number: u8,
+    key: &Row,
+    sets: &List<SetCol>,
+    conds: &List<Cond>,
+    at: Bytes,
+    row: &Row,
+    calls: &mut Calls<S, L>,
+) -> Result<(Planned, Option<Row>), Broke>
+    requires sound { AreWritable catalog.now.tables }
+    requires update { IsUpdate catalog.now.tables number key.now sets.now conds.now }
+    requires at { at ≡ row_key number key.now }
+    requires fits { AllFit (types_of (table_at catalog.now.tables number)) row.now }
+    requires share { Affords calls.old.allowance.now
+        (tested_foreign (scope_of sets.now) (table_at catalog.now.tables number).foreign
+        + tested_limits (scope_of sets.now) (table_at catalog.now.tables number).limits)
+        (tested_foreign (scope_of sets.now) (table_at catalog.now.tables number).foreign
+        + sum_by (tested_n (scope_of sets.now)) (table_at catalog.now.tables number).limits) }
+    ensures uses { Uses S.content S.faults calls.old calls.new
+        (tested_foreign (scope_of sets.now) (table_at catalog.now.tables number).foreign
+        + tested_limits (scope_of sets.now) (table_at catalog.now.tables number).limits)
+        (tested_foreign (scope_of sets.now) (table_at catalog.now.tables number).foreign
+        + sum_by (tested_n (scope_of sets.now)) (table_at catalog.now.tables number).limits) }
+    ensures cause { IfErr result (Fails no_damage S.content S.faults calls.old calls.new) }
+    ensures answered { IfErr result (IsAnswered S.answers) }
+    ensures plan { IfOk result (λ made. IsPlannedWithin
+        (1 + 2 * count_by (touches_index (scope_of sets.now) (table_at catalog.now.tables number))
+        (table_at catalog.now.tables number).indexes) made.0) }
+    ensures own { IfOk result (λ made.
+        ChangesOwn catalog.now.tables (Write.Update number key.now sets.now conds.now) made.0) }
+    ensures can { IfOk result (λ made.
+        RefusesAs catalog.now.tables (Write.Update number key.now sets.now conds.now) made.0) }
+    ensures answer { IfOk result (λ made. (rows : Rows) (others : List Pair)
+        → HoldsRows (S.content calls.old.store.now) catalog.now.tables rows others →
+        Some row.now ≡ row_at catalog.now.tables rows number key.now
+        → Plans catalog.now.tables rows others (Write.Update number key.now sets.now conds.now) made.0) }
+    ensures new { IfOk result (λ made.
+        IsNewFor catalog.now.tables (Write.Update number key.now sets.now conds.now) (Some row.now) made.1) }
+{
+    let table = table_of(catalog, number);
+    match held_refusal(alloc, table, sets.items(), conds.items(), row)? {
+        Some(refusal) => Ok((Planned::Refused(refusal), None)),
+        None => {
+            let new = new_row(alloc, row, sets)?;
+            match plan_change(alloc, catalog, number, key, sets, at, row, &new, calls) {
+                Err(error) => Err(error),
+                Ok(planned) => Ok((planned, Some(new))),
+            }
+        }
+    }
+}
+
 /// The plan of an UPDATE.
 pub(crate) fn plan_update<S: Store<L>, L: Ledger>(
     alloc: Global,
@@ -189,10 +253,11 @@ pub(crate) fn plan_update<S: Store<L>, L: Ledger>(
     number: u8,
     key: &Row,
     sets: &List<SetCol>,
+    conds: &List<Cond>,
     calls: &mut Calls<S, L>,
 ) -> Result<PlannedWrite, Broke>
     requires sound { AreWritable catalog.now.tables }
-    requires update { IsUpdate catalog.now.tables number key.now sets.now }
+    requires update { IsUpdate catalog.now.tables number key.now sets.now conds.now }
     requires share { Affords calls.old.allowance.now
         (tests (scope_of sets.now) (table_at catalog.now.tables number)).ops
         (tests (scope_of sets.now) (table_at catalog.now.tables number)).entries }
@@ -206,17 +271,18 @@ pub(crate) fn plan_update<S: Store<L>, L: Ledger>(
         (1 + 2 * count_by (touches_index (scope_of sets.now) (table_at catalog.now.tables number))
         (table_at catalog.now.tables number).indexes) seen.planned) }
     ensures own { IfOk result (λ seen.
-        ChangesOwn catalog.now.tables (Write.Update number key.now sets.now) seen.planned) }
+        ChangesOwn catalog.now.tables (Write.Update number key.now sets.now conds.now) seen.planned) }
     ensures can { IfOk result (λ seen.
-        RefusesAs catalog.now.tables (Write.Update number key.now sets.now) seen.planned) }
+        RefusesAs catalog.now.tables (Write.Update number key.now sets.now conds.now) seen.planned) }
     ensures answer { IfOk result (λ seen. (rows : Rows) (others : List Pair)
         → HoldsRows (S.content calls.old.store.now) catalog.now.tables rows others
-        → Plans catalog.now.tables rows others (Write.Update number key.now sets.now) seen.planned) }
+        → Plans catalog.now.tables rows others (Write.Update number key.now sets.now conds.now) seen.planned) }
     ensures read { IfOk result (λ seen. IfSome (S.content calls.old.store.now)
-        (λ c. IsReadFor catalog.now.tables (Write.Update number key.now sets.now) c seen.old)) }
+        (λ c. IsReadFor catalog.now.tables (Write.Update number key.now sets.now conds.now) c seen.old)) }
     ensures fits { IfOk result (λ seen.
-        FitsItsTable catalog.now.tables (Write.Update number key.now sets.now) seen.old) }
-    ensures new { IfOk result (λ seen. IsNewFor (Write.Update number key.now sets.now) seen.old seen.new) }
+        FitsItsTable catalog.now.tables (Write.Update number key.now sets.now conds.now) seen.old) }
+    ensures new { IfOk result (λ seen.
+        IsNewFor catalog.now.tables (Write.Update number key.now sets.now conds.now) seen.old seen.new) }
 {
     match find_row(alloc, catalog, number, key, calls) {
         Err(error) => Err(error),
@@ -230,13 +296,12 @@ pub(crate) fn plan_update<S: Store<L>, L: Ledger>(
         },
         Ok(Some(found)) => {
             let StoredRow { at, row } = found;
-            let new = new_row(alloc, &row, sets)?;
-            match plan_change(alloc, catalog, number, key, sets, at, &row, &new, calls) {
+            match plan_held(alloc, catalog, number, key, sets, conds, at, &row, calls) {
                 Err(error) => Err(error),
-                Ok(planned) => Ok(PlannedWrite {
+                Ok((planned, new)) => Ok(PlannedWrite {
                     planned,
                     old: Some(row),
-                    new: Some(new),
+                    new,
                 }),
             }
         }

@@ -46,7 +46,7 @@ fn plan_by<S: Store<L>, L: Ledger>(
     ensures read { IfOk result (λ seen. IfSome (S.content calls.old.store.now)
         (λ c. IsReadFor catalog.now.tables write.now c seen.old)) }
     ensures fits { IfOk result (λ seen. FitsItsTable catalog.now.tables write.now seen.old) }
-    ensures new { IfOk result (λ seen. IsNewFor write.now seen.old seen.new) }
+    ensures new { IfOk result (λ seen. IsNewFor catalog.now.tables write.now seen.old seen.new) }
 {
     match write {
         Write::Insert { table, row } => {
@@ -59,14 +59,19 @@ fn plan_by<S: Store<L>, L: Ledger>(
                 }),
             }
         }
-        Write::Update { table, key, sets } => {
-            match plan_update(alloc, catalog, *table, key, sets, calls) {
+        Write::Update {
+            table,
+            key,
+            sets,
+            conds,
+        } => {
+            match plan_update(alloc, catalog, *table, key, sets, conds, calls) {
                 Err(error) => Err(error),
                 Ok(seen) => Ok(seen),
             }
         }
-        Write::Delete { table, key } => {
-            match plan_delete(alloc, catalog, *table, key, calls) {
+        Write::Delete { table, key, conds } => {
+            match plan_delete(alloc, catalog, *table, key, conds, calls) {
                 Err(error) => Err(error),
                 Ok(seen) => Ok(seen),
             }
@@ -108,7 +113,7 @@ pub fn plan_with_rows<S: Store<L>, L: Ledger>(
     ensures read { IfOk result (λ seen. IfSome (S.content store.old)
         (λ c. IsReadFor catalog.now.tables write.now c seen.old)) }
     ensures fits { IfOk result (λ seen. FitsItsTable catalog.now.tables write.now seen.old) }
-    ensures new { IfOk result (λ seen. IsNewFor write.now seen.old seen.new) }
+    ensures new { IfOk result (λ seen. IsNewFor catalog.now.tables write.now seen.old seen.new) }
 {
     catalog.known();
     let mut calls = Calls {

@@ -2,7 +2,7 @@ use Rattle.std.proofs.Common.{take, sym, subst}
 use Rattle.std.proofs.lemmas.List.{take_all}
 use Rattle.std.proofs.lemmas.List.Elements.{All-more, All-same}
 use Rattle.pq_base.specs.Values.{IsValue}
-use Rattle.pq_def_read.specs.declared.statement.Assign.{Assign}
+use Rattle.pq_def_read.specs.declared.write.Assign.{Assign}
 use Rattle.pq_index_keep.proofs.keyed.known_assigns.Goals as goal
 
 pub loop-assign-preserved : goal.loop-assign-preserved

@@ -19,11 +19,11 @@ pub returns-in-Ok-clause-answer : goal.returns-in-Ok-clause-answer
 returns-in-Ok-clause-answer g c = λ rows others s.
     let tables = c.args.catalog.now.tables in
     let refused : c.in-Ok.planned ≡ Refused (no_row tables c.args.number) = c.in-Ok.ensures ∙ ap (λ (table : Table). Refused (NoRow table.name)) c.table_of.ensures.table in
-    subst (λ (p : Planned). Plans tables rows others (Delete c.args.number c.args.key.now) p) (sym refused)
-    (delete_absent tables rows others c.args.number c.args.key.now (none_read c.in-Ok-None.field-0 (row_at tables rows c.args.number c.args.key.now) c.in-Ok-None.field-0-is (c.in-Ok-None.ensures.answer rows others s)))
+    subst (λ (p : Planned). Plans tables rows others (Delete c.args.number c.args.key.now c.args.conds.now) p) (sym refused)
+    (delete_absent tables rows others c.args.number c.args.key.now c.args.conds.now (none_read c.in-Ok-None.field-0 (row_at tables rows c.args.number c.args.key.now) c.in-Ok-None.field-0-is (c.in-Ok-None.ensures.answer rows others s)))
 
 pub returns-in-Ok-clause-can : goal.returns-in-Ok-clause-can
 returns-in-Ok-clause-can g c =
     let tables = c.args.catalog.now.tables in
     let refused : c.in-Ok.planned ≡ Refused (no_row tables c.args.number) = c.in-Ok.ensures ∙ ap (λ (table : Table). Refused (NoRow table.name)) c.table_of.ensures.table in
-    subst (λ (p : Planned). RefusesAs tables (Delete c.args.number c.args.key.now) p) (sym refused) (inl refl)
+    subst (λ (p : Planned). RefusesAs tables (Delete c.args.number c.args.key.now c.args.conds.now) p) (sym refused) (inl refl)

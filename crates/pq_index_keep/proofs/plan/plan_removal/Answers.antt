@@ -14,31 +14,31 @@ use Rattle.pq_index_keep.proofs.plan.plan_removal.Goals as goal
 
 pub child_refusal-requires-clause-may : goal.child_refusal-requires-clause-may
 child_refusal-requires-clause-may g c =
-    rw c.tables-tables.ensures.tables (may_name c.args.catalog.now.tables c.args.number c.args.key.now c.requires.sound (kinds_from_fit _ _ c.requires.delete.fits))
+    rw c.tables-tables.ensures.tables (may_name c.args.catalog.now.tables c.args.number c.args.key.now c.requires.sound (kinds_from_fit _ _ c.requires.key_fits))
 
 pub returns-in-Some-clause-answer : goal.returns-in-Some-clause-answer
-returns-in-Some-clause-answer g c = λ rows others s found.
+returns-in-Some-clause-answer g c = λ rows others s found conds holds.
     let answer = rw c.tables-tables.ensures.tables at c.in_ok-refusal.ensures.answer in
-    delete_refused c.args.catalog.now.tables rows others c.args.number c.args.key.now c.args.row.now c.in-Some.refusal found (sym c.in-Some.is ∙ answer rows others s)
+    delete_refused c.args.catalog.now.tables rows others c.args.number c.args.key.now conds c.args.row.now c.in-Some.refusal found holds (sym c.in-Some.is ∙ answer rows others s)
 
 pub returns-in_ok-changes-in-None-clause-plan : goal.returns-in_ok-changes-in-None-clause-plan
 returns-in_ok-changes-in-None-clause-plan g c =
     let tables = c.args.catalog.now.tables in
-    delete_planned tables (table_at tables c.args.number) (writable_at tables c.args.number c.requires.sound c.requires.delete.number) c.args.number c.args.row.now c.requires.fits c.args.key.now c.args.at c.requires.delete.fits c.requires.at c.in_ok-changes-in-None.changes
+    delete_planned tables (table_at tables c.args.number) (writable_at tables c.args.number c.requires.sound c.requires.number) c.args.number c.args.row.now c.requires.fits c.args.key.now c.args.at c.requires.key_fits c.requires.at c.in_ok-changes-in-None.changes
     (rw (← c.table_of-table.ensures.table) c.in_ok-changes-in-None.ensures)
 
 pub returns-in_ok-changes-in-None-clause-answer : goal.returns-in_ok-changes-in-None-clause-answer
-returns-in_ok-changes-in-None-clause-answer g c = λ rows others s found.
+returns-in_ok-changes-in-None-clause-answer g c = λ rows others s found conds holds.
     let answer = rw c.tables-tables.ensures.tables at c.in_ok-refusal.ensures.answer in
-    delete_made c.args.catalog.now.tables rows others c.args.number c.args.key.now _ c.args.row.now c.in_ok-changes-in-None.changes s found (sym c.in-None.is ∙ answer rows others s) c.args.at c.requires.at
+    delete_made c.args.catalog.now.tables rows others c.args.number c.args.key.now conds _ c.args.row.now c.in_ok-changes-in-None.changes s found holds (sym c.in-None.is ∙ answer rows others s) c.args.at c.requires.at
     (rw (← c.table_of-table.ensures.table) c.in_ok-changes-in-None.ensures)
 
 pub returns-in_ok-changes-in-None-clause-own : goal.returns-in_ok-changes-in-None-clause-own
-returns-in_ok-changes-in-None-clause-own g c =
+returns-in_ok-changes-in-None-clause-own g c = λ conds.
     own_removal c.args.number c.args.key.now c.args.at _ _ c.requires.at c.in_ok-changes-in-None.ensures
 
 pub returns-in-Some-clause-can : goal.returns-in-Some-clause-can
-returns-in-Some-clause-can g c =
+returns-in-Some-clause-can g c = λ conds.
     let tables = c.args.catalog.now.tables in
-    found_can tables (Delete c.args.number c.args.key.now) c.in_ok-refusal.refusal c.in-Some.refusal c.in-Some.is
-    (deletes_can tables c.args.number c.args.key.now c.in_ok-refusal.refusal (subst (λ (ts : List Table). IfSome c.in_ok-refusal.refusal (IsDeleteRefusal ts)) c.tables-tables.ensures.tables c.in_ok-refusal.ensures.can))
+    found_can tables (Delete c.args.number c.args.key.now conds) c.in_ok-refusal.refusal c.in-Some.refusal c.in-Some.is
+    (deletes_can tables c.args.number c.args.key.now conds c.in_ok-refusal.refusal (subst (λ (ts : List Table). IfSome c.in_ok-refusal.refusal (IsDeleteRefusal ts)) c.tables-tables.ensures.tables c.in_ok-refusal.ensures.can))

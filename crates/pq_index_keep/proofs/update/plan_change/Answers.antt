@@ -18,40 +18,40 @@ use Rattle.pq_index_keep.proofs.update.plan_change.Goals as goal
 pub scope_of-scope-requires : goal.scope_of-scope-requires
 scope_of-scope-requires g c =
     let tables = c.args.catalog.now.tables in
-    let w : IsWritable tables (table_at tables c.args.number) = writable_at tables c.args.number c.requires.sound c.requires.update.number in
-    sets_small (table_at tables c.args.number) c.args.sets.now w.made.few_columns c.requires.update.each
+    let w : IsWritable tables (table_at tables c.args.number) = writable_at tables c.args.number c.requires.sound c.requires.number in
+    sets_small (table_at tables c.args.number) c.args.sets.now w.made.few_columns c.requires.each
 
 pub update_refusal-requires-clause-long : goal.update_refusal-requires-clause-long
 update_refusal-requires-clause-long g c =
     let tables = c.args.catalog.now.tables in
     let table = table_at tables c.args.number in
-    rw c.requires.new (fit_columns tables table (writable_at tables c.args.number c.requires.sound c.requires.update.number) (with_sets c.args.sets.now c.args.row.now) (fit_sets table c.args.sets.now c.args.row.now c.requires.update.each c.requires.fits))
+    rw c.requires.new (fit_columns tables table (writable_at tables c.args.number c.requires.sound c.requires.number) (with_sets c.args.sets.now c.args.row.now) (fit_sets table c.args.sets.now c.args.row.now c.requires.each c.requires.sums c.requires.fits))
 
 pub update_refusal-requires-clause-texts : goal.update_refusal-requires-clause-texts
 update_refusal-requires-clause-texts g c =
     let tables = c.args.catalog.now.tables in
     let table = table_at tables c.args.number in
-    rw c.requires.new (fit_texts tables table (writable_at tables c.args.number c.requires.sound c.requires.update.number) (with_sets c.args.sets.now c.args.row.now) (fit_sets table c.args.sets.now c.args.row.now c.requires.update.each c.requires.fits))
+    rw c.requires.new (fit_texts tables table (writable_at tables c.args.number c.requires.sound c.requires.number) (with_sets c.args.sets.now c.args.row.now) (fit_sets table c.args.sets.now c.args.row.now c.requires.each c.requires.sums c.requires.fits))
 
 pub updates-requires-clause-columns : goal.updates-requires-clause-columns
 updates-requires-clause-columns g c =
     let tables = c.args.catalog.now.tables in
     let table = table_at tables c.args.number in
-    rw c.requires.new (fit_columns tables table (writable_at tables c.args.number c.requires.sound c.requires.update.number) (with_sets c.args.sets.now c.args.row.now) (fit_sets table c.args.sets.now c.args.row.now c.requires.update.each c.requires.fits))
+    rw c.requires.new (fit_columns tables table (writable_at tables c.args.number c.requires.sound c.requires.number) (with_sets c.args.sets.now c.args.row.now) (fit_sets table c.args.sets.now c.args.row.now c.requires.each c.requires.sums c.requires.fits))
 
 pub updates-requires-clause-texts : goal.updates-requires-clause-texts
 updates-requires-clause-texts g c =
     let tables = c.args.catalog.now.tables in
     let table = table_at tables c.args.number in
-    rw c.requires.new (fit_texts tables table (writable_at tables c.args.number c.requires.sound c.requires.update.number) (with_sets c.args.sets.now c.args.row.now) (fit_sets table c.args.sets.now c.args.row.now c.requires.update.each c.requires.fits))
+    rw c.requires.new (fit_texts tables table (writable_at tables c.args.number c.requires.sound c.requires.number) (with_sets c.args.sets.now c.args.row.now) (fit_sets table c.args.sets.now c.args.row.now c.requires.each c.requires.sums c.requires.fits))
 
 pub returns-in-Some-clause-answer : goal.returns-in-Some-clause-answer
-returns-in-Some-clause-answer g c = λ rows others s found.
+returns-in-Some-clause-answer g c = λ rows others s found conds holds.
     let tables = c.args.catalog.now.tables in
     let table = table_at tables c.args.number in
-    let fits = fit_sets table c.args.sets.now c.args.row.now c.requires.update.each c.requires.fits in
-    let tested : IsTested tables c.table_of-table.result.now c.args.new.now = rw (c.table_of-table.ensures.table, c.requires.new) (is_tested tables c.args.number (with_sets c.args.sets.now c.args.row.now) c.requires.sound c.requires.update.number fits) in
-    update_refused tables rows others c.args.number c.args.key.now c.args.sets.now c.args.row.now c.in-Some.refusal found
+    let fits = fit_sets table c.args.sets.now c.args.row.now c.requires.each c.requires.sums c.requires.fits in
+    let tested : IsTested tables c.table_of-table.result.now c.args.new.now = rw (c.table_of-table.ensures.table, c.requires.new) (is_tested tables c.args.number (with_sets c.args.sets.now c.args.row.now) c.requires.sound c.requires.number fits) in
+    update_refused tables rows others c.args.number c.args.key.now c.args.sets.now conds c.args.row.now c.in-Some.refusal found holds c.requires.sums
     (sym c.in-Some.is ∙ as_update tables rows c.args.number c.args.sets.now c.args.row.now _ (Some c.in_ok-copy.copy) c.table_of-table.result.now c.args.new.now _ c.table_of-table.ensures.table c.requires.new c.scope_of-scope.ensures (ap (λ (v : List Value). Some v) c.in_ok-copy.ensures)
     (c.in_ok-refusal.ensures.answer tables rows others s c.table_of-table.ensures.table tested))
 
@@ -59,28 +59,28 @@ pub returns-in_ok-changes-in-None-clause-plan : goal.returns-in_ok-changes-in-No
 returns-in_ok-changes-in-None-clause-plan g c =
     let tables = c.args.catalog.now.tables in
     let table = table_at tables c.args.number in
-    let fits = fit_sets table c.args.sets.now c.args.row.now c.requires.update.each c.requires.fits in
-    update_planned tables table (writable_at tables c.args.number c.requires.sound c.requires.update.number) c.args.number c.args.row.now c.requires.fits (with_sets c.args.sets.now c.args.row.now) fits (scope_of c.args.sets.now) (kept_sequence table c.args.sets.now c.args.row.now) c.args.key.now c.args.at c.requires.update.fits c.requires.at c.in_ok-changes-in-None.changes
+    let fits = fit_sets table c.args.sets.now c.args.row.now c.requires.each c.requires.sums c.requires.fits in
+    update_planned tables table (writable_at tables c.args.number c.requires.sound c.requires.number) c.args.number c.args.row.now c.requires.fits (with_sets c.args.sets.now c.args.row.now) fits (scope_of c.args.sets.now) (kept_sequence table c.args.sets.now c.args.row.now) c.args.key.now c.args.at c.requires.key_fits c.requires.at c.in_ok-changes-in-None.changes
     (rw (← c.table_of-table.ensures.table, ← c.requires.new) c.in_ok-changes-in-None.ensures)
 
 pub returns-in_ok-changes-in-None-clause-answer : goal.returns-in_ok-changes-in-None-clause-answer
-returns-in_ok-changes-in-None-clause-answer g c = λ rows others s found.
+returns-in_ok-changes-in-None-clause-answer g c = λ rows others s found conds holds.
     let tables = c.args.catalog.now.tables in
     let table = table_at tables c.args.number in
-    let fits = fit_sets table c.args.sets.now c.args.row.now c.requires.update.each c.requires.fits in
-    let tested : IsTested tables c.table_of-table.result.now c.args.new.now = rw (c.table_of-table.ensures.table, c.requires.new) (is_tested tables c.args.number (with_sets c.args.sets.now c.args.row.now) c.requires.sound c.requires.update.number fits) in
-    update_made tables rows others c.args.number c.args.key.now c.args.sets.now _ c.args.row.now c.in_ok-changes-in-None.changes s c.requires.update found
+    let fits = fit_sets table c.args.sets.now c.args.row.now c.requires.each c.requires.sums c.requires.fits in
+    let tested : IsTested tables c.table_of-table.result.now c.args.new.now = rw (c.table_of-table.ensures.table, c.requires.new) (is_tested tables c.args.number (with_sets c.args.sets.now c.args.row.now) c.requires.sound c.requires.number fits) in
+    update_made tables rows others c.args.number c.args.key.now c.args.sets.now conds _ c.args.row.now c.in_ok-changes-in-None.changes s c.requires.each found holds c.requires.sums
     (sym c.in-None.is ∙ as_update tables rows c.args.number c.args.sets.now c.args.row.now _ (Some c.in_ok-copy.copy) c.table_of-table.result.now c.args.new.now _ c.table_of-table.ensures.table c.requires.new c.scope_of-scope.ensures (ap (λ (v : List Value). Some v) c.in_ok-copy.ensures)
     (c.in_ok-refusal.ensures.answer tables rows others s c.table_of-table.ensures.table tested))
     c.args.at c.requires.at
     (rw (← c.table_of-table.ensures.table, ← c.requires.new) c.in_ok-changes-in-None.ensures)
 
 pub returns-in_ok-changes-in-None-clause-own : goal.returns-in_ok-changes-in-None-clause-own
-returns-in_ok-changes-in-None-clause-own g c =
+returns-in_ok-changes-in-None-clause-own g c = λ conds.
     own_change c.args.number c.args.key.now c.args.at _ _ _ c.requires.at c.in_ok-changes-in-None.ensures
 
 pub returns-in-Some-clause-can : goal.returns-in-Some-clause-can
-returns-in-Some-clause-can g c =
+returns-in-Some-clause-can g c = λ conds.
     let tables = c.args.catalog.now.tables in
-    found_can tables (Update c.args.number c.args.key.now c.args.sets.now) c.in_ok-refusal.refusal c.in-Some.refusal c.in-Some.is
-    (updates_can tables c.args.number c.args.key.now c.args.sets.now c.in_ok-refusal.refusal (subst (λ (t : Table). IfSome c.in_ok-refusal.refusal (IsUpdateRefusal t)) c.table_of-table.ensures.table c.in_ok-refusal.ensures.can))
+    found_can tables (Update c.args.number c.args.key.now c.args.sets.now conds) c.in_ok-refusal.refusal c.in-Some.refusal c.in-Some.is
+    (updates_can tables c.args.number c.args.key.now c.args.sets.now conds c.in_ok-refusal.refusal (subst (λ (t : Table). IfSome c.in_ok-refusal.refusal (IsUpdateRefusal t)) c.table_of-table.ensures.table c.in_ok-refusal.ensures.can))

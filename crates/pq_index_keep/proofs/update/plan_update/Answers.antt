@@ -9,8 +9,7 @@ use Rattle.pq_index_keep.specs.declared.plan.Planned.{Planned}
 use Rattle.pq_index_keep.specs.declared.plan.Planned.TheVariants.{Refused}
 use Rattle.pq_index_keep.specs.declared.write.Write.TheVariants.{Update}
 use Rattle.pq_index_keep.proofs.Deleting.{none_read}
-use Rattle.pq_schema.specs.Tables.{table_at}
-use Rattle.pq_index_keep.proofs.Updating.{update_absent, sets_inside}
+use Rattle.pq_index_keep.proofs.Updating.{update_absent}
 use Rattle.pq_index_keep.specs.Refusals.{RefusesAs}
 use Rattle.pq_index_keep.proofs.update.plan_update.Goals as goal
 
@@ -21,16 +20,11 @@ pub returns-in-Ok-clause-answer : goal.returns-in-Ok-clause-answer
 returns-in-Ok-clause-answer g c = λ rows others s.
     let tables = c.args.catalog.now.tables in
     let refused : c.in-Ok.planned ≡ Refused (no_row tables c.args.number) = c.in-Ok.ensures ∙ ap (λ (table : Table). Refused (NoRow table.name)) c.table_of.ensures.table in
-    subst (λ (p : Planned). Plans tables rows others (Update c.args.number c.args.key.now c.args.sets.now) p) (sym refused)
-    (update_absent tables rows others c.args.number c.args.key.now c.args.sets.now (none_read c.in-Ok-None.field-0 (row_at tables rows c.args.number c.args.key.now) c.in-Ok-None.field-0-is (c.in-Ok-None.ensures.answer rows others s)))
+    subst (λ (p : Planned). Plans tables rows others (Update c.args.number c.args.key.now c.args.sets.now c.args.conds.now) p) (sym refused)
+    (update_absent tables rows others c.args.number c.args.key.now c.args.sets.now c.args.conds.now (none_read c.in-Ok-None.field-0 (row_at tables rows c.args.number c.args.key.now) c.in-Ok-None.field-0-is (c.in-Ok-None.ensures.answer rows others s)))
 
 pub returns-in-Ok-clause-can : goal.returns-in-Ok-clause-can
 returns-in-Ok-clause-can g c =
     let tables = c.args.catalog.now.tables in
     let refused : c.in-Ok.planned ≡ Refused (no_row tables c.args.number) = c.in-Ok.ensures ∙ ap (λ (table : Table). Refused (NoRow table.name)) c.table_of.ensures.table in
-    subst (λ (p : Planned). RefusesAs tables (Update c.args.number c.args.key.now c.args.sets.now) p) (sym refused) (inl refl)
-
-pub new_row-requires : goal.new_row-requires
-new_row-requires g c =
-    let tables = c.args.catalog.now.tables in
-    sets_inside (table_at tables c.args.number) c.args.sets.now c.in-Ok-Some.found.row c.requires.update.each (rw (c.in-Ok-Some.field-0-is) at c.in-Ok-Some.ensures.fits)
+    subst (λ (p : Planned). RefusesAs tables (Update c.args.number c.args.key.now c.args.sets.now c.args.conds.now) p) (sym refused) (inl refl)
