@@ -1,0 +1,28 @@
+use Rattle.std.proofs.Common.{◌≡◌, ◌∙◌, sym, Some, Option}
+use Rattle.pq_base.specs.declared.refusal.Refusal.{Refusal}
+use Rattle.pq_schema.specs.Tables.{table_at}
+use Rattle.pq_index_keep.specs.Effects.{held_refusal}
+use Rattle.pq_index_keep.proofs.Refusing.{held_can}
+use Rattle.pq_index_keep.proofs.Updating.{sets_inside, update_unmet}
+use Rattle.pq_index_keep.proofs.update.plan_held.Goals as goal
+
+pub new_row-requires : goal.new_row-requires
+new_row-requires g c = sets_inside (table_at c.args.catalog.now.tables c.args.number) c.args.sets.now c.args.row.now c.requires.update.each c.requires.fits
+
+pub returns-in-Some-clause-can : goal.returns-in-Some-clause-can
+returns-in-Some-clause-can g c =
+    let tables = c.args.catalog.now.tables in
+    let told : c.in_ok-refusal.field-0 ≡ held_refusal (table_at tables c.args.number) c.args.sets.now c.args.conds.now c.args.row.now = rw (c.table_of-table.ensures.table, c.items.ensures, c.items-2.ensures) at c.in_ok-refusal.ensures in
+    held_can tables c.args.number c.args.key.now c.args.sets.now c.args.conds.now c.args.row.now c.in-Some.refusal (sym told ∙ c.in-Some.is)
+
+pub returns-in-Some-clause-answer : goal.returns-in-Some-clause-answer
+returns-in-Some-clause-answer g c = λ rows others s found.
+    let tables = c.args.catalog.now.tables in
+    let told : c.in_ok-refusal.field-0 ≡ held_refusal (table_at tables c.args.number) c.args.sets.now c.args.conds.now c.args.row.now = rw (c.table_of-table.ensures.table, c.items.ensures, c.items-2.ensures) at c.in_ok-refusal.ensures in
+    update_unmet tables rows others c.args.number c.args.key.now c.args.sets.now c.args.conds.now c.args.row.now c.in-Some.refusal found (sym c.in-Some.is ∙ told)
+
+pub returns-in-Ok-clause-own : goal.returns-in-Ok-clause-own
+returns-in-Ok-clause-own g c = c.in-Ok.ensures.own c.args.conds.now
+
+pub returns-in-Ok-clause-can : goal.returns-in-Ok-clause-can
+returns-in-Ok-clause-can g c = c.in-Ok.ensures.can c.args.conds.now
