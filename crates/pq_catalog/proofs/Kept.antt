@@ -11,6 +11,7 @@ use Rattle.pq_schema.specs.Definitions.{altered_schema, altered_table, column_re
 use Rattle.pq_schema.specs.Resolved.{IsResolved}
 use Rattle.pq_schema.specs.Schema.{Schema, IsQueryDefinition, definition_at, empty_schema, made_of, no_definition, query_at, query_of, with_query, with_table, with_wanted}
 use Rattle.pq_schema.specs.Valid.{IsValid, IsDefined}
+use Rattle.pq_schema.proofs.Soundness.{valid_query}
 use Rattle.pq_schema.proofs.Valid.{valid_made}
 use Rattle.pq_schema.specs.declared.made.Definition.{Definition}
 use Rattle.pq_schema.specs.declared.made.Definition.TheVariants.{OfTable, OfQuery, OfColumn, OfCounter}
@@ -33,6 +34,7 @@ use Rattle.pq_catalog.specs.Kept.{IsKeptPlan, ArePlans, IsPlanWanting}
 use Rattle.pq_planning.specs.Planned.{IsComputed}
 use Rattle.pq_planning.specs.declared.planning.PlannedQuery.{PlannedQuery}
 use Rattle.pq_runnable.proofs.Keeping.{plan_defined, plan_grown}
+use Rattle.pq_runnable.proofs.Runnable.{compiled_plan}
 use Rattle.pq_catalog.proofs.Known.{grown_defined}
 
 -- ---- the bound
@@ -44,7 +46,7 @@ bound_stays before now query grown resolved =
     ap (λ (all : List Candidate). option_map_or (λ (best : Candidate). best.bound) (least all) (bound 0 0)) (sym (same_candidates before now query grown resolved))
 
 -- a plan that was compiled costs the query's bound
-compiled_bound : (tables : List Table) (query : Query) (made : Compiled) → IsCompiled tables query made → cost made.plan ≡ query_bound tables query
+pub compiled_bound : (tables : List Table) (query : Query) (made : Compiled) → IsCompiled tables query made → cost made.plan ≡ query_bound tables query
 unfolding query_bound
 compiled_bound tables query made is =
     let parts = chosen_parts tables query is.best made.wanted is.least in
@@ -137,6 +139,13 @@ pub query_kept : (s : Schema) (plans : List (Option Physical)) (query : Query) (
 query_kept s plans query plan wanted valid kept defined is =
     one_more s plans valid kept (with_wanted s.tables wanted) (grown_defined s query wanted valid defined)
     (OfQuery query (option_map made_of wanted)) (Some plan) (λ _. kept_wanting s query plan wanted valid defined is)
+
+-- the plan of a query that wants no index, over the tables as they are
+pub compiled_kept : (s : Schema) (query : Query) (made : Compiled) → IsValid s → IsResolved s.tables query → IsCompiled s.tables query made → made.wanted ≡ None → IsKeptPlan s.tables query made.plan
+compiled_kept s query made valid resolved is none = record {
+  runnable = compiled_plan s.tables query made (valid_query s query valid resolved) is none;
+  bound = compiled_bound s.tables query made is;
+}
 
 -- ---- a query with its plan
 

@@ -1,6 +1,7 @@
 -- The steps of a check: what they report, and the definitions behind them.
 use Rattle.std.proofs.Common.{◌≡◌, ℕ, List, [], Option, Some, None, Result, Ok, Err, if◌then◌else◌, refl, sym, ap, ◌∙◌, subst}
 use Rattle.std.specs.Prelude.{IfErr}
+use Rattle.pq_base.specs.declared.number.Bound.{Bound}
 use Rattle.pq_base.specs.declared.refusal.Refusal.{Refusal}
 use Rattle.pq_builds.specs.Bounds.{bound, fixed_bound, prepare_bound}
 use Rattle.pq_plan.specs.Cost.{cost}
@@ -13,15 +14,18 @@ use Rattle.pq_schema.specs.declared.table.NewIndex.{NewIndex}
 use Rattle.pq_text.specs.declared.piece.Piece.{Piece}
 use Rattle.pq_schema.specs.Definitions.{counted_schema, new_counter}
 use Rattle.pq_schema.specs.declared.definition.CounterDef.{CounterDef}
-use Rattle.pq_statement.specs.Actions.{Action, Creates, Adds, Writes, Prepares, Explains, Runs, Counts, Reads, Shows, action_from, action_of, asked_bound, asked_schema}
+use Rattle.pq_statement.specs.Actions.{Action, Creates, Adds, Writes, Prepares, Explains, Runs, Counts, Reads, Shows, Selects, action_from, action_of, asked_bound, asked_schema}
 use Rattle.pq_check.specs.Checks.{IsChecked, action_check, checked_as, check_step, without_rows}
 use Rattle.pq_planning.specs.Lines.{planned_lines}
+use Rattle.pq_planning.specs.Planned.{IsComputed}
 use Rattle.pq_planning.specs.Planning.{PlannedDefinition, planned_definition}
+use Rattle.pq_running.specs.Running.{query_bound}
 use Rattle.pq_reports.specs.Promise.{IsBound}
 use Rattle.pq_reports.specs.Refusing.{CanEnd}
 use Rattle.pq_statement.specs.Requests.{IsPlannedAs}
 use Rattle.pq_reports.specs.Step.{Step, counted_over, counter_step, crowding_refusal, prepared_over, report_of, unread_report}
 use Rattle.pq_planning.specs.declared.planning.PlannedQuery.{PlannedQuery}
+use Rattle.pq_catalog.proofs.Kept.{compiled_bound}
 use Rattle.pq_reports.proofs.Planned.{explained_lines, lines_are, plan_is}
 
 -- what a step of a check is, whatever it is a step of
@@ -65,6 +69,7 @@ module _ (schema : Schema) (number : ℕ) where
       (record { numbered = refl; bound = refl; unused = refl; unread = tt; can = tt; model = refl })
   is_check_step (Ok (Reads reading)) = record { numbered = refl; bound = refl; unused = refl; unread = tt; can = tt; model = refl }
   is_check_step (Ok Shows) = record { numbered = refl; bound = refl; unused = refl; unread = tt; can = tt; model = refl }
+  is_check_step (Ok (Selects plan)) = record { numbered = refl; bound = refl; unused = refl; unread = tt; can = tt; model = refl }
 
   -- the step of a piece, by what it asks for
   pub check_by : (piece : Piece) (found : Result Action Refusal) → action_of schema piece ≡ found → check_step (without_rows schema) number piece ≡ checked_as schema number found
@@ -86,6 +91,15 @@ module _ (schema : Schema) (number : ℕ) where
   explained_checked computed found is report same =
       subst (λ (a : Result Action Refusal). IsChecked schema number a schema report) (sym is.asks)
       (record { next_is = refl; report_is = same ∙ explained_lines schema.tables number computed is.plan is.plan_is computed.compiled.wanted refl })
+
+  -- of a query that is run once just the bound is told
+  pub selected_checked : (computed : PlannedQuery) (found : Result Action Refusal) → IsComputed schema.tables computed → IsPlannedAs Selects found computed → (most : Bound) → most ≡ cost computed.compiled.plan
+      → (report : Report) → report ≡ report_of number [] Done most → IsChecked schema number found schema report
+  selected_checked computed found are is most most_is report same =
+      let bound_is : most ≡ query_bound schema.tables is.plan.query =
+      most_is ∙ compiled_bound schema.tables computed.query computed.compiled are.compiled ∙ ap (query_bound schema.tables) (sym is.plan_is.query) in
+      subst (λ (a : Result Action Refusal). IsChecked schema number a schema report) (sym is.asks)
+      (record { next_is = refl; report_is = same ∙ ap (λ (b : Bound). report_of number [] Done b) bound_is })
 
   -- a counter that was defined
   pub counted_checked : (def : CounterDef) (next : Schema) (report : Report) → new_counter schema def ≡ Ok next → report ≡ report_of number [] Done (bound 2 1)

@@ -32,7 +32,7 @@ use Rattle.pq_runnable.proofs.Staying.{err_not_ok}
 use Rattle.pq_arrange.specs.Arrange.{arranged_query}
 use Rattle.pq_arrange.proofs.Answers.{same_answers}
 use Rattle.pq_statement.specs.Actions as action
-use Rattle.pq_statement.specs.Actions.{Action, Creates, Adds, Writes, Prepares, Explains, Runs, Shows, action_from, action_of, asked_schema, asked_text, schema_after}
+use Rattle.pq_statement.specs.Actions.{Action, Creates, Adds, Writes, Prepares, Explains, Runs, Shows, Selects, action_from, action_of, asked_schema, asked_text, schema_after}
 use Rattle.pq_check.specs.Checks.{IsChecked, checked_as}
 use Rattle.pq_catalog.specs.Model.{Model}
 use Rattle.pq_reports.specs.Promise.{Promises}
@@ -68,6 +68,7 @@ module _ (schema : Schema) (written : Query) where
   PlansAs (Ok (action.Counts def)) = ⊥
   PlansAs (Ok (action.Reads reading)) = ⊥
   PlansAs (Ok Shows) = ⊥
+  PlansAs (Ok (Selects plan)) = ⊥
   PlansAs (Err why) = Unit {0}
 
   by_free : (best : ChosenCandidate) (free : Option Refusal) → PlansAs (action_from Prepares (passed_unless free >>= as_it_is (record { query = taken; chosen = best })))
@@ -120,6 +121,7 @@ module _ (schema : Schema) (written : Query) where
   by_asked (Ok (action.Counts def)) next resolved as_taken ok is = absurd as_taken
   by_asked (Ok (action.Reads reading)) next resolved as_taken ok is = absurd as_taken
   by_asked (Ok Shows) next resolved as_taken ok is = absurd as_taken
+  by_asked (Ok (Selects plan)) next resolved as_taken ok is = absurd as_taken
   by_asked (Err why) next resolved as_taken ok is = absurd ok
 
   -- ---- what a report says of it

@@ -9,7 +9,7 @@ use Rattle.pq_print.specs.declared.report.Report.{Report}
 use Rattle.pq_builds.specs.Bounds.{bound}
 use Rattle.pq_counters.specs.Bounds.{whole_bound}
 use Rattle.pq_running.specs.Running.{query_bound}
-use Rattle.pq_statement.specs.Actions.{Action, Creates, Adds, Writes, Prepares, Explains, Runs, Counts, Reads, Shows, action_of}
+use Rattle.pq_statement.specs.Actions.{Action, Creates, Adds, Writes, Prepares, Explains, Runs, Counts, Reads, Shows, Selects, action_of}
 use Rattle.pq_catalog.specs.Model.{Model}
 use Rattle.pq_reports.specs.Step.{Step, action_step, refused_unread, report_of, report_step}
 
@@ -32,6 +32,7 @@ action_check schema number (Runs running) = bound_told schema number (query_boun
 action_check schema number (Counts def) = action_step (without_rows schema) number (Counts def)
 action_check schema number (Reads reading) = bound_told schema number (bound 1 1)
 action_check schema number Shows = action_step (without_rows schema) number Shows
+action_check schema number (Selects plan) = bound_told schema number (query_bound schema.tables plan.query)
 
 abbrev pub checked_as : Schema → ℕ → Result Action Refusal → Step
 checked_as schema number (Ok action) = action_check schema number action

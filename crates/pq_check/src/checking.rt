@@ -91,7 +91,23 @@ fn check_request(
             done_report(alloc, number, READ_BOUND, NOTHING_USED),
         )),
         Request::Show => show(alloc, planned, number),
+        Request::Select(plan) => Ok(check_once(alloc, planned, number, &plan)),
     }
+}
+
+/// Tells just the bound of a query that is run once.
+fn check_once(
+    alloc: Global,
+    planned: PlannedCatalog,
+    number: u32,
+    plan: &PlannedQuery,
+) -> (PlannedCatalog, Report)
+    requires { IsComputed planned.tables plan.now }
+    ensures { (asked : Result Action Refusal) → IsPlannedAs Selects asked plan.now
+        → IsChecked planned number asked result.0 result.1 }
+{
+    let bound = plan.compiled.plan.bound();
+    (planned, done_report(alloc, number, bound, NOTHING_USED))
 }
 
 /// Defines a table, where nothing refuses it.

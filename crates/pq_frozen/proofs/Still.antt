@@ -13,7 +13,7 @@ use Rattle.pq_store.specs.Breaks.{IsUndamaged}
 use Rattle.pq_store.specs.declared.damage.Broke.{Broke}
 use Rattle.pq_store.specs.declared.damage.Broke.TheVariants.{Failed, NoMem, Damaged}
 use Rattle.pq_opening.specs.declared.begun.Begun.{Begun}
-use Rattle.pq_statement.specs.Actions.{Action, Creates, Adds, Writes, Prepares, Explains, Runs, Counts, Reads, Shows, action_of}
+use Rattle.pq_statement.specs.Actions.{Action, Creates, Adds, Writes, Prepares, Explains, Runs, Counts, Reads, Shows, Selects, action_of}
 use Rattle.pq_reports.specs.Matches.{Matches}
 use Rattle.pq_catalog.specs.Model.{Model}
 use Rattle.pq_opening.specs.Opening.{IsOpening, opening_of}
@@ -37,6 +37,7 @@ stays m number (Ok (Runs running)) reads = refl
 stays m number (Ok (Counts def)) reads = absurd reads
 stays m number (Ok (Reads reading)) reads = refl
 stays m number (Ok Shows) reads = refl
+stays m number (Ok (Selects plan)) reads = refl
 stays m number (Err why) reads = refl
 
 pub step_stays : (m : Model) (number : ℕ) (piece : Piece) → OnlyReads (action_of m.schema piece) → (step m number piece).model ≡ m

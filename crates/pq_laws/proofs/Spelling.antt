@@ -18,10 +18,10 @@ use Rattle.pq_query_read.specs.Reading.{select_read_at as select_at}
 use Rattle.pq_query_read.specs.Resolving.{resolved_select}
 use Rattle.pq_query_read.specs.Trying.{◌>>=◌}
 use Rattle.pq_query_read.specs.declared.select.SelectDef.{SelectDef}
-use Rattle.pq_reread.specs.WholeStatements.{WholeStatement, Prepares as PreparesQuery, Explains as ExplainsQuery, SpellsWhole, with_query_read, whole_of}
+use Rattle.pq_reread.specs.WholeStatements.{WholeStatement, Prepares as PreparesQuery, Explains as ExplainsQuery, Selects as SelectsQuery, SpellsWhole, with_query_read, whole_of}
 use Rattle.pq_reread.proofs.WholeStatements.{whole_is_spelled, spelled_is_whole, whole_stops}
-use Rattle.pq_statement.specs.Actions.{Action, Prepares, Explains, action_from, asked_by, asked_text}
-use Rattle.pq_planning.specs.Planning.{arranged_plan, definable, arranged_from, prepared_from, explained_from, explained_name}
+use Rattle.pq_statement.specs.Actions.{Action, Prepares, Explains, Selects, action_from, asked_by, asked_text}
+use Rattle.pq_planning.specs.Planning.{arranged_plan, definable, arranged_from, prepared_from, explained_from, explained_name, selected_from, selected_plan}
 use Rattle.pq_laws.specs.Spelling.{asked_whole, SpellsNone}
 use Rattle.pq_statement.proofs.Statements.{asked_read, not_read}
 
@@ -53,21 +53,27 @@ module _ (schema : Schema) (text : List ℕ) where
   explained_select (Ok def) = refl
   explained_select (Err left) = refl
 
+  selected_select : (read : Result SelectDef ℕ)
+      → action_from Selects ((or_syntax text tokens read >>= resolved_select schema explained_name)
+      >>= selected_plan schema.tables)
+      ≡ asked_from (bind read (λ def. Ok (SelectsQuery def)))
+  selected_select (Ok def) = refl
+  selected_select (Err left) = refl
+
   -- a head asks for what it and the query behind it say
   asked_with : (read : Statement)
       → asked_by schema text tokens read ≡ asked_from (with_query_read (shapes_of text tokens) read)
-  unfolding prepared_from explained_from arranged_from read_query_of
+  unfolding prepared_from explained_from selected_from arranged_from read_query_of
   asked_with (statement.Prepare name from) = prepared_select name (select_at (drop from (shapes_of text tokens)))
   asked_with (statement.Explain from) = explained_select (select_at (drop from (shapes_of text tokens)))
   asked_with (statement.Create def) = refl
-  asked_with (statement.Insert table cols values) = refl
-  asked_with (statement.Update table sets key) = refl
-  asked_with (statement.Delete table key) = refl
+  asked_with (statement.Write write) = refl
   asked_with (statement.Run name values after) = refl
   asked_with (statement.Alter def) = refl
   asked_with (statement.Counter def) = refl
   asked_with (statement.Read name values) = refl
   asked_with statement.Show = refl
+  asked_with statement.Select = selected_select (select_at (shapes_of text tokens))
 
   asked_as : length text ≤ 65536 → (read : Result Statement ℕ) → statement_of text tokens ≡ read
       → asked_text schema text ≡ asked_from (bind read (with_query_read (shapes_of text tokens)))

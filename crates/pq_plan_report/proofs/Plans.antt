@@ -7,20 +7,26 @@ use Rattle.pq_base.specs.declared.refusal.Stopped.{Stopped}
 use Rattle.pq_base.specs.declared.refusal.Stopped.TheVariants.{Refused}
 use Rattle.pq_schema.specs.Definitions.{definition_refusal}
 use Rattle.pq_schema.specs.Schema.{Schema}
+use Rattle.pq_schema.specs.Valid.{IsValid}
+use Rattle.pq_schema.proofs.Soundness.{valid_query}
 use Rattle.pq_schema.specs.declared.query.Query.{Query}
 use Rattle.pq_schema.specs.declared.table.Table.{Table}
 use Rattle.pq_compile.specs.Chosen.{IsCompiled}
 use Rattle.pq_compile.specs.declared.compiler.Compiled.{Compiled}
-use Rattle.pq_plan.specs.Cost.{cost}
+use Rattle.pq_plan.specs.Cost.{IsPlanTree, cost}
 use Rattle.pq_plan.specs.Nodes.{nodes, plan_nodes}
+use Rattle.pq_plan.proofs.Choices.{choice_has}
+use Rattle.pq_plan.proofs.PlanTree.{plan_tree}
 use Rattle.pq_plan_lines.specs.Lines.{plan_lines, sum_of}
 use Rattle.pq_plan_lines.specs.Texts.{line_text}
 use Rattle.pq_text.specs.declared.token.Token.{Token}
 use Rattle.pq_def_read.specs.declared.statement.Statement.{Statement}
 use Rattle.pq_def_read.specs.declared.statement.Statement.TheVariants as statement
 use Rattle.pq_query_read.specs.Trying.{◌>>=◌, passed_unless}
-use Rattle.pq_statement.specs.Actions.{Action, Creates, Adds, Writes, Prepares, Explains, Runs, Counts, Reads, Shows, action_from, action_of, asked_by}
+use Rattle.pq_statement.specs.Actions.{Action, Creates, Adds, Writes, Prepares, Explains, Runs, Counts, Reads, Shows, Selects, action_from, action_of, asked_by}
 use Rattle.pq_check.specs.Checks.{check_step, checked_as}
+use Rattle.pq_planning.specs.Planned.{IsComputed, IsPlanned}
+use Rattle.pq_planning.specs.declared.planning.PlannedQuery.{PlannedQuery}
 use Rattle.pq_planning.specs.Planning.{PlannedDefinition, arranged_from, as_it_is, definable, explained_from, explained_name, prepared_from}
 use Rattle.pq_print.specs.Report.{is_refusal, printed_report}
 use Rattle.pq_print.specs.declared.report.Report.{Report}
@@ -37,11 +43,23 @@ module _ (tables : List Table) (query : Query) (compiled : Compiled) (is : IsCom
   unfolding plan_text
   text_is text told = told ∙ (λ i. flat_map (line_text tables (sym same i) (sym wanted i)) (lines_are i))
 
-  pub planned_told : plan.chosen.best.bound ≡ cost compiled.plan → (found : Result PlannedDefinition Refusal) → found ≡ Ok plan → (text : List ℕ)
+  planned_told : plan.chosen.best.bound ≡ cost compiled.plan → (found : Result PlannedDefinition Refusal) → found ≡ Ok plan → (text : List ℕ)
       → text ≡ flat_map (line_text tables query compiled.wanted) (plan_lines (nodes compiled.plan)) → sum_of (plan_lines (nodes compiled.plan)) ≡ cost compiled.plan → TellsFound tables found text
   planned_told bound found there text told sums =
       subst (λ (f : Result PlannedDefinition Refusal). TellsFound tables f text) (sym there)
       (record { text_is = text_is text told; sums = ap sum_of (sym lines_are) ∙ sums ∙ sym bound })
+
+-- the plan of a query that was planned is a tree whose lines can be told
+pub computed_tree : (schema : Schema) (computed : PlannedQuery) → IsValid schema → IsComputed schema.tables computed → IsPlanTree computed.compiled.plan
+computed_tree schema computed valid are =
+    let made = computed.compiled in
+    plan_tree schema.tables computed.query (valid_query schema computed.query valid are.resolved) made.choice (choice_has schema.tables computed.query made.choice are.compiled.plan.candidate) made.plan are.compiled.plan.built
+
+-- so is what is told of a query that was found under a name
+pub found_told : (schema : Schema) (name : List ℕ) (found : Result PlannedDefinition Refusal) (computed : PlannedQuery) → IsPlanned schema name found computed → (text : List ℕ)
+    → text ≡ flat_map (line_text schema.tables computed.query computed.compiled.wanted) (plan_lines (nodes computed.compiled.plan)) → sum_of (plan_lines (nodes computed.compiled.plan)) ≡ cost computed.compiled.plan → TellsFound schema.tables found text
+found_told schema name found computed is text told sums =
+    planned_told schema.tables computed.query computed.compiled is.computed_is.compiled is.plan is.plan_is.query is.plan_is.choice is.plan_is.wanted is.plan_is.bound found is.is text told sums
 
 module _ (schema : Schema) (told : List ℕ) where
   by_free : (plan : PlannedDefinition) → TellsFound schema.tables (Ok plan) told → (taken : Option Refusal) → TellsAsked schema (action_from Prepares (passed_unless taken >>= as_it_is plan)) told
@@ -55,6 +73,10 @@ module _ (schema : Schema) (told : List ℕ) where
   by_explained : (found : Result PlannedDefinition Refusal) → TellsFound schema.tables found told → TellsAsked schema (action_from Explains found) told
   by_explained (Ok plan) tells = tells
   by_explained (Err why) tells = tt
+
+  pub selected_told : (found : Result PlannedDefinition Refusal) → TellsFound schema.tables found told → TellsAsked schema (action_from Selects found) told
+  selected_told (Ok plan) tells = tells
+  selected_told (Err why) tells = tt
 
   module _ (text : List ℕ) (tokens : List Token) (from : ℕ) where
     -- a name that is taken, or one definition too many, is refused behind the plan
@@ -74,14 +96,13 @@ abbrev pub IsOther : Statement → Type 0
 IsOther (statement.Create def) = Unit {0}
 IsOther (statement.Alter def) = Unit {0}
 IsOther (statement.Prepare name from) = ⊥
-IsOther (statement.Insert table cols values) = Unit {0}
-IsOther (statement.Update table sets key) = Unit {0}
-IsOther (statement.Delete table key) = Unit {0}
+IsOther (statement.Write write) = Unit {0}
 IsOther (statement.Explain from) = ⊥
 IsOther (statement.Run name params after) = Unit {0}
 IsOther (statement.Counter def) = Unit {0}
 IsOther (statement.Read name values) = Unit {0}
 IsOther statement.Show = Unit {0}
+IsOther statement.Select = ⊥
 
 module _ (schema : Schema) where
   none_told : {A : Type 0} (action : A → Action) (found : Result A Refusal) → ((a : A) → TellsAsked schema (Ok (action a)) []) → TellsAsked schema (action_from action found) []
@@ -92,14 +113,13 @@ module _ (schema : Schema) where
   by_other text tokens (statement.Create def) is = none_told Creates _ (λ _. refl)
   by_other text tokens (statement.Alter def) is = none_told (λ (next : Schema). Adds def) _ (λ _. refl)
   by_other text tokens (statement.Prepare name from) is = absurd is
-  by_other text tokens (statement.Insert table cols values) is = none_told Writes _ (λ _. refl)
-  by_other text tokens (statement.Update table sets key) is = none_told Writes _ (λ _. refl)
-  by_other text tokens (statement.Delete table key) is = none_told Writes _ (λ _. refl)
+  by_other text tokens (statement.Write write) is = none_told Writes _ (λ _. refl)
   by_other text tokens (statement.Explain from) is = absurd is
   by_other text tokens (statement.Run name params after) is = none_told Runs _ (λ _. refl)
   by_other text tokens (statement.Counter def) is = none_told (λ (next : Schema). Counts def) _ (λ _. refl)
   by_other text tokens (statement.Read name values) is = none_told Reads _ (λ _. refl)
   by_other text tokens statement.Show is = refl
+  by_other text tokens statement.Select is = absurd is
 
   pub other_told : (text : List ℕ) (tokens : List Token) (read : Statement) (told : List ℕ) → IsOther read → told ≡ [] → TellsAsked schema (asked_by schema text tokens read) told
   other_told text tokens read told is none = subst (TellsAsked schema (asked_by schema text tokens read)) (sym none) (by_other text tokens read is)
@@ -124,6 +144,7 @@ module _ (schema : Schema) where
   summed_of (Ok (Counts def)) told tells = tt
   summed_of (Ok (Reads reading)) told tells = tt
   summed_of (Ok Shows) told tells = tt
+  summed_of (Ok (Selects plan)) told tells = tells.sums
   summed_of (Err why) told tells = tt
 
   plan_of : (action : Action) (told : List ℕ) → TellsAsked schema (Ok action) told → told ≡ asked_plan schema (Ok action)
@@ -136,6 +157,7 @@ module _ (schema : Schema) where
   plan_of (Counts def) told tells = tells
   plan_of (Reads reading) told tells = tells
   plan_of Shows told tells = tells
+  plan_of (Selects plan) told tells = tells.text_is
 
   module _ (number : ℕ) where
     abbrev shown : Report → List ℕ → List ℕ

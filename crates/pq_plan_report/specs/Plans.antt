@@ -1,4 +1,4 @@
--- The plan of a query that is prepared or explained, as lines (docs/FORMATS.md, "Plans").
+-- The plan of a query that is prepared, explained or run once, as lines (docs/FORMATS.md, "Plans").
 use Rattle.std.specs.Prelude.{◌≡◌, ℕ, List, [], flat_map, Result, Ok, Err}
 use Rattle.pq_base.specs.declared.refusal.Refusal.{Refusal}
 use Rattle.pq_schema.specs.Schema.{Schema}
@@ -7,8 +7,10 @@ use Rattle.pq_plan.specs.Nodes.{plan_nodes}
 use Rattle.pq_plan_lines.specs.Lines.{plan_lines, sum_of}
 use Rattle.pq_plan_lines.specs.Texts.{line_text}
 use Rattle.pq_plan_lines.specs.declared.node_line.NodeLine.{NodeLine}
-use Rattle.pq_statement.specs.Actions.{Action, Creates, Adds, Writes, Prepares, Explains, Runs, Counts, Reads, Shows}
+use Rattle.pq_statement.specs.Actions.{Action, Creates, Adds, Writes, Prepares, Explains, Runs, Counts, Reads, Shows, Selects}
+use Rattle.pq_planning.specs.Planned.{IsPlanned}
 use Rattle.pq_planning.specs.Planning.{PlannedDefinition}
+use Rattle.pq_planning.specs.declared.planning.PlannedQuery.{PlannedQuery}
 
 -- the nodes of the plan, from the innermost on, with what each costs and gives
 abbrev pub lines_of : List Table → PlannedDefinition → List NodeLine
@@ -17,7 +19,7 @@ lines_of tables plan = plan_lines (plan_nodes tables plan.query plan.chosen.best
 unfoldable pub plan_text : List Table → PlannedDefinition → List ℕ
 plan_text tables plan = flat_map (line_text tables plan.query plan.chosen.wanted) (lines_of tables plan)
 
--- of what is asked for: just a query that is prepared or explained has a plan to be told
+-- of what is asked for: just a query that is prepared, explained or run once has a plan to be told
 abbrev pub asked_plan : Schema → Result Action Refusal → List ℕ
 asked_plan schema (Ok (Creates table)) = []
 asked_plan schema (Ok (Adds def)) = []
@@ -28,6 +30,7 @@ asked_plan schema (Ok (Runs running)) = []
 asked_plan schema (Ok (Counts def)) = []
 asked_plan schema (Ok (Reads reading)) = []
 asked_plan schema (Ok Shows) = []
+asked_plan schema (Ok (Selects plan)) = plan_text schema.tables plan
 asked_plan schema (Err why) = []
 
 -- ---- their sum
@@ -36,7 +39,7 @@ asked_plan schema (Err why) = []
 abbrev pub SumsToBound : List Table → PlannedDefinition → Type 0
 SumsToBound tables plan = sum_of (lines_of tables plan) ≡ plan.chosen.best.bound
 
--- of a query that is prepared or explained
+-- of a query that is prepared, explained or run once
 abbrev pub IsSummed : Schema → Result Action Refusal → Type 0
 IsSummed schema (Ok (Creates table)) = Unit {0}
 IsSummed schema (Ok (Adds def)) = Unit {0}
@@ -47,6 +50,7 @@ IsSummed schema (Ok (Runs running)) = Unit {0}
 IsSummed schema (Ok (Counts def)) = Unit {0}
 IsSummed schema (Ok (Reads reading)) = Unit {0}
 IsSummed schema (Ok Shows) = Unit {0}
+IsSummed schema (Ok (Selects plan)) = SumsToBound schema.tables plan
 IsSummed schema (Err why) = Unit {0}
 
 -- ---- what a text tells
@@ -61,6 +65,12 @@ abbrev pub TellsFound : List Table → Result PlannedDefinition Refusal → List
 TellsFound tables (Ok plan) text = TellsPlan tables plan text
 TellsFound tables (Err why) text = Unit {0}
 
+-- that of a query that was planned, whatever found it
+abbrev pub TellsPlanned : Schema → PlannedQuery → List ℕ → Type 0
+TellsPlanned schema computed text =
+    (name : List ℕ) (found : Result PlannedDefinition Refusal) → IsPlanned schema name found computed
+    → TellsFound schema.tables found text
+
 -- that of what is asked for, where it is not refused
 abbrev pub TellsAsked : Schema → Result Action Refusal → List ℕ → Type 0
 TellsAsked schema (Ok (Creates table)) text = text ≡ []
@@ -72,4 +82,5 @@ TellsAsked schema (Ok (Runs running)) text = text ≡ []
 TellsAsked schema (Ok (Counts def)) text = text ≡ []
 TellsAsked schema (Ok (Reads reading)) text = text ≡ []
 TellsAsked schema (Ok Shows) text = text ≡ []
+TellsAsked schema (Ok (Selects plan)) text = TellsPlan schema.tables plan text
 TellsAsked schema (Err why) text = Unit {0}

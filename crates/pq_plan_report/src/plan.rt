@@ -8,15 +8,15 @@ ghost use Rattle.pq_plan_lines.specs.Texts.{line_text};
 ghost use Rattle.pq_text.specs.Tokens.{tokens_of};
 ghost use Rattle.pq_statement.specs.Actions.{action_of, asked_by, asked_text};
 ghost use Rattle.pq_planning.specs.Names.{IsNamedStatement};
-ghost use Rattle.pq_planning.specs.Planning.{arranged_from, explained_name};
-ghost use Rattle.pq_plan_report.specs.Plans.{TellsAsked, TellsFound};
+ghost use Rattle.pq_planning.specs.Planned.{IsComputed};
+ghost use Rattle.pq_planning.specs.Planning.{arranged_from, selected_from};
+ghost use Rattle.pq_plan_report.specs.Plans.{TellsAsked, TellsFound, TellsPlanned};
 
-use pq_arrange::arranged;
 use pq_base::{List, NoMem, PText, Stopped};
-use pq_compile::{Compiled, compile};
+use pq_compile::Compiled;
 use pq_def_read::{Statement, read_statement};
 use pq_plan_lines::{plan_lines, put_lines};
-use pq_query_read::read_query;
+use pq_planning::{PlannedQuery, explained_name, plan_arranged, plan_select};
 use pq_schema::{Catalog, Query};
 use pq_text::{Piece, Token, tokens};
 use std::alloc::Global;
@@ -50,6 +50,16 @@ fn plan_text(
     Ok(text)
 }
 
+/// The lines of the plan of a query that was planned.
+fn planned_text(alloc: Global, catalog: &Catalog, plan: &PlannedQuery) -> Result<String, NoMem>
+    requires { IsComputed catalog.now.tables plan.now }
+    ensures { IfOk result (λ told. TellsPlanned catalog.now plan.now (string_bytes told)) }
+{
+    catalog.known();
+    let told = plan_text(alloc, catalog, &plan.query, &plan.compiled)?;
+    Ok(told)
+}
+
 /// The lines of the plan of the query that the tokens spell from a place on, arranged; or the first refusal.
 fn query_plan(
     alloc: Global,
@@ -66,20 +76,26 @@ fn query_plan(
     ensures refused { IfErr result
         (λ stopped. Refuses stopped (arranged_from catalog.now name text.now tokens.now from)) }
 {
-    catalog.known();
-    let written = read_query(alloc, catalog, name, text, tokens, from)?;
-    let query = arranged(alloc, catalog, written)?;
-    let compiled = compile(alloc, catalog, &query)?;
-    let told = plan_text(alloc, catalog, &query, &compiled)?;
+    let plan = plan_arranged(alloc, catalog, name, text, tokens, from)?;
+    let told = planned_text(alloc, catalog, &plan)?;
     Ok(told)
 }
 
-/// The name that the query of an EXPLAIN has.
-fn explained_name(alloc: Global) -> Result<PText, NoMem>
-    ensures { IfOk result (λ name. name ≡ explained_name) }
+/// The lines of the plan of the query that all tokens spell, as it is run once; or the first refusal.
+fn select_plan(
+    alloc: Global,
+    catalog: &Catalog,
+    text: &PText,
+    tokens: &List<Token>,
+) -> Result<String, Stopped>
+    requires { tokens.now ≡ tokens_of text.now }
+    ensures told { IfOk result (λ told. TellsFound catalog.now.tables
+        (selected_from catalog.now text.now tokens.now) (string_bytes told)) }
+    ensures refused { IfErr result (λ stopped. Refuses stopped (selected_from catalog.now text.now tokens.now)) }
 {
-    let name = String::from_str(alloc, "explain")?;
-    Ok(PText::from_string(name))
+    let plan = plan_select(alloc, catalog, text, tokens)?;
+    let told = planned_text(alloc, catalog, &plan)?;
+    Ok(told)
 }
 
 /// The lines of the plan that a statement asks for, none where it asks for none; or the first refusal.
@@ -103,11 +119,10 @@ fn statement_plan(
             let name = explained_name(alloc)?;
             query_plan(alloc, catalog, name, text, tokens, from)
         }
+        Statement::Select => select_plan(alloc, catalog, text, tokens),
         Statement::Create(_)
         | Statement::Alter(_)
-        | Statement::Insert { .. }
-        | Statement::Update { .. }
-        | Statement::Delete { .. }
+        | Statement::Write(_)
         | Statement::Run { .. }
         | Statement::Counter(_)
         | Statement::Read { .. }

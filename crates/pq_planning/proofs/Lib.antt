@@ -1,4 +1,5 @@
 pub mod Lists
 pub mod Names
+pub mod Once
 pub mod Plans
 pub mod Shown

@@ -22,6 +22,7 @@ use Rattle.pq_schema.proofs.Soundness.{valid_query}
 use Rattle.pq_text.specs.declared.token.Token.{Token}
 use Rattle.pq_planning.specs.Planned.{IsPlanned}
 use Rattle.pq_planning.specs.Planning.{PlannedDefinition, with_chosen, plan_of, plan_from, arranged_plan, arranged_from}
+use Rattle.pq_planning.specs.declared.planning.PlannedQuery.{PlannedQuery}
 
 -- why a query has no plan
 unchosen : (tables : List Table) (query : Query) (stopped : Stopped) → Refuses {A = ChosenCandidate} stopped (chosen_candidate tables query) → Refuses {A = PlannedDefinition} stopped (plan_of tables query)
@@ -76,25 +77,40 @@ module _ (schema : Schema) (name text : List ℕ) (tokens : List Token) (from : 
   unfolding arranged_from
   arranged_unread stopped is = unread (arranged_plan schema.tables) read stopped is
 
-  module _ (written query : Query) (is : read ≡ Ok written) (arranged_is : query ≡ arranged_query schema.tables written) where
-    planned_arranged : (read >>= arranged_plan schema.tables) ≡ plan_of schema.tables query
-    planned_arranged = planned_read (arranged_plan schema.tables) read written is ∙ ap (plan_of schema.tables) (sym arranged_is)
+  -- what was read is planned as it is when it stands alone
+  pub arranged_read : (written : Query) → read ≡ Ok written → arranged_plan schema.tables written ≡ arranged_from schema name text tokens from
+  unfolding arranged_from
+  arranged_read written is = sym (planned_read (arranged_plan schema.tables) read written is)
 
-    pub arranged_unchosen : (stopped : Stopped) → Refuses {A = ChosenCandidate} stopped (chosen_candidate schema.tables query) → Refuses {A = PlannedDefinition} stopped (arranged_from schema name text tokens from)
-    unfolding arranged_from
-    arranged_unchosen stopped refused =
-        subst (λ (found : Result PlannedDefinition Refusal). Refuses {A = PlannedDefinition} stopped found) (sym planned_arranged) (unchosen schema.tables query stopped refused)
+-- the same plan, under another name of what was read and of what was found
+pub planned_as : (schema : Schema) (written name : List ℕ) (found said : Result PlannedDefinition Refusal) (computed : PlannedQuery) → written ≡ name → found ≡ said → IsPlanned schema written found computed
+    → IsPlanned schema name said computed
+planned_as schema written name found said computed named is planned =
+    subst (λ (n : List ℕ). IsPlanned schema n said computed) named (subst (λ (f : Result PlannedDefinition Refusal). IsPlanned schema written f computed) is planned)
 
-    succeeds : IsResolved schema.tables written → IsSuccessor schema.tables written query
-    succeeds resolved = subst (IsSuccessor schema.tables written) (sym arranged_is) (arranged_resolved schema.tables written resolved)
+pub refused_as : (stopped : Stopped) (found said : Result PlannedDefinition Refusal) → found ≡ said → Refuses {A = PlannedDefinition} stopped found → Refuses {A = PlannedDefinition} stopped said
+refused_as stopped found said is refused = subst (λ (f : Result PlannedDefinition Refusal). Refuses {A = PlannedDefinition} stopped f) is refused
 
-    pub arranged_taken : IsValid schema → IsResolved schema.tables written → IsQuery schema.tables query
-    arranged_taken valid resolved = valid_query schema query valid (succeeds resolved).resolved
+-- a query that was read, and the one that is planned in its place
+module _ (schema : Schema) (written query : Query) (arranged_is : query ≡ arranged_query schema.tables written) where
+  abbrev arranges : plan_of schema.tables query ≡ arranged_plan schema.tables written
+  arranges = ap (plan_of schema.tables) arranged_is
 
-    pub arranged_chosen : (compiled : Compiled) → IsResolved schema.tables written → written.name ≡ name → IsCompiled schema.tables query compiled
-        → IsPlanned schema name (arranged_from schema name text tokens from) (record { query = query; compiled = compiled })
-    unfolding arranged_from
-    arranged_chosen compiled resolved named made =
-        let later = succeeds resolved in
-        subst (λ (found : Result PlannedDefinition Refusal). IsPlanned schema name found (record { query = query; compiled = compiled })) (sym planned_arranged)
-        (chosen schema name query compiled later.resolved (later.name ∙ named) made)
+  pub written_unchosen : (stopped : Stopped) → Refuses {A = ChosenCandidate} stopped (chosen_candidate schema.tables query) → Refuses {A = PlannedDefinition} stopped (arranged_plan schema.tables written)
+  written_unchosen stopped refused = refused_as stopped (plan_of schema.tables query) (arranged_plan schema.tables written) arranges (unchosen schema.tables query stopped refused)
+
+  succeeds : IsResolved schema.tables written → IsSuccessor schema.tables written query
+  succeeds resolved = subst (IsSuccessor schema.tables written) (sym arranged_is) (arranged_resolved schema.tables written resolved)
+
+  pub written_taken : IsValid schema → IsResolved schema.tables written → IsQuery schema.tables query
+  written_taken valid resolved = valid_query schema query valid (succeeds resolved).resolved
+
+  pub written_params : IsResolved schema.tables written → query.params ≡ written.params
+  written_params resolved = (succeeds resolved).params
+
+  pub written_chosen : (compiled : Compiled) → IsResolved schema.tables written → IsCompiled schema.tables query compiled
+      → IsPlanned schema written.name (arranged_plan schema.tables written) (record { query = query; compiled = compiled })
+  written_chosen compiled resolved made =
+      let later = succeeds resolved in
+      planned_as schema written.name written.name (plan_of schema.tables query) (arranged_plan schema.tables written) (record { query = query; compiled = compiled }) refl arranges
+      (chosen schema written.name query compiled later.resolved later.name made)

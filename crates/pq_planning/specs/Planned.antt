@@ -1,5 +1,5 @@
 -- A query and its plan as they are computed.
-use Rattle.std.specs.Prelude.{◌≡◌, ℕ, List, Result, Ok}
+use Rattle.std.specs.Prelude.{◌≡◌, ℕ, List, [], None, Result, Ok}
 use Rattle.pq_base.specs.declared.refusal.Refusal.{Refusal}
 use Rattle.pq_schema.specs.Resolved.{IsResolved}
 use Rattle.pq_schema.specs.Schema.{Schema}
@@ -29,3 +29,8 @@ pub record IsPlanned (schema : Schema) (name : List ℕ) (found : Result Planned
   pub plan : PlannedDefinition
   pub plan_is : IsPlanOf computed plan
   pub is : found ≡ Ok plan
+
+-- a query that is run once: it has no parameters, and wants no index
+pub record IsOnce (computed : PlannedQuery) : Type 0 where
+  pub params : computed.query.params ≡ []
+  pub wanted : computed.compiled.wanted ≡ None

@@ -1,9 +1,11 @@
 -- A query that a text spells, with the least of its candidates.
-use Rattle.std.specs.Prelude.{◌≡◌, ℕ, false, true, List, codes, Option, Result, Ok}
+use Rattle.std.specs.Prelude.{◌≡◌, ℕ, ◌==◌, false, true, not, List, codes, length, Option, option_map, Result, Ok}
 use Rattle.pq_base.specs.declared.refusal.Refusal.{Refusal}
+use Rattle.pq_base.specs.declared.refusal.Refusal.TheVariants as refusal
 use Rattle.pq_schema.specs.Candidates.{Candidate}
-use Rattle.pq_schema.specs.Definitions.{definition_refusal}
+use Rattle.pq_schema.specs.Definitions.{definition_refusal, refused_if}
 use Rattle.pq_schema.specs.Schema.{Schema}
+use Rattle.pq_schema.specs.Tables.{table_at}
 use Rattle.pq_schema.specs.Wanted.{ChosenCandidate, chosen_candidate}
 use Rattle.pq_schema.specs.declared.query.Query.{Query}
 use Rattle.pq_schema.specs.declared.table.NewIndex.{NewIndex}
@@ -69,3 +71,29 @@ explained_name = codes "explain"
 
 unfoldable pub explained_from : Schema → List ℕ → List Token → ℕ → Result PlannedDefinition Refusal
 explained_from schema text tokens from = arranged_from schema explained_name text tokens from
+
+-- ---- SELECT
+
+-- what is run once has no parameters
+abbrev pub params_refusal : Query → Option Refusal
+params_refusal query = refused_if (not (length query.params == 0)) refusal.Params
+
+abbrev pub with_no_params : Query → Result Query Refusal
+with_no_params query = passed_unless (params_refusal query) >>= λ none. Ok query
+
+-- and no index is made for it
+abbrev pub index_refusal : List Table → Option NewIndex → Option Refusal
+index_refusal tables wanted = option_map (λ new. refusal.IndexWanted (table_at tables new.table).name) wanted
+
+abbrev pub with_no_index : List Table → PlannedDefinition → Result PlannedDefinition Refusal
+with_no_index tables plan = passed_unless (index_refusal tables plan.chosen.wanted) >>= as_it_is plan
+
+-- a query that was read, as it is run once: the parameters' refusal comes before those of its plan, and that of the
+-- index last
+abbrev pub selected_plan : List Table → Query → Result PlannedDefinition Refusal
+selected_plan tables query = with_no_params query >>= arranged_plan tables >>= with_no_index tables
+
+-- the query that all of a text spells; it has the name of an EXPLAIN's, which no report shows
+unfoldable pub selected_from : Schema → List ℕ → List Token → Result PlannedDefinition Refusal
+selected_from schema text tokens =
+    read_query_of schema explained_name text tokens 0 >>= selected_plan schema.tables

@@ -5,4 +5,6 @@ mod lines;
 mod planning;
 
 pub use lines::{show_lines, table_lines};
-pub use planning::{PlannedQuery, plan_arranged, plan_query, planned_lines};
+pub use planning::{
+    PlannedQuery, explained_name, plan_arranged, plan_query, plan_select, planned_lines,
+};

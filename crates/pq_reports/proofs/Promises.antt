@@ -25,7 +25,7 @@ use Rattle.pq_store.specs.declared.damage.Broke.{Broke}
 use Rattle.pq_store.specs.declared.damage.Broke.TheVariants as broke
 use Rattle.pq_intent.specs.Changing.{IfDamagedSame}
 use Rattle.pq_statement.specs.Actions as action
-use Rattle.pq_statement.specs.Actions.{Action, Creates, Adds, Writes, Prepares, Explains, Runs, Reads, Shows, action_bound, action_schema, action_of, asked_bound, asked_schema, schema_after, statement_bound}
+use Rattle.pq_statement.specs.Actions.{Action, Creates, Adds, Writes, Prepares, Explains, Runs, Reads, Shows, Selects, action_bound, action_schema, action_of, asked_bound, asked_schema, schema_after, statement_bound}
 use Rattle.pq_reports.specs.Evidence.{TellsEvidence}
 use Rattle.pq_catalog.specs.Model.{Model}
 use Rattle.pq_catalog.specs.Stands.{HoldsModel, Stands, Opens}
@@ -89,6 +89,7 @@ action_same schema (Runs running) content now same = same
 action_same schema (action.Counts def) content now same = same
 action_same schema (action.Reads reading) content now same = same
 action_same schema Shows content now same = same
+action_same schema (Selects plan) content now same = same
 
 asked_same : (schema : Schema) (asked : Result Action Refusal) (content : Content) (now : Option Content) → now ≡ Some content → StopsAsked schema asked content now
 asked_same schema (Ok action) content now same = action_same schema action content now same
@@ -120,6 +121,7 @@ unchanged_lacks (Ok (Runs running)) old now broke same = tt
 unchanged_lacks (Ok (action.Counts def)) old now broke same = tt
 unchanged_lacks (Ok (Reads reading)) old now broke same = tt
 unchanged_lacks (Ok Shows) old now broke same = tt
+unchanged_lacks (Ok (Selects plan)) old now broke same = tt
 
 -- where damage left the content as it was, what showed it shows it still
 pub shown_still : (old now : Option Content) (schema : Schema) (broke : Broke) → IfDamagedSame old now broke → IfSome old (λ content. TellsEvidence schema content broke)
@@ -168,6 +170,7 @@ step_bound m number (Runs running) most is = same_Some _ _ is
 step_bound m number (action.Counts def) most is = counter_bound m number def ∙ same_Some _ _ is
 step_bound m number (action.Reads reading) most is = read_bound m number reading ∙ same_Some _ _ is
 step_bound m number Shows most is = same_Some _ _ is
+step_bound m number (Selects plan) most is = same_Some _ _ is
 
 -- so what is within the one is within the other
 pub within_step : (number : ℕ) (action : Action) (old : Option Content) (schema : Schema) (most : Bound) (before after : Counts) → action_bound schema action ≡ Some most → TakesAtMost most before after

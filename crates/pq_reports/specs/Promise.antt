@@ -19,7 +19,7 @@ use Rattle.pq_store.specs.Content.{Content}
 use Rattle.pq_store.specs.declared.damage.Broke.{Broke}
 use Rattle.pq_store.specs.declared.damage.Broke.TheVariants.{NoMem}
 use Rattle.pq_statement.specs.Actions as action
-use Rattle.pq_statement.specs.Actions.{Action, Creates, Adds, Writes, Prepares, Explains, Runs, Reads, Shows, asked_bound, asked_schema}
+use Rattle.pq_statement.specs.Actions.{Action, Creates, Adds, Writes, Prepares, Explains, Runs, Reads, Shows, Selects, asked_bound, asked_schema}
 use Rattle.pq_reports.specs.Evidence.{TellsEvidence}
 use Rattle.pq_catalog.specs.Model.{Model}
 use Rattle.pq_reports.specs.Refusing.{CanEnd}
@@ -43,7 +43,7 @@ IsRefusal end.Done = ⊥
 IsRefusal (end.Rows count next) = ⊥
 IsRefusal (end.Refused why) = Unit {0}
 
--- a statement that writes nothing: a RUN, a READ, an EXPLAIN, a SHOW, or what is refused before any call
+-- a statement that writes nothing: a RUN, a SELECT, a READ, an EXPLAIN, a SHOW, or what is refused before any call
 abbrev pub OnlyReads : Result Action Refusal → Type 0
 OnlyReads (Ok (Creates table)) = ⊥
 OnlyReads (Ok (Adds def)) = ⊥
@@ -54,6 +54,7 @@ OnlyReads (Ok (Runs running)) = Unit {0}
 OnlyReads (Ok (action.Counts def)) = ⊥
 OnlyReads (Ok (Reads reading)) = Unit {0}
 OnlyReads (Ok Shows) = Unit {0}
+OnlyReads (Ok (Selects plan)) = Unit {0}
 OnlyReads (Err why) = Unit {0}
 
 -- an index that was to be made: nothing was done, or from its definition's mark on some or all
@@ -73,6 +74,7 @@ StopsAction schema (Runs running) content now = now ≡ Some content
 StopsAction schema (action.Counts def) content now = now ≡ Some content
 StopsAction schema (Reads reading) content now = now ≡ Some content
 StopsAction schema Shows content now = now ≡ Some content
+StopsAction schema (Selects plan) content now = now ≡ Some content
 
 -- where damage is found, the content is as it was, but for an index that was being made
 abbrev pub StopsAsked : Schema → Result Action Refusal → Content → Option Content → Type 0

@@ -9,7 +9,7 @@ use Rattle.pq_schema.specs.declared.table.Table.{Table}
 use Rattle.pq_print.specs.declared.report.End.{End}
 use Rattle.pq_print.specs.declared.report.End.TheVariants as end
 use Rattle.pq_counters.specs.Whole.{CanRefuseWhole}
-use Rattle.pq_statement.specs.Actions.{Action, Creates, Adds, Writes, Prepares, Explains, Runs, Counts, Reads, Shows}
+use Rattle.pq_statement.specs.Actions.{Action, Creates, Adds, Writes, Prepares, Explains, Runs, Counts, Reads, Shows, Selects}
 
 -- an index can be over too many rows
 abbrev pub CanRefuseIndex : List Table → Option NewIndex → Refusal → Type 0
@@ -27,6 +27,7 @@ CanRefuseAction schema (Runs running) why = ⊥
 CanRefuseAction schema (Counts def) why = why ≡ refusal.NotEmpty def.table
 CanRefuseAction schema (Reads reading) why = ⊥
 CanRefuseAction schema Shows why = ⊥
+CanRefuseAction schema (Selects plan) why = ⊥
 
 -- what is refused before any call is refused for that
 abbrev pub CanRefuseAsked : Schema → Result Action Refusal → Refusal → Type 0

@@ -9,13 +9,10 @@ use Rattle.pq_schema.specs.Names.{IsName}
 use Rattle.pq_schema.specs.Schema.{Schema}
 use Rattle.pq_schema.specs.declared.query.Query.{Query}
 use Rattle.pq_text.specs.declared.token.Token.{Token}
-use Rattle.pq_def_read.specs.declared.statement.Statement.{Statement}
-use Rattle.pq_def_read.specs.declared.statement.Statement.TheVariants as statement
-use Rattle.pq_index_keep.specs.Checking.{IsWriting, checked_write}
 use Rattle.pq_query_read.specs.Trying.{◌>>=◌, passed_unless}
-use Rattle.pq_statement.specs.Actions.{Action, Explains, Prepares, Writes, asked_by, action_from}
-use Rattle.pq_planning.specs.Planned.{IsPlanned}
-use Rattle.pq_planning.specs.Planning.{PlannedDefinition, arranged_from, as_it_is, definable, prepared_from, explained_name, explained_from}
+use Rattle.pq_statement.specs.Actions.{Action, Explains, Prepares, Selects, action_from}
+use Rattle.pq_planning.specs.Planned.{IsComputed, IsOnce, IsPlanned}
+use Rattle.pq_planning.specs.Planning.{PlannedDefinition, arranged_from, as_it_is, definable, prepared_from, explained_name, explained_from, selected_from}
 use Rattle.pq_statement.specs.Requests.{IsDefinable, IsPlannedAs}
 use Rattle.pq_planning.specs.declared.planning.PlannedQuery.{PlannedQuery}
 
@@ -23,21 +20,6 @@ use Rattle.pq_planning.specs.declared.planning.PlannedQuery.{PlannedQuery}
 pub asking_refused : {A : Type 0} (action : A → Action) (stopped : Stopped) (said : Result A Refusal) → Refuses stopped said → Refuses stopped (action_from action said)
 asking_refused action (Refused why) said is = ap (action_from action) is
 asking_refused action NoMem said is = tt
-
--- ---- writes
-
-pub writes_asked : (schema : Schema) (text : List ℕ) (tokens : List Token) (read : Statement) → IsWriting read → asked_by schema text tokens read ≡ action_from Writes (checked_write schema read)
-writes_asked schema text tokens (statement.Insert table cols values) is = refl
-writes_asked schema text tokens (statement.Update table sets key) is = refl
-writes_asked schema text tokens (statement.Delete table key) is = refl
-writes_asked schema text tokens (statement.Create def) is = absurd is
-writes_asked schema text tokens (statement.Alter def) is = absurd is
-writes_asked schema text tokens (statement.Prepare name from) is = absurd is
-writes_asked schema text tokens (statement.Explain from) is = absurd is
-writes_asked schema text tokens (statement.Run name params after) is = absurd is
-writes_asked schema text tokens (statement.Counter def) is = absurd is
-writes_asked schema text tokens (statement.Read name values) is = absurd is
-writes_asked schema text tokens statement.Show is = absurd is
 
 -- ---- queries
 
@@ -92,3 +74,10 @@ module _ (schema : Schema) (text : List ℕ) (tokens : List Token) (from : ℕ) 
   pub stopped_explained : (stopped : Stopped) → Refuses {A = PlannedDefinition} stopped (arranged_from schema explained_name text tokens from) → Refuses {A = PlannedDefinition} stopped (explained_from schema text tokens from)
   unfolding explained_from
   stopped_explained stopped is = is
+
+-- ---- SELECT
+
+module _ (schema : Schema) (text : List ℕ) (tokens : List Token) where
+  pub selects : (computed : PlannedQuery) → IsPlanned schema explained_name (selected_from schema text tokens) computed → IsOnce computed
+      → IsComputed schema.tables computed × IsOnce computed × IsPlannedAs Selects (action_from Selects (selected_from schema text tokens)) computed
+  selects computed is once = (is.computed_is, (once, record { plan = is.plan; plan_is = is.plan_is; asks = ap (action_from Selects) is.is }))

@@ -24,7 +24,7 @@ use Rattle.pq_index_keep.specs.declared.write.Write.{Write}
 use Rattle.pq_running.specs.Running.{Running, running_of, query_bound}
 use Rattle.pq_print.specs.Report.{is_refusal}
 use Rattle.pq_print.specs.declared.report.Report.{Report}
-use Rattle.pq_planning.specs.Planning.{PlannedDefinition, prepared_from, explained_from}
+use Rattle.pq_planning.specs.Planning.{PlannedDefinition, prepared_from, explained_from, selected_from}
 use Rattle.pq_statement.specs.Readings.{Reading, reading_of}
 
 pub data Action : Type 0 where
@@ -37,6 +37,7 @@ pub data Action : Type 0 where
   Counts : CounterDef → Action
   Reads : Reading → Action
   Shows : Action
+  Selects : PlannedDefinition → Action
 
 -- what was found by reading is asked for
 abbrev pub action_from : {A : Type 0} → (A → Action) → Result A Refusal → Result Action Refusal
@@ -47,12 +48,7 @@ action_from action (Err why) = Err why
 abbrev pub asked_by : Schema → List ℕ → List Token → Statement → Result Action Refusal
 asked_by schema text tokens (statement.Create def) = action_from Creates (new_table schema def)
 asked_by schema text tokens (statement.Alter def) = action_from (λ next. Adds def) (new_column schema def)
-asked_by schema text tokens (statement.Insert table cols values) =
-    action_from Writes (checked_write schema (statement.Insert table cols values))
-asked_by schema text tokens (statement.Update table sets key) =
-    action_from Writes (checked_write schema (statement.Update table sets key))
-asked_by schema text tokens (statement.Delete table key) =
-    action_from Writes (checked_write schema (statement.Delete table key))
+asked_by schema text tokens (statement.Write write) = action_from Writes (checked_write schema write)
 asked_by schema text tokens (statement.Prepare name from) =
     action_from Prepares (prepared_from schema name text tokens from)
 asked_by schema text tokens (statement.Explain from) = action_from Explains (explained_from schema text tokens from)
@@ -60,6 +56,7 @@ asked_by schema text tokens (statement.Run name params after) = action_from Runs
 asked_by schema text tokens (statement.Counter def) = action_from (λ next. Counts def) (new_counter schema def)
 asked_by schema text tokens (statement.Read name values) = action_from Reads (reading_of schema name values)
 asked_by schema text tokens statement.Show = Ok Shows
+asked_by schema text tokens statement.Select = action_from Selects (selected_from schema text tokens)
 
 -- tokens that spell no statement are refused with the place where reading stopped
 abbrev pub asked_of : Schema → List ℕ → List Token → Result Statement ℕ → Result Action Refusal
@@ -92,6 +89,7 @@ action_bound schema (Runs running) = Some (query_bound schema.tables running.que
 action_bound schema (Counts def) = Some (bound 2 1)
 action_bound schema (Reads reading) = Some (bound 1 1)
 action_bound schema Shows = Some (bound 0 0)
+action_bound schema (Selects plan) = Some (query_bound schema.tables plan.query)
 
 -- a refusal that needs no call of the store has none
 abbrev pub asked_bound : Schema → Result Action Refusal → Option Bound
@@ -111,6 +109,7 @@ action_schema schema (Runs running) = schema
 action_schema schema (Counts def) = counted_schema schema def
 action_schema schema (Reads reading) = schema
 action_schema schema Shows = schema
+action_schema schema (Selects plan) = schema
 
 -- behind what was asked for, where it is not refused
 abbrev pub asked_schema : Schema → Result Action Refusal → Schema

@@ -8,8 +8,8 @@ use Rattle.pq_schema.specs.Schema.{Schema, query_at}
 use Rattle.pq_index_keep.specs.Sound.{IsWrite}
 use Rattle.pq_nodes.specs.Operators.{IsCursor}
 use Rattle.pq_running.specs.Running.{IsQueryNumber, Running, running_with}
-use Rattle.pq_statement.specs.Actions.{Action, Creates, Adds, Writes, Prepares, Explains, Runs, Counts, Reads, Shows, action_from}
-use Rattle.pq_planning.specs.Planned.{IsComputed, IsPlanOf}
+use Rattle.pq_statement.specs.Actions.{Action, Creates, Adds, Writes, Prepares, Explains, Runs, Counts, Reads, Shows, Selects, action_from}
+use Rattle.pq_planning.specs.Planned.{IsComputed, IsOnce, IsPlanOf}
 use Rattle.pq_planning.specs.Planning.{PlannedDefinition}
 use Rattle.pq_statement.specs.Readings.{Reading, IsReading}
 use Rattle.pq_statement.specs.declared.requests.Request.{Request}
@@ -57,6 +57,8 @@ Asks schema (request.Count def) asked =
 Asks schema (request.Read read) asked =
     IsReading schema (reading_asked read) × (asked ≡ Ok (Reads (reading_asked read)))
 Asks schema request.Show asked = asked ≡ Ok Shows
+Asks schema (request.Select computed) asked =
+    IsComputed schema.tables computed × IsOnce computed × IsPlannedAs Selects asked computed
 
 -- something is asked for
 abbrev pub IsRequest : Schema → Request → Type 0

@@ -1,7 +1,7 @@
 //! What a piece of a script asks for, as far as the definitions decide it.
 ghost use Rattle.std.specs.Prelude.{◌≡◌, ◌≤◌, None, Ok, length, map, option_copied, IfOk, IfErr};
 ghost use Rattle.pq_base.specs.Answers.{Passes, Refuses};
-ghost use Rattle.pq_index_keep.specs.Checking.{IsWriting, checked_write};
+ghost use Rattle.pq_index_keep.specs.Checking.{checked_write};
 ghost use Rattle.pq_running.specs.Running.{running_of};
 ghost use Rattle.pq_schema.specs.Counters.{IsCounterNumber};
 ghost use Rattle.pq_schema.specs.Definitions.{definition_refusal};
@@ -11,15 +11,15 @@ ghost use Rattle.pq_text.specs.Tokens.{tokens_of};
 ghost use Rattle.pq_statement.specs.Actions.{Writes, action_from, action_of, asked_by, asked_text};
 ghost use Rattle.pq_planning.specs.Names.{IsNamedStatement};
 ghost use Rattle.pq_planning.specs.Planned.{IsPlanned};
-ghost use Rattle.pq_planning.specs.Planning.{arranged_from, explained_name, prepared_from};
+ghost use Rattle.pq_planning.specs.Planning.{arranged_from, prepared_from};
 ghost use Rattle.pq_statement.specs.Readings.{IsReading, reading_of, reading_types};
 ghost use Rattle.pq_statement.specs.Requests.{Asks, RunsAs, reading_asked};
 
 use pq_base::{ColType, List, NoMem, PText, Refusal, Row, Stopped, count_word};
-use pq_def_read::{Statement, read_statement};
+use pq_def_read::{Statement, WriteDef, read_statement};
 use pq_definitions::DEFINITIONS;
 use pq_index_keep::{Write, check_write};
-use pq_planning::{PlannedQuery, plan_arranged};
+use pq_planning::{PlannedQuery, explained_name, plan_arranged, plan_select};
 use pq_running::{begin, check_params};
 use pq_schema::{AlterDef, Catalog, Column, CounterDef, TableDef, param_type, type_at};
 use pq_text::{Piece, Token, tokens};
@@ -77,16 +77,8 @@ pub enum Request {
     Count(CounterDef),
     Read(ReadRequest),
     Show,
-}
-
-/// The name that the query of an EXPLAIN has in its report.
-fn explained_name(alloc: Global) -> Result<PText, NoMem>
-    ensures { IfOk result (λ name. name ≡ explained_name) }
-{
-    match PText::from_bytes(alloc, b"explain")? {
-        Some(name) => Ok(name),
-        None => unreachable!(),
-    }
+    /// Without parameters, and with a plan that wants no index.
+    Select(PlannedQuery),
 }
 
 /// What a piece asks for, or the first refusal that needs no call of the store.
@@ -154,21 +146,22 @@ fn asked_by(
             Ok(Request::Read(read))
         }
         Statement::Show => Ok(Request::Show),
-        written @ (Statement::Insert { .. }
-        | Statement::Update { .. }
-        | Statement::Delete { .. }) => asked_write(alloc, catalog, &written),
+        Statement::Select => {
+            let plan = plan_select(alloc, catalog, text, tokens)?;
+            Ok(Request::Select(plan))
+        }
+        Statement::Write(write) => asked_write(alloc, catalog, &write),
     }
 }
 
 /// What an INSERT, UPDATE or DELETE asks for.
-fn asked_write(alloc: Global, catalog: &Catalog, statement: &Statement) -> Result<Request, Stopped>
-    requires { IsWriting statement.now }
+fn asked_write(alloc: Global, catalog: &Catalog, write: &WriteDef) -> Result<Request, Stopped>
     ensures asks { IfOk result
-        (λ request. Asks catalog.now request (action_from Writes (checked_write catalog.now statement.now))) }
+        (λ request. Asks catalog.now request (action_from Writes (checked_write catalog.now write.now))) }
     ensures refused { IfErr result
-        (λ stopped. Refuses stopped (action_from Writes (checked_write catalog.now statement.now))) }
+        (λ stopped. Refuses stopped (action_from Writes (checked_write catalog.now write.now))) }
 {
-    let write = check_write(alloc, catalog, statement)?;
+    let write = check_write(alloc, catalog, write)?;
     Ok(Request::Write(write))
 }
 

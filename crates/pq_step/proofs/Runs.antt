@@ -1,13 +1,19 @@
--- A page that was run is what the step of RUN gives.
-use Rattle.std.proofs.Common.{◌≡◌, ℕ, ◌≤◌, List, length, map, Option, Some, None, Ok, refl, sym, ap, ◌∙◌, subst, inl, arith}
+-- A page that was run is what the step of RUN gives, and the answer of a query that is run once what that of SELECT gives.
+use Rattle.std.proofs.Common.{◌≡◌, ℕ, ◌≤◌, List, [], length, map, Option, Some, None, Ok, refl, sym, ap, ◌∙◌, subst, inl, arith}
 use Rattle.std.specs.Prelude.{IfSome}
 use Rattle.std.proofs.lemmas.List.{length-map}
 use Rattle.std.proofs.lemmas.Simd.{map-map}
 use Rattle.pq_base.specs.declared.number.Bound.{Bound}
 use Rattle.pq_base.specs.declared.value.Value.{Value}
+use Rattle.pq_base.specs.Values.{AllFit}
+use Rattle.pq_base.specs.declared.value.ColType.{ColType}
 use Rattle.pq_schema.specs.Schema.{Schema}
+use Rattle.pq_schema.specs.Valid.{IsValid}
+use Rattle.pq_schema.specs.declared.query.Query.{Query}
+use Rattle.pq_schema.proofs.Valid.{valid_made}
 use Rattle.pq_print.specs.declared.report.End.TheVariants.{Rows as RowsEnd}
 use Rattle.pq_print.specs.declared.report.Line.TheVariants.{Row}
+use Rattle.pq_print.specs.declared.report.Report.{Report}
 use Rattle.pq_store.specs.Breaks.{IfDamaged}
 use Rattle.pq_store.specs.Content.{Content}
 use Rattle.pq_store.specs.Counts.{Counts}
@@ -15,73 +21,80 @@ use Rattle.pq_store.specs.declared.damage.Broke.{Broke}
 use Rattle.pq_store.specs.declared.damage.Broke.TheVariants as broke
 use Rattle.pq_calls.specs.World.{where_told}
 use Rattle.pq_plan.specs.Answer.{selected_values}
-use Rattle.pq_nodes.specs.Operators.{IsSoundOverRows, ShowsRead}
+use Rattle.pq_nodes.specs.Operators.{IsAsked, IsSoundOverRows, ShowsRead}
 use Rattle.pq_exec.specs.Execution.{RisesByUsed, RisesWithin}
-use Rattle.pq_running.specs.Running.{Running, next_of, page_combos, page_size, query_bound}
-use Rattle.pq_pages.specs.Paging.{IsPageOf, IsPageOver}
+use Rattle.pq_planning.specs.Planned.{IsComputed, IsOnce}
+use Rattle.pq_planning.specs.Planning.{PlannedDefinition}
+use Rattle.pq_planning.specs.declared.planning.PlannedQuery.{PlannedQuery}
+use Rattle.pq_running.specs.Running.{Running, next_of, once_combos, page_combos, page_size, query_bound}
+use Rattle.pq_pages.specs.Paging.{IsAnswerOf, IsAnswerOver, IsPageOf, IsPageOver}
 use Rattle.pq_pages.specs.declared.page.Page.{Page}
 use Rattle.pq_reports.specs.Evidence.{TellsEvidence}
 use Rattle.pq_reports.specs.Matches.{Matches}
+use Rattle.pq_catalog.specs.Kept.{IsKeptPlan}
 use Rattle.pq_catalog.specs.Model.{Model}
+use Rattle.pq_catalog.proofs.Kept.{compiled_kept}
 use Rattle.pq_intent.specs.Spending.{TakesAtMost}
-use Rattle.pq_reports.specs.Promise.{BrokenStatement, DoneStatement}
+use Rattle.pq_reports.specs.Promise.{BrokenStatement, DoneStatement, IsBound, IsWithinFixed}
 use Rattle.pq_step.specs.Paged.{page_report}
 use Rattle.pq_catalog.specs.Stands.{Stands, others_of}
-use Rattle.pq_statement.specs.Actions.{Runs}
-use Rattle.pq_reports.specs.Step.{page_of}
+use Rattle.pq_statement.specs.Actions.{Action, Runs, Selects, action_bound, action_schema}
+use Rattle.pq_reports.specs.Step.{Step, action_step, answer_of, page_of, report_step, rows_report}
 use Rattle.pq_reports.proofs.Promises.{broken_kept, within_step}
 use Rattle.pq_write.proofs.Writing.{settled_rows}
 
--- ---- the page of a query
+-- ---- rows of a query
 
--- the report of the page is the step's, with what was used
-page_reported : (m : Model) (number : ℕ) (run : Running) (page : Page) → IsPageOver m.schema.tables m.rows run page → page.bound ≡ query_bound m.schema.tables run.query
-    → record (page_of m number run) { used = page.used } ≡ page_report number page
-page_reported m number run page is most =
-    let combos = page_combos m.schema.tables m.rows run in
-    let lines : map (λ (combo : List (List Value)). Row (selected_values run.query combo)) combos ≡ map Row page.rows = sym (map-map Row (selected_values run.query) combos) ∙ ap (map Row) (sym is.rows) in
-    let many : length combos ≡ length page.rows = sym (ap length is.rows ∙ length-map combos (selected_values run.query)) in
-    let next : next_of m.schema.tables m.rows run (page_size run.query.stop) combos ≡ page.next = sym is.next in
-    let bound : query_bound m.schema.tables run.query ≡ page.bound = sym most in
-    (λ i. record { number = number; lines = lines i; end = RowsEnd (many i) (next i); bound = bound i; used = page.used })
+-- the report of rows with a cursor is the step's, with what was used
+rows_reported : (m : Model) (number : ℕ) (query : Query) (combos : List (List (List Value))) (next : Option (List ℕ)) (page : Page) → page.rows ≡ map (selected_values query) combos → page.next ≡ next → page.bound ≡ query_bound m.schema.tables query
+    → record (rows_report m number query combos next) { used = page.used } ≡ page_report number page
+rows_reported m number query combos next page rows cursor most =
+    let lines : map (λ (combo : List (List Value)). Row (selected_values query combo)) combos ≡ map Row page.rows = sym (map-map Row (selected_values query) combos) ∙ ap (map Row) (sym rows) in
+    let many : length combos ≡ length page.rows = sym (ap length rows ∙ length-map combos (selected_values query)) in
+    let same_next : next ≡ page.next = sym cursor in
+    let bound : query_bound m.schema.tables query ≡ page.bound = sym most in
+    (λ i. record { number = number; lines = lines i; end = RowsEnd (many i) (same_next i); bound = bound i; used = page.used })
 
-module _ (number : ℕ) (run : Running) (schema : Schema) where
+-- an action that tells of rows on a query's bound, and changes nothing
+record TellsRows (number : ℕ) (query : Query) (schema : Schema) (action : Action) (report : Model → Report) : Type 0 where
+  pub step_is : (m : Model) → action_step m number action ≡ report_step m (report m)
+  pub bound_is : action_bound schema action ≡ Some (query_bound schema.tables query)
+  pub schema_is : schema ≡ action_schema schema action
+
+module _ (number : ℕ) (query : Query) (schema : Schema) (action : Action) (report : Model → Report) (tells : TellsRows number query schema action report) where
   abbrev most : Bound
-  most = query_bound schema.tables run.query
+  most = query_bound schema.tables query
 
-  within_run : (before later : Counts) → RisesWithin most before later → TakesAtMost most before later
-  within_run before later rises = record { ops = rises.few_ops; entries = rises.few_entries }
+  within_rows : (before later : Counts) → RisesWithin most before later → TakesAtMost most before later
+  within_rows before later rises = record { ops = rises.few_ops; entries = rises.few_entries }
 
-  page_matches : (m : Model) (page : Page) → schema ≡ m.schema → IsPageOver schema.tables m.rows run page → page.bound ≡ most → page.used.ops ≤ page.bound.ops → page.used.entries ≤ page.bound.entries
-      → Matches (page_of m number run) (page_report number page)
-  page_matches m page known is bound few_ops few_entries =
-      let bound_is : page.bound ≡ query_bound m.schema.tables run.query = bound ∙ ap (λ (x : Schema). query_bound x.tables run.query) known in
+  rows_match : (m : Model) (page : Page) → record (report m) { used = page.used } ≡ page_report number page → page.used.ops ≤ page.bound.ops → page.used.entries ≤ page.bound.entries
+      → Matches (action_step m number action).report (page_report number page)
+  rows_match m page same few_ops few_entries =
+      let bound_is : (report m).bound ≡ page.bound = ap (λ (r : Report). r.bound) same in
       let most_ops = ap (λ (b : Bound). b.ops) bound_is in
       let most_entries = ap (λ (b : Bound). b.entries) bound_is in
-      record {
-        same = page_reported m number run page (subst (λ (x : Schema). IsPageOver x.tables m.rows run page) known is) bound_is;
-        ops = omega (arith, few_ops, most_ops);
-        entries = omega (arith, few_entries, most_entries);
-      }
+      subst (λ (x : Step). Matches x.report (page_report number page)) (sym (tells.step_is m))
+      (record { same = same; ops = omega (arith, few_ops, most_ops); entries = omega (arith, few_entries, most_entries) })
 
-  -- a page of the rows, on the query's bound
-  pub page_done : (old now : Option Content) (before later : Counts) (page : Page) → IsPageOf old schema.tables run page → page.bound ≡ most
-      → RisesByUsed page.used before later → RisesWithin most before later → now ≡ old → DoneStatement number (Ok (Runs run)) old now schema schema before later (page_report number page)
-  page_done old now before later page is bound used rises same =
+  -- rows that were told
+  rows_done : (old now : Option Content) (before later : Counts) (page : Page) → ((m : Model) → Stands old schema m → record (report m) { used = page.used } ≡ page_report number page) → page.bound ≡ most
+      → RisesByUsed page.used before later → RisesWithin most before later → now ≡ old → DoneStatement number (Ok action) old now schema schema before later (page_report number page)
+  rows_done old now before later page reported bound used rises same =
       let most_ops = ap (λ (b : Bound). b.ops) bound in
       let most_entries = ap (λ (b : Bound). b.entries) bound in
       let few_ops : page.used.ops ≤ page.bound.ops = omega (arith, used.ops, rises.few_ops, most_ops) in
       let few_entries : page.used.entries ≤ page.bound.entries = omega (arith, used.entries, rises.few_entries, most_entries) in
       record {
-        matches = λ m s. page_matches m page s.known (is m.rows (others_of m) (settled_rows old schema m s)) bound few_ops few_entries;
-        made = λ m s. subst (λ (o : Option Content). Stands o schema m) (sym same) s;
+        matches = λ m s. rows_match m page (reported m s) few_ops few_entries;
+        made = λ m s. subst (λ (x : Step). Stands now schema x.model) (sym (tells.step_is m)) (subst (λ (o : Option Content). Stands o schema m) (sym same) s);
         ops = used.ops;
         entries = used.entries;
         few_ops = few_ops;
         few_entries = few_entries;
-        bound = bound;
+        bound = subst (λ (o : Option Bound). IsBound o page.bound) (sym tells.bound_is) bound;
         refused = λ refusal. absurd refusal;
-        accepted = λ _. refl;
+        accepted = λ _. tells.schema_is;
         numbered = refl;
         unread = tt;
         can = tt;
@@ -96,9 +109,72 @@ module _ (number : ℕ) (run : Running) (schema : Schema) where
   read_shown (Some content) (broke.Damaged damage) shows = inl shows
 
   -- a run that broke off
-  pub page_broke : (old now : Option Content) (before later : Counts) (error : Broke) → IsSoundOverRows old schema.tables error → IfDamaged (where_told (ShowsRead schema.tables) old) error
-      → RisesWithin most before later → now ≡ old → BrokenStatement number (Ok (Runs run)) old now schema before later error
-  page_broke old now before later error sound shows rises same =
-      broken_kept number (Ok (Runs run)) old now schema before later error same
+  rows_broke : (old now : Option Content) (before later : Counts) (error : Broke) → IsSoundOverRows old schema.tables error → IfDamaged (where_told (ShowsRead schema.tables) old) error
+      → RisesWithin most before later → now ≡ old → BrokenStatement number (Ok action) old now schema before later error
+  rows_broke old now before later error sound shows rises same =
+      broken_kept number (Ok action) old now schema before later error same
       (λ m s. sound m.rows (others_of m) (settled_rows old schema m s))
-      (within_run before later rises) (within_step number (Runs run) old schema most before later refl (within_run before later rises)) (read_shown old error shows)
+      (subst (λ (o : Option Bound). IsWithinFixed o before later) (sym tells.bound_is) (within_rows before later rises))
+      (within_step number action old schema most before later tells.bound_is (within_rows before later rises)) (read_shown old error shows)
+
+-- over the schema that is known the bound is that of the model
+known_bound : (schema : Schema) (m : Model) (query : Query) (most : Bound) → schema ≡ m.schema → most ≡ query_bound schema.tables query → most ≡ query_bound m.schema.tables query
+known_bound schema m query most known is = is ∙ ap (λ (x : Schema). query_bound x.tables query) known
+
+-- ---- the page of a query
+
+module _ (number : ℕ) (run : Running) (schema : Schema) where
+  abbrev tells_page : TellsRows number run.query schema (Runs run) (λ m. page_of m number run)
+  tells_page = record { step_is = λ m. refl; bound_is = refl; schema_is = refl }
+
+  -- a page of the rows, on the query's bound
+  pub page_done : (old now : Option Content) (before later : Counts) (page : Page) → IsPageOf old schema.tables run page → page.bound ≡ query_bound schema.tables run.query
+      → RisesByUsed page.used before later → RisesWithin (query_bound schema.tables run.query) before later → now ≡ old → DoneStatement number (Ok (Runs run)) old now schema schema before later (page_report number page)
+  page_done old now before later page is bound used rises same =
+      rows_done number run.query schema (Runs run) (λ m. page_of m number run) tells_page old now before later page
+      (λ m s.
+          let over : IsPageOver m.schema.tables m.rows run page = subst (λ (x : Schema). IsPageOver x.tables m.rows run page) s.known (is m.rows (others_of m) (settled_rows old schema m s)) in
+          rows_reported m number run.query (page_combos m.schema.tables m.rows run) (next_of m.schema.tables m.rows run (page_size run.query.stop) (page_combos m.schema.tables m.rows run)) page over.rows over.next
+          (known_bound schema m run.query page.bound s.known bound))
+      bound used rises same
+
+  -- a run that broke off
+  pub page_broke : (old now : Option Content) (before later : Counts) (error : Broke) → IsSoundOverRows old schema.tables error → IfDamaged (where_told (ShowsRead schema.tables) old) error
+      → RisesWithin (query_bound schema.tables run.query) before later → now ≡ old → BrokenStatement number (Ok (Runs run)) old now schema before later error
+  page_broke = rows_broke number run.query schema (Runs run) (λ m. page_of m number run) tells_page
+
+-- ---- the answer of a query that is run once
+
+module _ (schema : Schema) (computed : PlannedQuery) (valid : IsValid schema) (are : IsComputed schema.tables computed) (once : IsOnce computed) where
+  pub once_asked : IsAsked schema.tables computed.query []
+  once_asked = record {
+    made = valid_made valid;
+    resolved = are.resolved;
+    params_fit = subst (λ (types : List ColType). AllFit types []) (sym once.params) tt;
+  }
+
+  pub once_kept : IsKeptPlan schema.tables computed.query computed.compiled.plan
+  once_kept = compiled_kept schema computed.query computed.compiled valid are.resolved are.compiled once.wanted
+
+-- the plan's query is that which was planned
+module _ (number : ℕ) (plan : PlannedDefinition) (query : Query) (schema : Schema) (query_is : plan.query ≡ query) where
+  abbrev tells_answer : TellsRows number query schema (Selects plan) (λ m. answer_of m number plan.query)
+  tells_answer = record {
+    step_is = λ m. refl;
+    bound_is = ap (λ (q : Query). Some (query_bound schema.tables q)) query_is;
+    schema_is = refl;
+  }
+
+  pub answer_done : (old now : Option Content) (before later : Counts) (page : Page) → IsAnswerOf old schema.tables query page → page.bound ≡ query_bound schema.tables query
+      → RisesByUsed page.used before later → RisesWithin (query_bound schema.tables query) before later → now ≡ old → DoneStatement number (Ok (Selects plan)) old now schema schema before later (page_report number page)
+  answer_done old now before later page is bound used rises same =
+      rows_done number query schema (Selects plan) (λ m. answer_of m number plan.query) tells_answer old now before later page
+      (λ m s.
+          let over : IsAnswerOver m.schema.tables m.rows query page = subst (λ (x : Schema). IsAnswerOver x.tables m.rows query page) s.known (is m.rows (others_of m) (settled_rows old schema m s)) in
+          subst (λ (q : Query). record (answer_of m number q) { used = page.used } ≡ page_report number page) (sym query_is)
+          (rows_reported m number query (once_combos m.schema.tables m.rows query) None page over.rows over.next (known_bound schema m query page.bound s.known bound)))
+      bound used rises same
+
+  pub answer_broke : (old now : Option Content) (before later : Counts) (error : Broke) → IsSoundOverRows old schema.tables error → IfDamaged (where_told (ShowsRead schema.tables) old) error
+      → RisesWithin (query_bound schema.tables query) before later → now ≡ old → BrokenStatement number (Ok (Selects plan)) old now schema before later error
+  answer_broke = rows_broke number query schema (Selects plan) (λ m. answer_of m number plan.query) tells_answer

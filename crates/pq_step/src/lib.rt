@@ -3,6 +3,7 @@
 
 mod prepare;
 mod run;
+mod select;
 mod stepping;
 
 pub use stepping::statement;

@@ -29,8 +29,8 @@ fn row_lines(alloc: Global, rows: List<Row>) -> Result<List<Line>, NoMem>
     Ok(lines)
 }
 
-/// The report of a page.
-fn page_report(alloc: Global, number: u32, page: Page) -> Result<Report, NoMem>
+/// The report of a page, or of an answer that no page follows.
+pub(crate) fn page_report(alloc: Global, number: u32, page: Page) -> Result<Report, NoMem>
     requires { length page.rows < 4294967296 }
     ensures { IfOk result (λ report. report ≡ page_report number page) }
 {

@@ -20,6 +20,7 @@ ghost use Rattle.pq_schema.specs.declared.query.Query.{Query};
 
 use crate::prepare::define_query;
 use crate::run::run_query;
+use crate::select::select_query;
 use pq_base::{NoMem, Stopped};
 use pq_catalog::PlannedCatalog;
 use pq_define::{add_column, create, create_counter};
@@ -61,7 +62,7 @@ pub fn statement<S: Store<L>, L: Ledger>(
     ensures few_entries { IfOk result (λ p. p.1.used.entries ≤ p.1.bound.entries) }
     ensures refused { IfOk result (λ p. IsRefusal p.1.end
         → (S.content store.new ≡ S.content store.old) × (p.0 ≡ planned)) }
-    // A RUN, a READ, an EXPLAIN, a SHOW and what is refused before any call write nothing, whatever comes.
+    // A RUN, a SELECT, a READ, an EXPLAIN, a SHOW and what is refused before any call write nothing, whatever comes.
     ensures reads { OnlyReads (action_of planned piece.now) → S.content store.new ≡ S.content store.old }
     // A refusal is one that what the piece asks for can have.
     ensures can { IfOk result (λ p. CanEnd planned (action_of planned piece.now) p.1.end) }
@@ -154,5 +155,6 @@ fn act<S: Store<L>, L: Ledger>(
         Request::Count(def) => create_counter(alloc, planned, number, def, store, meter),
         Request::Read(read) => read_count(alloc, planned, number, &read, store, meter),
         Request::Show => Ok(show(alloc, planned, number)?),
+        Request::Select(plan) => select_query(alloc, planned, number, &plan, store, meter),
     }
 }

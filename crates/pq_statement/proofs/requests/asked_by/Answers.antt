@@ -1,15 +1,14 @@
-use Rattle.std.proofs.Common.{◌≡◌, ℕ, List, Option, Ok, ap, sym, subst, refl, inl, inr}
+use Rattle.std.proofs.Common.{◌≡◌, ℕ, List, Option, Ok, ap, subst, refl}
 use Rattle.std.proofs.lemmas.Result.{err_from_is_err_and}
 use Rattle.pq_base.specs.Answers.{Refuses}
-use Rattle.pq_index_keep.specs.Checking.{IsWriting}
 use Rattle.pq_running.specs.Running.{Running, running_of}
-use Rattle.pq_statement.specs.Actions.{Explains, Prepares, Reads, Runs, action_from}
+use Rattle.pq_statement.specs.Actions.{Explains, Prepares, Reads, Runs, Selects, action_from}
 use Rattle.pq_planning.specs.Names.{IsNamedStatement}
 use Rattle.pq_planning.specs.Planned.{IsPlanned}
 use Rattle.pq_planning.specs.Planning.{PlannedDefinition, arranged_from, explained_name}
 use Rattle.pq_statement.specs.Readings.{reading_of}
 use Rattle.pq_statement.specs.Requests.{RunsAs, reading_asked}
-use Rattle.pq_statement.proofs.Asking.{asking_refused, explains, may_be_defined, prepares, stopped_explained, writes_asked}
+use Rattle.pq_statement.proofs.Asking.{asking_refused, explains, may_be_defined, prepares, selects, stopped_explained}
 use Rattle.pq_statement.proofs.requests.asked_by.Goals as goal
 
 pub returns-in-Create-clause-asks : goal.returns-in-Create-clause-asks
@@ -68,33 +67,18 @@ returns-in_ok-run-in-Run-clause-asks c =
     let found = running_of c.args.catalog.now c.in-Run.name c.in-Run.values c.in-Run.after in
     rw c.in-Run.is (found, subst (λ (o : Option (List ℕ)). RunsAs c.args.catalog.now c.in_ok-run-in-Run.run' (running_of c.args.catalog.now c.in-Run.name c.in-Run.values o)) c.as_ref.ensures.value c.in_ok-run-in-Run.ensures.runs, refl)
 
-pub asked_write-requires : goal.asked_write-requires
-asked_write-requires c = elim c.in-Insert.is [
-  | inl i ↦ subst IsWriting (sym i.3) tt
-  | inr rest ↦ elim rest [
-    | inl u ↦ subst IsWriting (sym u.3) tt
-    | inr d ↦ subst IsWriting (sym d.2) tt
-  ]
-]
+pub returns-in_err-plan-in-Select-clause-refused : goal.returns-in_err-plan-in-Select-clause-refused
+returns-in_err-plan-in-Select-clause-refused c =
+    let p = err_from_is_err_and c.from_residual-in_err-plan-in-Select.result c.from_residual-in_err-plan-in-Select.ensures.1 in
+    rw (p.1, p.2, c.in-Select.is) (asking_refused Selects _ _ c.in_err-plan-in-Select.ensures.refused)
 
-pub returns-in-Insert-clause-refused : goal.returns-in-Insert-clause-refused
-returns-in-Insert-clause-refused c =
-    let writing : IsWriting c.args.statement = elim c.in-Insert.is [
-      | inl i ↦ subst IsWriting (sym i.3) tt
-      | inr rest ↦ elim rest [
-        | inl u ↦ subst IsWriting (sym u.3) tt
-        | inr d ↦ subst IsWriting (sym d.2) tt
-      ]
-    ] in
-    rw (writes_asked c.args.catalog.now c.args.text.now c.args.tokens.now c.args.statement writing) c.asked_write.ensures.refused
+pub returns-in_ok-plan-in-Select-clause-asks : goal.returns-in_ok-plan-in-Select-clause-asks
+returns-in_ok-plan-in-Select-clause-asks c =
+    let e = c.in_ok-plan-in-Select.ensures in
+    rw c.in-Select.is (selects c.args.catalog.now c.args.text.now c.args.tokens.now _ e.planned e.once)
 
-pub returns-in-Insert-clause-asks : goal.returns-in-Insert-clause-asks
-returns-in-Insert-clause-asks c =
-    let writing : IsWriting c.args.statement = elim c.in-Insert.is [
-      | inl i ↦ subst IsWriting (sym i.3) tt
-      | inr rest ↦ elim rest [
-        | inl u ↦ subst IsWriting (sym u.3) tt
-        | inr d ↦ subst IsWriting (sym d.2) tt
-      ]
-    ] in
-    rw (writes_asked c.args.catalog.now c.args.text.now c.args.tokens.now c.args.statement writing) c.asked_write.ensures.asks
+pub returns-in-Write-clause-asks : goal.returns-in-Write-clause-asks
+returns-in-Write-clause-asks c = rw c.in-Write.is c.asked_write.ensures.asks
+
+pub returns-in-Write-clause-refused : goal.returns-in-Write-clause-refused
+returns-in-Write-clause-refused c = rw c.in-Write.is c.asked_write.ensures.refused
