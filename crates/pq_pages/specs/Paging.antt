@@ -1,12 +1,12 @@
 -- The page of a query's answer, and the answer of a query that is run once.
-use Rattle.std.specs.Prelude.{◌≡◌, List, Option, None, map}
+use Rattle.std.specs.Prelude.{◌≡◌, List, [], Option, None, map}
 use Rattle.pq_schema.specs.Rows.{Rows}
 use Rattle.pq_schema.specs.declared.query.Query.{Query}
 use Rattle.pq_schema.specs.declared.table.Table.{Table}
 use Rattle.pq_store.specs.Content.{Content}
 use Rattle.pq_content.specs.Pairs.{Pair, HoldsRows}
-use Rattle.pq_plan.specs.Answer.{selected_values}
-use Rattle.pq_running.specs.Running.{Running, page_combos, page_size, next_of, once_combos}
+use Rattle.pq_plan.specs.Answer.{answer, selected_values}
+use Rattle.pq_running.specs.Running.{Running, page_combos, page_size, next_of}
 use Rattle.pq_pages.specs.declared.page.Page.{Page}
 
 -- its rows in order, and the cursor of the next page
@@ -19,9 +19,9 @@ abbrev pub IsPageOf : Option Content → List Table → Running → Page → Typ
 IsPageOf told tables running page =
     (rows : Rows) (others : List Pair) → HoldsRows told tables rows others → IsPageOver tables rows running page
 
--- the rows of a query that is run once, in order, and no cursor
+-- the answer of a query without parameters, and no cursor
 pub record IsAnswerOver (tables : List Table) (held : Rows) (query : Query) (page : Page) : Type 0 where
-  pub rows : page.rows ≡ map (selected_values query) (once_combos tables held query)
+  pub rows : page.rows ≡ answer tables query held [] None
   pub next : page.next ≡ None
 
 -- over a content that holds rows it is the answer over these

@@ -21,13 +21,13 @@ use Rattle.pq_builds.specs.Bounds.{bound, prepare_bound}
 use Rattle.pq_schema.specs.Tables.{table_at}
 use Rattle.pq_schema.specs.declared.query.Query.{Query}
 use Rattle.pq_schema.specs.declared.table.NewIndex.{NewIndex}
-use Rattle.pq_plan.specs.Answer.{selected_values}
+use Rattle.pq_plan.specs.Answer.{answer, selected_values}
 use Rattle.pq_text.specs.declared.piece.Piece.{Piece}
 use Rattle.pq_statement.specs.Actions.{Action, Creates, Adds, Writes, Prepares, Explains, Runs, Counts, Reads, Shows, Selects, action_of}
 use Rattle.pq_planning.specs.Lines.{table_lines, show_lines, query_lines}
 use Rattle.pq_planning.specs.Planning.{PlannedDefinition}
 use Rattle.pq_statement.specs.Readings.{Reading}
-use Rattle.pq_running.specs.Running.{Running, query_bound, page_combos, page_size, next_of, once_combos}
+use Rattle.pq_running.specs.Running.{Running, query_bound, page_combos, page_size, next_of}
 use Rattle.pq_index_keep.specs.declared.write.Write.{Write}
 use Rattle.pq_counters.specs.Bounds.{whole_bound}
 use Rattle.pq_tallies.specs.Counters.{tally}
@@ -156,27 +156,27 @@ explanation tables number plan = report_of number (query_lines tables plan) end.
 
 -- ---- RUN
 
--- the rows that some combinations give, and a cursor behind them
-abbrev pub rows_report : Model → ℕ → Query → List (List (List Value)) → Option (List ℕ) → Report
-rows_report m number query combos next =
-    report_of number (map (λ combo. line.Row (selected_values query combo)) combos) (end.Rows (length combos) next)
-    (query_bound m.schema.tables query)
-
--- of a page the cursor is that of the next one
-abbrev pub paged_report : Model → ℕ → Running → List (List (List Value)) → Report
-paged_report m number running combos =
-    rows_report m number running.query combos
-    (next_of m.schema.tables m.rows running (page_size running.query.stop) combos)
+-- the rows that some combinations give, and the cursor of the next page
+abbrev pub rows_report : Model → ℕ → Running → List (List (List Value)) → Report
+rows_report m number running combos =
+    report_of number (map (λ combo. line.Row (selected_values running.query combo)) combos)
+    (end.Rows (length combos) (next_of m.schema.tables m.rows running (page_size running.query.stop) combos))
+    (query_bound m.schema.tables running.query)
 
 -- the page of a query, with its parameters, behind its position
 abbrev pub page_of : Model → ℕ → Running → Report
-page_of m number running = paged_report m number running (page_combos m.schema.tables m.rows running)
+page_of m number running = rows_report m number running (page_combos m.schema.tables m.rows running)
 
 -- ---- SELECT
 
--- the answer of a query that is run once, which no page follows
+-- the rows of a query's answer, on its bound; no page follows them
+abbrev pub answer_report : Model → ℕ → Query → List (List Value) → Report
+answer_report m number query rows =
+    report_of number (map line.Row rows) (end.Rows (length rows) None) (query_bound m.schema.tables query)
+
+-- the answer of a query that is run once: it has no parameters, and no page before it
 abbrev pub answer_of : Model → ℕ → Query → Report
-answer_of m number query = rows_report m number query (once_combos m.schema.tables m.rows query) None
+answer_of m number query = answer_report m number query (answer m.schema.tables query m.rows [] None)
 
 -- ---- any statement
 

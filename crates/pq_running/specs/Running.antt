@@ -140,10 +140,3 @@ abbrev pub next_of : List Table → Rows → Running → Option ℕ → List (Li
 next_of tables rows running None combos = None
 next_of tables rows running (Some k) combos =
     if length combos == k then option_map (cursor_of tables rows running) (last_of combos) else None
-
--- ---- a query that is run once
-
--- the combinations of its answer: it has no parameters, and begins at the front
-abbrev pub once_combos : List Table → Rows → Query → List (List (List Value))
-once_combos tables rows query =
-    answered (record { tables = tables; query = query; rows = rows; params = [] }) None

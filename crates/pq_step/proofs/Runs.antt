@@ -20,13 +20,13 @@ use Rattle.pq_store.specs.Counts.{Counts}
 use Rattle.pq_store.specs.declared.damage.Broke.{Broke}
 use Rattle.pq_store.specs.declared.damage.Broke.TheVariants as broke
 use Rattle.pq_calls.specs.World.{where_told}
-use Rattle.pq_plan.specs.Answer.{selected_values}
+use Rattle.pq_plan.specs.Answer.{answer, selected_values}
 use Rattle.pq_nodes.specs.Operators.{IsAsked, IsSoundOverRows, ShowsRead}
 use Rattle.pq_exec.specs.Execution.{RisesByUsed, RisesWithin}
 use Rattle.pq_planning.specs.Planned.{IsComputed, IsOnce}
 use Rattle.pq_planning.specs.Planning.{PlannedDefinition}
 use Rattle.pq_planning.specs.declared.planning.PlannedQuery.{PlannedQuery}
-use Rattle.pq_running.specs.Running.{Running, next_of, once_combos, page_combos, page_size, query_bound}
+use Rattle.pq_running.specs.Running.{Running, next_of, page_combos, page_size, query_bound}
 use Rattle.pq_pages.specs.Paging.{IsAnswerOf, IsAnswerOver, IsPageOf, IsPageOver}
 use Rattle.pq_pages.specs.declared.page.Page.{Page}
 use Rattle.pq_reports.specs.Evidence.{TellsEvidence}
@@ -39,21 +39,11 @@ use Rattle.pq_reports.specs.Promise.{BrokenStatement, DoneStatement, IsBound, Is
 use Rattle.pq_step.specs.Paged.{page_report}
 use Rattle.pq_catalog.specs.Stands.{Stands, others_of}
 use Rattle.pq_statement.specs.Actions.{Action, Runs, Selects, action_bound, action_schema}
-use Rattle.pq_reports.specs.Step.{Step, action_step, answer_of, page_of, report_step, rows_report}
+use Rattle.pq_reports.specs.Step.{Step, action_step, answer_of, page_of, report_step}
 use Rattle.pq_reports.proofs.Promises.{broken_kept, within_step}
 use Rattle.pq_write.proofs.Writing.{settled_rows}
 
 -- ---- rows of a query
-
--- the report of rows with a cursor is the step's, with what was used
-rows_reported : (m : Model) (number : ℕ) (query : Query) (combos : List (List (List Value))) (next : Option (List ℕ)) (page : Page) → page.rows ≡ map (selected_values query) combos → page.next ≡ next → page.bound ≡ query_bound m.schema.tables query
-    → record (rows_report m number query combos next) { used = page.used } ≡ page_report number page
-rows_reported m number query combos next page rows cursor most =
-    let lines : map (λ (combo : List (List Value)). Row (selected_values query combo)) combos ≡ map Row page.rows = sym (map-map Row (selected_values query) combos) ∙ ap (map Row) (sym rows) in
-    let many : length combos ≡ length page.rows = sym (ap length rows ∙ length-map combos (selected_values query)) in
-    let same_next : next ≡ page.next = sym cursor in
-    let bound : query_bound m.schema.tables query ≡ page.bound = sym most in
-    (λ i. record { number = number; lines = lines i; end = RowsEnd (many i) (same_next i); bound = bound i; used = page.used })
 
 -- an action that tells of rows on a query's bound, and changes nothing
 record TellsRows (number : ℕ) (query : Query) (schema : Schema) (action : Action) (report : Model → Report) : Type 0 where
@@ -123,6 +113,17 @@ known_bound schema m query most known is = is ∙ ap (λ (x : Schema). query_bou
 
 -- ---- the page of a query
 
+-- the report of the page is the step's, with what was used
+page_reported : (m : Model) (number : ℕ) (run : Running) (page : Page) → IsPageOver m.schema.tables m.rows run page → page.bound ≡ query_bound m.schema.tables run.query
+    → record (page_of m number run) { used = page.used } ≡ page_report number page
+page_reported m number run page is most =
+    let combos = page_combos m.schema.tables m.rows run in
+    let lines : map (λ (combo : List (List Value)). Row (selected_values run.query combo)) combos ≡ map Row page.rows = sym (map-map Row (selected_values run.query) combos) ∙ ap (map Row) (sym is.rows) in
+    let many : length combos ≡ length page.rows = sym (ap length is.rows ∙ length-map combos (selected_values run.query)) in
+    let next : next_of m.schema.tables m.rows run (page_size run.query.stop) combos ≡ page.next = sym is.next in
+    let bound : query_bound m.schema.tables run.query ≡ page.bound = sym most in
+    (λ i. record { number = number; lines = lines i; end = RowsEnd (many i) (next i); bound = bound i; used = page.used })
+
 module _ (number : ℕ) (run : Running) (schema : Schema) where
   abbrev tells_page : TellsRows number run.query schema (Runs run) (λ m. page_of m number run)
   tells_page = record { step_is = λ m. refl; bound_is = refl; schema_is = refl }
@@ -134,8 +135,7 @@ module _ (number : ℕ) (run : Running) (schema : Schema) where
       rows_done number run.query schema (Runs run) (λ m. page_of m number run) tells_page old now before later page
       (λ m s.
           let over : IsPageOver m.schema.tables m.rows run page = subst (λ (x : Schema). IsPageOver x.tables m.rows run page) s.known (is m.rows (others_of m) (settled_rows old schema m s)) in
-          rows_reported m number run.query (page_combos m.schema.tables m.rows run) (next_of m.schema.tables m.rows run (page_size run.query.stop) (page_combos m.schema.tables m.rows run)) page over.rows over.next
-          (known_bound schema m run.query page.bound s.known bound))
+          page_reported m number run page over (known_bound schema m run.query page.bound s.known bound))
       bound used rises same
 
   -- a run that broke off
@@ -156,6 +156,15 @@ module _ (schema : Schema) (computed : PlannedQuery) (valid : IsValid schema) (a
   pub once_kept : IsKeptPlan schema.tables computed.query computed.compiled.plan
   once_kept = compiled_kept schema computed.query computed.compiled valid are.resolved are.compiled once.wanted
 
+-- the report of the answer is the step's, with what was used
+answer_reported : (m : Model) (number : ℕ) (query : Query) (page : Page) → IsAnswerOver m.schema.tables m.rows query page → page.bound ≡ query_bound m.schema.tables query
+    → record (answer_of m number query) { used = page.used } ≡ page_report number page
+answer_reported m number query page is most =
+    let rows : answer m.schema.tables query m.rows [] None ≡ page.rows = sym is.rows in
+    let next : None ≡ page.next = sym is.next in
+    let bound : query_bound m.schema.tables query ≡ page.bound = sym most in
+    (λ i. record { number = number; lines = map Row (rows i); end = RowsEnd (length (rows i)) (next i); bound = bound i; used = page.used })
+
 -- the plan's query is that which was planned
 module _ (number : ℕ) (plan : PlannedDefinition) (query : Query) (schema : Schema) (query_is : plan.query ≡ query) where
   abbrev tells_answer : TellsRows number query schema (Selects plan) (λ m. answer_of m number plan.query)
@@ -172,7 +181,7 @@ module _ (number : ℕ) (plan : PlannedDefinition) (query : Query) (schema : Sch
       (λ m s.
           let over : IsAnswerOver m.schema.tables m.rows query page = subst (λ (x : Schema). IsAnswerOver x.tables m.rows query page) s.known (is m.rows (others_of m) (settled_rows old schema m s)) in
           subst (λ (q : Query). record (answer_of m number q) { used = page.used } ≡ page_report number page) (sym query_is)
-          (rows_reported m number query (once_combos m.schema.tables m.rows query) None page over.rows over.next (known_bound schema m query page.bound s.known bound)))
+          (answer_reported m number query page over (known_bound schema m query page.bound s.known bound)))
       bound used rises same
 
   pub answer_broke : (old now : Option Content) (before later : Counts) (error : Broke) → IsSoundOverRows old schema.tables error → IfDamaged (where_told (ShowsRead schema.tables) old) error
