@@ -29,6 +29,7 @@ use Rattle.pq_index_keep.proofs.Inserting.{writable_at}
 use Rattle.pq_index_keep.proofs.Updating.{kept_values}
 use Rattle.pq_index_keep.specs.Sound.{AreWritable}
 use Rattle.pq_index_keep.specs.Tested.{touches, scope_of, with_sets}
+use Rattle.pq_index_keep.specs.declared.write.Cond.{Cond}
 use Rattle.pq_index_keep.specs.declared.write.SetCol.{SetCol}
 use Rattle.pq_index_keep.specs.declared.write.Write.{Write}
 use Rattle.pq_index_keep.specs.declared.write.Write.TheVariants as write
@@ -125,13 +126,13 @@ inserts_move t row c =
     let one = group_one c row in
     elim (t == c.table) as (λ b. move_count (cond b (moved c None (Some row)) no_move) ≤ cond b 1 0) [ true ↦ omega arith | false ↦ omega arith ]
 
-deletes_move : (t : ℕ) (key old : List Value) (c : NumberedCounter) → moves_of t (Some old) None c ≤ most_moves (write.Delete t key) c
-deletes_move t key old c =
+deletes_move : (t : ℕ) (key : List Value) (conds : List Cond) (old : List Value) (c : NumberedCounter) → moves_of t (Some old) None c ≤ most_moves (write.Delete t key conds) c
+deletes_move t key conds old c =
     let one = group_one c old in
     elim (t == c.table) as (λ b. move_count (cond b (moved c (Some old) None) no_move) ≤ cond b 1 0) [ true ↦ omega arith | false ↦ omega arith ]
 
-updates_move : (t : ℕ) (key : List Value) (sets : List SetCol) (old : List Value) (c : NumberedCounter) → moves_of t (Some old) (Some (with_sets sets old)) c ≤ most_moves (write.Update t key sets) c
-updates_move t key sets old c =
+updates_move : (t : ℕ) (key : List Value) (sets : List SetCol) (conds : List Cond) (old : List Value) (c : NumberedCounter) → moves_of t (Some old) (Some (with_sets sets old)) c ≤ most_moves (write.Update t key sets conds) c
+updates_move t key sets conds old c =
     let new = with_sets sets old in
     let leaves = group_one c old in
     let joins = group_one c new in
@@ -150,27 +151,27 @@ updates_move t key sets old c =
 pub inserts_within : (t : ℕ) (row : List Value) (cs : List NumberedCounter) → sum_by (moves_of t None (Some row)) cs ≤ all_moves cs (write.Insert t row)
 inserts_within t row cs = sum_by-le-sum_by (moves_of t None (Some row)) (most_moves (write.Insert t row)) cs (inserts_move t row)
 
-pub deletes_within : (t : ℕ) (key old : List Value) (cs : List NumberedCounter) → sum_by (moves_of t (Some old) None) cs ≤ all_moves cs (write.Delete t key)
-deletes_within t key old cs = sum_by-le-sum_by (moves_of t (Some old) None) (most_moves (write.Delete t key)) cs (deletes_move t key old)
+pub deletes_within : (t : ℕ) (key : List Value) (conds : List Cond) (old : List Value) (cs : List NumberedCounter) → sum_by (moves_of t (Some old) None) cs ≤ all_moves cs (write.Delete t key conds)
+deletes_within t key conds old cs = sum_by-le-sum_by (moves_of t (Some old) None) (most_moves (write.Delete t key conds)) cs (deletes_move t key conds old)
 
-pub updates_within : (t : ℕ) (key : List Value) (sets : List SetCol) (old : List Value) (cs : List NumberedCounter) → sum_by (moves_of t (Some old) (Some (with_sets sets old))) cs ≤ all_moves cs (write.Update t key sets)
-updates_within t key sets old cs = sum_by-le-sum_by (moves_of t (Some old) (Some (with_sets sets old))) (most_moves (write.Update t key sets)) cs (updates_move t key sets old)
+pub updates_within : (t : ℕ) (key : List Value) (sets : List SetCol) (conds : List Cond) (old : List Value) (cs : List NumberedCounter) → sum_by (moves_of t (Some old) (Some (with_sets sets old))) cs ≤ all_moves cs (write.Update t key sets conds)
+updates_within t key sets conds old cs = sum_by-le-sum_by (moves_of t (Some old) (Some (with_sets sets old))) (most_moves (write.Update t key sets conds)) cs (updates_move t key sets conds old)
 
 none_moved : (t : ℕ) (c : NumberedCounter) (n : ℕ) → moves_of t None None c ≤ n
 none_moved t c n = elim (t == c.table) as (λ b. move_count (cond b (moved c None None) no_move) ≤ n) [ true ↦ omega arith | false ↦ omega arith ]
 
-deleted_within : (t : ℕ) (key : List Value) (cs : List NumberedCounter) (o : Option (List Value)) → sum_by (moves_of t o None) cs ≤ all_moves cs (write.Delete t key)
-deleted_within t key cs None = sum_by-le-sum_by (moves_of t None None) (most_moves (write.Delete t key)) cs (λ c. none_moved t c (most_moves (write.Delete t key) c))
-deleted_within t key cs (Some old) = deletes_within t key old cs
+deleted_within : (t : ℕ) (key : List Value) (conds : List Cond) (cs : List NumberedCounter) (o : Option (List Value)) → sum_by (moves_of t o None) cs ≤ all_moves cs (write.Delete t key conds)
+deleted_within t key conds cs None = sum_by-le-sum_by (moves_of t None None) (most_moves (write.Delete t key conds)) cs (λ c. none_moved t c (most_moves (write.Delete t key conds) c))
+deleted_within t key conds cs (Some old) = deletes_within t key conds old cs
 
-updated_within : (t : ℕ) (key : List Value) (sets : List SetCol) (cs : List NumberedCounter) (o : Option (List Value)) → sum_by (moves_of t o (option_map (with_sets sets) o)) cs ≤ all_moves cs (write.Update t key sets)
-updated_within t key sets cs None = sum_by-le-sum_by (moves_of t None None) (most_moves (write.Update t key sets)) cs (λ c. none_moved t c (most_moves (write.Update t key sets) c))
-updated_within t key sets cs (Some old) = updates_within t key sets old cs
+updated_within : (t : ℕ) (key : List Value) (sets : List SetCol) (conds : List Cond) (cs : List NumberedCounter) (o : Option (List Value)) → sum_by (moves_of t o (option_map (with_sets sets) o)) cs ≤ all_moves cs (write.Update t key sets conds)
+updated_within t key sets conds cs None = sum_by-le-sum_by (moves_of t None None) (most_moves (write.Update t key sets conds)) cs (λ c. none_moved t c (most_moves (write.Update t key sets conds) c))
+updated_within t key sets conds cs (Some old) = updates_within t key sets conds old cs
 
 pub write_within : (tables : List Table) (rows : Rows) (cs : List NumberedCounter) (w : Write) → sum_by (moves_of (written_table w) (old_row tables rows w) (new_row tables rows w)) cs ≤ all_moves cs w
 write_within tables rows cs (write.Insert t row) = inserts_within t row cs
-write_within tables rows cs (write.Update t key sets) = updated_within t key sets cs (row_at tables rows t key)
-write_within tables rows cs (write.Delete t key) = deleted_within t key cs (row_at tables rows t key)
+write_within tables rows cs (write.Update t key sets conds) = updated_within t key sets conds cs (row_at tables rows t key)
+write_within tables rows cs (write.Delete t key conds) = deleted_within t key conds cs (row_at tables rows t key)
 
 -- ---- where nothing moves
 

@@ -34,8 +34,8 @@ use Rattle.pq_counters.specs.Steps.{HasSmallColumns, HasSmallCounter}
 
 pub small_columns : (tables : List Table) (w : Write) → AreWritable tables → IsWrite tables w → HasSmallColumns w
 small_columns tables (write.Insert t row) sound may = tt
-small_columns tables (write.Update t key sets) sound may = sets_small (table_at tables t) sets (writable_at tables t sound may.number).made.few_columns may.each
-small_columns tables (write.Delete t key) sound may = tt
+small_columns tables (write.Update t key sets conds) sound may = sets_small (table_at tables t) sets (writable_at tables t sound may.number).made.few_columns may.each
+small_columns tables (write.Delete t key conds) sound may = tt
 
 counter_small : (schema : Schema) (counter : Counter) → IsValid schema → IsMadeCounter schema.tables counter → All (λ col. col < 32) counter.cols
 counter_small schema counter v made k col less =
@@ -91,8 +91,8 @@ all_taken w schema count moves all is = is ∙ ap (λ (l : List Definition). all
 -- at most two for each definition
 most_few : (w : Write) (c : NumberedCounter) → most_moves w c ≤ 2
 most_few (write.Insert t row) c = elim (t == c.table) as (λ b. cond b 1 0 ≤ 2) [ true ↦ omega arith | false ↦ omega arith ]
-most_few (write.Update t key sets) c = elim ((t == c.table) && touches (scope_of sets) c.cols) as (λ b. cond b 2 0 ≤ 2) [ true ↦ omega arith | false ↦ omega arith ]
-most_few (write.Delete t key) c = elim (t == c.table) as (λ b. cond b 1 0 ≤ 2) [ true ↦ omega arith | false ↦ omega arith ]
+most_few (write.Update t key sets conds) c = elim ((t == c.table) && touches (scope_of sets) c.cols) as (λ b. cond b 2 0 ≤ 2) [ true ↦ omega arith | false ↦ omega arith ]
+most_few (write.Delete t key conds) c = elim (t == c.table) as (λ b. cond b 1 0 ≤ 2) [ true ↦ omega arith | false ↦ omega arith ]
 
 definition_few : (w : Write) (number : ℕ) (d : Definition) → all_moves (numbered_of number d) w ≤ 2
 definition_few w number (OfTable table columns made) = omega arith
@@ -119,17 +119,17 @@ moves_few schema w v = let most = from 1 schema.definitions in let few = (valid_
 
 pub few_changes : (tables : List Table) (w : Write) → AreWritable tables → IsWrite tables w → most_changes tables w ≤ 33
 few_changes tables (write.Insert t row) sound may = let few = (writable_at tables t sound may.number).made.few_indexes in omega arith
-few_changes tables (write.Update t key sets) sound may =
+few_changes tables (write.Update t key sets conds) sound may =
     let table = table_at tables t in
     let few = (writable_at tables t sound may.number).made.few_indexes in
     let some = count_by-le-length (touches_index (scope_of sets) table) table.indexes in
     omega arith
-few_changes tables (write.Delete t key) sound may = let few = (writable_at tables t sound may.number).made.few_indexes in omega arith
+few_changes tables (write.Delete t key conds) sound may = let few = (writable_at tables t sound may.number).made.few_indexes in omega arith
 
 pub some_changes : (tables : List Table) (w : Write) → 1 ≤ most_changes tables w
 some_changes tables (write.Insert t row) = omega arith
-some_changes tables (write.Update t key sets) = omega arith
-some_changes tables (write.Delete t key) = omega arith
+some_changes tables (write.Update t key sets conds) = omega arith
+some_changes tables (write.Delete t key conds) = omega arith
 
 pub more_ops : (n m : ℕ) → 1 ≤ n → write_ops n ≤ write_ops (n + m)
 more_ops n m some = grind (arith, nat_tests)
@@ -145,8 +145,8 @@ reads_few cs w =
   where
     again_few : (w : Write) → rereading w ≤ 1
     again_few (write.Insert t row) = omega arith
-    again_few (write.Update t key sets) = omega arith
-    again_few (write.Delete t key) = omega arith
+    again_few (write.Update t key sets conds) = omega arith
+    again_few (write.Delete t key conds) = omega arith
 
 -- the whole bound is as small as the one of rows and entries
 pub whole_few : (schema : Schema) (w : Write) → IsValid schema → IsWrite schema.tables w → IsFew (whole_bound schema w)

@@ -18,8 +18,8 @@ update_moves t sets counter = if (t == counter.table) && touches (scope_of sets)
 
 abbrev pub most_moves : Write → NumberedCounter → ℕ
 most_moves (write.Insert t row) counter = if t == counter.table then 1 else 0
-most_moves (write.Update t key sets) counter = update_moves t sets counter
-most_moves (write.Delete t key) counter = if t == counter.table then 1 else 0
+most_moves (write.Update t key sets conds) counter = update_moves t sets counter
+most_moves (write.Delete t key conds) counter = if t == counter.table then 1 else 0
 
 abbrev pub all_moves : List NumberedCounter → Write → ℕ
 all_moves counters write = sum_by (most_moves write) counters
@@ -27,8 +27,8 @@ all_moves counters write = sum_by (most_moves write) counters
 -- an UPDATE and a DELETE read the old row again, where a counter may lose one
 abbrev pub rereading : Write → ℕ
 rereading (write.Insert t row) = 0
-rereading (write.Update t key sets) = 1
-rereading (write.Delete t key) = 1
+rereading (write.Update t key sets conds) = 1
+rereading (write.Delete t key conds) = 1
 
 abbrev pub reread : List NumberedCounter → Write → ℕ
 reread counters write = if all_moves counters write == 0 then 0 else rereading write

@@ -1,5 +1,5 @@
 -- The steps of a plan: what is read of a group, what is changed of it, and what shows damage there.
-use Rattle.std.specs.Prelude.{◌≡◌, ◌⊎◌, ℕ, ◌+◌, ◌≤◌, ◌<◌, ◌^◌, Bool, true, not, List, ◌++◌, map, length, Option, Some, None, option_map, is_some, IfSome, All}
+use Rattle.std.specs.Prelude.{◌≡◌, ◌⊎◌, ℕ, ◌+◌, ◌≤◌, ◌<◌, ◌^◌, Bool, true, not, List, ◌++◌, map, length, Option, Some, None, option_map, is_none, is_some, if◌then◌else◌, IfSome, All}
 use Rattle.std.specs.FinMap.{get}
 use Rattle.pq_base.specs.declared.refusal.Refusal.{Refusal}
 use Rattle.pq_base.specs.declared.value.Value.{Value}
@@ -19,6 +19,10 @@ use Rattle.pq_store.specs.Content.{Content}
 use Rattle.pq_store.specs.declared.damage.Damage.{Damage}
 use Rattle.pq_index_keep.specs.declared.plan.Planned.{Planned}
 use Rattle.pq_index_keep.specs.declared.plan.Planned.TheVariants as planned
+use Rattle.pq_index_keep.specs.Effects.{held_refusal, sum_refusal}
+use Rattle.pq_index_keep.specs.Tested.{with_sets}
+use Rattle.pq_index_keep.specs.declared.write.Cond.{Cond}
+use Rattle.pq_index_keep.specs.declared.write.SetCol.{SetCol}
 use Rattle.pq_index_keep.specs.declared.write.Write.{Write}
 use Rattle.pq_index_keep.specs.declared.write.Write.TheVariants as write
 use Rattle.pq_tallies.specs.Counters.{most_count, tally, counter_key, stored_count}
@@ -32,8 +36,8 @@ use Rattle.pq_counters.specs.Evidence.{IsNoCountAt, IsAbsentAt}
 -- the columns that an UPDATE sets can be in a set of 32
 abbrev pub HasSmallColumns : Write → Type 0
 HasSmallColumns (write.Insert t row) = Unit {0}
-HasSmallColumns (write.Update t key sets) = All (λ set. set.col < 32) sets
-HasSmallColumns (write.Delete t key) = Unit {0}
+HasSmallColumns (write.Update t key sets conds) = All (λ set. set.col < 32) sets
+HasSmallColumns (write.Delete t key conds) = Unit {0}
 
 -- and so can those of a counter
 abbrev pub HasSmallCounter : Definition → Type 0
@@ -41,6 +45,15 @@ HasSmallCounter (OfTable table columns made) = Unit {0}
 HasSmallCounter (OfQuery query made) = Unit {0}
 HasSmallCounter (OfColumn table col) = Unit {0}
 HasSmallCounter (OfCounter counter) = All (λ col. col < 32) counter.cols
+
+-- the row that an UPDATE puts in the place of this one, where it is as the write says
+abbrev pub row_in_place : Table → List SetCol → List Cond → List Value → Option (List Value)
+row_in_place table sets conds old = if is_none (held_refusal table sets conds old) then Some (with_sets sets old) else None
+
+-- the row that comes in its place, where it has its sums
+pub record ComesInPlace (table : Table) (sets : List SetCol) (old new : List Value) : Type 0 where
+  pub sums : sum_refusal table sets old ≡ None
+  pub is : new ≡ with_sets sets old
 
 -- ---- how much is read and changed
 

@@ -19,12 +19,13 @@ ghost use Rattle.pq_tallies.specs.Defined.{counters_in};
 ghost use Rattle.pq_counters.specs.Bounds.{all_moves, counter_reads};
 ghost use Rattle.pq_counters.specs.Evidence.{IsStoredAt, ShowsCounted};
 ghost use Rattle.pq_counters.specs.Promises.{Counts, IsCountedWithin, RefusesAsFull};
+ghost use Rattle.pq_counters.specs.Steps.{ComesInPlace};
 
 use crate::bound::all_moves;
 use crate::steps::plan_moves;
 use pq_base::{List, Row};
 use pq_calls::Calls;
-use pq_index_keep::{Planned, SetCol, Write};
+use pq_index_keep::{Cond, Planned, SetCol, Write};
 use pq_schema::Catalog;
 use pq_store::{Allowance, Broke, Meter, Store};
 use std::alloc::Global;
@@ -66,31 +67,32 @@ fn plan_removal<S: Store<L>, L: Ledger>(
     catalog: &Catalog,
     table: u8,
     key: &Row,
+    conds: &List<Cond>,
     old: &Row,
     calls: &mut Calls<S, L>,
 ) -> Result<Planned, Broke>
     requires valid { IsValid catalog.now }
-    requires delete { IsDelete catalog.now.tables table key.now }
+    requires delete { IsDelete catalog.now.tables table key.now conds.now }
     requires fits { AllFit (types_of (table_at catalog.now.tables table)) old.now }
     requires stored { IfSome (S.content calls.old.store.now)
         (IsStoredAt (table_at catalog.now.tables table) table key.now old.now) }
     requires share { Affords calls.old.allowance.now
-        (all_moves (counters_in catalog.now) (Write.Delete table key.now))
-        (all_moves (counters_in catalog.now) (Write.Delete table key.now)) }
+        (all_moves (counters_in catalog.now) (Write.Delete table key.now conds.now))
+        (all_moves (counters_in catalog.now) (Write.Delete table key.now conds.now)) }
     ensures uses { Uses S.content S.faults calls.old calls.new
-        (all_moves (counters_in catalog.now) (Write.Delete table key.now))
-        (all_moves (counters_in catalog.now) (Write.Delete table key.now)) }
+        (all_moves (counters_in catalog.now) (Write.Delete table key.now conds.now))
+        (all_moves (counters_in catalog.now) (Write.Delete table key.now conds.now)) }
     ensures cause { IfErr result (Fails (where_told (ShowsCounted catalog.now)) S.content
         S.faults calls.old calls.new) }
     ensures answered { IfErr result (IsAnswered S.answers) }
     ensures plan { IfOk result (IsCountedWithin
-        (all_moves (counters_in catalog.now) (Write.Delete table key.now))) }
+        (all_moves (counters_in catalog.now) (Write.Delete table key.now conds.now))) }
     ensures can { IfOk result (RefusesAsFull catalog.now) }
     ensures answer { IfOk result (λ planned. (rows made : Rows) (others : List Pair)
         → HoldsCounted (S.content calls.old.store.now) catalog.now rows others
         → Some old.now ≡ row_at catalog.now.tables rows table key.now
-        → effect catalog.now.tables rows (Write.Delete table key.now) ≡ Ok made
-        → Counts catalog.now rows others (Write.Delete table key.now) made planned) }
+        → effect catalog.now.tables rows (Write.Delete table key.now conds.now) ≡ Ok made
+        → Counts catalog.now rows others (Write.Delete table key.now conds.now) made planned) }
 {
     plan_moves(alloc, catalog, table, Some(old), None, calls)
 }
@@ -101,35 +103,36 @@ fn plan_delete<S: Store<L>, L: Ledger>(
     catalog: &Catalog,
     table: u8,
     key: &Row,
+    conds: &List<Cond>,
     old: &Option<Row>,
     calls: &mut Calls<S, L>,
 ) -> Result<Planned, Broke>
     requires valid { IsValid catalog.now }
-    requires delete { IsDelete catalog.now.tables table key.now }
+    requires delete { IsDelete catalog.now.tables table key.now conds.now }
     requires read { IfSome (S.content calls.old.store.now)
-        (λ c. IsReadFor catalog.now.tables (Write.Delete table key.now) c old.now) }
-    requires fits { FitsItsTable catalog.now.tables (Write.Delete table key.now) old.now }
+        (λ c. IsReadFor catalog.now.tables (Write.Delete table key.now conds.now) c old.now) }
+    requires fits { FitsItsTable catalog.now.tables (Write.Delete table key.now conds.now) old.now }
     requires share { Affords calls.old.allowance.now
-        (all_moves (counters_in catalog.now) (Write.Delete table key.now))
-        (all_moves (counters_in catalog.now) (Write.Delete table key.now)) }
+        (all_moves (counters_in catalog.now) (Write.Delete table key.now conds.now))
+        (all_moves (counters_in catalog.now) (Write.Delete table key.now conds.now)) }
     ensures uses { Uses S.content S.faults calls.old calls.new
-        (all_moves (counters_in catalog.now) (Write.Delete table key.now))
-        (all_moves (counters_in catalog.now) (Write.Delete table key.now)) }
+        (all_moves (counters_in catalog.now) (Write.Delete table key.now conds.now))
+        (all_moves (counters_in catalog.now) (Write.Delete table key.now conds.now)) }
     ensures cause { IfErr result (Fails (where_told (ShowsCounted catalog.now)) S.content
         S.faults calls.old calls.new) }
     ensures answered { IfErr result (IsAnswered S.answers) }
     ensures plan { IfOk result (IsCountedWithin
-        (all_moves (counters_in catalog.now) (Write.Delete table key.now))) }
+        (all_moves (counters_in catalog.now) (Write.Delete table key.now conds.now))) }
     ensures can { IfOk result (RefusesAsFull catalog.now) }
     ensures answer { IfOk result (λ planned. (rows made : Rows) (others : List Pair)
         → HoldsCounted (S.content calls.old.store.now) catalog.now rows others
-        → effect catalog.now.tables rows (Write.Delete table key.now) ≡ Ok made
-        → Counts catalog.now rows others (Write.Delete table key.now) made planned) }
+        → effect catalog.now.tables rows (Write.Delete table key.now conds.now) ≡ Ok made
+        → Counts catalog.now rows others (Write.Delete table key.now conds.now) made planned) }
 {
     let Some(old) = old else {
         return Ok(Planned::Changes(List::new(alloc)));
     };
-    plan_removal(alloc, catalog, table, key, old, calls)
+    plan_removal(alloc, catalog, table, key, conds, old, calls)
 }
 
 /// The changes for a row that takes the place of another.
@@ -139,70 +142,72 @@ fn plan_change<S: Store<L>, L: Ledger>(
     table: u8,
     key: &Row,
     sets: &List<SetCol>,
+    conds: &List<Cond>,
     old: &Row,
     new: &Row,
     calls: &mut Calls<S, L>,
 ) -> Result<Planned, Broke>
     requires valid { IsValid catalog.now }
-    requires update { IsUpdate catalog.now.tables table key.now sets.now }
+    requires update { IsUpdate catalog.now.tables table key.now sets.now conds.now }
     requires fits { AllFit (types_of (table_at catalog.now.tables table)) old.now }
-    requires new { new.now ≡ with_sets sets.now old.now }
+    requires comes { ComesInPlace (table_at catalog.now.tables table) sets.now old.now new.now }
     requires stored { IfSome (S.content calls.old.store.now)
         (IsStoredAt (table_at catalog.now.tables table) table key.now old.now) }
     requires share { Affords calls.old.allowance.now
-        (all_moves (counters_in catalog.now) (Write.Update table key.now sets.now))
-        (all_moves (counters_in catalog.now) (Write.Update table key.now sets.now)) }
+        (all_moves (counters_in catalog.now) (Write.Update table key.now sets.now conds.now))
+        (all_moves (counters_in catalog.now) (Write.Update table key.now sets.now conds.now)) }
     ensures uses { Uses S.content S.faults calls.old calls.new
-        (all_moves (counters_in catalog.now) (Write.Update table key.now sets.now))
-        (all_moves (counters_in catalog.now) (Write.Update table key.now sets.now)) }
+        (all_moves (counters_in catalog.now) (Write.Update table key.now sets.now conds.now))
+        (all_moves (counters_in catalog.now) (Write.Update table key.now sets.now conds.now)) }
     ensures cause { IfErr result (Fails (where_told (ShowsCounted catalog.now)) S.content
         S.faults calls.old calls.new) }
     ensures answered { IfErr result (IsAnswered S.answers) }
     ensures plan { IfOk result (IsCountedWithin
-        (all_moves (counters_in catalog.now) (Write.Update table key.now sets.now))) }
+        (all_moves (counters_in catalog.now) (Write.Update table key.now sets.now conds.now))) }
     ensures can { IfOk result (RefusesAsFull catalog.now) }
     ensures answer { IfOk result (λ planned. (rows made : Rows) (others : List Pair)
         → HoldsCounted (S.content calls.old.store.now) catalog.now rows others
         → Some old.now ≡ row_at catalog.now.tables rows table key.now
-        → effect catalog.now.tables rows (Write.Update table key.now sets.now) ≡ Ok made
-        → Counts catalog.now rows others (Write.Update table key.now sets.now) made planned) }
+        → effect catalog.now.tables rows (Write.Update table key.now sets.now conds.now) ≡ Ok made
+        → Counts catalog.now rows others (Write.Update table key.now sets.now conds.now) made planned) }
 {
     plan_moves(alloc, catalog, table, Some(old), Some(new), calls)
 }
 
-/// The changes of an UPDATE. A row that isn't there is in no group.
+/// The changes of an UPDATE. A row that isn't there is in no group, and one that isn't as the write says stays.
 fn plan_update<S: Store<L>, L: Ledger>(
     alloc: Global,
     catalog: &Catalog,
     table: u8,
     key: &Row,
     sets: &List<SetCol>,
+    conds: &List<Cond>,
     old: &Option<Row>,
     new: &Option<Row>,
     calls: &mut Calls<S, L>,
 ) -> Result<Planned, Broke>
     requires valid { IsValid catalog.now }
-    requires update { IsUpdate catalog.now.tables table key.now sets.now }
+    requires update { IsUpdate catalog.now.tables table key.now sets.now conds.now }
     requires read { IfSome (S.content calls.old.store.now)
-        (λ c. IsReadFor catalog.now.tables (Write.Update table key.now sets.now) c old.now) }
-    requires fits { FitsItsTable catalog.now.tables (Write.Update table key.now sets.now) old.now }
-    requires new { IsNewFor (Write.Update table key.now sets.now) old.now new.now }
+        (λ c. IsReadFor catalog.now.tables (Write.Update table key.now sets.now conds.now) c old.now) }
+    requires fits { FitsItsTable catalog.now.tables (Write.Update table key.now sets.now conds.now) old.now }
+    requires new { IsNewFor catalog.now.tables (Write.Update table key.now sets.now conds.now) old.now new.now }
     requires share { Affords calls.old.allowance.now
-        (all_moves (counters_in catalog.now) (Write.Update table key.now sets.now))
-        (all_moves (counters_in catalog.now) (Write.Update table key.now sets.now)) }
+        (all_moves (counters_in catalog.now) (Write.Update table key.now sets.now conds.now))
+        (all_moves (counters_in catalog.now) (Write.Update table key.now sets.now conds.now)) }
     ensures uses { Uses S.content S.faults calls.old calls.new
-        (all_moves (counters_in catalog.now) (Write.Update table key.now sets.now))
-        (all_moves (counters_in catalog.now) (Write.Update table key.now sets.now)) }
+        (all_moves (counters_in catalog.now) (Write.Update table key.now sets.now conds.now))
+        (all_moves (counters_in catalog.now) (Write.Update table key.now sets.now conds.now)) }
     ensures cause { IfErr result (Fails (where_told (ShowsCounted catalog.now)) S.content
         S.faults calls.old calls.new) }
     ensures answered { IfErr result (IsAnswered S.answers) }
     ensures plan { IfOk result (IsCountedWithin
-        (all_moves (counters_in catalog.now) (Write.Update table key.now sets.now))) }
+        (all_moves (counters_in catalog.now) (Write.Update table key.now sets.now conds.now))) }
     ensures can { IfOk result (RefusesAsFull catalog.now) }
     ensures answer { IfOk result (λ planned. (rows made : Rows) (others : List Pair)
         → HoldsCounted (S.content calls.old.store.now) catalog.now rows others
-        → effect catalog.now.tables rows (Write.Update table key.now sets.now) ≡ Ok made
-        → Counts catalog.now rows others (Write.Update table key.now sets.now) made planned) }
+        → effect catalog.now.tables rows (Write.Update table key.now sets.now conds.now) ≡ Ok made
+        → Counts catalog.now rows others (Write.Update table key.now sets.now conds.now) made planned) }
 {
     let Some(old) = old else {
         return Ok(Planned::Changes(List::new(alloc)));
@@ -210,7 +215,7 @@ fn plan_update<S: Store<L>, L: Ledger>(
     let Some(new) = new else {
         return Ok(Planned::Changes(List::new(alloc)));
     };
-    plan_change(alloc, catalog, table, key, sets, old, new, calls)
+    plan_change(alloc, catalog, table, key, sets, conds, old, new, calls)
 }
 
 /// The changes of any write that may move a row of a counter.
@@ -226,7 +231,7 @@ pub(crate) fn plan_by<S: Store<L>, L: Ledger>(
     requires write { IsWrite catalog.now.tables write.now }
     requires read { IfSome (S.content calls.old.store.now) (λ c. IsReadFor catalog.now.tables write.now c old.now) }
     requires fits { FitsItsTable catalog.now.tables write.now old.now }
-    requires new { IsNewFor write.now old.now new.now }
+    requires new { IsNewFor catalog.now.tables write.now old.now new.now }
     requires share { Affords calls.old.allowance.now
         (all_moves (counters_in catalog.now) write.now)
         (all_moves (counters_in catalog.now) write.now) }
@@ -250,14 +255,19 @@ pub(crate) fn plan_by<S: Store<L>, L: Ledger>(
                 Ok(planned) => Ok(planned),
             }
         }
-        Write::Update { table, key, sets } => {
-            match plan_update(alloc, catalog, *table, key, sets, old, new, calls) {
+        Write::Update {
+            table,
+            key,
+            sets,
+            conds,
+        } => {
+            match plan_update(alloc, catalog, *table, key, sets, conds, old, new, calls) {
                 Err(error) => Err(error),
                 Ok(planned) => Ok(planned),
             }
         }
-        Write::Delete { table, key } => {
-            match plan_delete(alloc, catalog, *table, key, old, calls) {
+        Write::Delete { table, key, conds } => {
+            match plan_delete(alloc, catalog, *table, key, conds, old, calls) {
                 Err(error) => Err(error),
                 Ok(planned) => Ok(planned),
             }
@@ -278,7 +288,7 @@ fn plan_any<S: Store<L>, L: Ledger>(
     requires write { IsWrite catalog.now.tables write.now }
     requires read { IfSome (S.content calls.old.store.now) (λ c. IsReadFor catalog.now.tables write.now c old.now) }
     requires fits { FitsItsTable catalog.now.tables write.now old.now }
-    requires new { IsNewFor write.now old.now new.now }
+    requires new { IsNewFor catalog.now.tables write.now old.now new.now }
     requires share { Affords calls.old.allowance.now (counter_reads (counters_in catalog.now) write.now)
         (counter_reads (counters_in catalog.now) write.now) }
     ensures uses { Uses S.content S.faults calls.old calls.new (counter_reads (counters_in catalog.now) write.now)
@@ -314,7 +324,7 @@ pub(crate) fn plan_by_rows<S: Store<L>, L: Ledger>(
     requires write { IsWrite catalog.now.tables write.now }
     requires read { IfSome (S.content store.old) (λ c. IsReadFor catalog.now.tables write.now c old.now) }
     requires fits { FitsItsTable catalog.now.tables write.now old.now }
-    requires new { IsNewFor write.now old.now new.now }
+    requires new { IsNewFor catalog.now.tables write.now old.now new.now }
     requires share { Affords allowance.old (counter_reads (counters_in catalog.now) write.now)
         (counter_reads (counters_in catalog.now) write.now) }
     ensures reads { Reads (world (S.content store.old) (S.faults store.old) allowance.old meter.old)

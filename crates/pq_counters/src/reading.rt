@@ -1,5 +1,5 @@
 //! The changes of counters' pairs that belong to a write whose rows are not at hand.
-ghost use Rattle.std.specs.Prelude.{◌≡◌, ◌+◌, List, Ok, option_map, IfOk, IfErr, IfSome};
+ghost use Rattle.std.specs.Prelude.{◌≡◌, ◌≤◌, ◌<◌, ◌+◌, List, All, Ok, length, option_map, IfOk, IfErr, IfSome};
 ghost use Rattle.std.specs.FinMap.{get as value_at};
 ghost use Rattle.pq_base.specs.Values.{AllFit};
 ghost use Rattle.pq_key_code.specs.KeyCode.{row_key};
@@ -19,13 +19,14 @@ ghost use Rattle.pq_tallies.specs.Defined.{counters_in};
 ghost use Rattle.pq_counters.specs.Bounds.{rereading, all_moves, counter_reads};
 ghost use Rattle.pq_counters.specs.Evidence.{ShowsCounted};
 ghost use Rattle.pq_counters.specs.Promises.{Counts, IsCountedWithin, RefusesAsFull};
+ghost use Rattle.pq_counters.specs.Steps.{row_in_place};
 
 use crate::bound::all_moves;
 use crate::plan::plan_by;
-use pq_base::{List, Row};
+use pq_base::{List, NoMem, Row};
 use pq_calls::{Calls, StoredRow};
-use pq_index_keep::{Planned, Write, with_sets};
-use pq_schema::Catalog;
+use pq_index_keep::{Cond, Planned, SetCol, Write, held_refusal, with_sets};
+use pq_schema::{Catalog, Table};
 use pq_store::{Allowance, Broke, Meter, Store};
 use std::alloc::Global;
 use std::sync::ledger::Ledger;
@@ -57,6 +58,25 @@ fn stored_row<S: Store<L>, L: Ledger>(
     }
 }
 
+/// The row that an UPDATE puts in the place of this one; None where a condition or an ADD refuses it.
+fn row_in_place(
+    alloc: Global,
+    table: &Table,
+    sets: &List<SetCol>,
+    conds: &List<Cond>,
+    row: &Row,
+) -> Result<Option<Row>, NoMem>
+    requires few { length conds.now ≤ 16 }
+    requires columns { All (λ set. set.col < length table.now.columns) sets.now }
+    requires inside { All (λ set. set.col < length row.now) sets.now }
+    ensures { IfOk result (λ new. new ≡ row_in_place table.now sets.now conds.now row.now) }
+{
+    match held_refusal(alloc, table, sets.items(), conds.items(), row)? {
+        Some(_) => Ok(None),
+        None => Ok(Some(with_sets(alloc, row, sets.items())?)),
+    }
+}
+
 /// The old row of a write, and the row that an UPDATE puts in its place.
 #[derive(Drop)]
 struct ReadRows {
@@ -80,30 +100,33 @@ fn read_rows<S: Store<L>, L: Ledger>(
     ensures read { IfOk result (λ rows. IfSome (S.content calls.old.store.now)
         (λ c. IsReadFor catalog.now.tables write.now c rows.old)) }
     ensures fits { IfOk result (λ rows. FitsItsTable catalog.now.tables write.now rows.old) }
-    ensures new { IfOk result (λ rows. IsNewFor write.now rows.old rows.new) }
+    ensures new { IfOk result (λ rows. IsNewFor catalog.now.tables write.now rows.old rows.new) }
 {
     match write {
         Write::Insert { .. } => Ok(ReadRows {
             old: None,
             new: None,
         }),
-        Write::Update { table, key, sets } => {
-            match stored_row(alloc, catalog, *table, key, calls) {
-                Err(error) => Err(error),
-                Ok(None) => Ok(ReadRows {
-                    old: None,
-                    new: None,
-                }),
-                Ok(Some(found)) => {
-                    let new = with_sets(alloc, &found.row, sets.items())?;
-                    Ok(ReadRows {
-                        old: Some(found.row),
-                        new: Some(new),
-                    })
-                }
+        Write::Update {
+            table,
+            key,
+            sets,
+            conds,
+        } => match stored_row(alloc, catalog, *table, key, calls) {
+            Err(error) => Err(error),
+            Ok(None) => Ok(ReadRows {
+                old: None,
+                new: None,
+            }),
+            Ok(Some(found)) => {
+                let new = row_in_place(alloc, catalog.table(*table), sets, conds, &found.row)?;
+                Ok(ReadRows {
+                    old: Some(found.row),
+                    new,
+                })
             }
-        }
-        Write::Delete { table, key } => match stored_row(alloc, catalog, *table, key, calls) {
+        },
+        Write::Delete { table, key, .. } => match stored_row(alloc, catalog, *table, key, calls) {
             Err(error) => Err(error),
             Ok(None) => Ok(ReadRows {
                 old: None,

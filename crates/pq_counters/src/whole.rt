@@ -50,7 +50,7 @@ fn plan_more<S: Store<L>, L: Ledger>(
     requires planned { ArePlanned (most_changes catalog.now.tables write.now) changes }
     requires read { IfSome (S.content store.old) (λ c. IsReadFor catalog.now.tables write.now c old.now) }
     requires fits { FitsItsTable catalog.now.tables write.now old.now }
-    requires new { IsNewFor write.now old.now new.now }
+    requires new { IsNewFor catalog.now.tables write.now old.now new.now }
     requires share { Affords allowance.old (counter_reads (counters_in catalog.now) write.now)
         (counter_reads (counters_in catalog.now) write.now) }
     ensures reads { Reads (world (S.content store.old) (S.faults store.old) allowance.old meter.old)

@@ -7,6 +7,7 @@ use Rattle.std.proofs.lemmas.Bool.{leb-false}
 use Rattle.pq_base.specs.declared.refusal.Refusal.{Refusal}
 use Rattle.pq_base.specs.declared.value.Value.{Value}
 use Rattle.pq_base.specs.Values.{has_null}
+use Rattle.pq_base.specs.Answers.{or_else}
 use Rattle.pq_schema.specs.Definitions.{or_ok}
 use Rattle.pq_schema.specs.declared.table.Table.{Table}
 use Rattle.pq_schema.specs.Tables.{table_at}
@@ -18,9 +19,10 @@ use Rattle.pq_content.proofs.Updates.{update_row}
 use Rattle.pq_content.proofs.Values.{same_from_test}
 use Rattle.pq_content.proofs.Writes.{insert_row}
 use Rattle.pq_store.specs.Content.{Content, written_content}
-use Rattle.pq_index_keep.specs.Effects.{effect, changes_of, updated_rows, update_of, deleted_rows, removal_of, insert_refusal, update_refusal, child_refusal}
+use Rattle.pq_index_keep.specs.Effects.{effect, changes_of, updated_rows, update_of, deleted_rows, removal_of, insert_refusal, update_refusal, child_refusal, condition_refusal, held_refusal}
 use Rattle.pq_index_keep.specs.Sound.{IsWrite, IsUpdate}
 use Rattle.pq_index_keep.specs.Tested.{with_sets, scope_of}
+use Rattle.pq_index_keep.specs.declared.write.Cond.{Cond}
 use Rattle.pq_index_keep.specs.declared.write.SetCol.{SetCol}
 use Rattle.pq_index_keep.specs.declared.write.Write.{Write}
 use Rattle.pq_index_keep.specs.declared.write.Write.TheVariants as write
@@ -39,47 +41,47 @@ ok_is None rows made h = cc
 ok_is (Some refusal) rows made h = absurd (cc)
 
 module _ (tables : List Table) (rows made : Rows) (t : ℕ) (key : List Value) where
-  updated : (sets : List SetCol) (o : Option (List Value)) → row_at tables rows t key ≡ o → updated_rows tables rows t key sets o ≡ Ok made → Written tables rows t o (option_map (with_sets sets) o) made
-  updated sets None found is = absurd (cc)
-  updated sets (Some old) found is = subst (Written tables rows t (Some old) (Some (with_sets sets old))) (ok_is (update_refusal tables rows (scope_of sets) t old (with_sets sets old)) ((t, with_sets sets old) ∷ rows_without tables t key rows) made is) (turns key old (with_sets sets old) found)
+  updated : (sets : List SetCol) (conds : List Cond) (o : Option (List Value)) → row_at tables rows t key ≡ o → updated_rows tables rows t key sets conds o ≡ Ok made → Written tables rows t o (option_map (with_sets sets) o) made
+  updated sets conds None found is = absurd (cc)
+  updated sets conds (Some old) found is = subst (Written tables rows t (Some old) (Some (with_sets sets old))) (ok_is (or_else (held_refusal (table_at tables t) sets conds old) (update_refusal tables rows (scope_of sets) t old (with_sets sets old))) ((t, with_sets sets old) ∷ rows_without tables t key rows) made is) (turns key old (with_sets sets old) found)
 
-  deleted : (o : Option (List Value)) → row_at tables rows t key ≡ o → deleted_rows tables rows t key o ≡ Ok made → Written tables rows t o None made
-  deleted None found is = absurd (cc)
-  deleted (Some old) found is = subst (Written tables rows t (Some old) None) (ok_is (child_refusal rows t key 1 tables) (rows_without tables t key rows) made is) (goes key old found)
+  deleted : (conds : List Cond) (o : Option (List Value)) → row_at tables rows t key ≡ o → deleted_rows tables rows t key conds o ≡ Ok made → Written tables rows t o None made
+  deleted conds None found is = absurd (cc)
+  deleted conds (Some old) found is = subst (Written tables rows t (Some old) None) (ok_is (or_else (condition_refusal (table_at tables t) conds old) (child_refusal rows t key 1 tables)) (rows_without tables t key rows) made is) (goes key old found)
 
 pub effect_written : (tables : List Table) (rows made : Rows) (w : Write) → effect tables rows w ≡ Ok made → Written tables rows (written_table w) (old_row tables rows w) (new_row tables rows w) made
 unfolding effect
 effect_written tables rows made (write.Insert t row) is = subst (Written tables rows t None (Some row)) (ok_is (insert_refusal tables rows t row) ((t, row) ∷ rows) made is) (comes row)
-effect_written tables rows made (write.Update t key sets) is = updated tables rows made t key sets (row_at tables rows t key) refl is
-effect_written tables rows made (write.Delete t key) is = deleted tables rows made t key (row_at tables rows t key) refl is
+effect_written tables rows made (write.Update t key sets conds) is = updated tables rows made t key sets conds (row_at tables rows t key) refl is
+effect_written tables rows made (write.Delete t key conds) is = deleted tables rows made t key conds (row_at tables rows t key) refl is
 
 -- ---- the rows' pairs
 
 module _ (tables : List Table) (rows made : Rows) (others : List Pair) (keeps : Keeps tables rows) (beside : AreBeside others) (t : ℕ) (key : List Value) where
-  pairs_updated : (sets : List SetCol) → IsUpdate tables t key sets → (o : Option (List Value)) → row_at tables rows t key ≡ o → updated_rows tables rows t key sets o ≡ Ok made → changed_content (update_of (table_at tables t) t sets o) (content_pairs tables rows others) ≡ content_pairs tables made others
-  pairs_updated sets w None found is = absurd (cc)
-  pairs_updated sets w (Some old) found is =
+  pairs_updated : (sets : List SetCol) (conds : List Cond) → IsUpdate tables t key sets conds → (o : Option (List Value)) → row_at tables rows t key ≡ o → updated_rows tables rows t key sets conds o ≡ Ok made → changed_content (update_of (table_at tables t) t sets o) (content_pairs tables rows others) ≡ content_pairs tables made others
+  pairs_updated sets conds w None found is = absurd (cc)
+  pairs_updated sets conds w (Some old) found is =
       let table = table_at tables t in
       let new = with_sets sets old in
       let own : key_of table old ≡ key = (row_found tables rows t key old keeps found).key_is in
       let here : row_at tables rows t (key_of table old) ≡ Some old = ap (row_at tables rows t) own ∙ found in
       update_row tables rows others t old new keeps beside here (sym (kept_key table sets old w.each))
       ∙ ap (λ (k : List Value). content_pairs tables ((t, new) ∷ rows_without tables t k rows) others) own
-      ∙ ap (λ (l : Rows). content_pairs tables l others) (ok_is (update_refusal tables rows (scope_of sets) t old new) ((t, new) ∷ rows_without tables t key rows) made is)
+      ∙ ap (λ (l : Rows). content_pairs tables l others) (ok_is (or_else (held_refusal table sets conds old) (update_refusal tables rows (scope_of sets) t old new)) ((t, new) ∷ rows_without tables t key rows) made is)
 
-  pairs_deleted : (o : Option (List Value)) → row_at tables rows t key ≡ o → deleted_rows tables rows t key o ≡ Ok made → changed_content (removal_of (table_at tables t) t o) (content_pairs tables rows others) ≡ content_pairs tables made others
-  pairs_deleted None found is = absurd (cc)
-  pairs_deleted (Some old) found is =
+  pairs_deleted : (conds : List Cond) (o : Option (List Value)) → row_at tables rows t key ≡ o → deleted_rows tables rows t key conds o ≡ Ok made → changed_content (removal_of (table_at tables t) t o) (content_pairs tables rows others) ≡ content_pairs tables made others
+  pairs_deleted conds None found is = absurd (cc)
+  pairs_deleted conds (Some old) found is =
       delete_row tables rows others t key old keeps beside found
-      ∙ ap (λ (l : Rows). content_pairs tables l others) (ok_is (child_refusal rows t key 1 tables) (rows_without tables t key rows) made is)
+      ∙ ap (λ (l : Rows). content_pairs tables l others) (ok_is (or_else (condition_refusal (table_at tables t) conds old) (child_refusal rows t key 1 tables)) (rows_without tables t key rows) made is)
 
 pub pairs_changed : (tables : List Table) (rows made : Rows) (others : List Pair) (w : Write) → Keeps tables rows → AreBeside others → IsWrite tables w → effect tables rows w ≡ Ok made → changed_content (changes_of tables rows w) (content_pairs tables rows others) ≡ content_pairs tables made others
 unfolding effect changes_of
 pairs_changed tables rows made others (write.Insert t row) keeps beside may is =
     insert_row tables rows others t row
     ∙ ap (λ (l : Rows). content_pairs tables l others) (ok_is (insert_refusal tables rows t row) ((t, row) ∷ rows) made is)
-pairs_changed tables rows made others (write.Update t key sets) keeps beside may is = pairs_updated tables rows made others keeps beside t key sets may (row_at tables rows t key) refl is
-pairs_changed tables rows made others (write.Delete t key) keeps beside may is = pairs_deleted tables rows made others keeps beside t key (row_at tables rows t key) refl is
+pairs_changed tables rows made others (write.Update t key sets conds) keeps beside may is = pairs_updated tables rows made others keeps beside t key sets conds may (row_at tables rows t key) refl is
+pairs_changed tables rows made others (write.Delete t key conds) keeps beside may is = pairs_deleted tables rows made others keeps beside t key conds (row_at tables rows t key) refl is
 
 pub changed-append : (xs ys : List Change) (content : Content) → changed_content (xs ++ ys) content ≡ changed_content ys (changed_content xs content)
 changed-append [] ys content = refl

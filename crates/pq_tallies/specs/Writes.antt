@@ -17,20 +17,20 @@ use Rattle.pq_tallies.specs.Moves.{moves_changes, first_full}
 
 abbrev pub written_table : Write → ℕ
 written_table (write.Insert t row) = t
-written_table (write.Update t key sets) = t
-written_table (write.Delete t key) = t
+written_table (write.Update t key sets conds) = t
+written_table (write.Delete t key conds) = t
 
 -- the row that goes
 abbrev pub old_row : List Table → Rows → Write → Option (List Value)
 old_row tables rows (write.Insert t row) = None
-old_row tables rows (write.Update t key sets) = row_at tables rows t key
-old_row tables rows (write.Delete t key) = row_at tables rows t key
+old_row tables rows (write.Update t key sets conds) = row_at tables rows t key
+old_row tables rows (write.Delete t key conds) = row_at tables rows t key
 
 -- the row that comes
 abbrev pub new_row : List Table → Rows → Write → Option (List Value)
 new_row tables rows (write.Insert t row) = Some row
-new_row tables rows (write.Update t key sets) = option_map (with_sets sets) (row_at tables rows t key)
-new_row tables rows (write.Delete t key) = None
+new_row tables rows (write.Update t key sets conds) = option_map (with_sets sets) (row_at tables rows t key)
+new_row tables rows (write.Delete t key conds) = None
 
 -- the changes of the counters' pairs that a write makes
 unfoldable pub counter_changes : Schema → Rows → Write → List Change

@@ -9,7 +9,7 @@ returns-in_default-clause-answer g c = λ rows made others s is.
     let schema = c.args.catalog.now in
     let told = g.S.Store.content c.args.calls.now.store.now in
     let none = found_row told schema rows others c.args.table c.args.key.now c.requires.valid c.requires.delete.number (kinds_from_fit _ _ c.requires.delete.fits) s None (rw (c.in_default.is) at c.requires.read) in
-    absurd (no_delete schema.tables rows made c.args.table c.args.key.now none is)
+    absurd (no_delete schema.tables rows made c.args.table c.args.key.now c.args.conds.now none is)
 
 pub returns-clause-answer : goal.returns-clause-answer
 returns-clause-answer g c =

@@ -12,10 +12,10 @@ pub plan_moves-requires-clause-rows : goal.plan_moves-requires-clause-rows
 plan_moves-requires-clause-rows g c = record { goes = c.requires.fits; comes = tt }
 
 pub plan_moves-requires-clause-share : goal.plan_moves-requires-clause-share
-plan_moves-requires-clause-share g c = affords_less _ _ _ (deletes_within c.args.table c.args.key.now c.args.old.now (counters_in c.args.catalog.now)) c.requires.share
+plan_moves-requires-clause-share g c = affords_less _ _ _ (deletes_within c.args.table c.args.key.now c.args.conds.now c.args.old.now (counters_in c.args.catalog.now)) c.requires.share
 
 pub returns-clause-uses : goal.returns-clause-uses
-returns-clause-uses g c = uses_more g.S.Store.content g.S.Store.faults _ _ _ _ (deletes_within c.args.table c.args.key.now c.args.old.now (counters_in c.args.catalog.now)) c.plan_moves.ensures.uses
+returns-clause-uses g c = uses_more g.S.Store.content g.S.Store.faults _ _ _ _ (deletes_within c.args.table c.args.key.now c.args.conds.now c.args.old.now (counters_in c.args.catalog.now)) c.plan_moves.ensures.uses
 
 pub returns-clause-cause : goal.returns-clause-cause
 returns-clause-cause g c =
@@ -25,9 +25,9 @@ returns-clause-cause g c =
     c.plan_moves.ensures.cause
 
 pub returns-clause-plan : goal.returns-clause-plan
-returns-clause-plan g c = counted_more _ _ (deletes_within c.args.table c.args.key.now c.args.old.now (counters_in c.args.catalog.now)) c.plan_moves.result c.plan_moves.ensures.plan
+returns-clause-plan g c = counted_more _ _ (deletes_within c.args.table c.args.key.now c.args.conds.now c.args.old.now (counters_in c.args.catalog.now)) c.plan_moves.result c.plan_moves.ensures.plan
 
 pub returns-clause-answer : goal.returns-clause-answer
 returns-clause-answer g c =
     IfOk-weaker c.plan_moves.result _ _ (λ planned made rows after others s found is. made rows after others s (sym found) refl is)
-    (planned (g.S.Store.content c.args.calls.now.store.now) c.args.catalog.now (Delete c.args.table c.args.key.now) (Some c.args.old.now) None c.plan_moves.result c.requires.valid c.requires.delete (record { goes = c.requires.fits; comes = tt }) c.plan_moves.ensures.answer)
+    (planned (g.S.Store.content c.args.calls.now.store.now) c.args.catalog.now (Delete c.args.table c.args.key.now c.args.conds.now) (Some c.args.old.now) None c.plan_moves.result c.requires.valid c.requires.delete (record { goes = c.requires.fits; comes = tt }) c.plan_moves.ensures.answer)

@@ -8,17 +8,17 @@ use Rattle.pq_counters.proofs.reading.read_rows.Goals as goal
 pub stored_row-requires-clause-kinds : goal.stored_row-requires-clause-kinds
 stored_row-requires-clause-kinds g c =
     let tables = c.args.catalog.now.tables in
-    let may : IsUpdate tables c.in-Update.table c.in-Update.key c.in-Update.sets = subst (IsWrite tables) c.in-Update.is c.requires.write in
+    let may : IsUpdate tables c.in-Update.table c.in-Update.key c.in-Update.sets c.in-Update.conds = subst (IsWrite tables) c.in-Update.is c.requires.write in
     kinds_from_fit _ _ may.fits
 
 pub with_sets-requires : goal.with_sets-requires
 with_sets-requires g c =
     let tables = c.args.catalog.now.tables in
-    let may : IsUpdate tables c.in-Update.table c.in-Update.key c.in-Update.sets = subst (IsWrite tables) c.in-Update.is c.requires.write in
+    let may : IsUpdate tables c.in-Update.table c.in-Update.key c.in-Update.sets c.in-Update.conds = subst (IsWrite tables) c.in-Update.is c.requires.write in
     rw c.items.ensures (sets_inside (table_at tables c.in-Update.table) c.in-Update.sets c.in-Ok-Some.found.row may.each (rw (c.in-Ok-Some.field-0-is) at c.in-Ok-Some.ensures.fits))
 
 pub stored_row-requires-in-Delete-clause-kinds : goal.stored_row-requires-in-Delete-clause-kinds
 stored_row-requires-in-Delete-clause-kinds g c =
     let tables = c.args.catalog.now.tables in
-    let may : IsDelete tables c.in-Delete.table c.in-Delete.key = subst (IsWrite tables) c.in-Delete.is c.requires.write in
+    let may : IsDelete tables c.in-Delete.table c.in-Delete.key c.in-Delete.conds = subst (IsWrite tables) c.in-Delete.is c.requires.write in
     kinds_from_fit _ _ may.fits
