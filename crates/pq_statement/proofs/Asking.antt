@@ -80,4 +80,4 @@ module _ (schema : Schema) (text : List ℕ) (tokens : List Token) (from : ℕ) 
 module _ (schema : Schema) (text : List ℕ) (tokens : List Token) where
   pub selects : (computed : PlannedQuery) → IsPlanned schema explained_name (selected_from schema text tokens) computed → IsOnce computed
       → IsComputed schema.tables computed × IsOnce computed × IsPlannedAs Selects (action_from Selects (selected_from schema text tokens)) computed
-  selects computed is once = (is.computed_is, (once, record { plan = is.plan; plan_is = is.plan_is; asks = ap (action_from Selects) is.is }))
+  selects computed is once = (is.computed_is, once, record { plan = is.plan; plan_is = is.plan_is; asks = ap (action_from Selects) is.is })

@@ -108,8 +108,8 @@ module _ (number : ℕ) (query : Query) (schema : Schema) (action : Action) (rep
       (within_step number action old schema most before later tells.bound_is (within_rows before later rises)) (read_shown old error shows)
 
 -- over the schema that is known the bound is that of the model
-known_bound : (schema : Schema) (m : Model) (query : Query) (most : Bound) → schema ≡ m.schema → most ≡ query_bound schema.tables query → most ≡ query_bound m.schema.tables query
-known_bound schema m query most known is = is ∙ ap (λ (x : Schema). query_bound x.tables query) known
+known_bound : (schema : Schema) (m : Model) (query : Query) (told : Bound) → schema ≡ m.schema → told ≡ query_bound schema.tables query → told ≡ query_bound m.schema.tables query
+known_bound schema m query told known is = is ∙ ap (λ (x : Schema). query_bound x.tables query) known
 
 -- ---- the page of a query
 

@@ -15,4 +15,4 @@ check_once-requires c = (subst (λ (r : Request). Asks c.args.planned r c.requir
 pub returns-in-Select : goal.returns-in-Select
 returns-in-Select c asked asks =
     let a = subst (λ (r : Request). Asks c.args.planned r asked) c.in-Select.is asks in
-    c.check_once.ensures asked a.1.1
+    c.check_once.ensures asked a.2

@@ -97,9 +97,9 @@ pub select_query-requires-clause-computed : goal.select_query-requires-clause-co
 select_query-requires-clause-computed g c = (subst (λ (r : Request). Asks c.args.planned r c.requires.0) c.in-Select.is c.requires.1).0
 
 pub select_query-requires-clause-once : goal.select_query-requires-clause-once
-select_query-requires-clause-once g c = (subst (λ (r : Request). Asks c.args.planned r c.requires.0) c.in-Select.is c.requires.1).1.0
+select_query-requires-clause-once g c = (subst (λ (r : Request). Asks c.args.planned r c.requires.0) c.in-Select.is c.requires.1).1
 
 pub returns-in-Select-clause-step : goal.returns-in-Select-clause-step
 returns-in-Select-clause-step g c asked asks =
     let a = subst (λ (r : Request). Asks c.args.planned r asked) c.in-Select.is asks in
-    c.select_query.ensures.step asked a.1.1
+    c.select_query.ensures.step asked a.2
