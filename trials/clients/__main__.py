@@ -11,7 +11,7 @@ Two clients write once each, at one key and at two keys of one group, over a tab
 foreign key, for all nine pairs of INSERT, UPDATE and DELETE; one writes beside another that writes the row which it
 names; and two make two INSERTs each without an index. Each schedule of these is a path over the moments of its case,
 and each step between two moments is checked once. The drawn schedules have three clients with three writes each over
-three tables, with NULL, and a call that fails, done or not done.
+three tables, with NULL, conditions and ADD, and a call that fails, done or not done.
 
 Behind each step: each present row has its key and its entries, no other entry is there but at a key that a client
 holds, no group of present rows is above its limit, and the present rows are those before it or what the put made of

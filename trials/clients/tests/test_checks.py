@@ -12,7 +12,7 @@ from drawn import BELOW, Chance  # noqa: E402
 from moments import Moment, behind, check_end, first_moment  # noqa: E402
 from pairs import Breach, Content, entry_key, held_value, key_code, read_key, read_row, row_code, row_key  # noqa: E402
 from player import Call, Case, Step  # noqa: E402
-from tables import Table  # noqa: E402
+from tables import Cond, Table, Write  # noqa: E402
 
 NULLABLE = Table("n", 1, ("id", "v", "w"), nullable=(1, 2))
 FREE = {b"\x05": b"\x05"}
@@ -54,6 +54,17 @@ class Tables(unittest.TestCase):
     def test_calls_are_counted_as_in_the_model(self) -> None:
         writes = insert(GROUPED, (1, 2, 3)), update(GROUPED, 1, g=2), update(GROUPED, 1, v=2)
         self.assertEqual([write.most_calls(TABLES) for write in writes], [8, 9, 4])
+
+    def test_conditions_and_sums_are_tested_on_the_row_that_is_there(self) -> None:
+        write = Write("UPDATE", GROUPED, (1,), ((1, 7),), ((2, 5),), (Cond(1, ">=", 2), Cond(2)))
+        self.assertEqual(write.text(), "UPDATE t SET g = 7, v ADD 5 WHERE id = 1 IF g >= 2 AND v IS NULL;")
+        self.assertEqual(write.refused_at_read(None), "E504 t")
+        for row, told in (((1, 1, None), "E511 t 1"), ((1, None, None), "E511 t 1"), ((1, 2, 3), "E511 t 2")):
+            self.assertEqual(write.refused_at_read(row), told)
+        self.assertEqual(write.refused_at_read((1, 2, None)), "E514 t v")
+        more = replace(write, adds=((2, 2**63 - 1),), conds=())
+        self.assertEqual([more.refused_at_read((1, 2, v)) for v in (0, 1, None)], [None, "E514 t v", "E514 t v"])
+        self.assertEqual(replace(write, conds=()).new_row((1, 2, 3)), (1, 7, 8))
 
     def test_cases_have_names_of_their_own(self) -> None:
         names = [case.name for case in cases()]
