@@ -47,6 +47,8 @@ const KEY_5: &[u8] = b"\x02\x01\x10\x80\0\0\0\0\0\0\x05";
 
 pub(crate) const ROW_1_7: KeyValue = (KEY_1, b"\x02\0\0\0\0\0\0\0\x01\0\0\0\0\0\0\0\x07");
 
+pub(crate) const ROW_1_9: KeyValue = (KEY_1, b"\x02\0\0\0\0\0\0\0\x01\0\0\0\0\0\0\0\x09");
+
 pub(crate) const ROW_2_2: KeyValue = (KEY_2, b"\x02\0\0\0\0\0\0\0\x02\0\0\0\0\0\0\0\x02");
 
 pub(crate) const ROW_2_7: KeyValue = (KEY_2, b"\x02\0\0\0\0\0\0\0\x02\0\0\0\0\0\0\0\x07");

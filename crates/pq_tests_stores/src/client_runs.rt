@@ -2,7 +2,7 @@
 //!
 //! The opening takes two calls of the store and a CREATE TABLE one. Then the clients take one each in turn.
 use crate::client_pairs::{
-    DEFINED_G, DEFINED_K, DEFINED_M, DEFINED_T, HELD_1, HELD_1_7, HELD_2, ROW_1_7, ROW_2_2,
+    DEFINED_G, DEFINED_K, DEFINED_M, DEFINED_T, HELD_1, HELD_1_7, HELD_2, ROW_1_7, ROW_1_9, ROW_2_2,
     ROW_2_7, Texts,
 };
 use pq_shell::Status;
@@ -216,6 +216,34 @@ told 2 2 done
     )],
 };
 
+// Of two writes on one condition one is made: the other's take comes too late, and the next one reads the new row. A
+// sum of more than 64 bits is refused at the read too, and a SELECT behind the first write is skipped.
+const ON_CONDITIONS: Runs = Runs {
+    words: "clients 2",
+    before: &[DEFINED_M, ROW_1_7],
+    script: b"UPDATE m SET v = 8 WHERE id = 1 IF v = 7;
+UPDATE m SET v = 9 WHERE id = 1 IF v = 7;
+SELECT m.v FROM m WHERE m.id = 1;
+UPDATE m SET v ADD 1 WHERE id = 1 IF v = 8;
+UPDATE m SET v = 6 WHERE id = 1 IF v = 7;
+DELETE FROM m WHERE id = 2 IF v = 1;
+UPDATE m SET v ADD 9223372036854775807 WHERE id = 1;
+",
+    ends: &[(
+        &[],
+        Status::SomeRefused,
+        b"3 skipped
+told 2 1 conflict
+told 1 1 done
+told 2 2 refused E511 m 1
+told 2 3 refused E514 m v
+told 1 2 done
+told 1 3 refused E504 m
+",
+        &[DEFINED_M, ROW_1_9],
+    )],
+};
+
 const GROUPED: &[u8] = b"CREATE TABLE g (a INT, b INT, PRIMARY KEY (a, b), CARDINALITY LIMIT 1 (a));
 INSERT INTO g VALUES (1, 1);
 INSERT INTO g VALUES (1, 2);
@@ -315,6 +343,6 @@ READ k (7);
 };
 
 /// Runs over a new store.
-pub(crate) const RUNS: [Runs; 7] = [
-    ONE_KEY, SKIPPED, IN_TURN, FULL, FULL_ALONE, REFUSED, COUNTED,
+pub(crate) const RUNS: [Runs; 8] = [
+    ONE_KEY, SKIPPED, IN_TURN, ON_CONDITIONS, FULL, FULL_ALONE, REFUSED, COUNTED,
 ];
