@@ -17,10 +17,11 @@ use Rattle.pq_clients.specs.declared.outcome.Outcome.{Outcome}
 use Rattle.pq_clients.specs.declared.outcome.Outcome.TheVariants as outcome
 use Rattle.pq_clients.specs.declared.outcome.Step.TheVariants as step
 use Rattle.pq_clients.specs.Held.{decoded_row, Cell, Free, Held, cell_of, present_row, held_value}
-use Rattle.pq_clients.specs.Flights.{row_made, table_of, pair_key, Flight, Check, Parent, Child, flight_table, flight_key, new_code, fresh_entries, stale_entries, flight_checks, flight_tests, check_refusal, test_refusal, tested_front, tested_limit}
+use Rattle.pq_clients.specs.Flights.{row_made, table_of, pair_key, Flight, Check, Parent, Child, flight_table, flight_key, new_code, fresh_entries, stale_entries, flight_checks, flight_tests, check_refusal, test_refusal, tested_front, tested_limit, row_refusal}
 use Rattle.pq_clients.specs.Clients.{Stage, Checking, Adding, Testing, Putting, Clearing, Freeing, Undoing, Releasing, Next, Reading, Taking, Looking, Flying, View, write_at, is_over}
 use Rattle.pq_clients.specs.Steps.{counted, is_just, taking_short, after_row, after_code, after_cell, after_read, read_on, is_held_by_other, Then, On, Puts, Ends, testing, adding, checking, clearing, undoing, passes, has_room, refused, damaged, if_own, flown, gone_on, is_fault, after_call, told_view, Fate, Answers, NotDone, DoneUnseen, NoMemory, met, stepped}
 use Rattle.pq_clients.specs.Promises.{WillTell, ShowsRefusal}
+use Rattle.pq_clients.proofs.Granting.{refused_or}
 
 module _ (tables : List Table) where
   -- ---- a step turns to a refusal only where its call shows it
@@ -148,11 +149,11 @@ module _ (tables : List Table) where
   unfolding flies
   row_lands (write.Insert t new) read None = refl
   row_lands (write.Insert t new) read (Some old) = refl
-  row_lands (write.Update t key sets) read None = refl
-  row_lands (write.Update t key sets) read (Some old) =
-      short_lands (record { write = write.Update t key sets; read = read }) (row_made (write.Update t key sets) (Some old))
-  row_lands (write.Delete t key) read None = refl
-  row_lands (write.Delete t key) read (Some old) = refl
+  row_lands (write.Update t key sets conds) read None = refl
+  row_lands (write.Update t key sets conds) read (Some old) =
+      refused_or (λ t. flies t ≡ false) _ _ (λ why is. refl) (λ none. short_lands (record { write = write.Update t key sets conds; read = read }) (row_made (write.Update t key sets conds) (Some old)))
+  row_lands (write.Delete t key conds) read None = refl
+  row_lands (write.Delete t key conds) read (Some old) = refused_or (λ t. flies t ≡ false) (row_refusal tables (write.Delete t key conds) old) (On (Taking (record { write = write.Delete t key conds; read = read }))) (λ why is. refl) (λ none. refl)
 
   code_lands : (w : Write) (code : List ℕ) (row : Option (List Value)) → flies (after_code tables w code row) ≡ false
   unfolding flies

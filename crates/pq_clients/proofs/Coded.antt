@@ -1,6 +1,6 @@
 -- A write at hand by the codes of its rows.
 use Rattle.std.proofs.Common.{◌≡◌, ℕ, zero, suc, ◌+◌, ◌≤◌, ◌<◌, ◌==◌, nat_lt, Bool, true, false, cond, not, ◌&&◌, ◌⊎◌, inl, inr, List, [], ◌∷◌, length, Option, Some, None, refl, sym, ap, ◌∙◌, subst, arith}
-use Rattle.std.specs.Prelude.{option_map, option_and_then, slice_index_or}
+use Rattle.std.specs.Prelude.{option_map, option_and_then, slice_index_or, IfSome}
 use Rattle.std.proofs.lemmas.Bool.{false≢true, eqb-true, eq-eqb}
 use Rattle.std.proofs.lemmas.Bool.Decides.{nat_tests}
 use Rattle.pq_base.specs.declared.value.Value.{Value}
@@ -20,11 +20,12 @@ use Rattle.pq_index_keep.specs.Sound.{AreWritable, IsWrite}
 use Rattle.pq_index_keep.specs.Tested.{touches, scope_of, with_sets}
 use Rattle.pq_index_keep.proofs.Updating.{fit_sets, kept_values, kept_key}
 use Rattle.pq_clients.specs.Held.{decoded_row}
-use Rattle.pq_clients.specs.Flights.{Flight, table_number, table_of, pair_key, row_made, flight_table, flight_key, old_row, new_row, new_code, entry_keys, keys_of_row, old_entries, new_entries, has_entry, fresh_entries, stale_entries, gives, is_tested, limit_tests, tests_of, flight_tests, group_front, front_of, tested_front, tested_limit}
+use Rattle.pq_clients.specs.Flights.{Flight, table_number, table_of, pair_key, row_made, flight_table, flight_key, old_row, new_row, new_code, entry_keys, keys_of_row, old_entries, new_entries, has_entry, fresh_entries, stale_entries, gives, is_tested, limit_tests, tests_of, flight_tests, group_front, front_of, tested_front, tested_limit, IsGranted, row_refusal}
 use Rattle.pq_clients.specs.Invariant.{key_table, code_row, has_code_entry, IsRowAt, MayStandAt, Names, Group, is_limit, shares, row_in_group, in_group, group_bound, front_of_group, is_old, is_new, has_place, FlightFits}
 use Rattle.pq_clients.proofs.Basics.{or_first, or_second, and_of, shared_of, has-left_out}
 use Rattle.pq_clients.proofs.Cells.{row_decodes}
 use Rattle.pq_row_keys.specs.Groups.{group_key}
+use Rattle.pq_clients.proofs.Granting.{granted_sums}
 
 module _ (tables : List Table) where
   pub key_space : (w : Write) → is_in_space 2 (pair_key tables w) ≡ true
@@ -37,8 +38,8 @@ module _ (tables : List Table) where
 
   pub write_number : (w : Write) → IsWrite tables w → IsTableNumber tables (table_number w)
   write_number (write.Insert t row) h = h.number
-  write_number (write.Update t key sets) h = h.number
-  write_number (write.Delete t key) h = h.number
+  write_number (write.Update t key sets conds) h = h.number
+  write_number (write.Delete t key conds) h = h.number
 
   -- ---- the row of a code at its key
 
@@ -107,20 +108,21 @@ module _ (tables : List Table) where
 
   -- what the write makes of it fits and has its key
   made_fits : (w : Write) → IsWrite tables w → (old : Option (List Value)) → ((row : List Value) → old ≡ Some row → AllFit (types_of (table_of tables w)) row × (row_key (table_number w) (key_of (table_of tables w) row) ≡ pair_key tables w))
+      → IfSome old (λ row. row_refusal tables w row ≡ None)
       → (row : List Value) → row_made w old ≡ Some row → AllFit (types_of (table_of tables w)) row × (row_key (table_number w) (key_of (table_of tables w) row) ≡ pair_key tables w)
   unfolding pair_key
-  made_fits (write.Insert t new) h old olds row is = let same : new ≡ row = cc in subst (λ (row : List Value). AllFit (types_of (table_at tables t)) row × (row_key t (key_of (table_at tables t) row) ≡ row_key t (key_of (table_at tables t) new))) same (h.fits, refl)
-  made_fits (write.Update t key sets) h None olds row is = absurd (cc)
-  made_fits (write.Update t key sets) h (Some old) olds row is =
+  made_fits (write.Insert t new) h old olds granted row is = let same : new ≡ row = cc in subst (λ (row : List Value). AllFit (types_of (table_at tables t)) row × (row_key t (key_of (table_at tables t) row) ≡ row_key t (key_of (table_at tables t) new))) same (h.fits, refl)
+  made_fits (write.Update t key sets conds) h None olds granted row is = absurd (cc)
+  made_fits (write.Update t key sets conds) h (Some old) olds granted row is =
       let same : with_sets sets old ≡ row = cc in
       let before = olds old refl in
       subst (λ (row : List Value). AllFit (types_of (table_at tables t)) row × (row_key t (key_of (table_at tables t) row) ≡ row_key t key)) same
-      (fit_sets (table_at tables t) sets old h.each before.0, ap (row_key t) (kept_key (table_at tables t) sets old h.each) ∙ before.1)
-  made_fits (write.Delete t key) h old olds row is = absurd (cc)
+      (fit_sets (table_at tables t) sets old h.each (granted_sums tables (write.Update t key sets conds) old granted) before.0, ap (row_key t) (kept_key (table_at tables t) sets old h.each) ∙ before.1)
+  made_fits (write.Delete t key conds) h old olds granted row is = absurd (cc)
 
-  pub new_fits : AreWritable tables → (f : Flight) → IsWrite tables f.write → MayStandAt tables (flight_key tables f) f.read → (row : List Value) → new_row tables f ≡ Some row → AllFit (types_of (flight_table tables f)) row × (row_key (table_number f.write) (key_of (flight_table tables f) row) ≡ flight_key tables f)
+  pub new_fits : AreWritable tables → (f : Flight) → IsWrite tables f.write → MayStandAt tables (flight_key tables f) f.read → IsGranted tables f → (row : List Value) → new_row tables f ≡ Some row → AllFit (types_of (flight_table tables f)) row × (row_key (table_number f.write) (key_of (flight_table tables f) row) ≡ flight_key tables f)
   unfolding new_row
-  new_fits sound f w at row is = made_fits f.write w (old_row tables f) (λ old h. let o = old_own sound f at old h in (o.fits, o.key_is)) row is
+  new_fits sound f w at granted row is = made_fits f.write w (old_row tables f) (λ old h. let o = old_own sound f at old h in (o.fits, o.key_is)) granted row is
 
   pub code_again : AreWritable tables → (f : Flight) → IsTableNumber tables (table_number f.write) → (new : Option (List Value)) → ((row : List Value) → new ≡ Some row → AllFit (types_of (flight_table tables f)) row) → code_row tables (flight_key tables f) (option_map (stored_code (flight_table tables f)) new) ≡ new
   unfolding code_row pair_key
@@ -129,7 +131,7 @@ module _ (tables : List Table) where
 
   pub new_is : AreWritable tables → (f : Flight) → FlightFits tables f → code_row tables (flight_key tables f) (new_code tables f) ≡ new_row tables f
   unfolding new_code
-  new_is sound f h = code_again sound f (write_number f.write h.write) (new_row tables f) (λ row is. (new_fits sound f h.write h.read row is).0)
+  new_is sound f h = code_again sound f (write_number f.write h.write) (new_row tables f) (λ row is. (new_fits sound f h.write h.read h.granted row is).0)
 
   pub old_has : (f : Flight) (e : List ℕ) → has_entry e (old_entries tables f) ≡ is_old tables f e
   unfolding has_code_entry old_entries
@@ -183,8 +185,8 @@ module _ (tables : List Table) where
       by_stays : (b : Bool) → same_values (cells (group_cols γ) old) (cells (group_cols γ) row) ≡ b → not b ≡ false → row_in_group tables γ t (Some old) ≡ true
       by_stays true e u = ap (λ (xs : List Value). (t == γ.table) && (is_limit tables γ && (not (has_null γ.values) && same_values xs γ.values))) (same_from_test (cells (group_cols γ) old) (cells (group_cols γ) row) e) ∙ h
       by_stays false e u = absurd (false≢true (sym u))
-  in_old_group (write.Update s key sets) None row γ t is untested h = absurd (cc)
-  in_old_group (write.Update s key sets) (Some old) row γ t is untested h = by_touch (touches (scope_of sets) (group_cols γ)) refl (same_values (cells (group_cols γ) old) (cells (group_cols γ) row)) refl untested
+  in_old_group (write.Update s key sets conds) None row γ t is untested h = absurd (cc)
+  in_old_group (write.Update s key sets conds) (Some old) row γ t is untested h = by_touch (touches (scope_of sets) (group_cols γ)) refl (same_values (cells (group_cols γ) old) (cells (group_cols γ) row)) refl untested
     where
       by_cells : cells (group_cols γ) old ≡ cells (group_cols γ) row → row_in_group tables γ t (Some old) ≡ true
       by_cells e = ap (λ (xs : List Value). (t == γ.table) && (is_limit tables γ && (not (has_null γ.values) && same_values xs γ.values))) e ∙ h
@@ -193,7 +195,7 @@ module _ (tables : List Table) where
       by_touch false touch b e u = let made : with_sets sets old ≡ row = cc in by_cells (sym (kept_values sets old (group_cols γ) touch) ∙ ap (cells (group_cols γ)) made)
       by_touch true touch true e u = by_cells (same_from_test (cells (group_cols γ) old) (cells (group_cols γ) row) e)
       by_touch true touch false e u = absurd (false≢true (sym u))
-  in_old_group (write.Delete s key) old row γ t is untested h = absurd (cc)
+  in_old_group (write.Delete s key conds) old row γ t is untested h = absurd (cc)
 
   -- a row of a group has no NULL in it, so the limit is tested where one of its columns is given a value
   tested_where_given : (w : Write) (row : List Value) (cols : List ℕ) → has_null (cells cols row) ≡ false → is_tested w row cols ≡ gives w cols

@@ -26,8 +26,8 @@ use Rattle.pq_clients.proofs.Basics.{and_of}
 -- the key of a write's row is of the kinds of its table's key
 pub own_kinds : (tables : List Table) (w : Write) → IsWrite tables w → AllOfKinds (key_types (table_at tables (table_number w))) (key_written tables w)
 own_kinds tables (write.Insert u new) h = key_of_kinds (table_at tables u) new h.fits
-own_kinds tables (write.Update u k sets) h = kinds_from_fit (key_types (table_at tables u)) k h.fits
-own_kinds tables (write.Delete u k) h = kinds_from_fit (key_types (table_at tables u)) k h.fits
+own_kinds tables (write.Update u k sets conds) h = kinds_from_fit (key_types (table_at tables u)) k h.fits
+own_kinds tables (write.Delete u k conds) h = kinds_from_fit (key_types (table_at tables u)) k h.fits
 
 module _ (tables : List Table) (t : ℕ) (key : List Value) where
   -- whether a row of a table with a key is the one that is looked at
@@ -112,7 +112,7 @@ module _ (tables : List Table) (t : ℕ) (key : List Value) where
   -- the row at the key after a write
   pub row_after : (rows : Rows) (w : Write) → IsWrite tables w → row_at tables (rows_after tables rows w) t key ≡ effect_of w (row_at tables rows t key)
   row_after rows (write.Insert u new) h = put_row rows u (key_of (table_at tables u) new) new refl
-  row_after rows (write.Update u k sets) h = by (row_at tables rows u k) refl
+  row_after rows (write.Update u k sets conds) h = by (row_at tables rows u k) refl
     where
       by : (o : Option (List Value)) → row_at tables rows u k ≡ o → row_at tables (updated_row tables u k sets rows o) t key ≡ cond (is_same u k) (option_map (with_sets sets) (row_at tables rows t key)) (row_at tables rows t key)
       by None none = elim (is_same u k) as (λ b. is_same u k ≡ b → row_at tables rows t key ≡ cond b (option_map (with_sets sets) (row_at tables rows t key)) (row_at tables rows t key)) [
@@ -125,7 +125,7 @@ module _ (tables : List Table) (t : ℕ) (key : List Value) where
             | true ↦ λ is. ap (option_map (with_sets sets)) (sym (looked_same rows u k is ∙ some))
             | false ↦ λ _. refl
           ] refl
-  row_after rows (write.Delete u k) h = removed_row rows u k
+  row_after rows (write.Delete u k conds) h = removed_row rows u k
 
   -- the keys' bytes
   pub same_bytes : AllOfKinds (key_types (table_at tables t)) key → (w : Write) → IsWrite tables w → is_key (row_key t key) (pair_key tables w) ≡ is_at w

@@ -14,9 +14,10 @@ use Rattle.pq_index_keep.specs.declared.write.Write.TheVariants as write
 use Rattle.pq_clients.specs.declared.outcome.Outcome.{Outcome}
 use Rattle.pq_clients.specs.declared.outcome.Outcome.TheVariants as outcome
 use Rattle.pq_clients.specs.Held.{decoded_row, Cell, Free, Held, cell_of}
-use Rattle.pq_clients.specs.Flights.{row_made, table_of, pair_key, Flight, flight_table}
+use Rattle.pq_clients.specs.Flights.{row_made, table_of, pair_key, Flight, flight_table, row_refusal}
 use Rattle.pq_clients.specs.Clients.{Taking}
 use Rattle.pq_clients.specs.Steps.{taking_short, after_row, after_code, after_cell, after_read, read_on, is_held_by_other, Then, On, Puts, Ends, refused, damaged}
+use Rattle.pq_clients.proofs.Granting.{refused_or}
 
 -- it ends with such an outcome
 abbrev pub ends_with : (Outcome → Bool) → Then → Bool
@@ -41,11 +42,11 @@ module _ (tables : List Table) (q : Outcome → Bool) (refusals : (r : Refusal) 
   row_not : (w : Write) (read : Option (List ℕ)) (row : Option (List Value)) → ends_with q (after_row tables w read row) ≡ false
   row_not (write.Insert t new) read None = refl
   row_not (write.Insert t new) read (Some old) = refusals _
-  row_not (write.Update t key sets) read None = refusals _
-  row_not (write.Update t key sets) read (Some old) =
-      short_not (record { write = write.Update t key sets; read = read }) (row_made (write.Update t key sets) (Some old))
-  row_not (write.Delete t key) read None = refusals _
-  row_not (write.Delete t key) read (Some old) = refl
+  row_not (write.Update t key sets conds) read None = refusals _
+  row_not (write.Update t key sets conds) read (Some old) =
+      refused_or (λ t. ends_with q t ≡ false) _ _ (λ why is. refusals why) (λ none. short_not (record { write = write.Update t key sets conds; read = read }) (row_made (write.Update t key sets conds) (Some old)))
+  row_not (write.Delete t key conds) read None = refusals _
+  row_not (write.Delete t key conds) read (Some old) = refused_or (λ t. ends_with q t ≡ false) (row_refusal tables (write.Delete t key conds) old) (On (Taking (record { write = write.Delete t key conds; read = read }))) (λ why is. refusals why) (λ none. refl)
 
   code_not : (w : Write) (code : List ℕ) (row : Option (List Value)) → ends_with q (after_code tables w code row) ≡ false
   code_not w code None = damages _

@@ -16,10 +16,13 @@ use Rattle.pq_clients.specs.declared.outcome.Outcome.{Outcome}
 use Rattle.pq_clients.specs.declared.outcome.Outcome.TheVariants as outcome
 use Rattle.pq_clients.specs.declared.outcome.Step.TheVariants as step
 use Rattle.pq_clients.specs.Held.{something, decoded_row, Cell, Free, Held, cell_of, is_held_value}
-use Rattle.pq_clients.specs.Flights.{row_made, table_of, pair_key, Flight, flight_table, flight_key}
+use Rattle.pq_clients.specs.Flights.{row_made, table_of, pair_key, Flight, flight_table, flight_key, row_refusal, sets_of}
 use Rattle.pq_clients.specs.Clients.{Next, Taking, Looking, View, is_over}
-use Rattle.pq_clients.specs.Steps.{taking_short, after_row, after_code, after_cell, after_read, read_on, is_held_by_other, Then, On, Ends, refused, damaged, gone_on, after_call, Fate, Answers, met, stepped}
+use Rattle.pq_clients.specs.Steps.{taking_short, after_row, after_code, after_cell, after_read, read_on, is_held_by_other, Then, On, Ends, refused, damaged, gone_on, after_call, Fate, Answers, met, stepped, or_refused}
 use Rattle.pq_clients.specs.Promises.{Reads, ReadsRow, HasReason, is_exact, is_insert, TellsOutcome}
+use Rattle.pq_base.specs.declared.refusal.Refusal.{Refusal}
+use Rattle.pq_base.specs.Answers.{or_else}
+use Rattle.pq_index_keep.specs.Effects.{sum_refusal}
 
 free_cell : (code : List ℕ) → is_held_value code ≡ false → cell_of code ≡ Free code
 unfolding cell_of
@@ -55,8 +58,8 @@ module _ (tables : List Table) where
     -- no row
     pub no_row_told : (w : Write) → Reads tables v c w None → is_insert w ≡ false → TellsOutcome tables v c fate (outcome.Refused (refusal.NoRow (table_of tables w).name))
     no_row_told (write.Insert t row) r h = absurd (false≢true (sym h))
-    no_row_told (write.Update t key sets) r h = ends_step (write.Update t key sets) None (outcome.Refused (refusal.NoRow (table_of tables (write.Update t key sets)).name)) r refl
-    no_row_told (write.Delete t key) r h = ends_step (write.Delete t key) None (outcome.Refused (refusal.NoRow (table_of tables (write.Delete t key)).name)) r refl
+    no_row_told (write.Update t key sets conds) r h = ends_step (write.Update t key sets conds) None (outcome.Refused (refusal.NoRow (table_of tables (write.Update t key sets conds)).name)) r refl
+    no_row_told (write.Delete t key conds) r h = ends_step (write.Delete t key conds) None (outcome.Refused (refusal.NoRow (table_of tables (write.Delete t key conds)).name)) r refl
 
     -- a row's code
     row_read : (w : Write) (code : List ℕ) (row : List Value) → is_held_value code ≡ false → decoded_row (table_of tables w) code ≡ Some row → after_read tables v.number w (Some code) ≡ after_row tables w (Some code) (Some row)
@@ -66,8 +69,8 @@ module _ (tables : List Table) where
 
     pub duplicate_told : (w : Write) (row : List Value) → ReadsRow tables v c w row → is_insert w ≡ true → TellsOutcome tables v c fate (outcome.Refused (refusal.DuplicateKey (table_of tables w).name))
     duplicate_told (write.Insert t new) row r h = ends_step (write.Insert t new) (Some r.0) (outcome.Refused (refusal.DuplicateKey (table_of tables (write.Insert t new)).name)) r.1 (row_read (write.Insert t new) r.0 row r.2 r.3)
-    duplicate_told (write.Update t key sets) row r h = absurd (false≢true h)
-    duplicate_told (write.Delete t key) row r h = absurd (false≢true h)
+    duplicate_told (write.Update t key sets conds) row r h = absurd (false≢true h)
+    duplicate_told (write.Delete t key conds) row r h = absurd (false≢true h)
 
     short_told : (f : Flight) (new : List Value) (o : Option (List Value)) → o ≡ Some new → 4096 < length (stored_code (flight_table tables f) new) → taking_short tables f o ≡ refused (refusal.RowLong (flight_table tables f).name (length (stored_code (flight_table tables f) new)))
     short_told f new o is long = ap (taking_short tables f) is
@@ -76,14 +79,24 @@ module _ (tables : List Table) where
         longer : (n : ℕ) → 4096 < n → nat_lt 4096 n ≡ true
         longer n h = grind (arith, nat_tests)
 
-    pub long_told : (w : Write) (old new : List Value) → ReadsRow tables v c w old → is_insert w ≡ false → row_made w (Some old) ≡ Some new → 4096 < length (stored_code (table_of tables w) new)
+    -- by a condition or a sum
+    row_refused : (w : Write) (read : Option (List ℕ)) (row : List Value) (why : Refusal) → row_refusal tables w row ≡ Some why → after_row tables w read (Some row) ≡ refused why
+    row_refused (write.Insert t new) read row why is = absurd (cc)
+    row_refused (write.Update t key sets conds) read row why is = ap (λ (o : Option Refusal). or_refused o (taking_short tables (record { write = write.Update t key sets conds; read = read }) (row_made (write.Update t key sets conds) (Some row)))) is
+    row_refused (write.Delete t key conds) read row why is = ap (λ (o : Option Refusal). or_refused o (On (Taking (record { write = write.Delete t key conds; read = read })))) is
+
+    pub refused_told : (w : Write) (row : List Value) (why : Refusal) → ReadsRow tables v c w row → row_refusal tables w row ≡ Some why → TellsOutcome tables v c fate (outcome.Refused why)
+    refused_told w row why r is = ends_step w (Some r.0) (outcome.Refused why) r.1 (row_read w r.0 row r.2 r.3 ∙ row_refused w (Some r.0) row why is)
+
+    pub long_told : (w : Write) (old new : List Value) → ReadsRow tables v c w old → row_refusal tables w old ≡ None → is_insert w ≡ false → row_made w (Some old) ≡ Some new → 4096 < length (stored_code (table_of tables w) new)
         → TellsOutcome tables v c fate (outcome.Refused (refusal.RowLong (table_of tables w).name (length (stored_code (table_of tables w) new))))
-    long_told (write.Insert t row) old new r h made long = absurd (false≢true (sym h))
-    long_told (write.Update t key sets) old new r h made long =
-        let w = write.Update t key sets in
+    long_told (write.Insert t row) old new r none h made long = absurd (false≢true (sym h))
+    long_told (write.Update t key sets conds) old new r none h made long =
+        let w = write.Update t key sets conds in
         ends_step w (Some r.0) (outcome.Refused (refusal.RowLong (table_of tables w).name (length (stored_code (table_of tables w) new)))) r.1
-        (row_read w r.0 old r.2 r.3 ∙ short_told (record { write = w; read = Some r.0 }) new (row_made w (Some old)) made long)
-    long_told (write.Delete t key) old new r h made long = absurd (cc)
+        (row_read w r.0 old r.2 r.3 ∙ ap (λ (o : Option Refusal). or_refused o (taking_short tables (record { write = w; read = Some r.0 }) (row_made w (Some old)))) none
+        ∙ short_told (record { write = w; read = Some r.0 }) new (row_made w (Some old)) made long)
+    long_told (write.Delete t key conds) old new r none h made long = absurd (cc)
 
   pub exact_told : (v : View) (c : Content) (fate : Fate) (o : Outcome) → is_exact o ≡ true → is_over v ≡ false → fate ≡ Answers → HasReason tables v c o → TellsOutcome tables v c fate o
   exact_told v c fate (outcome.Busy found) e going answered h = busy_told v c fate going answered h.0 found h.1 h.2
@@ -95,7 +108,11 @@ module _ (tables : List Table) where
   exact_told v c fate (outcome.Refused (refusal.NoRow name)) e going answered h =
       subst (λ (n : List ℕ). TellsOutcome tables v c fate (outcome.Refused (refusal.NoRow n))) (sym h.3) (no_row_told v c fate going answered h.0 h.1 h.2)
   exact_told v c fate (outcome.Refused (refusal.RowLong name long)) e going answered h =
-      subst (λ (n : List ℕ). TellsOutcome tables v c fate (outcome.Refused (refusal.RowLong n long))) (sym h.8)
-      (subst (λ (n : ℕ). TellsOutcome tables v c fate (outcome.Refused (refusal.RowLong (table_of tables h.0).name n))) (sym h.6)
-      (long_told v c fate going answered h.0 h.1 h.2 h.3 h.4 h.5 (subst (λ (n : ℕ). 4096 < n) h.6 h.7)))
+      subst (λ (n : List ℕ). TellsOutcome tables v c fate (outcome.Refused (refusal.RowLong n long))) (sym h.9)
+      (subst (λ (n : ℕ). TellsOutcome tables v c fate (outcome.Refused (refusal.RowLong (table_of tables h.0).name n))) (sym h.7)
+      (long_told v c fate going answered h.0 h.1 h.2 h.3 h.4 h.5 h.6 (subst (λ (n : ℕ). 4096 < n) h.7 h.8)))
+  exact_told v c fate (outcome.Refused (refusal.Condition name number)) e going answered h =
+      refused_told v c fate going answered h.0 h.1 (refusal.Condition name number) h.2 (ap (λ (o : Option Refusal). or_else o (sum_refusal (table_of tables h.0) (sets_of h.0) h.1)) h.3)
+  exact_told v c fate (outcome.Refused (refusal.Sum name column)) e going answered h =
+      refused_told v c fate going answered h.0 h.1 (refusal.Sum name column) h.2 (ap (λ (o : Option Refusal). or_else o (sum_refusal (table_of tables h.0) (sets_of h.0) h.1)) h.3 ∙ h.4)
   exact_told v c fate o e going answered h = absurd (false≢true e)

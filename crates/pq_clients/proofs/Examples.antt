@@ -98,7 +98,7 @@ present_conflict = simp (get-insert {X = List ℕ} nat_list_cmp_total, get-remov
 
 -- two writes find no row, a third is told that its key is held, and the other client's two are done
 abbrev delete : ℕ → Write
-delete a = write.Delete 1 (value.Int (pos a) ∷ [])
+delete a = write.Delete 1 (value.Int (pos a) ∷ []) []
 
 abbrev deleter_queue : View
 deleter_queue = new_view 1 (delete 5 ∷ delete 6 ∷ write.Insert 1 (pair 1 8) ∷ [])

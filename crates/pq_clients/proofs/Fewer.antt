@@ -16,11 +16,12 @@ use Rattle.pq_clients.specs.declared.outcome.Outcome.{Outcome}
 use Rattle.pq_clients.specs.declared.outcome.Outcome.TheVariants as outcome
 use Rattle.pq_clients.specs.declared.outcome.Step.TheVariants as step
 use Rattle.pq_clients.specs.Held.{decoded_row, Cell, Free, Held, cell_of, held_value}
-use Rattle.pq_clients.specs.Flights.{row_made, table_of, pair_key, Flight, Check, flight_table, flight_key, old_row, new_code, fresh_entries, stale_entries, flight_checks, flight_tests, check_refusal, test_refusal}
+use Rattle.pq_clients.specs.Flights.{row_made, table_of, pair_key, Flight, Check, flight_table, flight_key, old_row, new_code, fresh_entries, stale_entries, flight_checks, flight_tests, check_refusal, test_refusal, row_refusal}
 use Rattle.pq_clients.specs.Clients.{Stage, Checking, Adding, Testing, Putting, Clearing, Freeing, Undoing, Releasing, Next, Reading, Taking, Looking, Flying, View, write_at, is_over}
 use Rattle.pq_clients.specs.Steps.{is_just, taking_short, after_row, after_code, after_cell, after_read, read_on, is_held_by_other, Then, On, Puts, Ends, testing, adding, checking, clearing, undoing, passes, has_room, refused, damaged, if_own, flown, gone_on, is_fault, after_call, told_view, Fate, Answers, NotDone, DoneUnseen, NoMemory, met, stepped}
 use Rattle.pq_clients.specs.Promises.{calls_of_write}
 use Rattle.pq_clients.proofs.Tested.{calls_of_flight, insert_few, update_few, delete_few, some_calls}
+use Rattle.pq_clients.proofs.Granting.{refused_or}
 
 module _ (tables : List Table) where
   -- ---- calls that are left
@@ -120,11 +121,15 @@ module _ (tables : List Table) where
   unfolding old_row
   row_falls (write.Insert t new) read None old = takes (write.Insert t new) (record { write = write.Insert t new; read = read }) (insert_few tables t new read old)
   row_falls (write.Insert t new) read (Some row) old = ends_well (write.Insert t new) (outcome.Refused (refusal.DuplicateKey (table_of tables (write.Insert t new)).name))
-  row_falls (write.Update t key sets) read None old = ends_well (write.Update t key sets) (outcome.Refused (refusal.NoRow (table_of tables (write.Update t key sets)).name))
-  row_falls (write.Update t key sets) read (Some row) old =
-      short_falls (write.Update t key sets) (record { write = write.Update t key sets; read = read }) (row_made (write.Update t key sets) (Some row)) (update_few tables t key sets read row old)
-  row_falls (write.Delete t key) read None old = ends_well (write.Delete t key) (outcome.Refused (refusal.NoRow (table_of tables (write.Delete t key)).name))
-  row_falls (write.Delete t key) read (Some row) old = takes (write.Delete t key) (record { write = write.Delete t key; read = read }) (delete_few tables t key read)
+  row_falls (write.Update t key sets conds) read None old = ends_well (write.Update t key sets conds) (outcome.Refused (refusal.NoRow (table_of tables (write.Update t key sets conds)).name))
+  row_falls (write.Update t key sets conds) read (Some row) old =
+      let w = write.Update t key sets conds in
+      refused_or (Falls w (calls_of_write tables w)) _ _ (λ why is. ends_well w (outcome.Refused why))
+      (λ none. short_falls w (record { write = w; read = read }) (row_made w (Some row)) (update_few tables t key sets conds read row old))
+  row_falls (write.Delete t key conds) read None old = ends_well (write.Delete t key conds) (outcome.Refused (refusal.NoRow (table_of tables (write.Delete t key conds)).name))
+  row_falls (write.Delete t key conds) read (Some row) old =
+      let w = write.Delete t key conds in
+      refused_or (Falls w (calls_of_write tables w)) (row_refusal tables (write.Delete t key conds) row) (On (Taking (record { write = write.Delete t key conds; read = read }))) (λ why is. ends_well w (outcome.Refused why)) (λ none. takes w (record { write = w; read = read }) (delete_few tables t key conds read))
 
   found_falls : (client : ℕ) (w : Write) (found : Option (List ℕ)) → Falls w (calls_of_write tables w) (after_read tables client w found)
   found_falls client w None = row_falls w None None refl

@@ -1,5 +1,5 @@
 -- Each write that was made finds no row, if it is an INSERT, and else a row, in the order in which they were made.
-use Rattle.std.proofs.Common.{◌≡◌, ℕ, ◌+◌, ◌<◌, ◌^◌, ◌==◌, Bool, true, false, cond, not, ◌⊎◌, inl, inr, List, [], ◌∷◌, ◌++◌, Option, Some, None, is_some, refl, sym, ap, ◌∙◌, subst}
+use Rattle.std.proofs.Common.{◌≡◌, ℕ, ◌+◌, ◌<◌, ◌^◌, ◌==◌, Bool, true, false, cond, ◌⊎◌, inl, inr, List, [], ◌∷◌, ◌++◌, Option, Some, None, is_some, refl, sym, ap, ◌∙◌, subst}
 use Rattle.std.specs.Prelude.{slice_set}
 use Rattle.std.specs.List.{AllByRecursion, slice_get}
 use Rattle.std.specs.FinMap.{get}
@@ -25,7 +25,7 @@ use Rattle.pq_clients.specs.Clients.{Checking, Adding, Testing, Putting, Clearin
 use Rattle.pq_clients.specs.Steps.{is_just, Then, On, Puts, Ends, is_fault, After, after_call, Fate, Answers, met, stepped}
 use Rattle.pq_clients.specs.Runs.{Event, Run, begun, put_by, turned, turn, run}
 use Rattle.pq_clients.specs.Present.{rows_after, rows_after_all, writes_named}
-use Rattle.pq_clients.specs.Promises.{IsFresh, Begins, EachFits, is_insert, reached}
+use Rattle.pq_clients.specs.Promises.{IsFresh, Begins, EachFits, reached, FitsFound}
 use Rattle.pq_clients.specs.Invariant.{FlightFits, NextFits, ViewFits}
 use Rattle.pq_clients.proofs.Based.{named_old}
 use Rattle.pq_clients.proofs.Basics.{key_apart}
@@ -38,7 +38,7 @@ use Rattle.pq_clients.proofs.Made.{Showing, turn_shows, begins_showing, all_name
 use Rattle.pq_clients.proofs.Ofs.{OfView, fresh_of}
 use Rattle.pq_clients.proofs.Once.{step_number}
 use Rattle.pq_clients.proofs.Shows.{shown_write, shown_writes, made_now, all_named_same, named-append}
-use Rattle.pq_clients.proofs.Stays.{old_some}
+use Rattle.pq_clients.proofs.Stays.{found_of}
 use Rattle.pq_clients.proofs.CallSteps.{few_at}
 use Rattle.pq_clients.proofs.Throughout.{holding}
 use Rattle.pq_clients.proofs.Turns.{unbroken_of}
@@ -128,8 +128,8 @@ module _ (tables : List Table) where
 
         put_fits : EachFits tables rows (so_far ++ f.write ∷ [])
         put_fits = fits_append rows so_far (f.write ∷ []) k.fits (
-          of.0 ∙ ap not (sym (old_some tables sound f (at_hand f putting).0))
-              ∙ ap (λ (x : Option (List Value)). not (is_some x)) (sym (rows_after_effects tables (table_number f.write) (key_written tables f.write) so_far rows (all_named_fit tables r.clients r.puts h.views) ∙ old_at_put f putting)),
+          subst (FitsFound tables f.write) (sym (rows_after_effects tables (table_number f.write) (key_written tables f.write) so_far rows (all_named_fit tables r.clients r.puts h.views) ∙ old_at_put f putting))
+              (found_of tables sound f (at_hand f putting).0 of.0),
           tt,
         )
           where
@@ -197,7 +197,7 @@ module _ (tables : List Table) where
 
     -- the client's put finds what was read
     abbrev Finds : Rows → View → Type 0
-    Finds now u = (f : Flight) → u.over ≡ Some outcome.Failed → u.next ≡ Flying f Putting → IsWrite tables f.write × (is_insert f.write ≡ not (is_some (row_for now f.write)))
+    Finds now u = (f : Flight) → u.over ≡ Some outcome.Failed → u.next ≡ Flying f Putting → IsWrite tables f.write × FitsFound tables f.write (row_for now f.write)
 
     -- no two of them are at one key
     abbrev KeyApart : View → View → Type 0
@@ -212,8 +212,8 @@ module _ (tables : List Table) where
     after_finds now u f failed putting write (w ∷ us) apart all = (
       λ g over at_put. let x = all.0 g over at_put in (
         x.0,
-        x.1 ∙ ap (λ (row : Option (List Value)). not (is_some row)) (sym (row_after tables (table_number g.write) (key_written tables g.write) now f.write write
-            ∙ leaves (table_number g.write) (key_written tables g.write) g.write f.write (row_for now g.write) x.0 write (apart.0 f g failed putting over at_put))),
+        subst (FitsFound tables g.write) (sym (row_after tables (table_number g.write) (key_written tables g.write) now f.write write
+            ∙ leaves (table_number g.write) (key_written tables g.write) g.write f.write (row_for now g.write) x.0 write (apart.0 f g failed putting over at_put))) x.1,
       ),
       after_finds now u f failed putting write us apart.1 all.1,
     )
@@ -301,9 +301,9 @@ module _ (tables : List Table) where
             let fits = (subst (λ (n : Next). NextFits tables u n) putting (at_place (ViewFits tables) r.clients p u h.views is).next).0 in
             let of = subst (λ (n : Next). OfNext tables n) putting (at_place (OfView tables) r.clients p u k.of is) in (
               fits.write,
-              of.0 ∙ ap not (sym (old_some tables sound f fits))
-                  ∙ ap (λ (x : Option (List Value)). not (is_some x)) (sym (rows_after_effects tables (table_number f.write) (key_written tables f.write) (writes_named r.clients r.puts) rows (all_named_fit tables r.clients r.puts h.views)
-                  ∙ at_place (EndedAt (writes_named r.clients r.puts)) r.clients p u k.ended is f (ap is_some failed) putting)),
+              subst (FitsFound tables f.write) (sym (rows_after_effects tables (table_number f.write) (key_written tables f.write) (writes_named r.clients r.puts) rows (all_named_fit tables r.clients r.puts h.views)
+                  ∙ at_place (EndedAt (writes_named r.clients r.puts)) r.clients p u k.ended is f (ap is_some failed) putting))
+                  (found_of tables sound f fits of.0),
             )
 
 -- ---- from the beginning

@@ -37,10 +37,10 @@ module _ (tables : List Table) (v : View) (client : IsClient tables v) (going : 
   inside = let there = going_at v going in let one = client.from_one in omega arith
 
   pub hand_writes : AreWritable tables → AreMade tables → MayWrite tables (at_hand v.writes v.at)
-  hand_writes sound made = record { sound = sound; made = made; write = client.writes (v.at - 1) (write.Delete 0 []) inside }
+  hand_writes sound made = record { sound = sound; made = made; write = client.writes (v.at - 1) (write.Delete 0 [] []) inside }
 
   pub hand_is : write_at v.writes v.at ≡ Some (at_hand v.writes v.at)
-  hand_is = write_there v.writes v.at (write.Delete 0 []) client.from_one inside
+  hand_is = write_there v.writes v.at (write.Delete 0 [] []) client.from_one inside
 
   pub small_at : v.at < 2 ^ 32
   small_at = let there = going_at v going in let few = client.few in omega arith

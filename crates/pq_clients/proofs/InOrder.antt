@@ -13,7 +13,7 @@ use Rattle.pq_store.specs.Content.{Content, written_content}
 use Rattle.pq_index_keep.specs.declared.write.Write.{Write}
 use Rattle.pq_index_keep.specs.declared.write.Write.TheVariants as write
 use Rattle.pq_clients.specs.Held.{Cell, Free, Held, cell_of, decoded_row, held_value}
-use Rattle.pq_clients.specs.Flights.{Flight, Check, row_made, table_of, pair_key, flight_table, flight_key, new_code, fresh_entries, stale_entries, flight_checks, flight_tests, check_refusal, test_refusal}
+use Rattle.pq_clients.specs.Flights.{Flight, Check, row_made, table_of, pair_key, flight_table, flight_key, new_code, fresh_entries, stale_entries, flight_checks, flight_tests, check_refusal, test_refusal, row_refusal}
 use Rattle.pq_clients.specs.Clients.{Stage, Checking, Adding, Testing, Putting, Clearing, Freeing, Undoing, Releasing, Next, Reading, Taking, Looking, Flying, View, write_at, is_over}
 use Rattle.pq_clients.specs.Steps.{is_just, is_held_by_other, taking_short, after_row, after_code, after_cell, after_read, read_on, damaged, refused, Then, On, Puts, Ends, testing, adding, checking, clearing, undoing, passes, has_room, flown, gone_on, is_fault, After, after_call, Fate, Answers, NotDone, DoneUnseen, NoMemory, stepped}
 use Rattle.pq_clients.specs.declared.outcome.Outcome.TheVariants as outcome
@@ -24,6 +24,7 @@ use Rattle.pq_clients.proofs.ByCalls.{call_by, by_call}
 use Rattle.pq_clients.proofs.Once.{step_number, all_map, all_snoc}
 use Rattle.pq_clients.proofs.Shown.{run-snoc, step_same}
 use Rattle.pq_clients.proofs.Whole.{at_place, set_place}
+use Rattle.pq_clients.proofs.Granting.{refused_or}
 
 module _ (tables : List Table) where
   -- ---- what is left behind a step
@@ -109,10 +110,11 @@ module _ (tables : List Table) where
     row_came : (w : Write) (read : Option (List ℕ)) (old : Option (List Value)) → CameThen c Reading (after_row tables w read old)
     row_came (write.Insert t row) read None = tt
     row_came (write.Insert t row) read (Some old) = tt
-    row_came (write.Update t key sets) read None = tt
-    row_came (write.Update t key sets) read (Some old) = short_came (record { write = write.Update t key sets; read = read }) (row_made (write.Update t key sets) (Some old))
-    row_came (write.Delete t key) read None = tt
-    row_came (write.Delete t key) read (Some old) = tt
+    row_came (write.Update t key sets conds) read None = tt
+    row_came (write.Update t key sets conds) read (Some old) =
+        refused_or (CameThen c Reading) _ _ (λ why is. tt) (λ none. short_came (record { write = write.Update t key sets conds; read = read }) (row_made (write.Update t key sets conds) (Some old)))
+    row_came (write.Delete t key conds) read None = tt
+    row_came (write.Delete t key conds) read (Some old) = refused_or (CameThen c Reading) (row_refusal tables (write.Delete t key conds) old) (On (Taking (record { write = write.Delete t key conds; read = read }))) (λ why is. tt) (λ none. tt)
 
     code_came : (w : Write) (code : List ℕ) (row : Option (List Value)) → CameThen c Reading (after_code tables w code row)
     code_came w code None = tt

@@ -1,5 +1,5 @@
 -- A step keeps what a client's view has of its tables, whatever the store holds.
-use Rattle.std.proofs.Common.{inl, inr, Result, Ok, Err, ◌≡◌, ℕ, ◌+◌, ◌≤◌, ◌<◌, Bool, true, false, ◌&&◌, ◌==◌, not, List, [], ◌∷◌, ◌++◌, length, Option, Some, None, sym, arith, subst}
+use Rattle.std.proofs.Common.{inl, inr, Result, Ok, Err, ◌≡◌, ℕ, ◌+◌, ◌≤◌, ◌<◌, Bool, true, false, ◌&&◌, ◌==◌, not, List, [], ◌∷◌, ◌++◌, length, Option, Some, None, sym, arith, subst, option_and_then, refl}
 use Rattle.std.specs.Prelude.{nat_lt, IfOk, if◌then◌else◌}
 use Rattle.std.specs.List.{AllByRecursion}
 use Rattle.std.proofs.lemmas.List.Elements.{All-weaker, recursion_from_All}
@@ -25,8 +25,8 @@ use Rattle.pq_clients.specs.declared.halt.Halt.TheVariants as halt
 use Rattle.pq_clients.specs.declared.stage.Course.{Course}
 use Rattle.pq_clients.specs.declared.stage.Phase.{Phase}
 use Rattle.pq_clients.specs.declared.stage.Phase.TheVariants as phase
-use Rattle.pq_clients.specs.Held.{Cell, Free, Held, cell_of}
-use Rattle.pq_clients.specs.Flights.{Flight, Check, Parent, Child, pair_key, row_made, table_of, table_number, key_written, flight_table, is_tested, parent_checks, child_checks_of, child_checks, checks_of, flight_checks, new_row, limit_tests, tests_of, flight_tests, fresh_entries, stale_entries, check_refusal, test_refusal}
+use Rattle.pq_clients.specs.Held.{Cell, Free, Held, cell_of, decoded_row}
+use Rattle.pq_clients.specs.Flights.{Flight, Check, Parent, Child, pair_key, row_made, table_of, table_number, key_written, flight_table, is_tested, parent_checks, child_checks_of, child_checks, checks_of, flight_checks, new_row, limit_tests, tests_of, flight_tests, fresh_entries, stale_entries, check_refusal, test_refusal, row_refusal, IsGranted, old_row}
 use Rattle.pq_clients.specs.Clients.{Stage, Checking, Adding, Testing, Putting, Clearing, Freeing, Undoing, Releasing, Next, Reading, Taking, Looking, Flying, View}
 use Rattle.pq_clients.specs.Fitting.{MayWrite, IsCheck, IsTest, IsLate, FitsStage, FitsNext, FitsThen}
 use Rattle.pq_clients.specs.Seen.{seen_next, seen_course}
@@ -34,6 +34,7 @@ use Rattle.pq_clients.specs.Steps.{Then, On, Puts, Ends, refused, damaged, is_he
 use Rattle.pq_clients.specs.Calling.{way, IsWay}
 use Rattle.pq_clients.specs.Stepping.{IsClient, Ended, GoesOn, Follows, Concludes, TakesWay, outcome_of, at_hand}
 use Rattle.pq_clients.proofs.Fits.{numbered, writable_of}
+use Rattle.pq_clients.proofs.Granting.{refused_or, granted_row, granted_none}
 
 kept_if : {A : Type 0} (P : A → Type 0) (b : Bool) (x : A) (xs : List A) → P x → AllByRecursion P xs → AllByRecursion P (if b then x ∷ xs else xs)
 kept_if P true x xs p ps = (p, ps)
@@ -135,16 +136,16 @@ one_of : (tables : List Table) (b : Bool) (x y : Then) → FitsThen tables x →
 one_of tables true x y fx fy = fx
 one_of tables false x y fx fy = fy
 
-pub fits_stage : (tables : List Table) (f : Flight) (stage : Stage) (b : Bool) → FitsStage tables f stage → FitsThen tables (way tables f stage b)
-fits_stage tables f (Checking check left) b fit = one_of tables b _ _ (fits_checking tables f left fit.1) (late_check tables f check)
-fits_stage tables f (Adding entry left added) b fit = fits_adding tables f left _
-fits_stage tables f (Testing place left passed) b fit =
-    one_of tables b _ _ (fits_testing tables f left _ fit.1) (fits_undoing tables f (fresh_entries tables f) (test_refusal tables f place) tt)
-fits_stage tables f Putting b fit = one_of tables b _ _ (fits_clearing tables f (stale_entries tables f)) tt
-fits_stage tables f (Clearing entry left) b fit = fits_clearing tables f left
-fits_stage tables f Freeing b fit = one_of tables b _ _ tt tt
-fits_stage tables f (Undoing entry left why) b fit = fits_undoing tables f left why fit
-fits_stage tables f (Releasing why) b fit = one_of tables b _ _ tt tt
+pub fits_stage : (tables : List Table) (f : Flight) (stage : Stage) (b : Bool) → IsGranted tables f → FitsStage tables f stage → FitsThen tables (way tables f stage b)
+fits_stage tables f (Checking check left) b g fit = one_of tables b _ _ (g, fits_checking tables f left fit.1) (g, late_check tables f check)
+fits_stage tables f (Adding entry left added) b g fit = (g, fits_adding tables f left _)
+fits_stage tables f (Testing place left passed) b g fit =
+    one_of tables b _ _ (g, fits_testing tables f left _ fit.1) (g, fits_undoing tables f (fresh_entries tables f) (test_refusal tables f place) tt)
+fits_stage tables f Putting b g fit = one_of tables b _ _ (g, fits_clearing tables f (stale_entries tables f)) tt
+fits_stage tables f (Clearing entry left) b g fit = (g, fits_clearing tables f left)
+fits_stage tables f Freeing b g fit = one_of tables b _ _ tt tt
+fits_stage tables f (Undoing entry left why) b g fit = (g, fits_undoing tables f left why fit)
+fits_stage tables f (Releasing why) b g fit = one_of tables b _ _ tt tt
 
 -- ---- clients
 
@@ -161,32 +162,37 @@ has_write tables f phase.Taking may = may
 has_write tables f phase.Looking may = may
 has_write tables f (phase.Flying stage) may = may
 
-fits_short : (tables : List Table) (f : Flight) (new : Option (List Value)) → FitsThen tables (taking_short tables f new)
-fits_short tables f None = tt
-fits_short tables f (Some row) =
+fits_short : (tables : List Table) (f : Flight) (new : Option (List Value)) → IsGranted tables f → FitsThen tables (taking_short tables f new)
+fits_short tables f None g = g
+fits_short tables f (Some row) g =
     one_of tables (nat_lt 4096 (length (stored_code (flight_table tables f) row)))
-    (refused (refusal.RowLong (flight_table tables f).name (length (stored_code (flight_table tables f) row)))) (On (Taking f)) tt tt
+    (refused (refusal.RowLong (flight_table tables f).name (length (stored_code (flight_table tables f) row)))) (On (Taking f)) tt g
 
-fits_row : (tables : List Table) (w : Write) (read : Option (List ℕ)) (old : Option (List Value)) → FitsThen tables (after_row tables w read old)
-fits_row tables (write.Insert t row) read None = tt
-fits_row tables (write.Insert t row) read (Some old) = tt
-fits_row tables (write.Update t key sets) read None = tt
-fits_row tables (write.Update t key sets) read (Some old) =
-    fits_short tables (record { write = write.Update t key sets; read = read }) (row_made (write.Update t key sets) (Some old))
-fits_row tables (write.Delete t key) read None = tt
-fits_row tables (write.Delete t key) read (Some old) = tt
+fits_row : (tables : List Table) (w : Write) (read : Option (List ℕ)) (old : Option (List Value)) → option_and_then (decoded_row (table_of tables w)) read ≡ old
+    → FitsThen tables (after_row tables w read old)
+unfolding old_row
+fits_row tables (write.Insert t row) read None is = granted_none tables (record { write = write.Insert t row; read = read }) is
+fits_row tables (write.Insert t row) read (Some old) is = tt
+fits_row tables (write.Update t key sets conds) read None is = tt
+fits_row tables (write.Update t key sets conds) read (Some old) is =
+    let f : Flight = record { write = write.Update t key sets conds; read = read } in
+    refused_or (FitsThen tables) _ _ (λ why _. tt) (λ none. fits_short tables f (row_made f.write (Some old)) (granted_row tables f old is none))
+fits_row tables (write.Delete t key conds) read None is = tt
+fits_row tables (write.Delete t key conds) read (Some old) is =
+    let f : Flight = record { write = write.Delete t key conds; read = read } in
+    refused_or (FitsThen tables) (row_refusal tables (write.Delete t key conds) old) (On (Taking (record { write = write.Delete t key conds; read = read }))) (λ why _. tt) (λ none. granted_row tables f old is none)
 
-fits_code : (tables : List Table) (w : Write) (code : List ℕ) (row : Option (List Value)) → FitsThen tables (after_code tables w code row)
-fits_code tables w code None = tt
-fits_code tables w code (Some row) = fits_row tables w (Some code) (Some row)
+fits_code : (tables : List Table) (w : Write) (code : List ℕ) (row : Option (List Value)) → decoded_row (table_of tables w) code ≡ row → FitsThen tables (after_code tables w code row)
+fits_code tables w code None is = tt
+fits_code tables w code (Some row) is = fits_row tables w (Some code) (Some row) is
 
 fits_cell : (tables : List Table) (client : ℕ) (w : Write) (value : List ℕ) (cell : Cell) → FitsThen tables (after_cell tables client w value cell)
-fits_cell tables client w value (Free code) = fits_code tables w value _
+fits_cell tables client w value (Free code) = fits_code tables w value (decoded_row (table_of tables w) value) refl
 fits_cell tables client w value (Held holder number present) =
     one_of tables (is_held_by_other (table_of tables w) client (Held holder number present)) (Ends (outcome.Busy value)) (damaged (pair_key tables w) (Some value)) tt tt
 
 fits_read : (tables : List Table) (client : ℕ) (w : Write) (found : Option (List ℕ)) → FitsThen tables (after_read tables client w found)
-fits_read tables client w None = fits_row tables w None None
+fits_read tables client w None = fits_row tables w None None refl
 fits_read tables client w (Some value) = fits_cell tables client w value (cell_of value)
 
 -- behind any answer the next step fits
@@ -194,9 +200,9 @@ fits_way : (tables : List Table) (client : ℕ) (w : Write) (next : Next) (goes 
     → IsWay tables client w next goes → FitsThen tables goes
 fits_way tables client w Reading goes may fit is = subst (FitsThen tables) (sym is.1) (fits_read tables client w is.0)
 fits_way tables client w (Taking f) goes may fit is =
-    subst (FitsThen tables) (sym is.1) (one_of tables is.0 _ _ (fits_checking tables f _ (checks_fit tables f may)) tt)
+    subst (FitsThen tables) (sym is.1) (one_of tables is.0 _ _ (fit, fits_checking tables f _ (checks_fit tables f may)) tt)
 fits_way tables client w (Looking f) goes may fit is = subst (FitsThen tables) (sym is.1) tt
-fits_way tables client w (Flying f stage) goes may fit is = subst (FitsThen tables) (sym is.1) (fits_stage tables f stage is.0 fit)
+fits_way tables client w (Flying f stage) goes may fit is = subst (FitsThen tables) (sym is.1) (fits_stage tables f stage is.0 fit.0 fit.1)
 
 told_client : (tables : List Table) (v : View) (told : Outcome) → IsClient tables v → IsClient tables (told_view v told)
 told_client tables v told client = by_fault (is_fault told)

@@ -18,12 +18,13 @@ use Rattle.pq_clients.specs.declared.outcome.Step.{Step}
 use Rattle.pq_clients.specs.declared.outcome.Step.TheVariants as step
 use Rattle.pq_clients.specs.declared.outcome.Wrote.{Wrote}
 use Rattle.pq_clients.specs.Held.{decoded_row, Cell, Free, Held, cell_of, held_value}
-use Rattle.pq_clients.specs.Flights.{row_made, table_of, pair_key, Flight, Check, flight_table, flight_key, new_code, fresh_entries, stale_entries, flight_checks, flight_tests, check_refusal, test_refusal}
+use Rattle.pq_clients.specs.Flights.{row_made, table_of, pair_key, Flight, Check, flight_table, flight_key, new_code, fresh_entries, stale_entries, flight_checks, flight_tests, check_refusal, test_refusal, row_refusal}
 use Rattle.pq_clients.specs.Clients.{Stage, Checking, Adding, Testing, Putting, Clearing, Freeing, Undoing, Releasing, Next, Reading, Taking, Looking, Flying, View, write_at, is_over}
 use Rattle.pq_clients.specs.Steps.{is_just, taking_short, after_row, after_code, after_cell, after_read, read_on, is_held_by_other, Then, On, Puts, Ends, testing, adding, checking, clearing, undoing, passes, has_room, refused, damaged, if_own, flown, gone_on, is_fault, After, after_call, told_view, Fate, Answers, NotDone, DoneUnseen, NoMemory, stepped}
 use Rattle.pq_clients.specs.Promises.{Reads, PutsOwn, is_insert, IsOwnTest}
 use Rattle.pq_clients.proofs.Shaped.{just_this, just_itself}
 use Rattle.pq_clients.proofs.ByCalls.{call_by, by_call}
+use Rattle.pq_clients.proofs.Granting.{refused_or}
 
 module _ (tables : List Table) where
   -- ---- the tests of a stage are those of its write
@@ -103,11 +104,12 @@ module _ (tables : List Table) where
       row_leads : (u : Write) → u ≡ w → (read : Option (List ℕ)) (row : Option (List Value)) → is_some row ≡ is_some read → get c (pair_key tables w) ≡ read → Leads v c Reading (after_row tables u read row)
       row_leads (write.Insert t new) same read None fits there = taken (write.Insert t new) read same there (ap not fits)
       row_leads (write.Insert t new) same read (Some old) fits there = tt
-      row_leads (write.Update t key sets) same read None fits there = tt
-      row_leads (write.Update t key sets) same read (Some old) fits there =
-          short_leads (record { write = write.Update t key sets; read = read }) (row_made (write.Update t key sets) (Some old)) (taken (write.Update t key sets) read same there (ap not fits))
-      row_leads (write.Delete t key) same read None fits there = tt
-      row_leads (write.Delete t key) same read (Some old) fits there = taken (write.Delete t key) read same there (ap not fits)
+      row_leads (write.Update t key sets conds) same read None fits there = tt
+      row_leads (write.Update t key sets conds) same read (Some old) fits there =
+          refused_or (Leads v c Reading) _ _ (λ why is. tt)
+          (λ none. short_leads (record { write = write.Update t key sets conds; read = read }) (row_made (write.Update t key sets conds) (Some old)) (taken (write.Update t key sets conds) read same there (ap not fits)))
+      row_leads (write.Delete t key conds) same read None fits there = tt
+      row_leads (write.Delete t key conds) same read (Some old) fits there = refused_or (Leads v c Reading) (row_refusal tables (write.Delete t key conds) old) (On (Taking (record { write = write.Delete t key conds; read = read }))) (λ why is. tt) (λ none. taken (write.Delete t key conds) read same there (ap not fits))
 
       code_leads : (code : List ℕ) (row : Option (List Value)) → get c (pair_key tables w) ≡ Some code → Leads v c Reading (after_code tables w code row)
       code_leads code None there = tt

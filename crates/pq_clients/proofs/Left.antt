@@ -16,7 +16,7 @@ use Rattle.pq_clients.specs.declared.outcome.Step.{Step}
 use Rattle.pq_clients.specs.declared.outcome.Step.TheVariants as step
 use Rattle.pq_clients.specs.declared.outcome.Wrote.{Wrote}
 use Rattle.pq_clients.specs.Held.{Cell, Free, Held, cell_of}
-use Rattle.pq_clients.specs.Flights.{Flight, table_of, row_made, flight_key, flight_table, pair_key, flight_checks, stale_entries}
+use Rattle.pq_clients.specs.Flights.{Flight, table_of, row_made, flight_key, flight_table, pair_key, flight_checks, stale_entries, row_refusal}
 use Rattle.pq_clients.specs.Clients.{Stage, Checking, Adding, Testing, Putting, Clearing, Freeing, Undoing, Releasing, Next, Reading, Taking, Looking, Flying, View, is_over}
 use Rattle.pq_clients.specs.Runs.{told_by, put_by}
 use Rattle.pq_clients.specs.Steps.{Then, On, Puts, Ends, damaged, refused, is_held_by_other, checking, taking_short, after_row, after_code, after_cell, after_read, clearing, is_fault, tells}
@@ -25,6 +25,7 @@ use Rattle.pq_clients.specs.Goes.{Spot}
 use Rattle.pq_clients.specs.Stepping.{Ended, GoesOn, Follows, TakesWay, MakesCall}
 use Rattle.pq_clients.specs.Running.{tells_left, puts_left, was_put}
 use Rattle.pq_clients.proofs.Hands.{going_at}
+use Rattle.pq_clients.proofs.Granting.{refused_or}
 
 -- ---- how the next step stands to the put
 
@@ -75,11 +76,11 @@ short_no tables f (Some row) =
 row_no : (tables : List Table) (w : Write) (read : Option (List ℕ)) (old : Option (List Value)) → NoPut (after_row tables w read old)
 row_no tables (write.Insert t row) read None = tt
 row_no tables (write.Insert t row) read (Some old) = tt
-row_no tables (write.Update t key sets) read None = tt
-row_no tables (write.Update t key sets) read (Some old) =
-    short_no tables (record { write = write.Update t key sets; read = read }) (row_made (write.Update t key sets) (Some old))
-row_no tables (write.Delete t key) read None = tt
-row_no tables (write.Delete t key) read (Some old) = tt
+row_no tables (write.Update t key sets conds) read None = tt
+row_no tables (write.Update t key sets conds) read (Some old) =
+    refused_or NoPut _ _ (λ why is. tt) (λ none. short_no tables (record { write = write.Update t key sets conds; read = read }) (row_made (write.Update t key sets conds) (Some old)))
+row_no tables (write.Delete t key conds) read None = tt
+row_no tables (write.Delete t key conds) read (Some old) = refused_or NoPut (row_refusal tables (write.Delete t key conds) old) (On (Taking (record { write = write.Delete t key conds; read = read }))) (λ why is. tt) (λ none. tt)
 
 code_no : (tables : List Table) (w : Write) (code : List ℕ) (row : Option (List Value)) → NoPut (after_code tables w code row)
 code_no tables w code None = tt

@@ -5,6 +5,7 @@ pub mod Counting
 pub mod Seen
 pub mod Flying
 pub mod Cells
+pub mod Granting
 pub mod Coded
 pub mod Stages
 pub mod Landing

@@ -14,10 +14,11 @@ use Rattle.pq_clients.specs.declared.outcome.Outcome.{Outcome}
 use Rattle.pq_clients.specs.declared.outcome.Outcome.TheVariants as outcome
 use Rattle.pq_clients.specs.declared.outcome.Step.TheVariants as step
 use Rattle.pq_clients.specs.Held.{decoded_row, Cell, Free, Held, cell_of, held_value}
-use Rattle.pq_clients.specs.Flights.{row_made, table_of, pair_key, Flight, flight_table, flight_key, new_code, fresh_entries, stale_entries, flight_checks, check_refusal, test_refusal}
+use Rattle.pq_clients.specs.Flights.{row_made, table_of, pair_key, Flight, flight_table, flight_key, new_code, fresh_entries, stale_entries, flight_checks, check_refusal, test_refusal, row_refusal}
 use Rattle.pq_clients.specs.Clients.{Stage, Checking, Adding, Testing, Putting, Clearing, Freeing, Undoing, Releasing, Next, Reading, Taking, Looking, Flying, View, write_at, is_over}
 use Rattle.pq_clients.specs.Steps.{is_just, taking_short, after_row, after_code, after_cell, after_read, read_on, is_held_by_other, Then, On, Puts, Ends, testing, adding, checking, clearing, undoing, passes, has_room, refused, damaged, if_own, flown, gone_on, is_fault, after_call, told_view, Fate, Answers, NotDone, DoneUnseen, NoMemory, met, stepped}
 use Rattle.pq_clients.proofs.Shaped.{just_this, just_itself}
+use Rattle.pq_clients.proofs.Granting.{refused_or}
 
 module _ (tables : List Table) where
   -- a take that doesn't find what was read
@@ -57,10 +58,11 @@ module _ (tables : List Table) where
   row_looks : (c : Content) (next : Next) (w : Write) (read : Option (List ℕ)) (row : Option (List Value)) → LooksBy c next (after_row tables w read row)
   row_looks c next (write.Insert t new) read None = takes c next (record { write = write.Insert t new; read = read })
   row_looks c next (write.Insert t new) read (Some old) = tt
-  row_looks c next (write.Update t key sets) read None = tt
-  row_looks c next (write.Update t key sets) read (Some old) = short_looks c next (record { write = write.Update t key sets; read = read }) (row_made (write.Update t key sets) (Some old))
-  row_looks c next (write.Delete t key) read None = tt
-  row_looks c next (write.Delete t key) read (Some old) = takes c next (record { write = write.Delete t key; read = read })
+  row_looks c next (write.Update t key sets conds) read None = tt
+  row_looks c next (write.Update t key sets conds) read (Some old) =
+      refused_or (LooksBy c next) _ _ (λ why is. tt) (λ none. short_looks c next (record { write = write.Update t key sets conds; read = read }) (row_made (write.Update t key sets conds) (Some old)))
+  row_looks c next (write.Delete t key conds) read None = tt
+  row_looks c next (write.Delete t key conds) read (Some old) = refused_or (LooksBy c next) (row_refusal tables (write.Delete t key conds) old) (On (Taking (record { write = write.Delete t key conds; read = read }))) (λ why is. tt) (λ none. takes c next (record { write = write.Delete t key conds; read = read }))
 
   code_looks : (c : Content) (next : Next) (w : Write) (code : List ℕ) (row : Option (List Value)) → LooksBy c next (after_code tables w code row)
   code_looks c next w code None = tt

@@ -1,7 +1,7 @@
 -- What is told has its reason, and no damage is found.
 use Rattle.std.proofs.Common.{◌≡◌, ℕ, ◌<◌, ◌==◌, Bool, true, false, cond, not, ◌&&◌, inl, inr, List, [], ◌∷◌, length, take, drop, Option, Some, None, is_some, refl, sym, ap, ◌∙◌, subst, arith}
-use Rattle.std.specs.Prelude.{nat_lt}
-use Rattle.std.specs.List.{AllByRecursion, slice_get}
+use Rattle.std.specs.Prelude.{nat_lt, position, option_map, is_none}
+use Rattle.std.specs.List.{AllByRecursion, slice_get, find}
 use Rattle.std.specs.FinMap.{get}
 use Rattle.std.specs.Int.{w32, from_be_bytes}
 use Rattle.std.proofs.lemmas.Bool.{false≢true, eqb-true}
@@ -21,7 +21,7 @@ use Rattle.pq_clients.specs.declared.outcome.Outcome.TheVariants as outcome
 use Rattle.pq_clients.specs.declared.outcome.Step.{Step}
 use Rattle.pq_clients.specs.declared.outcome.Step.TheVariants as step
 use Rattle.pq_clients.specs.Held.{decoded_row, something, Cell, Free, Held, cell_of, is_held_value, held_value, present_in}
-use Rattle.pq_clients.specs.Flights.{row_made, table_number, table_of, pair_key, Flight, Parent, Child, flight_table, flight_key, new_code, fresh_entries, stale_entries, check_refusal, test_refusal, flight_checks}
+use Rattle.pq_clients.specs.Flights.{row_made, table_number, table_of, pair_key, Flight, Parent, Child, flight_table, flight_key, new_code, fresh_entries, stale_entries, check_refusal, test_refusal, flight_checks, row_refusal, sets_of, conds_of}
 use Rattle.pq_clients.specs.Clients.{Stage, Checking, Adding, Testing, Putting, Clearing, Freeing, Undoing, Releasing, Next, Reading, Taking, Looking, Flying, View, write_at, is_over}
 use Rattle.pq_clients.specs.Steps.{is_just, taking_short, after_row, after_code, after_cell, after_read, read_on, is_row_or_none, is_held_by_other, Then, On, Puts, Ends, testing, checking, clearing, undoing, passes, has_room, refused, damaged, if_own, flown, gone_on, after_call, Fate, Answers, NotDone, DoneUnseen, NoMemory, met, stepped}
 use Rattle.pq_clients.specs.Runs.{Event, Run, turned, turn, run}
@@ -36,6 +36,11 @@ use Rattle.pq_clients.proofs.CallSteps.{own_just}
 use Rattle.pq_clients.proofs.Turns.{unbroken_of}
 use Rattle.pq_clients.proofs.Whole.{at_place, set_place}
 use Rattle.pq_clients.proofs.Causes.{turns_shown}
+use Rattle.pq_clients.proofs.Granting.{refused_or}
+use Rattle.pq_index_keep.specs.Effects.{condition_refusal, sum_refusal, unmet, no_sum}
+use Rattle.pq_index_keep.specs.Tested.{holds_of, set_value}
+use Rattle.pq_index_keep.specs.declared.write.SetCol.{SetCol}
+use Rattle.pq_base.specs.Answers.{or_else}
 
 -- ---- the refusals of tests
 
@@ -98,26 +103,52 @@ module _ (tables : List Table) where
           ap (λ (t : ℕ). decoded_row (table_at tables t) code) same
           ∙ subst (λ (code : List ℕ). decoded_row (table_at tables at.table) code ≡ Some at.row) at.code_is (row_decodes tables at.table at.row sound at.number at.fits)
 
-      long_reason : (w : Write) (old : List Value) → is_insert w ≡ false → ReadsRow tables v c w old → (f : Flight) → flight_table tables f ≡ table_of tables w → (new : Option (List Value)) → row_made w (Some old) ≡ new → Reasoned (taking_short tables f new)
-      long_reason w old update r f same None made = tt
-      long_reason w old update r f same (Some new) made = by (nat_lt 4096 (length (stored_code (flight_table tables f) new))) refl
+      long_reason : (w : Write) (old : List Value) → is_insert w ≡ false → ReadsRow tables v c w old → row_refusal tables w old ≡ None → (f : Flight) → flight_table tables f ≡ table_of tables w → (new : Option (List Value)) → row_made w (Some old) ≡ new → Reasoned (taking_short tables f new)
+      long_reason w old update r granted f same None made = tt
+      long_reason w old update r granted f same (Some new) made = by (nat_lt 4096 (length (stored_code (flight_table tables f) new))) refl
         where
           longer : (n : ℕ) → nat_lt 4096 n ≡ true → 4096 < n
           longer n long = grind (arith, nat_tests)
 
           by : (b : Bool) → nat_lt 4096 (length (stored_code (flight_table tables f) new)) ≡ b → Reasoned (cond b (refused (refusal.RowLong (flight_table tables f).name (length (stored_code (flight_table tables f) new)))) (On (Taking f)))
-          by true long = (w, old, new, r, update, made, ap (λ (t : Table). length (stored_code t new)) same, longer (length (stored_code (flight_table tables f) new)) long, ap (λ (t : Table). t.name) same)
+          by true long = (w, old, new, r, granted, update, made, ap (λ (t : Table). length (stored_code t new)) same, longer (length (stored_code (flight_table tables f) new)) long, ap (λ (t : Table). t.name) same)
           by false long = tt
+
+      -- a refusal by a condition or by a sum
+      refused_reason : (w : Write) (row : List Value) → ReadsRow tables v c w row → (why : Refusal) → row_refusal tables w row ≡ Some why → HasReason tables v c (outcome.Refused why)
+      refused_reason w row r why is = by_cond (position (λ cond. not (holds_of row cond)) (conds_of w)) refl
+        where
+          table : Table
+          table = table_of tables w
+
+          by_sum : condition_refusal table (conds_of w) row ≡ None → (o : Option SetCol) → find (λ set. is_none (set_value row set)) (sets_of w) ≡ o → HasReason tables v c (outcome.Refused why)
+          by_sum held None found =
+              let wrong : ◌≡◌ {A = Option Refusal} None (Some why) = sym (ap (λ (o : Option Refusal). or_else o (sum_refusal table (sets_of w) row)) held ∙ ap (option_map (no_sum table)) found) ∙ is in absurd (cc)
+          by_sum held (Some set) found =
+              let sum : sum_refusal table (sets_of w) row ≡ Some (no_sum table set) = ap (option_map (no_sum table)) found in
+              let both : ◌≡◌ {A = Option Refusal} (Some (no_sum table set)) (Some why) = sym (ap (λ (o : Option Refusal). or_else o (sum_refusal table (sets_of w) row)) held ∙ sum) ∙ is in
+              let same : no_sum table set ≡ why = cc in
+              subst (λ (why : Refusal). HasReason tables v c (outcome.Refused why)) same (w, row, r, held, sum)
+
+          by_cond : (o : Option ℕ) → position (λ cond. not (holds_of row cond)) (conds_of w) ≡ o → HasReason tables v c (outcome.Refused why)
+          by_cond None found = by_sum (ap (option_map (unmet table)) found) (find (λ set. is_none (set_value row set)) (sets_of w)) refl
+          by_cond (Some place) found =
+              let first : condition_refusal table (conds_of w) row ≡ Some (unmet table place) = ap (option_map (unmet table)) found in
+              let both : ◌≡◌ {A = Option Refusal} (Some (unmet table place)) (Some why) = sym (ap (λ (o : Option Refusal). or_else o (sum_refusal table (sets_of w) row)) first) ∙ is in
+              let same : unmet table place ≡ why = cc in
+              subst (λ (why : Refusal). HasReason tables v c (outcome.Refused why)) same (w, row, r, first)
 
       row_reason : (w : Write) (code : List ℕ) (row : List Value) → ReadsRow tables v c w row → Reasoned (after_row tables w (Some code) (Some row))
       row_reason (write.Insert t new) code row r = (write.Insert t new, row, r, refl, refl)
-      row_reason (write.Update t key sets) code row r = long_reason (write.Update t key sets) row refl r (record { write = write.Update t key sets; read = Some code }) refl (row_made (write.Update t key sets) (Some row)) refl
-      row_reason (write.Delete t key) code row r = tt
+      row_reason (write.Update t key sets conds) code row r =
+          let w = write.Update t key sets conds in
+          refused_or Reasoned _ _ (refused_reason w row r) (λ none. long_reason w row refl r none (record { write = w; read = Some code }) refl (row_made w (Some row)) refl)
+      row_reason (write.Delete t key conds) code row r = refused_or Reasoned (row_refusal tables (write.Delete t key conds) row) (On (Taking (record { write = write.Delete t key conds; read = Some code }))) (refused_reason (write.Delete t key conds) row r) (λ none. tt)
 
       none_reason : (w : Write) → Reads tables v c w None → Reasoned (after_row tables w None None)
       none_reason (write.Insert t new) r = tt
-      none_reason (write.Update t key sets) r = (write.Update t key sets, r, refl, refl)
-      none_reason (write.Delete t key) r = (write.Delete t key, r, refl, refl)
+      none_reason (write.Update t key sets conds) r = (write.Update t key sets conds, r, refl, refl)
+      none_reason (write.Delete t key conds) r = (write.Delete t key conds, r, refl, refl)
 
       free_value : (value : List ℕ) → cell_of value ≡ Free value → is_held_value value ≡ false
       unfolding cell_of

@@ -19,13 +19,14 @@ use Rattle.pq_index_keep.specs.declared.write.Write.TheVariants as write
 use Rattle.pq_index_keep.specs.Sound.{AreWritable, IsWrite}
 use Rattle.pq_clients.specs.declared.outcome.Outcome.TheVariants as outcome
 use Rattle.pq_clients.specs.Held.{Cell, Free, Held, cell_of, is_held_value, something, present_in, decoded_row}
-use Rattle.pq_clients.specs.Flights.{Flight, table_number, table_of, pair_key, row_made, flight_table, flight_key, old_row, new_row, new_code}
+use Rattle.pq_clients.specs.Flights.{Flight, table_number, table_of, pair_key, row_made, flight_table, flight_key, old_row, new_row, new_code, IsGranted, row_refusal}
 use Rattle.pq_clients.specs.Clients.{Reading, Taking, Looking, Flying, write_at}
 use Rattle.pq_clients.specs.Steps.{is_just, Then, On, Puts, Ends, refused, damaged, taking_short, after_row, after_code, is_held_by_other, after_cell, after_read}
 use Rattle.pq_clients.specs.Invariant.{cell_at, present_at_cell, MayStandAt, Names, FlightFits, IsShaped}
 use Rattle.pq_clients.proofs.Basics.{at_or_not, space_apart, not_both, get_here, get_apart, cell_is, no_cell, or_first, or_second}
 use Rattle.pq_clients.proofs.Owners.{entry_space}
 use Rattle.pq_clients.proofs.Coded.{key_space, write_number, new_fits}
+use Rattle.pq_clients.proofs.Granting.{refused_or, granted_row, granted_none}
 
 pub just_this : (a b : Option (List ℕ)) → is_just a b ≡ true → b ≡ a
 just_this None None h = refl
@@ -101,15 +102,15 @@ module _ (tables : List Table) where
 
   -- ---- a flight that begins
 
-  new_by_row : AreWritable tables → (f : Flight) → IsWrite tables f.write → MayStandAt tables (flight_key tables f) f.read → (new : Option (List Value)) → new_row tables f ≡ new → ((row : List Value) → new ≡ Some row → length (stored_code (flight_table tables f) row) ≤ 4096) → MayStandAt tables (flight_key tables f) (option_map (stored_code (flight_table tables f)) new)
-  new_by_row sound f w read None is short = tt
-  new_by_row sound f w read (Some row) is short =
-      let own = new_fits tables sound f w read row is in
+  new_by_row : AreWritable tables → (f : Flight) → IsWrite tables f.write → MayStandAt tables (flight_key tables f) f.read → IsGranted tables f → (new : Option (List Value)) → new_row tables f ≡ new → ((row : List Value) → new ≡ Some row → length (stored_code (flight_table tables f) row) ≤ 4096) → MayStandAt tables (flight_key tables f) (option_map (stored_code (flight_table tables f)) new)
+  new_by_row sound f w read granted None is short = tt
+  new_by_row sound f w read granted (Some row) is short =
+      let own = new_fits tables sound f w read granted row is in
       record { table = table_number f.write; row = row; number = write_number tables f.write w; fits = own.0; short = short row refl; code_is = refl; key_is = own.1 }
 
-  pub flight_fits : AreWritable tables → (f : Flight) → IsWrite tables f.write → MayStandAt tables (flight_key tables f) f.read → ((row : List Value) → new_row tables f ≡ Some row → length (stored_code (flight_table tables f) row) ≤ 4096) → FlightFits tables f
+  pub flight_fits : AreWritable tables → (f : Flight) → IsWrite tables f.write → MayStandAt tables (flight_key tables f) f.read → IsGranted tables f → ((row : List Value) → new_row tables f ≡ Some row → length (stored_code (flight_table tables f) row) ≤ 4096) → FlightFits tables f
   unfolding new_code
-  flight_fits sound f w read short = record { write = w; read = read; new = new_by_row sound f w read (new_row tables f) refl short }
+  flight_fits sound f w read granted short = record { write = w; read = read; granted = granted; new = new_by_row sound f w read granted (new_row tables f) refl short }
 
   -- a write goes on from its read to the take, or is told something
   abbrev pub Begins : Write → Then → Type 0
@@ -125,25 +126,27 @@ module _ (tables : List Table) where
 
   row_begins : AreWritable tables → (w : Write) → IsWrite tables w → (read : Option (List ℕ)) (row : Option (List Value)) → MayStandAt tables (pair_key tables w) read → option_and_then (decoded_row (table_of tables w)) read ≡ row → Begins w (after_row tables w read row)
   unfolding old_row new_row
-  row_begins sound (write.Insert t new) w read None at is = (flight_fits sound (record { write = write.Insert t new; read = read }) w at (λ row made. let same : new ≡ row = cc in subst (λ (row : List Value). length (stored_code (table_at tables t) row) ≤ 4096) same w.short), refl)
+  row_begins sound (write.Insert t new) w read None at is = (flight_fits sound (record { write = write.Insert t new; read = read }) w at (granted_none tables (record { write = write.Insert t new; read = read }) is) (λ row made. let same : new ≡ row = cc in subst (λ (row : List Value). length (stored_code (table_at tables t) row) ≤ 4096) same w.short), refl)
   row_begins sound (write.Insert t new) w read (Some row) at is = tt
-  row_begins sound (write.Update t key sets) w read None at is = tt
-  row_begins sound (write.Update t key sets) w read (Some old) at is = short (row_made (write.Update t key sets) (Some old)) refl
+  row_begins sound (write.Update t key sets conds) w read None at is = tt
+  row_begins sound (write.Update t key sets conds) w read (Some old) at is = refused_or (Begins (write.Update t key sets conds)) _ _ (λ why _. tt) (λ none. short (granted_row tables f old is none) (row_made (write.Update t key sets conds) (Some old)) refl)
     where
       f : Flight
-      f = record { write = write.Update t key sets; read = read }
+      f = record { write = write.Update t key sets conds; read = read }
 
-      by_length : (new : List Value) → row_made (write.Update t key sets) (Some old) ≡ Some new → (b : Bool) → nat_lt 4096 (length (stored_code (table_at tables t) new)) ≡ b
-          → Begins (write.Update t key sets) (cond b (refused (refusal.RowLong (table_at tables t).name (length (stored_code (table_at tables t) new)))) (On (Taking (record { write = write.Update t key sets; read = read }))))
-      by_length new made true long = tt
-      by_length new made false long =
-          (flight_fits sound (record { write = write.Update t key sets; read = read }) w at (λ row is_new. let same : ◌≡◌ {A = Option (List Value)} (Some new) (Some row) = sym made ∙ sym (ap (row_made (write.Update t key sets)) is) ∙ is_new in let rows : new ≡ row = cc in subst (λ (row : List Value). length (stored_code (table_at tables t) row) ≤ 4096) rows (at_most (length (stored_code (table_at tables t) new)) long)), refl)
+      by_length : IsGranted tables f → (new : List Value) → row_made (write.Update t key sets conds) (Some old) ≡ Some new → (b : Bool) → nat_lt 4096 (length (stored_code (table_at tables t) new)) ≡ b
+          → Begins (write.Update t key sets conds) (cond b (refused (refusal.RowLong (table_at tables t).name (length (stored_code (table_at tables t) new)))) (On (Taking (record { write = write.Update t key sets conds; read = read }))))
+      by_length granted new made true long = tt
+      by_length granted new made false long =
+          (flight_fits sound (record { write = write.Update t key sets conds; read = read }) w at granted (λ row is_new. let same : ◌≡◌ {A = Option (List Value)} (Some new) (Some row) = sym made ∙ sym (ap (row_made (write.Update t key sets conds)) is) ∙ is_new in let rows : new ≡ row = cc in subst (λ (row : List Value). length (stored_code (table_at tables t) row) ≤ 4096) rows (at_most (length (stored_code (table_at tables t) new)) long)), refl)
 
-      short : (new : Option (List Value)) → row_made (write.Update t key sets) (Some old) ≡ new → Begins (write.Update t key sets) (taking_short tables (record { write = write.Update t key sets; read = read }) new)
-      short None made = absurd (cc)
-      short (Some new) made = by_length new made (nat_lt 4096 (length (stored_code (table_at tables t) new))) refl
-  row_begins sound (write.Delete t key) w read None at is = tt
-  row_begins sound (write.Delete t key) w read (Some row) at is = (flight_fits sound (record { write = write.Delete t key; read = read }) w at (λ row made. absurd (cc)), refl)
+      short : IsGranted tables f → (new : Option (List Value)) → row_made (write.Update t key sets conds) (Some old) ≡ new → Begins (write.Update t key sets conds) (taking_short tables (record { write = write.Update t key sets conds; read = read }) new)
+      short granted None made = absurd (cc)
+      short granted (Some new) made = by_length granted new made (nat_lt 4096 (length (stored_code (table_at tables t) new))) refl
+  row_begins sound (write.Delete t key conds) w read None at is = tt
+  row_begins sound (write.Delete t key conds) w read (Some row) at is =
+      let f : Flight = record { write = write.Delete t key conds; read = read } in
+      refused_or (Begins (write.Delete t key conds)) (row_refusal tables (write.Delete t key conds) row) (On (Taking (record { write = write.Delete t key conds; read = read }))) (λ why _. tt) (λ none. (flight_fits sound f w at (granted_row tables f row is none) (λ row made. absurd (cc)), refl))
 
   read_begins : AreWritable tables → (c : Content) (others : List ℕ → Option (List ℕ)) → IsShaped tables c others → (client : ℕ) (w : Write) → IsWrite tables w → (found : Option (List ℕ)) → get c (pair_key tables w) ≡ found → Begins w (after_read tables client w found)
   read_begins sound c others shape client w fits None is = row_begins sound w fits None None tt refl

@@ -20,7 +20,7 @@ use Rattle.pq_clients.specs.Clients.{Stage, Checking, Adding, Testing, Putting, 
 use Rattle.pq_clients.specs.Steps.{Then, On, Puts, Ends, clearing, damaged, flown, gone_on, is_fault, after_call, tells, Fate, Answers, NotDone, DoneUnseen, NoMemory, met, stepped}
 use Rattle.pq_clients.specs.Runs.{Event, Run, begun, turned, turn, run}
 use Rattle.pq_clients.specs.Present.{present_rows}
-use Rattle.pq_clients.specs.Promises.{IsFresh, Begins, TellsOutcome, is_insert, reached}
+use Rattle.pq_clients.specs.Promises.{IsFresh, Begins, TellsOutcome, reached, FitsFound}
 use Rattle.pq_clients.specs.Invariant.{present_of, may_show, code_row, is_key, MayStandAt, Stance, Good, stance_of, FlightFits, StageFits, NextFits, ViewFits, IsShaped}
 use Rattle.pq_clients.proofs.AtKeys.{present_row_at}
 use Rattle.pq_clients.proofs.Basics.{get_here, or_first}
@@ -29,7 +29,7 @@ use Rattle.pq_clients.proofs.Cells.{held_cell}
 use Rattle.pq_clients.proofs.Coded.{key_space, names_code, old_is, row_of_code}
 use Rattle.pq_clients.proofs.Effects.{own_kinds}
 use Rattle.pq_clients.proofs.Failures.{failure_told}
-use Rattle.pq_clients.proofs.Leads.{OfNext}
+use Rattle.pq_clients.proofs.Leads.{OfNext, Matches}
 use Rattle.pq_clients.proofs.Ofs.{OfView, run_of, fresh_of}
 use Rattle.pq_clients.proofs.Others.{entry_apart}
 use Rattle.pq_clients.proofs.Puts.{own_value, own_just}
@@ -48,6 +48,10 @@ old_some tables sound f fits = by f.read refl fits.read
     by : (q : Option (List ℕ)) → f.read ≡ q → MayStandAt tables (flight_key tables f) q → is_some (old_row tables f) ≡ is_some f.read
     by None e stands = ap (λ (q : Option (List ℕ)). is_some (option_and_then (decoded_row (flight_table tables f)) q)) e ∙ sym (ap is_some e)
     by (Some code) e stands = ap is_some (sym (old_is tables f) ∙ ap (code_row tables (flight_key tables f)) e ∙ (row_of_code tables sound (flight_key tables f) code stands).1) ∙ sym (ap is_some e)
+
+-- what was read is what the write asks for
+pub found_of : (tables : List Table) (sound : AreWritable tables) (f : Flight) → FlightFits tables f → Matches tables f → FitsFound tables f.write (old_row tables f)
+found_of tables sound f fits of = (of ∙ ap not (sym (old_some tables sound f fits)), fits.granted)
 
 module _ (tables : List Table) (sound : AreWritable tables) (others : List ℕ → Option (List ℕ)) where
   -- the key is held, with the row of the step present, or the one that may be
@@ -253,9 +257,9 @@ module _ (tables : List Table) (rows : Rows) (pairs : List Pair) (clients : List
 
     -- a write that comes to its put finds present what it read
     pub finds_present : (p : ℕ) (v : View) (f : Flight) → slice_get r.clients p ≡ Some v → v.over ≡ None → v.next ≡ Flying f Putting
-        → (row_at tables (present_rows tables r.content) (table_number f.write) (key_written tables f.write) ≡ old_row tables f) × (is_insert f.write ≡ not (is_some (old_row tables f)))
+        → (row_at tables (present_rows tables r.content) (table_number f.write) (key_written tables f.write) ≡ old_row tables f) × FitsFound tables f.write (old_row tables f)
     unfolding old_row pair_key
-    finds_present p v f here unbroken putting = (present_row_at tables b.sound (get c0) r.content h.shaped (table_number f.write) (key_written tables f.write) (own_kinds tables f.write fits.0.write) ∙ ap (option_and_then (decoded_row (flight_table tables f))) code, of.0 ∙ ap not (sym (old_some tables b.sound f fits.0)))
+    finds_present p v f here unbroken putting = (present_row_at tables b.sound (get c0) r.content h.shaped (table_number f.write) (key_written tables f.write) (own_kinds tables f.write fits.0.write) ∙ ap (option_and_then (decoded_row (flight_table tables f))) code, found_of tables b.sound f fits.0 of.0)
       where
         view : ViewFits tables v
         view = at_place (ViewFits tables) r.clients p v h.views here

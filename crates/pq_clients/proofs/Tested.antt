@@ -26,6 +26,7 @@ use Rattle.pq_index_keep.proofs.Updating.{kept_sequence}
 use Rattle.pq_clients.specs.Flights.{Flight, Check, Parent, Child, table_number, table_of, row_made, gives, old_row, new_row, entry_keys, keys_of_row, old_entries, new_entries, has_entry, left_out, fresh_entries, stale_entries, parent_checks, child_checks_of, child_checks, checks_of, flight_checks, limit_tests, tests_of, flight_tests}
 use Rattle.pq_clients.specs.Promises.{calls_of_write}
 use Rattle.pq_clients.proofs.Basics.{or_first, or_second}
+use Rattle.pq_index_keep.specs.declared.write.Cond.{Cond}
 
 -- ---- lists
 
@@ -210,10 +211,10 @@ module _ (tables : List Table) where
       few : (c t f s foreign limits indexes : ℕ) → c ≤ foreign → t ≤ limits → f ≤ indexes → s ≡ 0 → 4 + (c + t) + 2 * f + s ≤ 4 + (foreign + limits) + 2 * indexes
       few c t f s foreign limits indexes a b d e = omega arith
 
-  pub update_few : (t : ℕ) (key : List Value) (sets : List SetCol) (read : Option (List ℕ)) (row : List Value) → old_row tables (record { write = write.Update t key sets; read = read }) ≡ Some row
-      → calls_of_flight (record { write = write.Update t key sets; read = read }) ≤ calls_of_write tables (write.Update t key sets)
-  update_few t key sets read row old =
-      let w = write.Update t key sets in
+  pub update_few : (t : ℕ) (key : List Value) (sets : List SetCol) (conds : List Cond) (read : Option (List ℕ)) (row : List Value) → old_row tables (record { write = write.Update t key sets conds; read = read }) ≡ Some row
+      → calls_of_flight (record { write = write.Update t key sets conds; read = read }) ≤ calls_of_write tables (write.Update t key sets conds)
+  update_few t key sets conds read row old =
+      let w = write.Update t key sets conds in
       let f : Flight = record { write = w; read = read } in
       let table = table_at tables t in
       let new = with_sets sets row in
@@ -231,9 +232,9 @@ module _ (tables : List Table) where
       few : (c t f s foreign limits indexes : ℕ) → c ≤ foreign → t ≤ limits → f ≤ indexes → s ≤ indexes → 4 + (c + t) + 2 * f + s ≤ 4 + (foreign + limits) + 3 * indexes
       few c t f s foreign limits indexes a b d e = omega arith
 
-  pub delete_few : (t : ℕ) (key : List Value) (read : Option (List ℕ)) → calls_of_flight (record { write = write.Delete t key; read = read }) ≤ calls_of_write tables (write.Delete t key)
-  delete_few t key read =
-      let w = write.Delete t key in
+  pub delete_few : (t : ℕ) (key : List Value) (conds : List Cond) (read : Option (List ℕ)) → calls_of_flight (record { write = write.Delete t key conds; read = read }) ≤ calls_of_write tables (write.Delete t key conds)
+  delete_few t key conds read =
+      let w = write.Delete t key conds in
       let f : Flight = record { write = w; read = read } in
       let table = table_at tables t in
       let old = old_row tables f in
@@ -248,5 +249,5 @@ module _ (tables : List Table) where
 
   pub some_calls : (w : Write) → 4 ≤ calls_of_write tables w
   some_calls (write.Insert t row) = omega arith
-  some_calls (write.Update t key sets) = omega arith
-  some_calls (write.Delete t key) = omega arith
+  some_calls (write.Update t key sets conds) = omega arith
+  some_calls (write.Delete t key conds) = omega arith

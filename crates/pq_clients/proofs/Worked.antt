@@ -32,6 +32,7 @@ use Rattle.pq_row_keys.specs.Groups.{group_key}
 use Rattle.pq_index_keep.specs.Sound.{IsWritable, AreWritable, IsWrite}
 use Rattle.pq_index_keep.specs.declared.write.Write.{Write}
 use Rattle.pq_index_keep.specs.declared.write.Write.TheVariants as write
+use Rattle.pq_def_read.specs.declared.write.Setting.TheVariants as setting
 use Rattle.pq_store.specs.Content.{Content, key_cmp}
 use Rattle.pq_clients.specs.declared.outcome.Outcome.TheVariants as outcome
 use Rattle.pq_clients.specs.declared.outcome.Told.{Told}
@@ -149,10 +150,10 @@ keeps = record {
 
 -- the first client moves the row to the other number, the second deletes it, the third inserts another
 abbrev moves : Write
-moves = write.Update 2 (one 1) (record { col = 1; value = value.Int (pos 2) } ∷ [])
+moves = write.Update 2 (one 1) (record { col = 1; to = setting.Is (value.Int (pos 2)) } ∷ []) []
 
 abbrev deletes : Write
-deletes = write.Delete 2 (one 1)
+deletes = write.Delete 2 (one 1) []
 
 abbrev inserts : Write
 inserts = write.Insert 2 (pair 5 1)
@@ -174,9 +175,9 @@ begins = record {
   beside = tt;
   fresh = record {
     each = each_is (IsFresh both) clients (
-      fresh_client 1 moves (omega arith) (omega arith) (record { number = (omega arith, omega arith); fits = (small_number 1 (omega arith), tt); each = (record { inside = omega arith; fits = small_number 2 (omega arith); other = refl }, tt) }),
+      fresh_client 1 moves (omega arith) (omega arith) (record { number = (omega arith, omega arith); fits = (small_number 1 (omega arith), tt); each = (record { inside = omega arith; fits = small_number 2 (omega arith); other = refl }, tt); tested = (omega arith, tt) }),
       (
-        fresh_client 2 deletes (omega arith) (omega arith) (record { number = (omega arith, omega arith); fits = (small_number 1 (omega arith), tt) }),
+        fresh_client 2 deletes (omega arith) (omega arith) (record { number = (omega arith, omega arith); fits = (small_number 1 (omega arith), tt); tested = (omega arith, tt) }),
         (fresh_client 3 inserts (omega arith) (omega arith) (record { number = (omega arith, omega arith); fits = (small_number 5 (omega arith), (small_number 1 (omega arith), tt)); short = omega arith }), tt),
       ),
     );
@@ -354,7 +355,7 @@ bound_of_insert = refl
 
 -- a row that another names isn't deleted
 abbrev removes : Write
-removes = write.Delete 1 (one 1)
+removes = write.Delete 1 (one 1) []
 
 abbrev remover : Next → View
 remover next = record (new_view 4 (removes ∷ [])) { next = next }

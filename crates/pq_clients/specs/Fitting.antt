@@ -12,7 +12,7 @@ use Rattle.pq_index_keep.specs.Sound.{AreWritable, IsWrite}
 use Rattle.pq_index_keep.specs.declared.write.SetCol.{SetCol}
 use Rattle.pq_index_keep.specs.declared.write.Write.{Write}
 use Rattle.pq_index_keep.specs.declared.write.Write.TheVariants as write
-use Rattle.pq_clients.specs.Flights.{Flight, Check, Parent, Child, flight_table}
+use Rattle.pq_clients.specs.Flights.{Flight, Check, Parent, Child, flight_table, IsGranted}
 use Rattle.pq_clients.specs.Clients.{Stage, Checking, Adding, Testing, Putting, Clearing, Freeing, Undoing, Releasing, Next, Reading, Taking, Looking, Flying}
 use Rattle.pq_clients.specs.Steps.{Then, On, Puts, Ends}
 
@@ -25,8 +25,8 @@ pub record MayWrite (tables : List Table) (w : Write) : Type 0 where
 -- columns that a write sets are those of a set of columns
 abbrev pub HasColumns : Write → Type 0
 HasColumns (write.Insert t row) = Unit {0}
-HasColumns (write.Update t key sets) = All (λ set. set.col < 32) sets
-HasColumns (write.Delete t key) = Unit {0}
+HasColumns (write.Update t key sets conds) = All (λ set. set.col < 32) sets
+HasColumns (write.Delete t key conds) = Unit {0}
 
 -- what keys of rows, entries and groups of a table take
 pub record IsMadeTable (table : Table) : Type 0 where
@@ -62,9 +62,9 @@ FitsStage tables f (Releasing why) = IsLate why
 
 abbrev pub FitsNext : List Table → Next → Type 0
 FitsNext tables Reading = Unit {0}
-FitsNext tables (Taking f) = Unit {0}
+FitsNext tables (Taking f) = IsGranted tables f
 FitsNext tables (Looking f) = Unit {0}
-FitsNext tables (Flying f stage) = FitsStage tables f stage
+FitsNext tables (Flying f stage) = IsGranted tables f × FitsStage tables f stage
 
 abbrev pub FitsThen : List Table → Then → Type 0
 FitsThen tables (On next) = FitsNext tables next
@@ -74,5 +74,5 @@ FitsThen tables (Ends outcome) = Unit {0}
 -- the write is an UPDATE that sets this
 abbrev pub IsUpdateOf : Write → List SetCol → Type 0
 IsUpdateOf (write.Insert t row) sets = ⊥
-IsUpdateOf (write.Update t key own) sets = own ≡ sets
-IsUpdateOf (write.Delete t key) sets = ⊥
+IsUpdateOf (write.Update t key own conds) sets = own ≡ sets
+IsUpdateOf (write.Delete t key conds) sets = ⊥

@@ -1,5 +1,5 @@
 -- A write at hand, and what its steps take: the keys of its pairs, the tests, and the refusals.
-use Rattle.std.specs.Prelude.{ℕ, ◌+◌, Bool, true, false, not, ◌&&◌, ◌==◌, List, [], ◌∷◌, ◌++◌, map, filter, Option, Some, None, if◌then◌else◌, option_map, option_and_then}
+use Rattle.std.specs.Prelude.{◌≡◌, ℕ, ◌+◌, Bool, true, false, not, ◌&&◌, ◌==◌, List, [], ◌∷◌, ◌++◌, map, filter, Option, Some, None, if◌then◌else◌, option_map, option_and_then, IfSome}
 use Rattle.std.specs.List.{list_any}
 use Rattle.std.specs.Ordering.{eq_by_cmp}
 use Rattle.pq_base.specs.declared.refusal.Refusal.{Refusal}
@@ -13,9 +13,11 @@ use Rattle.pq_schema.specs.Tables.{table_at}
 use Rattle.pq_content.specs.Pairs.{entries_from}
 use Rattle.pq_content.specs.Tables.{cells, key_of, stored_code}
 use Rattle.pq_store.specs.Content.{key_cmp}
+use Rattle.pq_index_keep.specs.declared.write.Cond.{Cond}
+use Rattle.pq_index_keep.specs.declared.write.SetCol.{SetCol}
 use Rattle.pq_index_keep.specs.declared.write.Write.{Write}
 use Rattle.pq_index_keep.specs.declared.write.Write.TheVariants as write
-use Rattle.pq_index_keep.specs.Effects.{stays, no_parent, referenced_refusal, no_room, limit_at}
+use Rattle.pq_index_keep.specs.Effects.{stays, no_parent, referenced_refusal, no_room, limit_at, held_refusal}
 use Rattle.pq_row_keys.specs.Groups.{group_key}
 use Rattle.pq_index_keep.specs.Tested.{touches, scope_of, with_sets}
 use Rattle.pq_clients.specs.Held.{decoded_row}
@@ -25,8 +27,8 @@ use Rattle.pq_clients.specs.Held.{decoded_row}
 -- the number of the write's table
 abbrev pub table_number : Write → ℕ
 table_number (write.Insert t row) = t
-table_number (write.Update t key sets) = t
-table_number (write.Delete t key) = t
+table_number (write.Update t key sets conds) = t
+table_number (write.Delete t key conds) = t
 
 abbrev pub table_of : List Table → Write → Table
 table_of tables w = table_at tables (table_number w)
@@ -34,8 +36,8 @@ table_of tables w = table_at tables (table_number w)
 -- the key of the row that it writes
 abbrev pub key_written : List Table → Write → List Value
 key_written tables (write.Insert t row) = key_of (table_at tables t) row
-key_written tables (write.Update t key sets) = key
-key_written tables (write.Delete t key) = key
+key_written tables (write.Update t key sets conds) = key
+key_written tables (write.Delete t key conds) = key
 
 -- the key of this row's pair
 unfoldable pub pair_key : List Table → Write → List ℕ
@@ -44,14 +46,29 @@ pair_key tables w = row_key (table_number w) (key_written tables w)
 -- the row that it makes of the one that it found, or none
 abbrev pub row_made : Write → Option (List Value) → Option (List Value)
 row_made (write.Insert t row) old = Some row
-row_made (write.Update t key sets) old = option_map (with_sets sets) old
-row_made (write.Delete t key) old = None
+row_made (write.Update t key sets conds) old = option_map (with_sets sets) old
+row_made (write.Delete t key conds) old = None
+
+-- the columns that it sets, and the conditions that it has
+abbrev pub sets_of : Write → List SetCol
+sets_of (write.Insert t row) = []
+sets_of (write.Update t key sets conds) = sets
+sets_of (write.Delete t key conds) = []
+
+abbrev pub conds_of : Write → List Cond
+conds_of (write.Insert t row) = []
+conds_of (write.Update t key sets conds) = conds
+conds_of (write.Delete t key conds) = conds
+
+-- why the row that is there refuses it: by the first condition that doesn't hold, or else by the first ADD without a sum
+abbrev pub row_refusal : List Table → Write → List Value → Option Refusal
+row_refusal tables w row = held_refusal (table_of tables w) (sets_of w) (conds_of w) row
 
 -- whether it gives one of the columns a value
 abbrev pub gives : Write → List ℕ → Bool
 gives (write.Insert t row) cols = true
-gives (write.Update t key sets) cols = touches (scope_of sets) cols
-gives (write.Delete t key) cols = false
+gives (write.Update t key sets conds) cols = touches (scope_of sets) cols
+gives (write.Delete t key conds) cols = false
 
 -- whether it tests what the row that it makes has at some columns: it gives one of them a value, and none is NULL
 abbrev pub is_tested : Write → List Value → List ℕ → Bool
@@ -76,6 +93,10 @@ old_row tables f = option_and_then (decoded_row (flight_table tables f)) f.read
 
 unfoldable pub new_row : List Table → Flight → Option (List Value)
 new_row tables f = row_made f.write (old_row tables f)
+
+-- the row that was read, where there is one, doesn't refuse the write
+abbrev pub IsGranted : List Table → Flight → Type 0
+IsGranted tables f = IfSome (old_row tables f) (λ row. row_refusal tables f.write row ≡ None)
 
 -- the code of the row that is to be put
 unfoldable pub new_code : List Table → Flight → Option (List ℕ)

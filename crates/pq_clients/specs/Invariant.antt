@@ -16,7 +16,7 @@ use Rattle.pq_row_keys.specs.Groups.{group_key}
 use Rattle.pq_index_keep.specs.Sound.{IsWrite}
 use Rattle.pq_clients.specs.declared.outcome.Outcome.{Outcome}
 use Rattle.pq_clients.specs.Held.{Cell, Free, Held, cell_of, present_in, decoded_row, held_value}
-use Rattle.pq_clients.specs.Flights.{Flight, flight_key, new_code, entry_keys, keys_of_row, has_entry, flight_tests}
+use Rattle.pq_clients.specs.Flights.{Flight, IsGranted, flight_key, new_code, entry_keys, keys_of_row, has_entry, flight_tests}
 pub use Rattle.pq_clients.specs.Clients.{present_of, may_show}
 use Rattle.pq_clients.specs.Clients.{Stage, Checking, Adding, Testing, Putting, Clearing, Freeing, Undoing, Releasing, Next, Reading, Taking, Looking, Flying, View, write_at}
 
@@ -293,6 +293,7 @@ pub record Good (tables : List Table) (c : Content) (stances : ℕ → Stance) :
 pub record FlightFits (tables : List Table) (f : Flight) : Type 0 where
   pub write : IsWrite tables f.write
   pub read : MayStandAt tables (flight_key tables f) f.read
+  pub granted : IsGranted tables f
   pub new : MayStandAt tables (flight_key tables f) (new_code tables f)
 
 abbrev pub StageFits : List Table → Flight → Stage → Type 0

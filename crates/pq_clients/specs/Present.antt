@@ -46,8 +46,8 @@ updated_row tables t key sets rows (Some old) = (t, with_sets sets old) ∷ rows
 
 abbrev pub rows_after : List Table → Rows → Write → Rows
 rows_after tables rows (write.Insert t row) = (t, row) ∷ rows_without tables t (key_of (table_at tables t) row) rows
-rows_after tables rows (write.Update t key sets) = updated_row tables t key sets rows (row_at tables rows t key)
-rows_after tables rows (write.Delete t key) = rows_without tables t key rows
+rows_after tables rows (write.Update t key sets conds) = updated_row tables t key sets rows (row_at tables rows t key)
+rows_after tables rows (write.Delete t key conds) = rows_without tables t key rows
 
 abbrev pub rows_after_all : List Table → Rows → List Write → Rows
 rows_after_all tables rows [] = rows

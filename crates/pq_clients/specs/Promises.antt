@@ -1,5 +1,5 @@
 -- What holds at each moment of a run of clients, whatever the order of their steps and whatever calls fail.
-use Rattle.std.specs.Prelude.{◌≡◌, ℕ, ◌+◌, ◌-◌, ◌*◌, ◌^◌, ◌<◌, ◌≤◌, Bool, true, false, ◌&&◌, ◌||◌, ◌==◌, not, if◌then◌else◌, List, [], ◌∷◌, ◌++◌, map, length, filter, All, Option, Some, None, is_some, ◌⊎◌}
+use Rattle.std.specs.Prelude.{◌≡◌, ℕ, ◌+◌, ◌-◌, ◌*◌, ◌^◌, ◌<◌, ◌≤◌, Bool, true, false, ◌&&◌, ◌||◌, ◌==◌, not, if◌then◌else◌, List, [], ◌∷◌, ◌++◌, map, length, filter, All, Option, Some, None, is_some, IfSome, ◌⊎◌}
 use Rattle.std.specs.List.{AllByRecursion, IsDistinct, slice_get, count_by, sum_by, range_with_len}
 use Rattle.std.specs.FinMap.{get}
 use Rattle.pq_base.specs.Members.{In}
@@ -14,7 +14,7 @@ use Rattle.pq_content.specs.Pairs.{Pair, AreBeside, is_of_rows, entries_from, co
 use Rattle.pq_content.specs.Tables.{Rows, Keeps, AllOfKinds, IsTableNumber, AreApart, IsWithinLimit, types_of, key_types, row_at, stored_code}
 use Rattle.pq_store.specs.Content.{Content, pairs_within}
 use Rattle.pq_index_keep.specs.Bounds.{referring_count}
-use Rattle.pq_index_keep.specs.Effects.{no_parent, referenced_refusal, no_room}
+use Rattle.pq_index_keep.specs.Effects.{no_parent, referenced_refusal, no_room, condition_refusal, sum_refusal}
 use Rattle.pq_index_keep.specs.Sound.{AreWritable, IsWrite}
 use Rattle.pq_index_keep.specs.Tested.{touches, touches_index, scope_of}
 use Rattle.pq_index_keep.specs.declared.write.Write.{Write}
@@ -26,7 +26,7 @@ use Rattle.pq_clients.specs.declared.outcome.Step.TheVariants as step
 use Rattle.pq_clients.specs.declared.outcome.Told.{Told}
 use Rattle.pq_clients.specs.declared.outcome.Wrote.{Wrote}
 use Rattle.pq_clients.specs.Held.{cell_of, is_held_value, present_code, present_row, decoded_row, held_value}
-use Rattle.pq_clients.specs.Flights.{Flight, Parent, Child, table_number, key_written, table_of, pair_key, row_made, flight_table, flight_key, old_row, new_code, flight_checks, flight_tests, tested_front, tested_limit}
+use Rattle.pq_clients.specs.Flights.{Flight, Parent, Child, table_number, key_written, table_of, pair_key, row_made, sets_of, conds_of, row_refusal, flight_table, flight_key, old_row, new_code, flight_checks, flight_tests, tested_front, tested_limit}
 use Rattle.pq_clients.specs.Clients.{Stage, Checking, Testing, Putting, Freeing, Undoing, Releasing, Next, Reading, Taking, Looking, Flying, View, present_of, may_show, is_freeing, flight_of, write_at, is_over, new_view}
 use Rattle.pq_clients.specs.Steps.{is_just, is_held_by_other, Fate, Answers, NotDone, DoneUnseen, NoMemory, is_fault, stepped}
 use Rattle.pq_clients.specs.Runs.{Event, Run, begun, turn, run}
@@ -84,8 +84,8 @@ pub record KeepsPresent (tables : List Table) (c : Content) : Type 0 where
 
 abbrev pub is_insert : Write → Bool
 is_insert (write.Insert t row) = true
-is_insert (write.Update t key sets) = false
-is_insert (write.Delete t key) = false
+is_insert (write.Update t key sets conds) = false
+is_insert (write.Delete t key conds) = false
 
 -- a client ended by Failed at its put, and the content shows the row that it was to put, or none for a DELETE
 abbrev pub shows_put : List Table → Content → Option Outcome → Next → Bool
@@ -112,11 +112,15 @@ made_writes tables clients r = writes_named clients (all_puts tables r)
 abbrev pub given : List View → List (ℕ × List Write)
 given clients = map (λ v. (v.number, v.writes)) clients
 
--- each of the writes finds no row, if it is an INSERT, and else a row
+-- the write finds no row, if it is an INSERT, and else one of which its conditions hold, and which has its sums
+abbrev pub FitsFound : List Table → Write → Option (List Value) → Type 0
+FitsFound tables w found = (is_insert w ≡ not (is_some found)) × IfSome found (λ row. row_refusal tables w row ≡ None)
+
+-- so does each of the writes
 abbrev pub EachFits : List Table → Rows → List Write → Type 0
 EachFits tables rows [] = Unit {0}
 EachFits tables rows (w ∷ ws) =
-    (is_insert w ≡ not (is_some (row_at tables rows (table_number w) (key_written tables w))))
+    FitsFound tables w (row_at tables rows (table_number w) (key_written tables w))
     × EachFits tables (rows_after tables rows w) ws
 
 -- the present tables are those at entry, changed by these writes
@@ -133,14 +137,15 @@ pub record ShowsWrites (tables : List Table) (rows : Rows) (clients : List View)
   pub present : (t : ℕ) (key : List Value) → IsTableNumber tables t → AllOfKinds (key_types (table_at tables t)) key
       → row_at tables (present_rows tables r.content) t key
       ≡ row_at tables (rows_after_all tables rows (made_writes tables clients r)) t key
-  -- each of them finds no row, if it is an INSERT, and else a row
+  -- each of them finds no row, if it is an INSERT, and else one of which its conditions hold
   pub fit : EachFits tables rows (made_writes tables clients r)
-  -- a write that comes to its put finds present what it read: no row, if it is an INSERT, and else a row
+  -- a write that comes to its put finds present what it read: no row, if it is an INSERT, and else one of which its
+  -- conditions hold
   pub finds : (p : ℕ) (v : View) (f : Flight) → slice_get r.clients p ≡ Some v → v.over ≡ None
       → v.next ≡ Flying f Putting
       → (row_at tables (present_rows tables r.content) (table_number f.write) (key_written tables f.write)
       ≡ old_row tables f)
-      × (is_insert f.write ≡ not (is_some (old_row tables f)))
+      × FitsFound tables f.write (old_row tables f)
   -- from its take on a client holds its key, with the row of its step present; so it does where it ended, and then it
   -- may be the new row at the put; only a free that failed may have been done
   pub stays : (p : ℕ) (v : View) (f : Flight) (stage : Stage) → slice_get r.clients p ≡ Some v → v.next ≡ Flying f stage
@@ -248,9 +253,16 @@ HasReason tables v c (outcome.Refused (refusal.DuplicateKey name)) = (w : Write)
     × ReadsRow tables v c w row × (is_insert w ≡ true) × (name ≡ (table_of tables w).name)
 HasReason tables v c (outcome.Refused (refusal.NoRow name)) = (w : Write)
     × Reads tables v c w None × (is_insert w ≡ false) × (name ≡ (table_of tables w).name)
+HasReason tables v c (outcome.Refused (refusal.Condition name number)) = (w : Write) × (row : List Value)
+    × ReadsRow tables v c w row
+    × (condition_refusal (table_of tables w) (conds_of w) row ≡ Some (refusal.Condition name number))
+HasReason tables v c (outcome.Refused (refusal.Sum name column)) = (w : Write) × (row : List Value)
+    × ReadsRow tables v c w row × (condition_refusal (table_of tables w) (conds_of w) row ≡ None)
+    × (sum_refusal (table_of tables w) (sets_of w) row ≡ Some (refusal.Sum name column))
 HasReason tables v c (outcome.Refused (refusal.RowLong name long)) =
     (w : Write) × (old : List Value) × (new : List Value)
-    × ReadsRow tables v c w old × (is_insert w ≡ false) × (row_made w (Some old) ≡ Some new)
+    × ReadsRow tables v c w old × (row_refusal tables w old ≡ None) × (is_insert w ≡ false)
+    × (row_made w (Some old) ≡ Some new)
     × (long ≡ length (stored_code (table_of tables w) new)) × (4096 < long) × (name ≡ (table_of tables w).name)
 HasReason tables v c (outcome.Refused (refusal.NoParent name place)) =
     (f : Flight) × (v.next ≡ Flying f (Releasing (refusal.NoParent name place)))
@@ -270,6 +282,8 @@ is_exact (outcome.Busy found) = true
 is_exact (outcome.Conflict read found) = true
 is_exact (outcome.Refused (refusal.DuplicateKey name)) = true
 is_exact (outcome.Refused (refusal.NoRow name)) = true
+is_exact (outcome.Refused (refusal.Condition name number)) = true
+is_exact (outcome.Refused (refusal.Sum name column)) = true
 is_exact (outcome.Refused (refusal.RowLong name long)) = true
 is_exact told = false
 
@@ -397,11 +411,11 @@ abbrev pub calls_of_write : List Table → Write → ℕ
 calls_of_write tables (write.Insert t row) =
     4 + (length (table_at tables t).foreign + length (table_at tables t).limits)
     + 2 * length (table_at tables t).indexes
-calls_of_write tables (write.Update t key sets) =
+calls_of_write tables (write.Update t key sets conds) =
     4 + (count_by (λ f. touches (scope_of sets) f.cols) (table_at tables t).foreign
     + count_by (λ limit. touches (scope_of sets) limit.cols) (table_at tables t).limits)
     + 3 * count_by (touches_index (scope_of sets) (table_at tables t)) (table_at tables t).indexes
-calls_of_write tables (write.Delete t key) =
+calls_of_write tables (write.Delete t key conds) =
     4 + referring_count tables t + length (table_at tables t).indexes
 
 -- the event is a step of this client at this write

@@ -25,7 +25,7 @@ use Rattle.pq_clients.specs.Seen.{flight, seen_next, seen_course}
 
 -- the write at hand, where there is one
 abbrev pub at_hand : List Write → ℕ → Write
-at_hand writes at = slice_index_or writes (at - 1) (write.Delete 0 [])
+at_hand writes at = slice_index_or writes (at - 1) (write.Delete 0 [] [])
 
 abbrev pub hand_of : Client → Flight
 hand_of client = flight (at_hand client.writes client.at) client.read

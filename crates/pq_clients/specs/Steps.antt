@@ -17,7 +17,7 @@ use Rattle.pq_clients.specs.declared.outcome.Outcome.TheVariants as outcome
 use Rattle.pq_clients.specs.declared.outcome.Step.{Step}
 use Rattle.pq_clients.specs.declared.outcome.Step.TheVariants as step
 use Rattle.pq_clients.specs.Held.{Cell, Free, Held, cell_of, present_row, held_value, decoded_row}
-use Rattle.pq_clients.specs.Flights.{Flight, Check, Parent, Child, table_of, pair_key, row_made, flight_table, flight_key, new_code, fresh_entries, stale_entries, flight_checks, check_refusal, flight_tests, tested_front, tested_limit, test_refusal}
+use Rattle.pq_clients.specs.Flights.{Flight, Check, Parent, Child, table_of, pair_key, row_made, row_refusal, flight_table, flight_key, new_code, fresh_entries, stale_entries, flight_checks, check_refusal, flight_tests, tested_front, tested_limit, test_refusal}
 use Rattle.pq_clients.specs.Clients.{Stage, Checking, Adding, Testing, Putting, Clearing, Freeing, Undoing, Releasing, Next, Reading, Taking, Looking, Flying, View, write_at, is_over}
 
 -- ---- what calls answer
@@ -77,17 +77,26 @@ taking_short tables f (Some row) =
     then refused (refusal.RowLong (flight_table tables f).name (length (stored_code (flight_table tables f) row)))
     else On (Taking f)
 
+-- the refusal by the row that was read, if there is one
+abbrev pub or_refused : Option Refusal → Then → Then
+or_refused None next = next
+or_refused (Some why) next = refused why
+
 abbrev pub after_row : List Table → Write → Option (List ℕ) → Option (List Value) → Then
 after_row tables (write.Insert t row) read None = On (Taking (record { write = write.Insert t row; read = read }))
 after_row tables (write.Insert t row) read (Some old) =
     refused (refusal.DuplicateKey (table_of tables (write.Insert t row)).name)
-after_row tables (write.Update t key sets) read None =
-    refused (refusal.NoRow (table_of tables (write.Update t key sets)).name)
-after_row tables (write.Update t key sets) read (Some old) =
-    taking_short tables (record { write = write.Update t key sets; read = read })
-    (row_made (write.Update t key sets) (Some old))
-after_row tables (write.Delete t key) read None = refused (refusal.NoRow (table_of tables (write.Delete t key)).name)
-after_row tables (write.Delete t key) read (Some old) = On (Taking (record { write = write.Delete t key; read = read }))
+after_row tables (write.Update t key sets conds) read None =
+    refused (refusal.NoRow (table_of tables (write.Update t key sets conds)).name)
+after_row tables (write.Update t key sets conds) read (Some old) =
+    or_refused (row_refusal tables (write.Update t key sets conds) old)
+    (taking_short tables (record { write = write.Update t key sets conds; read = read })
+    (row_made (write.Update t key sets conds) (Some old)))
+after_row tables (write.Delete t key conds) read None =
+    refused (refusal.NoRow (table_of tables (write.Delete t key conds)).name)
+after_row tables (write.Delete t key conds) read (Some old) =
+    or_refused (row_refusal tables (write.Delete t key conds) old)
+    (On (Taking (record { write = write.Delete t key conds; read = read })))
 
 -- a value that is no held one: a row's code, or damage
 abbrev pub after_code : List Table → Write → List ℕ → Option (List Value) → Then

@@ -3,7 +3,7 @@ ghost use Rattle.std.specs.Prelude.{Bool, ◌≡◌, ◌==◌, ℕ, map, IfOk, i
 ghost use Rattle.std.specs.FinMap.{get};
 ghost use Rattle.pq_clients.specs.Clients.{Checking, Releasing, Flying};
 ghost use Rattle.pq_clients.specs.Fitting.{MayWrite, IsCheck};
-ghost use Rattle.pq_clients.specs.Flights.{check_refusal};
+ghost use Rattle.pq_clients.specs.Flights.{check_refusal, IsGranted};
 ghost use Rattle.pq_clients.specs.Goes.{Goes, spot};
 ghost use Rattle.pq_clients.specs.Held.{present_row};
 ghost use Rattle.pq_clients.specs.Seen.{flight, seen_check, seen_course};
@@ -84,7 +84,8 @@ fn passed_led(
     read: &Option<Bytes>,
     left: &[Check],
 ) -> Result<Course, NoMem>
-    requires { MayWrite catalog.now.tables write.now }
+    requires write { MayWrite catalog.now.tables write.now }
+    requires granted { IsGranted catalog.now.tables (flight write.now read.now) }
     ensures { IfOk result (λ course. seen_course (flight write.now read.now) course
         ≡ On (Flying (flight write.now read.now)
         (checking catalog.now.tables (flight write.now read.now) (map seen_check left.now)))) }
@@ -121,6 +122,7 @@ fn check_led(
     passed: bool,
 ) -> Result<Course, NoMem>
     requires write { MayWrite catalog.now.tables write.now }
+    requires granted { IsGranted catalog.now.tables (flight write.now read.now) }
     requires check { IsCheck catalog.now.tables (seen_check check.now) }
     ensures { IfOk result (λ course. seen_course (flight write.now read.now) course
         ≡ (if passed then On (Flying (flight write.now read.now)
@@ -146,6 +148,7 @@ pub(crate) fn check_step<S: Store<L>, L: Ledger>(
     meter: &mut Meter<L>,
 ) -> Result<Course, Halt>
     requires write { MayWrite catalog.now.tables write.now }
+    requires granted { IsGranted catalog.now.tables (flight write.now read.now) }
     requires check { IsCheck catalog.now.tables (seen_check check.now) }
     ensures goes { (client number : ℕ) → Goes (seen_course (flight write.now read.now))
         (flown catalog.now.tables client number (flight write.now read.now)

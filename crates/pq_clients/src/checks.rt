@@ -9,7 +9,7 @@ ghost use Rattle.pq_schema.specs.declared.table.Foreign.{Foreign as Key};
 ghost use Rattle.pq_schema.specs.Sound.{AreColumns};
 ghost use Rattle.pq_index_keep.specs.Sound.{AreWritable};
 ghost use Rattle.pq_clients.specs.Fitting.{MayWrite, IsMadeTable, HasColumns, IsCheck, IsLate};
-ghost use Rattle.pq_clients.specs.Flights.{Parent, Child, key_written, gives, is_tested, parent_checks, child_checks_of, child_checks, checks_of, flight_checks, check_refusal};
+ghost use Rattle.pq_clients.specs.Flights.{Parent, Child, key_written, gives, is_tested, parent_checks, child_checks_of, child_checks, checks_of, flight_checks, check_refusal, IsGranted};
 ghost use Rattle.pq_clients.specs.Seen.{flight, seen_check};
 
 use crate::rows::{new_row, table_number, table_of};
@@ -245,7 +245,8 @@ pub(crate) fn flight_checks(
     write: &Write,
     read: &Option<Bytes>,
 ) -> Result<List<Check>, NoMem>
-    requires { MayWrite catalog.now.tables write.now }
+    requires write { MayWrite catalog.now.tables write.now }
+    requires granted { IsGranted catalog.now.tables (flight write.now read.now) }
     ensures { IfOk result (λ checks. map seen_check checks
         ≡ flight_checks catalog.now.tables (flight write.now read.now)) }
 {

@@ -5,7 +5,7 @@ ghost use Rattle.pq_content.specs.Pairs.{entries_from};
 ghost use Rattle.pq_schema.specs.Sound.{AreColumns, AreParts};
 ghost use Rattle.pq_store.specs.Content.{key_cmp};
 ghost use Rattle.pq_clients.specs.Fitting.{MayWrite, IsMadeTable};
-ghost use Rattle.pq_clients.specs.Flights.{entry_keys, keys_of_row, has_entry, left_out, old_entries, new_entries, fresh_entries, stale_entries};
+ghost use Rattle.pq_clients.specs.Flights.{entry_keys, keys_of_row, has_entry, left_out, old_entries, new_entries, fresh_entries, stale_entries, IsGranted};
 ghost use Rattle.pq_clients.specs.Seen.{flight};
 
 use crate::rows::{new_row, old_row, table_number, table_of};
@@ -123,7 +123,8 @@ fn new_entries(
     write: &Write,
     read: &Option<Bytes>,
 ) -> Result<List<Bytes>, NoMem>
-    requires { MayWrite catalog.now.tables write.now }
+    requires write { MayWrite catalog.now.tables write.now }
+    requires granted { IsGranted catalog.now.tables (flight write.now read.now) }
     ensures { IfOk result (λ keys. keys ≡ new_entries catalog.now.tables (flight write.now read.now)) }
 {
     let row = new_row(alloc, catalog, write, read)?;
@@ -137,7 +138,8 @@ pub(crate) fn fresh_entries(
     write: &Write,
     read: &Option<Bytes>,
 ) -> Result<List<Bytes>, NoMem>
-    requires { MayWrite catalog.now.tables write.now }
+    requires write { MayWrite catalog.now.tables write.now }
+    requires granted { IsGranted catalog.now.tables (flight write.now read.now) }
     ensures { IfOk result (λ keys. keys ≡ fresh_entries catalog.now.tables (flight write.now read.now)) }
 {
     let new = new_entries(alloc, catalog, write, read)?;
@@ -152,7 +154,8 @@ pub(crate) fn stale_entries(
     write: &Write,
     read: &Option<Bytes>,
 ) -> Result<List<Bytes>, NoMem>
-    requires { MayWrite catalog.now.tables write.now }
+    requires write { MayWrite catalog.now.tables write.now }
+    requires granted { IsGranted catalog.now.tables (flight write.now read.now) }
     ensures { IfOk result (λ keys. keys ≡ stale_entries catalog.now.tables (flight write.now read.now)) }
 {
     let old = old_entries(alloc, catalog, write, read)?;

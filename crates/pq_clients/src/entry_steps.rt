@@ -4,7 +4,7 @@ ghost use Rattle.pq_schema.specs.declared.table.Table.{Table as Definition};
 ghost use Rattle.pq_store.specs.Content.{written_content};
 ghost use Rattle.pq_clients.specs.Clients.{Adding, Clearing, Undoing, Flying};
 ghost use Rattle.pq_clients.specs.Fitting.{MayWrite, IsLate};
-ghost use Rattle.pq_clients.specs.Flights.{Flight};
+ghost use Rattle.pq_clients.specs.Flights.{Flight, IsGranted};
 ghost use Rattle.pq_clients.specs.Goes.{Goes, spot};
 ghost use Rattle.pq_clients.specs.Seen.{flight, seen_course};
 ghost use Rattle.pq_clients.specs.Calling.{way};
@@ -73,7 +73,8 @@ fn add_led(
     left: &[Bytes],
     added: &[Bytes],
 ) -> Result<Course, NoMem>
-    requires { MayWrite catalog.now.tables write.now }
+    requires write { MayWrite catalog.now.tables write.now }
+    requires granted { IsGranted catalog.now.tables (flight write.now read.now) }
     ensures { IfOk result (λ course. seen_course (flight write.now read.now) course
         ≡ On (Flying (flight write.now read.now) (adding catalog.now.tables (flight write.now read.now) left.now
         (entry.now ∷ added.now)))) }
@@ -95,7 +96,8 @@ pub(crate) fn add_step<S: Store<L>, L: Ledger>(
     store: &mut S,
     meter: &mut Meter<L>,
 ) -> Result<Course, Halt>
-    requires { MayWrite catalog.now.tables write.now }
+    requires write { MayWrite catalog.now.tables write.now }
+    requires granted { IsGranted catalog.now.tables (flight write.now read.now) }
     ensures goes { (client number : ℕ) → Goes (seen_course (flight write.now read.now))
         (flown catalog.now.tables client number (flight write.now read.now) (Adding entry.now left.now added.now))
         (spot (S.content store.old) (S.faults store.old) meter.old)

@@ -2,7 +2,7 @@
 ghost use Rattle.std.specs.Prelude.{Bool, ◌≡◌, ◌≤◌, ◌+◌, ◌∷◌, ℕ, IfOk, nat_le, if◌then◌else◌};
 ghost use Rattle.pq_clients.specs.Clients.{Testing, Flying};
 ghost use Rattle.pq_clients.specs.Fitting.{MayWrite, IsTest};
-ghost use Rattle.pq_clients.specs.Flights.{fresh_entries, test_refusal};
+ghost use Rattle.pq_clients.specs.Flights.{fresh_entries, test_refusal, IsGranted};
 ghost use Rattle.pq_clients.specs.Goes.{Goes, spot};
 ghost use Rattle.pq_clients.specs.Seen.{flight, seen_course};
 ghost use Rattle.pq_clients.specs.Calling.{way};
@@ -47,6 +47,7 @@ fn full_led(
     place: usize,
 ) -> Result<Course, NoMem>
     requires write { MayWrite catalog.now.tables write.now }
+    requires granted { IsGranted catalog.now.tables (flight write.now read.now) }
     requires place { IsTest catalog.now.tables (flight write.now read.now) place }
     ensures { IfOk result (λ course. seen_course (flight write.now read.now) course
         ≡ On (Flying (flight write.now read.now)
@@ -69,6 +70,7 @@ fn test_led(
     room: bool,
 ) -> Result<Course, NoMem>
     requires write { MayWrite catalog.now.tables write.now }
+    requires granted { IsGranted catalog.now.tables (flight write.now read.now) }
     requires place { IsTest catalog.now.tables (flight write.now read.now) place }
     ensures { IfOk result (λ course. seen_course (flight write.now read.now) course
         ≡ (if room then On (Flying (flight write.now read.now) (testing left.now (place ∷ passed.now)))
@@ -93,6 +95,7 @@ fn has_room<S: Store<L>, L: Ledger>(
     meter: &mut Meter<L>,
 ) -> Result<bool, Halt>
     requires write { MayWrite catalog.now.tables write.now }
+    requires granted { IsGranted catalog.now.tables (flight write.now read.now) }
     requires place { IsTest catalog.now.tables (flight write.now read.now) place }
     ensures { Goes (λ room. room) (λ c. (c, has_room catalog.now.tables (flight write.now read.now) place c))
         (spot (S.content store.old) (S.faults store.old) meter.old)
@@ -141,6 +144,7 @@ pub(crate) fn test_step<S: Store<L>, L: Ledger>(
     meter: &mut Meter<L>,
 ) -> Result<Course, Halt>
     requires write { MayWrite catalog.now.tables write.now }
+    requires granted { IsGranted catalog.now.tables (flight write.now read.now) }
     requires place { IsTest catalog.now.tables (flight write.now read.now) place }
     ensures goes { (client number : ℕ) → Goes (seen_course (flight write.now read.now))
         (flown catalog.now.tables client number (flight write.now read.now) (Testing place left.now passed.now))

@@ -8,7 +8,7 @@ ghost use Rattle.pq_content.specs.Tables.{cells};
 ghost use Rattle.pq_index_keep.specs.Effects.{stays, limit_at, no_room};
 ghost use Rattle.pq_row_keys.specs.Groups.{group_key};
 ghost use Rattle.pq_clients.specs.Fitting.{MayWrite, IsMadeTable, HasColumns, IsTest, IsLate};
-ghost use Rattle.pq_clients.specs.Flights.{table_of, is_tested, limit_tests, tests_of, flight_tests, tested_front};
+ghost use Rattle.pq_clients.specs.Flights.{table_of, is_tested, limit_tests, tests_of, flight_tests, tested_front, IsGranted};
 ghost use Rattle.pq_clients.specs.Seen.{flight};
 
 use crate::checks::{is_tested, known_write};
@@ -101,7 +101,8 @@ pub(crate) fn flight_tests(
     write: &Write,
     read: &Option<Bytes>,
 ) -> Result<List<usize>, NoMem>
-    requires { MayWrite catalog.now.tables write.now }
+    requires write { MayWrite catalog.now.tables write.now }
+    requires granted { IsGranted catalog.now.tables (flight write.now read.now) }
     ensures { IfOk result (λ places. places ≡ flight_tests catalog.now.tables (flight write.now read.now)) }
 {
     let new = new_row(alloc, catalog, write, read)?;
@@ -148,6 +149,7 @@ pub(crate) fn tested_front(
     place: usize,
 ) -> Result<Bytes, NoMem>
     requires write { MayWrite catalog.now.tables write.now }
+    requires granted { IsGranted catalog.now.tables (flight write.now read.now) }
     requires place { IsTest catalog.now.tables (flight write.now read.now) place }
     ensures { IfOk result (λ front. front ≡ tested_front catalog.now.tables (flight write.now read.now) place) }
 {

@@ -3,7 +3,7 @@ ghost use Rattle.std.specs.Prelude.{◌≡◌, ◌∷◌, [], map, IfOk};
 ghost use Rattle.pq_clients.specs.Fitting.{MayWrite};
 ghost use Rattle.pq_clients.specs.Seen.{flight, seen_check, seen_stage};
 ghost use Rattle.pq_clients.specs.Steps.{testing, adding, checking, clearing, undoing};
-ghost use Rattle.pq_clients.specs.Flights.{fresh_entries, stale_entries, flight_checks, flight_tests};
+ghost use Rattle.pq_clients.specs.Flights.{fresh_entries, stale_entries, flight_checks, flight_tests, IsGranted};
 
 use crate::checks::{copy_check, copy_checks, flight_checks};
 use crate::entries::{copy_key, copy_keys, fresh_entries, stale_entries};
@@ -64,7 +64,8 @@ fn added_all(
     write: &Write,
     read: &Option<Bytes>,
 ) -> Result<Stage, NoMem>
-    requires { MayWrite catalog.now.tables write.now }
+    requires write { MayWrite catalog.now.tables write.now }
+    requires granted { IsGranted catalog.now.tables (flight write.now read.now) }
     ensures { IfOk result (λ stage. seen_stage stage
         ≡ testing (flight_tests catalog.now.tables (flight write.now read.now)) []) }
 {
@@ -81,7 +82,8 @@ pub(crate) fn adding(
     left: &[Bytes],
     added: List<Bytes>,
 ) -> Result<Stage, NoMem>
-    requires { MayWrite catalog.now.tables write.now }
+    requires write { MayWrite catalog.now.tables write.now }
+    requires granted { IsGranted catalog.now.tables (flight write.now read.now) }
     ensures { IfOk result (λ stage. seen_stage stage
         ≡ adding catalog.now.tables (flight write.now read.now) left.now added) }
 {
@@ -102,7 +104,8 @@ fn checked_all(
     write: &Write,
     read: &Option<Bytes>,
 ) -> Result<Stage, NoMem>
-    requires { MayWrite catalog.now.tables write.now }
+    requires write { MayWrite catalog.now.tables write.now }
+    requires granted { IsGranted catalog.now.tables (flight write.now read.now) }
     ensures { IfOk result (λ stage. seen_stage stage ≡ adding catalog.now.tables (flight write.now read.now)
         (fresh_entries catalog.now.tables (flight write.now read.now)) []) }
 {
@@ -125,7 +128,8 @@ pub(crate) fn checking(
     read: &Option<Bytes>,
     left: &[Check],
 ) -> Result<Stage, NoMem>
-    requires { MayWrite catalog.now.tables write.now }
+    requires write { MayWrite catalog.now.tables write.now }
+    requires granted { IsGranted catalog.now.tables (flight write.now read.now) }
     ensures { IfOk result (λ stage. seen_stage stage
         ≡ checking catalog.now.tables (flight write.now read.now) (map seen_check left.now)) }
 {
@@ -146,7 +150,8 @@ pub(crate) fn taken(
     write: &Write,
     read: &Option<Bytes>,
 ) -> Result<Stage, NoMem>
-    requires { MayWrite catalog.now.tables write.now }
+    requires write { MayWrite catalog.now.tables write.now }
+    requires granted { IsGranted catalog.now.tables (flight write.now read.now) }
     ensures { IfOk result (λ stage. seen_stage stage ≡ checking catalog.now.tables (flight write.now read.now)
         (flight_checks catalog.now.tables (flight write.now read.now))) }
 {
@@ -175,7 +180,8 @@ pub(crate) fn put(
     write: &Write,
     read: &Option<Bytes>,
 ) -> Result<Stage, NoMem>
-    requires { MayWrite catalog.now.tables write.now }
+    requires write { MayWrite catalog.now.tables write.now }
+    requires granted { IsGranted catalog.now.tables (flight write.now read.now) }
     ensures { IfOk result (λ stage. seen_stage stage
         ≡ clearing (stale_entries catalog.now.tables (flight write.now read.now))) }
 {
@@ -209,7 +215,8 @@ pub(crate) fn refused(
     read: &Option<Bytes>,
     refusal: Refusal,
 ) -> Result<Stage, NoMem>
-    requires { MayWrite catalog.now.tables write.now }
+    requires write { MayWrite catalog.now.tables write.now }
+    requires granted { IsGranted catalog.now.tables (flight write.now read.now) }
     ensures { IfOk result (λ stage. seen_stage stage
         ≡ undoing (fresh_entries catalog.now.tables (flight write.now read.now)) refusal) }
 {

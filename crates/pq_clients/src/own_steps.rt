@@ -4,7 +4,7 @@ ghost use Rattle.std.specs.FinMap.{get};
 ghost use Rattle.pq_store.specs.Content.{written_content};
 ghost use Rattle.pq_clients.specs.Clients.{Putting, Freeing, Releasing, Flying};
 ghost use Rattle.pq_clients.specs.Fitting.{MayWrite, IsLate};
-ghost use Rattle.pq_clients.specs.Flights.{Flight, pair_key, new_code, stale_entries};
+ghost use Rattle.pq_clients.specs.Flights.{Flight, pair_key, new_code, stale_entries, IsGranted};
 ghost use Rattle.pq_clients.specs.Goes.{Goes, spot};
 ghost use Rattle.pq_clients.specs.Held.{held_value};
 ghost use Rattle.pq_clients.specs.Seen.{flight, seen_course};
@@ -119,7 +119,8 @@ fn put_parts(
     write: &Write,
     read: &Option<Bytes>,
 ) -> Result<(Bytes, Option<Bytes>), NoMem>
-    requires { MayWrite catalog.now.tables write.now }
+    requires write { MayWrite catalog.now.tables write.now }
+    requires granted { IsGranted catalog.now.tables (flight write.now read.now) }
     ensures { IfOk result (λ parts. (parts.0 ≡ pair_key catalog.now.tables write.now)
         × (parts.1 ≡ Some (held_value client number (new_code catalog.now.tables (flight write.now read.now))))) }
 {
@@ -135,7 +136,8 @@ fn put_led(
     write: &Write,
     read: &Option<Bytes>,
 ) -> Result<Course, NoMem>
-    requires { MayWrite catalog.now.tables write.now }
+    requires write { MayWrite catalog.now.tables write.now }
+    requires granted { IsGranted catalog.now.tables (flight write.now read.now) }
     ensures { IfOk result (λ course. seen_course (flight write.now read.now) course
         ≡ Puts (Flying (flight write.now read.now) (clearing
         (stale_entries catalog.now.tables (flight write.now read.now))))) }
@@ -159,6 +161,7 @@ fn put_with<S: Store<L>, L: Ledger>(
     meter: &mut Meter<L>,
 ) -> Result<Course, Halt>
     requires write { MayWrite catalog.now.tables write.now }
+    requires granted { IsGranted catalog.now.tables (flight write.now read.now) }
     requires pass { seen_course (flight write.now read.now) pass
         ≡ Puts (Flying (flight write.now read.now) (clearing
         (stale_entries catalog.now.tables (flight write.now read.now)))) }
@@ -189,7 +192,8 @@ pub(crate) fn put_step<S: Store<L>, L: Ledger>(
     store: &mut S,
     meter: &mut Meter<L>,
 ) -> Result<Course, Halt>
-    requires { MayWrite catalog.now.tables write.now }
+    requires write { MayWrite catalog.now.tables write.now }
+    requires granted { IsGranted catalog.now.tables (flight write.now read.now) }
     ensures goes { Goes (seen_course (flight write.now read.now))
         (flown catalog.now.tables client number (flight write.now read.now) Putting)
         (spot (S.content store.old) (S.faults store.old) meter.old)
@@ -211,7 +215,8 @@ fn free_parts(
     write: &Write,
     read: &Option<Bytes>,
 ) -> Result<(Bytes, Option<Bytes>), NoMem>
-    requires { MayWrite catalog.now.tables write.now }
+    requires write { MayWrite catalog.now.tables write.now }
+    requires granted { IsGranted catalog.now.tables (flight write.now read.now) }
     ensures { IfOk result (λ parts. (parts.0 ≡ pair_key catalog.now.tables write.now)
         × (parts.1 ≡ new_code catalog.now.tables (flight write.now read.now))) }
 {
@@ -231,7 +236,8 @@ pub(crate) fn free_step<S: Store<L>, L: Ledger>(
     store: &mut S,
     meter: &mut Meter<L>,
 ) -> Result<Course, Halt>
-    requires { MayWrite catalog.now.tables write.now }
+    requires write { MayWrite catalog.now.tables write.now }
+    requires granted { IsGranted catalog.now.tables (flight write.now read.now) }
     ensures goes { Goes (seen_course (flight write.now read.now))
         (flown catalog.now.tables client number (flight write.now read.now) Freeing)
         (spot (S.content store.old) (S.faults store.old) meter.old)

@@ -1,23 +1,25 @@
 //! The read of a write: what its answer leads to.
-ghost use Rattle.std.specs.Prelude.{◌≡◌, ℕ, List as Items, Option, Some, true, IfOk, IfSome};
+ghost use Rattle.std.specs.Prelude.{◌≡◌, ℕ, List as Items, Option, Some, None, true, IfOk, IfSome};
 ghost use Rattle.std.specs.FinMap.{get};
 ghost use Rattle.pq_base.specs.Values.{AllFit};
 ghost use Rattle.pq_content.specs.Tables.{types_of};
+ghost use Rattle.pq_index_keep.specs.Tested.{with_sets};
 ghost use Rattle.pq_index_keep.specs.declared.write.Write.{Write as Written};
 ghost use Rattle.pq_clients.specs.declared.outcome.Outcome.{Outcome};
 ghost use Rattle.pq_clients.specs.Fitting.{MayWrite, IsUpdateOf};
-ghost use Rattle.pq_clients.specs.Flights.{Flight, table_of, pair_key};
+ghost use Rattle.pq_clients.specs.Flights.{Flight, table_of, pair_key, row_refusal};
 ghost use Rattle.pq_clients.specs.Goes.{Goes, spot};
 ghost use Rattle.pq_clients.specs.Held.{cell_of, is_held_value, decoded_row};
 ghost use Rattle.pq_clients.specs.Seen.{flight, seen_course};
-ghost use Rattle.pq_clients.specs.Steps.{Ends, after_row, after_code, after_cell, after_read, damaged, refused};
+ghost use Rattle.pq_clients.specs.Clients.{Taking};
+ghost use Rattle.pq_clients.specs.Steps.{Ends, On, or_refused, taking_short, after_row, after_code, after_cell, after_read, damaged, refused};
 
 use crate::calls::get_pair;
 use crate::course::in_memory;
 use crate::entries::copy_found;
 use crate::halt::Halt;
 use crate::held::{is_held_by_other, is_held_value};
-use crate::rows::{code_len, decoded_row, pair_key, table_of, updated};
+use crate::rows::{code_len, decoded_row, pair_key, row_refusal, table_of, updated};
 use crate::stage::{Course, Ending};
 use pq_base::{Bytes, List, NoMem, Refusal, Row};
 use pq_index_keep::{SetCol, Write};
@@ -62,6 +64,32 @@ fn duplicate(alloc: Global, table: &Table) -> Result<Course, NoMem>
     }))
 }
 
+/// The take of an UPDATE by which the row isn't too long.
+fn taking_short(
+    alloc: Global,
+    catalog: &Catalog,
+    write: &Write,
+    sets: &List<SetCol>,
+    read: Option<Bytes>,
+    old: &Row,
+) -> Result<Course, NoMem>
+    requires write { MayWrite catalog.now.tables write.now }
+    requires update { IsUpdateOf write.now sets.now }
+    requires granted { row_refusal catalog.now.tables write.now old.now ≡ None }
+    requires fits { AllFit (types_of (table_of catalog.now.tables write.now)) old.now }
+    ensures { IfOk result (λ course. (before : Option (Items ℕ)) → seen_course (flight write.now before) course
+        ≡ taking_short catalog.now.tables (flight write.now read) (Some (with_sets sets.now old.now))) }
+{
+    let table = table_of(catalog, write);
+    let new = updated(alloc, catalog, write, sets, old)?;
+    let length = code_len(catalog, write, &new);
+    if 4096 < length {
+        let table = table.name.copy(alloc)?;
+        return Ok(refused(Refusal::RowLong { table, length }));
+    }
+    Ok(Course::Takes { read })
+}
+
 /// Behind the read of an UPDATE that found a row.
 fn after_update(
     alloc: Global,
@@ -75,14 +103,30 @@ fn after_update(
     requires update { IsUpdateOf write.now sets.now }
     requires fits { AllFit (types_of (table_of catalog.now.tables write.now)) old.now }
     ensures { IfOk result (λ course. (before : Option (Items ℕ)) → seen_course (flight write.now before) course
-        ≡ after_row catalog.now.tables write.now read (Some old.now)) }
+        ≡ or_refused (row_refusal catalog.now.tables write.now old.now)
+        (taking_short catalog.now.tables (flight write.now read) (Some (with_sets sets.now old.now)))) }
 {
-    let table = table_of(catalog, write);
-    let new = updated(alloc, catalog, write, sets, old)?;
-    let length = code_len(catalog, write, &new);
-    if 4096 < length {
-        let table = table.name.copy(alloc)?;
-        return Ok(refused(Refusal::RowLong { table, length }));
+    match row_refusal(alloc, catalog, write, old)? {
+        Some(refusal) => Ok(refused(refusal)),
+        None => taking_short(alloc, catalog, write, sets, read, old),
+    }
+}
+
+/// Behind the read of a DELETE that found a row.
+fn after_delete(
+    alloc: Global,
+    catalog: &Catalog,
+    write: &Write,
+    read: Option<Bytes>,
+    old: &Row,
+) -> Result<Course, NoMem>
+    requires write { MayWrite catalog.now.tables write.now }
+    requires fits { AllFit (types_of (table_of catalog.now.tables write.now)) old.now }
+    ensures { IfOk result (λ course. (before : Option (Items ℕ)) → seen_course (flight write.now before) course
+        ≡ or_refused (row_refusal catalog.now.tables write.now old.now) (On (Taking (flight write.now read)))) }
+{
+    if let Some(refusal) = row_refusal(alloc, catalog, write, old)? {
+        return Ok(refused(refusal));
     }
     Ok(Course::Takes { read })
 }
@@ -108,7 +152,7 @@ fn after_row(
         Some(old) => match write {
             Write::Insert { .. } => duplicate(alloc, table_of(catalog, write)),
             Write::Update { sets, .. } => after_update(alloc, catalog, write, sets, read, &old),
-            Write::Delete { .. } => Ok(Course::Takes { read }),
+            Write::Delete { .. } => after_delete(alloc, catalog, write, read, &old),
         },
     }
 }

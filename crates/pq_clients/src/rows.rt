@@ -1,5 +1,5 @@
 //! The rows of a write: the one that was read, and the one that is to be put.
-ghost use Rattle.std.specs.Prelude.{◌≡◌, length, IfOk, IfSome, option_map};
+ghost use Rattle.std.specs.Prelude.{◌≡◌, None, length, IfOk, IfSome, option_map};
 ghost use Rattle.pq_base.specs.Shapes.{row_shape};
 ghost use Rattle.pq_base.specs.Values.{AllFit};
 ghost use Rattle.pq_content.specs.Tables.{types_of, stored_code};
@@ -7,13 +7,13 @@ ghost use Rattle.pq_key_code.specs.KeyCode.{IsBytes};
 ghost use Rattle.pq_row_code.specs.StoredRow.{filled_decoded};
 ghost use Rattle.pq_index_keep.specs.Tested.{with_sets};
 ghost use Rattle.pq_clients.specs.Fitting.{MayWrite, IsMadeTable, IsUpdateOf};
-ghost use Rattle.pq_clients.specs.Flights.{table_of, table_number, pair_key, row_made, old_row, new_row, new_code};
+ghost use Rattle.pq_clients.specs.Flights.{table_of, table_number, pair_key, row_made, row_refusal, old_row, new_row, new_code, IsGranted};
 ghost use Rattle.pq_clients.specs.Held.{decoded_row};
 ghost use Rattle.pq_clients.specs.Seen.{flight};
 
-use pq_base::{Bytes, ColType, List, NoMem, Row, Value, known_types};
+use pq_base::{Bytes, ColType, List, NoMem, Refusal, Row, Value, known_types};
 use pq_calls::types_of;
-use pq_index_keep::{SetCol, Write, with_sets};
+use pq_index_keep::{SetCol, Write, condition_refusal, held_refusal, with_sets};
 use pq_key_code::row_key;
 use pq_row_code::{decode_filled, encode_stored, known_fillers, stored_code_len};
 use pq_row_keys::key_at;
@@ -83,7 +83,7 @@ pub(crate) fn pair_key(alloc: Global, catalog: &Catalog, write: &Write) -> Resul
             table_of(catalog, write).key.items(),
             row.items(),
         ),
-        Write::Update { table, key, .. } | Write::Delete { table, key } => {
+        Write::Update { table, key, .. } | Write::Delete { table, key, .. } => {
             row_key(alloc, *table, key)
         }
     }
@@ -107,7 +107,28 @@ pub(crate) fn old_row(
     }
 }
 
-/// The row with the values that an UPDATE sets.
+/// Why the row that is there refuses the write: by the first condition that doesn't hold, or else by the first ADD
+/// without a sum.
+pub(crate) fn row_refusal(
+    alloc: Global,
+    catalog: &Catalog,
+    write: &Write,
+    row: &Row,
+) -> Result<Option<Refusal>, NoMem>
+    requires { MayWrite catalog.now.tables write.now }
+    ensures { IfOk result (λ refusal. refusal ≡ row_refusal catalog.now.tables write.now row.now) }
+{
+    let table = table_of(catalog, write);
+    match write {
+        Write::Insert { .. } => Ok(None),
+        Write::Update { sets, conds, .. } => {
+            held_refusal(alloc, table, sets.items(), conds.items(), row)
+        }
+        Write::Delete { conds, .. } => condition_refusal(alloc, table, conds.items(), row),
+    }
+}
+
+/// The row with the columns that an UPDATE sets.
 pub(crate) fn updated(
     alloc: Global,
     catalog: &Catalog,
@@ -117,6 +138,7 @@ pub(crate) fn updated(
 ) -> Result<Row, NoMem>
     requires write { MayWrite catalog.now.tables write.now }
     requires update { IsUpdateOf write.now sets.now }
+    requires granted { row_refusal catalog.now.tables write.now old.now ≡ None }
     requires fits { AllFit (types_of (table_of catalog.now.tables write.now)) old.now }
     ensures row { IfOk result (λ new. new ≡ with_sets sets.now old.now) }
     ensures fits { IfOk result (AllFit (types_of (table_of catalog.now.tables write.now))) }
@@ -132,6 +154,7 @@ pub(crate) fn row_made(
     old: &Option<Row>,
 ) -> Result<Option<Row>, NoMem>
     requires write { MayWrite catalog.now.tables write.now }
+    requires granted { IfSome old.now (λ row. row_refusal catalog.now.tables write.now row ≡ None) }
     requires old { IfSome old.now (AllFit (types_of (table_of catalog.now.tables write.now))) }
     ensures row { IfOk result (λ row. row ≡ row_made write.now old.now) }
     ensures fits { IfOk result (λ row. IfSome row (AllFit (types_of (table_of catalog.now.tables write.now)))) }
@@ -154,7 +177,8 @@ pub(crate) fn new_row(
     write: &Write,
     read: &Option<Bytes>,
 ) -> Result<Option<Row>, NoMem>
-    requires { MayWrite catalog.now.tables write.now }
+    requires write { MayWrite catalog.now.tables write.now }
+    requires granted { IsGranted catalog.now.tables (flight write.now read.now) }
     ensures row { IfOk result (λ row. row ≡ new_row catalog.now.tables (flight write.now read.now)) }
     ensures fits { IfOk result (λ row. IfSome row (AllFit (types_of (table_of catalog.now.tables write.now)))) }
 {
@@ -206,7 +230,8 @@ pub(crate) fn new_code(
     write: &Write,
     read: &Option<Bytes>,
 ) -> Result<Option<Bytes>, NoMem>
-    requires { MayWrite catalog.now.tables write.now }
+    requires write { MayWrite catalog.now.tables write.now }
+    requires granted { IsGranted catalog.now.tables (flight write.now read.now) }
     ensures { IfOk result (λ code. code ≡ new_code catalog.now.tables (flight write.now read.now)) }
 {
     let new = new_row(alloc, catalog, write, read)?;

@@ -2,6 +2,7 @@
 ghost use Rattle.std.specs.Prelude.{Bool, ◌≡◌, IfOk};
 ghost use Rattle.pq_clients.specs.Clients.{Checking, Adding, Testing, Putting, Clearing, Freeing, Undoing, Releasing};
 ghost use Rattle.pq_clients.specs.Fitting.{MayWrite, FitsStage};
+ghost use Rattle.pq_clients.specs.Flights.{IsGranted};
 ghost use Rattle.pq_clients.specs.Goes.{Goes, spot};
 ghost use Rattle.pq_clients.specs.Seen.{flight, seen_stage, seen_course};
 ghost use Rattle.pq_clients.specs.Calling.{way};
@@ -33,6 +34,7 @@ pub(crate) fn fly<S: Store<L>, L: Ledger>(
     meter: &mut Meter<L>,
 ) -> Result<Course, Halt>
     requires write { MayWrite catalog.now.tables write.now }
+    requires granted { IsGranted catalog.now.tables (flight write.now read.now) }
     requires fits { FitsStage catalog.now.tables (flight write.now read.now) (seen_stage stage.now) }
     ensures goes { Goes (seen_course (flight write.now read.now))
         (flown catalog.now.tables client number (flight write.now read.now) (seen_stage stage.now))

@@ -4,7 +4,7 @@ ghost use Rattle.std.specs.FinMap.{get};
 ghost use Rattle.pq_store.specs.Content.{written_content};
 ghost use Rattle.pq_clients.specs.Clients.{Flying, Looking};
 ghost use Rattle.pq_clients.specs.Fitting.{MayWrite};
-ghost use Rattle.pq_clients.specs.Flights.{Flight, pair_key, flight_checks};
+ghost use Rattle.pq_clients.specs.Flights.{Flight, pair_key, flight_checks, IsGranted};
 ghost use Rattle.pq_clients.specs.Goes.{Goes, spot};
 ghost use Rattle.pq_clients.specs.Held.{held_value};
 ghost use Rattle.pq_clients.specs.Seen.{flight, seen_course};
@@ -32,7 +32,8 @@ fn take_led(
     write: &Write,
     read: &Option<Bytes>,
 ) -> Result<Course, NoMem>
-    requires { MayWrite catalog.now.tables write.now }
+    requires write { MayWrite catalog.now.tables write.now }
+    requires granted { IsGranted catalog.now.tables (flight write.now read.now) }
     ensures { IfOk result (λ course. seen_course (flight write.now read.now) course
         ≡ On (Flying (flight write.now read.now) (checking catalog.now.tables (flight write.now read.now)
         (flight_checks catalog.now.tables (flight write.now read.now))))) }
@@ -139,7 +140,8 @@ pub(crate) fn take<S: Store<L>, L: Ledger>(
     store: &mut S,
     meter: &mut Meter<L>,
 ) -> Result<Course, Halt>
-    requires { MayWrite catalog.now.tables write.now }
+    requires write { MayWrite catalog.now.tables write.now }
+    requires granted { IsGranted catalog.now.tables (flight write.now read.now) }
     ensures goes { Goes (seen_course (flight write.now read.now))
         (taken_from catalog.now.tables client number (flight write.now read.now))
         (spot (S.content store.old) (S.faults store.old) meter.old)

@@ -7,4 +7,4 @@ with_sets-requires c = rw c.items.ensures (inside_row c.args.catalog.now.tables 
 pub returns-clause-fits : goal.returns-clause-fits
 returns-clause-fits c =
     fit_ok _ c.with_sets.result _ c.with_sets.ensures
-    (rw c.items.ensures (fit_update c.args.catalog.now.tables c.args.write.now c.args.sets.now c.args.old.now c.requires.write c.requires.update c.requires.fits))
+    (rw c.items.ensures (fit_update c.args.catalog.now.tables c.args.write.now c.args.sets.now c.args.old.now c.requires.write c.requires.update c.requires.granted c.requires.fits))
