@@ -136,12 +136,12 @@ module _ (tables : List Table) (t : ℕ) where
 
   after_kept : (rows : Rows) (w : Write) → IsElsewhere t w → rows_of t (rows_after tables rows w) ≡ rows_of t rows
   after_kept rows (write.Insert u row) other = changed_kept u (key_of (table_at tables u) row) row rows other
-  after_kept rows (write.Update u key sets) other =
+  after_kept rows (write.Update u key sets conds) other =
       elim (row_at tables rows u key) as (λ o. rows_of t (updated_row tables u key sets rows o) ≡ rows_of t rows) [
         | None ↦ refl
         | Some old ↦ changed_kept u key (with_sets sets old) rows other
       ]
-  after_kept rows (write.Delete u key) other = without_kept u key rows other
+  after_kept rows (write.Delete u key conds) other = without_kept u key rows other
 
   pub all_kept : (ws : List Write) (rows : Rows) → AllByRecursion (IsElsewhere t) ws → rows_of t (rows_after_all tables rows ws) ≡ rows_of t rows
   all_kept [] rows all = refl

@@ -68,8 +68,8 @@ ops_after_two (suc n) = omega (arith, ops_two (1 + 2 * suc n) (omega arith))
 -- a write makes at most twice as many calls as its bound has operations
 pub calls_within : (tables : List Table) (w : Write) → calls_of_write tables w ≤ 2 * (write_bound tables w).ops
 calls_within tables (write.Insert t row) = omega (arith, count_all (λ (f : Foreign). touches scope.All f.cols) (table_at tables t).foreign (λ f. refl), count_all (λ (limit : Limit). touches scope.All limit.cols) (table_at tables t).limits (λ limit. refl), ops_after (length (table_at tables t).indexes))
-calls_within tables (write.Update t key sets) = omega (arith, ops_after_two (count_by (touches_index (scope_of sets) (table_at tables t)) (table_at tables t).indexes))
-calls_within tables (write.Delete t key) = omega (arith, ops_after (length (table_at tables t).indexes))
+calls_within tables (write.Update t key sets conds) = omega (arith, ops_after_two (count_by (touches_index (scope_of sets) (table_at tables t)) (table_at tables t).indexes))
+calls_within tables (write.Delete t key conds) = omega (arith, ops_after (length (table_at tables t).indexes))
 
 pub few_ops : (s : Schema) (w : Write) → IsValid s → length s.tables ≤ 64 → IsWrite s.tables w → (write_bound s.tables w).ops < 2 ^ 32
 few_ops s w valid few is = (few_of s.tables w (valid_writable valid) few is).ops

@@ -7,44 +7,44 @@ use Rattle.pq_text.specs.declared.piece.Piece.TheVariants as piece
 use Rattle.pq_def_read.specs.Reading.{statement_of}
 use Rattle.pq_def_read.specs.declared.statement.Statement.{Statement}
 use Rattle.pq_def_read.specs.declared.statement.Statement.TheVariants as statement
+use Rattle.pq_def_read.specs.declared.write.WriteDef.{WriteDef}
 use Rattle.pq_schema.specs.Schema.{Schema, counters_of}
 use Rattle.pq_index_keep.specs.Checking.{checked_write}
 use Rattle.pq_index_keep.specs.declared.write.Write.{Write}
 use Rattle.pq_tallies.specs.Writes.{written_table}
 
 -- an INSERT, UPDATE or DELETE
-abbrev pub as_writing : Statement → Option Statement
-as_writing (statement.Insert table cols values) = Some (statement.Insert table cols values)
-as_writing (statement.Update table sets key) = Some (statement.Update table sets key)
-as_writing (statement.Delete table key) = Some (statement.Delete table key)
-as_writing (statement.Create def) = None
-as_writing (statement.Prepare name from) = None
-as_writing (statement.Explain from) = None
-as_writing (statement.Run name params after) = None
-as_writing (statement.Alter def) = None
-as_writing (statement.Counter def) = None
-as_writing (statement.Read name values) = None
-as_writing statement.Show = None
+abbrev pub as_write : Statement → Option WriteDef
+as_write (statement.Write def) = Some def
+as_write (statement.Create def) = None
+as_write (statement.Prepare name from) = None
+as_write (statement.Explain from) = None
+as_write (statement.Run name params after) = None
+as_write (statement.Alter def) = None
+as_write (statement.Counter def) = None
+as_write (statement.Read name values) = None
+as_write statement.Show = None
+as_write statement.Select = None
 
-abbrev pub read_writing : Result Statement ℕ → Option Statement
-read_writing (Ok statement) = as_writing statement
-read_writing (Err left) = None
+abbrev pub read_write : Result Statement ℕ → Option WriteDef
+read_write (Ok statement) = as_write statement
+read_write (Err left) = None
 
 -- of a text of at most 65,536 bytes
-abbrev pub text_writing : List ℕ → Option Statement
-text_writing text = if nat_le (length text) 65536 then read_writing (statement_of text (tokens_of text)) else None
+abbrev pub text_written : List ℕ → Option WriteDef
+text_written text = if nat_le (length text) 65536 then read_write (statement_of text (tokens_of text)) else None
 
 -- the INSERT, UPDATE or DELETE that a piece spells
-unfoldable pub writing_of : Piece → Option Statement
-writing_of (piece.Statement text) = text_writing text
-writing_of piece.NotUtf8 = None
-writing_of piece.TooLong = None
+unfoldable pub written_of : Piece → Option WriteDef
+written_of (piece.Statement text) = text_written text
+written_of piece.NotUtf8 = None
+written_of piece.TooLong = None
 
 -- ---- the pieces before the first write, and those from it on
 
 unfoldable pub front_count : List Piece → ℕ
 front_count [] = 0
-front_count (p ∷ ps) = if is_some (writing_of p) then 0 else 1 + front_count ps
+front_count (p ∷ ps) = if is_some (written_of p) then 0 else 1 + front_count ps
 
 abbrev pub front_of : List Piece → List Piece
 front_of pieces = take (front_count pieces) pieces
@@ -66,12 +66,12 @@ abbrev pub if_uncounted : Schema → Write → Option Write
 if_uncounted schema write = if has_counters schema (written_table write) then None else Some write
 
 -- clients make no write of a table that has counters
-abbrev pub accepted : Schema → Option Statement → Option Write
+abbrev pub accepted : Schema → Option WriteDef → Option Write
 accepted schema None = None
-accepted schema (Some statement) = option_and_then (if_uncounted schema) (result_ok (checked_write schema statement))
+accepted schema (Some def) = option_and_then (if_uncounted schema) (result_ok (checked_write schema def))
 
 abbrev pub write_of : Schema → Piece → Option Write
-write_of schema p = accepted schema (writing_of p)
+write_of schema p = accepted schema (written_of p)
 
 abbrev pub one_write : Option Write → List Write
 one_write None = []

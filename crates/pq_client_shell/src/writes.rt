@@ -1,12 +1,11 @@
 //! The writes of a script.
 ghost use Rattle.std.specs.Prelude.{◌≡◌, ◌≤◌, IfOk, IfSome, is_some, length};
-ghost use Rattle.pq_index_keep.specs.Checking.{IsWriting};
 ghost use Rattle.pq_index_keep.specs.Sound.{IsWrite};
 ghost use Rattle.pq_tallies.specs.Writes.{written_table};
-ghost use Rattle.pq_client_shell.specs.Writes.{IsUncounted, as_writing, front_count, has_counters, if_uncounted, text_writing, write_of, writing_of};
+ghost use Rattle.pq_client_shell.specs.Writes.{IsUncounted, as_write, front_count, has_counters, if_uncounted, text_written, write_of, written_of};
 
 use pq_base::{NoMem, PText, Stopped};
-use pq_def_read::{Statement, read_statement};
+use pq_def_read::{Statement, WriteDef, read_statement};
 use pq_index_keep::{Write, check_write};
 use pq_schema::Catalog;
 use pq_text::{Piece, tokens};
@@ -15,43 +14,38 @@ use std::alloc::Global;
 /// The greatest number of bytes of a statement.
 const STATEMENT_BYTES: usize = 65536;
 
-/// The statement, where it is an INSERT, UPDATE or DELETE.
-fn as_writing(statement: Statement) -> Option<Statement>
-    ensures is { result ≡ as_writing statement }
-    ensures writing { IfSome result IsWriting }
+/// The INSERT, UPDATE or DELETE, where the statement is one.
+fn as_write(statement: Statement) -> Option<WriteDef>
+    ensures { result ≡ as_write statement }
 {
     match statement {
-        written @ (Statement::Insert { .. }
-        | Statement::Update { .. }
-        | Statement::Delete { .. }) => Some(written),
+        Statement::Write(def) => Some(def),
         _ => None,
     }
 }
 
 /// The INSERT, UPDATE or DELETE that a text spells.
-fn text_writing(alloc: Global, text: &PText) -> Result<Option<Statement>, NoMem>
-    ensures is { IfOk result (λ found. found ≡ text_writing text.now) }
-    ensures writing { IfOk result (λ found. IfSome found IsWriting) }
+fn text_written(alloc: Global, text: &PText) -> Result<Option<WriteDef>, NoMem>
+    ensures { IfOk result (λ found. found ≡ text_written text.now) }
 {
     if text.bytes().len() > STATEMENT_BYTES {
         return Ok(None);
     }
     let found = tokens(alloc, text)?;
     match read_statement(alloc, text, &found) {
-        Ok(statement) => Ok(as_writing(statement)),
+        Ok(statement) => Ok(as_write(statement)),
         Err(Stopped::NoMem) => Err(NoMem),
         Err(Stopped::Refused(_)) => Ok(None),
     }
 }
 
 /// The INSERT, UPDATE or DELETE that a piece spells.
-#[tactic(auto, unfolding(crate::specs::Writes::writing_of))]
-fn writing_of(alloc: Global, piece: &Piece) -> Result<Option<Statement>, NoMem>
-    ensures is { IfOk result (λ found. found ≡ writing_of piece.now) }
-    ensures writing { IfOk result (λ found. IfSome found IsWriting) }
+#[tactic(auto, unfolding(crate::specs::Writes::written_of))]
+fn written_of(alloc: Global, piece: &Piece) -> Result<Option<WriteDef>, NoMem>
+    ensures { IfOk result (λ found. found ≡ written_of piece.now) }
 {
     match piece {
-        Piece::Statement(text) => text_writing(alloc, text),
+        Piece::Statement(text) => text_written(alloc, text),
         Piece::NotUtf8 | Piece::TooLong => Ok(None),
     }
 }
@@ -94,10 +88,10 @@ pub fn write_of(alloc: Global, catalog: &Catalog, piece: &Piece) -> Result<Optio
     ensures write { IfOk result (λ found. IfSome found (IsWrite catalog.now.tables)) }
     ensures uncounted { IfOk result (λ found. IfSome found (IsUncounted catalog.now)) }
 {
-    let Some(written) = writing_of(alloc, piece)? else {
+    let Some(def) = written_of(alloc, piece)? else {
         return Ok(None);
     };
-    match check_write(alloc, catalog, &written) {
+    match check_write(alloc, catalog, &def) {
         Ok(write) => if_uncounted(alloc, catalog, write),
         Err(Stopped::NoMem) => Err(NoMem),
         Err(Stopped::Refused(_)) => Ok(None),
@@ -106,9 +100,9 @@ pub fn write_of(alloc: Global, catalog: &Catalog, piece: &Piece) -> Result<Optio
 
 /// Whether a piece spells an INSERT, UPDATE or DELETE.
 fn spells_write(alloc: Global, piece: &Piece) -> Result<bool, NoMem>
-    ensures { IfOk result (λ spells. spells ≡ is_some (writing_of piece.now)) }
+    ensures { IfOk result (λ spells. spells ≡ is_some (written_of piece.now)) }
 {
-    let found = writing_of(alloc, piece)?;
+    let found = written_of(alloc, piece)?;
     Ok(found.is_some())
 }
 
