@@ -57,7 +57,7 @@ pub entries_none : entries no_pairs ≡ []
 entries_none = no_length (entries no_pairs) (sym (len-entries no_pairs) ∙ len-empty key_cmp (List ℕ))
 
 -- a table of two numbers whose key is the first
-abbrev m : Table
+abbrev pub m : Table
 m = record { name = 109 ∷ []; columns = record { name = 105 ∷ []; ty = type.Int } ∷ record { name = 118 ∷ []; ty = type.Int } ∷ []; fillers = None ∷ None ∷ []; key = 0 ∷ []; limits = []; foreign = []; indexes = [] }
 
 abbrev pub pair : ℕ → ℕ → List Value
@@ -81,7 +81,7 @@ key_conflict = refl
 abbrev pub tell : ℕ → ℕ → Outcome → Told
 tell i n o = record { client = i; number = n; outcome = o }
 
-abbrev key_of_one : List ℕ
+abbrev pub key_of_one : List ℕ
 key_of_one = row_key 1 (value.Int (pos 1) ∷ [])
 
 -- two clients insert one key: the second one's take answers false, and its get finds what the first has put

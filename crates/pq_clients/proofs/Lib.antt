@@ -40,6 +40,7 @@ pub mod Looks
 pub mod Shown
 pub mod Holding
 pub mod Examples
+pub mod Conditional
 pub mod Conclusions
 pub mod Decoding
 pub mod Fits
