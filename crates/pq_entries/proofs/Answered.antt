@@ -23,3 +23,9 @@ module _ (answers : List ℕ → Option (List ℕ) → Type 0) (pairs : List Pai
   pub read_answered : {A : Type 0} (result : Result A Broke) → IfErr result (IsUnread (OneShows shows pairs)) → IfErr result (IsAnswered answers)
   read_answered (Ok found) unread = tt
   read_answered (Err broke) unread = one_answered broke unread
+
+-- what shows that a pair is the code of nothing tells the pair
+pub unread_tells : (shows : Pair → Damage → Type 0) → ((pair : Pair) (damage : Damage) → shows pair damage → TellsPair pair damage) → (pairs : List Pair) (broke : Broke) → IsUnread (OneShows shows pairs) broke → IsUnread (OneShows TellsPair pairs) broke
+unread_tells shows tells pairs Failed unread = absurd unread
+unread_tells shows tells pairs NoMem unread = tt
+unread_tells shows tells pairs (Damaged damage) unread = (unread.0, unread.1, tells unread.0 damage unread.2)

@@ -2,6 +2,8 @@ pub mod Answered
 pub mod Decoded
 pub mod Fetched
 pub mod Naming
+pub mod Named
 pub mod Placed
 pub mod Tables
 pub mod Told
+pub mod Zipped

@@ -1,8 +1,7 @@
 -- Rows that entries name, one after the other.
-use Rattle.std.proofs.Common.{◌≡◌, ℕ, zero, suc, ◌+◌, ◌<◌, ◌≤◌, inl, inr, List, [], ◌∷◌, ◌++◌, length, get_or, map, take, Option, Some, None, refl, sym, ap, ◌∙◌, subst, arith}
+use Rattle.std.proofs.Common.{◌≡◌, ℕ, ◌+◌, ◌<◌, ◌≤◌, List, [], ◌∷◌, length, get_or, map, take, Option, Some, None, sym, ◌∙◌, subst}
 use Rattle.std.specs.Prelude.{IfSome, IfOk, Result, Ok, Err}
 use Rattle.std.specs.List.{AllByRecursion}
-use Rattle.std.proofs.lemmas.List.{length-map, map-append, take_all}
 use Rattle.pq_base.specs.Members.{In}
 use Rattle.pq_base.specs.Values.{AllFit}
 use Rattle.pq_base.specs.declared.value.Value.{Value}
@@ -20,9 +19,9 @@ use Rattle.pq_calls.specs.World.{World, Affords, Reads}
 use Rattle.pq_calls.specs.declared.calls.Calls.{Calls}
 use Rattle.pq_calls.proofs.Steps.{reads_then, reads_within, rest_left}
 use Rattle.pq_content.specs.Pairs.{Pair, HoldsRows, content_pairs}
-use Rattle.pq_content.specs.Tables.{Rows, Keeps, rows_of, types_of, values_of, stored_code}
+use Rattle.pq_content.specs.Tables.{Rows, Keeps, rows_of, types_of, values_of}
 use Rattle.pq_plan.proofs.Kept.{row_fits}
-use Rattle.pq_entries.specs.Entries.{AreRowsWithin, AreKeysWithin, IsNamedRow, AreNamedRows, AreSequenceRows, AreFirstRows, AreFirstValues, named_value, pair_of}
+use Rattle.pq_entries.specs.Entries.{AreRowsWithin, AreKeysWithin, AreNamedRows, AreSequenceRows, AreFirstRows, AreFirstValues, pair_of}
 
 -- ---- one call after another
 
@@ -57,49 +56,7 @@ item_in xs i x low at = subst (λ y. In y xs) (sym at) (at_in xs i x low)
 pub each_item : {X : Type 0} (P : X → Type 0) (xs : List X) (i : ℕ) (x : X) → AllByRecursion P xs → i < length xs → x ≡ get_or xs i x → P x
 each_item P xs i x all low at = each_in P xs all x (item_in xs i x low at)
 
--- the next of the wanted rows
-next_wanted : {X Y : Type 0} (f : X → Y) (wanted : List X) (i : ℕ) (y : Y) (x : X) → i < length (map f wanted) → y ≡ get_or (map f wanted) i y → ((w : X) → In w wanted → y ≡ f w → x ≡ w) → take i wanted ++ x ∷ [] ≡ take (i + 1) wanted
-next_wanted f [] i y x low at found = absurd (omega arith)
-next_wanted f (w ∷ wanted) zero y x low at found = ap (λ v. v ∷ []) (found w (inl refl) at)
-next_wanted f (w ∷ wanted) (suc j) y x low at found =
-    let one : suc (j + 1) ≡ suc j + 1 = omega arith in
-    ap (λ l. w ∷ l) (next_wanted f wanted j y x (omega arith) at (λ v here. found v (inr here)))
-    ∙ ap (λ n. take n (w ∷ wanted)) one
-
-pub one_named : {X Y : Type 0} (f : X → Y) (wanted done : List X) (found : List Y) (i : ℕ) (y : Y) (x : X) → i < length found → y ≡ get_or found i y → found ≡ map f wanted → ((w : X) → In w wanted → y ≡ f w → x ≡ w) → done ≡ take i wanted → done ++ x ∷ [] ≡ take (i + 1) wanted
-one_named {X} {Y} f wanted done found i y x low at is named so_far =
-    ap (λ l. l ++ x ∷ []) so_far
-    ∙ next_wanted f wanted i y x (subst (λ (l : List Y). i < length l) is low) (subst (λ (l : List Y). y ≡ get_or l i y) is at) named
-
-pub all_named : {X Y : Type 0} (f : X → Y) (wanted done : List X) (found : List Y) (i : ℕ) → length found ≤ i → found ≡ map f wanted → done ≡ take i wanted → done ≡ wanted
-all_named {X} {Y} f wanted done found i all is so_far =
-    let long = ap (λ (l : List Y). length l) is ∙ length-map wanted f in
-    so_far ∙ take_all i wanted (omega (arith, long, all))
-
 -- ---- the rows of any content
-
--- what is made of the first items and of the next one
-next_taken : {X Z : Type 0} (f : X → Z) (xs : List X) (i : ℕ) (x : X) → i < length xs → x ≡ get_or xs i x → map f (take (i + 1) xs) ≡ map f (take i xs) ++ f x ∷ []
-next_taken f [] i x low at = absurd (omega arith)
-next_taken f (w ∷ xs) zero x low at = ap (λ v. f v ∷ []) (sym at)
-next_taken f (w ∷ xs) (suc j) x low at =
-    let one : suc j + 1 ≡ suc (j + 1) = omega arith in
-    ap (λ n. map f (take n (w ∷ xs))) one
-    ∙ ap (λ l. f w ∷ l) (next_taken f xs j x (omega arith) at)
-
--- one more of them
-pub named_more : (t : ℕ) (table : Table) (index : ℕ) (told now : Option Content) (values : List (List Value)) (i : ℕ) (v : List Value) (rows : List (List Value)) (row : List Value) → now ≡ told → i < length values → v ≡ get_or values i v → IfSome now (IsNamedRow t table index v row) → IfSome told (AreNamedRows t table index (take i values) rows) → IfSome told (AreNamedRows t table index (take (i + 1) values) (rows ++ row ∷ []))
-named_more t table index None now values i v rows row same low at one so_far = tt
-named_more t table index (Some content) now values i v rows row same low at one so_far =
-    let value = named_value t table index content in
-    let coded : List Value → Option (List ℕ) = λ r. Some (stored_code table r) in
-    let is : value v ≡ coded row = subst (λ (o : Option Content). IfSome o (IsNamedRow t table index v row)) same one in
-    let front : map value (take i values) ≡ map coded rows = so_far in
-    let both : map value (take i values) ++ value v ∷ [] ≡ map coded rows ++ coded row ∷ [] = λ j. front j ++ is j ∷ [] in
-    next_taken value values i v low at ∙ both ∙ sym (map-append coded rows (row ∷ []))
-
-pub named_all : (t : ℕ) (table : Table) (index : ℕ) (told : Option Content) (values : List (List Value)) (i : ℕ) (rows : List (List Value)) → length values ≤ i → IfSome told (AreNamedRows t table index (take i values) rows) → IfSome told (AreNamedRows t table index values rows)
-named_all t table index told values i rows all h = subst (λ (l : List (List Value)). IfSome told (AreNamedRows t table index l rows)) (take_all i values all) h
 
 -- the rows of a sequence
 pub rows_sequence : (t : ℕ) (table : Table) (access : Access) (low high : List ℕ) (limit : ℕ) (told : Option Content) → access ≡ Primary → (result : Result (List (List Value)) Broke) → IfOk result (λ found. IfSome told (AreRowsWithin table low high limit found)) → IfOk result (λ found. IfSome told (AreSequenceRows t table access low high limit found))

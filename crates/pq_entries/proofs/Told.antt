@@ -49,7 +49,7 @@ use Rattle.pq_content.proofs.TableRows.{dirs_of-primary, values_of-primary}
 use Rattle.pq_schema.proofs.TypeKinds.{kinds_from_fit}
 use Rattle.pq_content.proofs.Values.{sequence_fits}
 use Rattle.pq_nodes.specs.Operators.{ShowsRead, no_row, no_key}
-use Rattle.pq_entries.specs.Entries.{Begins, AreEnds, key_front, IsUnread, IsNoRowPair, IsNoKeyPair, OneShows, AreRowsWithin, AreKeysWithin, AreFirstRows, AreFirstValues, IsKeyThere, pair_of}
+use Rattle.pq_entries.specs.Entries.{Begins, AreEnds, key_front, AreOfRange, OfEachRange, IsUnread, IsNoRowPair, IsNoKeyPair, OneShows, AreRowsWithin, AreKeysWithin, AreFirstRows, AreFirstValues, IsKeyThere, pair_of}
 
 -- ---- pairs of a range
 
@@ -193,14 +193,32 @@ module _ (tables : List Table) (t : ℕ) (number : IsTableNumber tables t) (cont
       behind (Secondary index) values fits is = ap (drop 3) is
 
 -- an error of decoding pairs of a range says what the content shows
-pub unread_explains : (shows : Pair → Damage → Type 0) (tables : List Table) (a b : World) (low high : List ℕ) (limit : ℕ) (pairs : List Found) → ((pair : Pair) (content : Content) (damage : Damage) → In pair (map entry pairs) → get content pair.0 ≡ Some pair.1 → shows pair damage → ShowsRead tables content damage) → IfSome a.told (λ content. map entry pairs ≡ take limit (pairs_within content low high)) → (error : Broke) → IsUnread (OneShows shows (map entry pairs)) error → Explains (where_told (ShowsRead tables)) a b error
-unread_explains shows tables a b low high limit pairs each told Failed h = absurd h
-unread_explains shows tables a b low high limit pairs each told NoMem h = tt
-unread_explains shows tables a b low high limit pairs each told (Damaged damage) (pair, here, shown) = by_told a.told told
+unread_shows : (shows : Pair → Damage → Type 0) (tables : List Table) (told : Option Content) (low high : List ℕ) (limit : ℕ) (pairs : List Found) → ((pair : Pair) (content : Content) (damage : Damage) → In pair (map entry pairs) → get content pair.0 ≡ Some pair.1 → shows pair damage → ShowsRead tables content damage) → IfSome told (λ content. map entry pairs ≡ take limit (pairs_within content low high)) → (error : Broke) → IsUnread (OneShows shows (map entry pairs)) error → IsUnread (where_told (ShowsRead tables) told) error
+unread_shows shows tables told low high limit pairs each is Failed h = absurd h
+unread_shows shows tables told low high limit pairs each is NoMem h = tt
+unread_shows shows tables told low high limit pairs each is (Damaged damage) (pair, here, shown) = by_told told is
   where
     by_told : (told : Option Content) → IfSome told (λ content. map entry pairs ≡ take limit (pairs_within content low high)) → where_told (ShowsRead tables) told damage
     by_told None is = tt
     by_told (Some content) is = each pair content damage here (within_there content low high limit pair (subst (In pair) is here)) shown
+
+-- it explains why a read of them gave up
+pub unread_explains : (shows : Option Content → Damage → Type 0) (a b : World) (error : Broke) → IsUnread (shows a.told) error → Explains shows a b error
+unread_explains shows a b Failed h = absurd h
+unread_explains shows a b NoMem h = tt
+unread_explains shows a b (Damaged damage) h = h
+
+-- ---- what holds of each range that pairs are of
+
+pub ok_each : {A E : Type 0} (t : ℕ) (access : Access) (pairs : List Found) (result : Result A E) (P : Option Content → List ℕ → List ℕ → ℕ → A → Type 0) → ((told : Option Content) (low high : List ℕ) (limit : ℕ) → AreOfRange t access told low high limit pairs → IfOk result (P told low high limit))
+    → IfOk result (λ x. OfEachRange t access pairs (λ told low high limit. P told low high limit x))
+ok_each t access pairs (Ok x) P h = h
+ok_each t access pairs (Err error) P h = tt
+
+pub err_each : {A E : Type 0} (t : ℕ) (access : Access) (pairs : List Found) (result : Result A E) (P : Option Content → List ℕ → List ℕ → ℕ → E → Type 0) → ((told : Option Content) (low high : List ℕ) (limit : ℕ) → AreOfRange t access told low high limit pairs → IfErr result (P told low high limit))
+    → IfErr result (λ e. OfEachRange t access pairs (λ told low high limit. P told low high limit e))
+err_each t access pairs (Ok x) P h = tt
+err_each t access pairs (Err error) P h = h
 
 -- ---- what is read of pairs that are those of rows
 
@@ -323,13 +341,12 @@ keys_within t own access (Some content) low high limit pairs found keys is = key
 -- ---- the answers of ranges
 
 module _ (tables : List Table) (t : ℕ) (number : IsTableNumber tables t) (low high : List ℕ) (limit : ℕ) (pairs : List Found) (part : IsPartOf low high limit (map entry pairs)) (told : Option Content) (is : IfSome told (λ content. map entry pairs ≡ take limit (pairs_within content low high))) where
-  pub rows_explained : (shape : RowShape) → shape ≡ shape_of (table_at tables t) → AreEnds t Primary low high → {A : Type 0} (a b : World) → a.told ≡ told → (result : Result A Broke) → IfErr result (IsUnread (OneShows (IsNoRowPair shape) (map entry pairs))) → IfErr result (Explains (where_told (ShowsRead tables)) a b)
-  rows_explained shape same ends a b from (Ok x) h = tt
-  rows_explained shape same ends a b from (Err error) h =
-      unread_explains (IsNoRowPair shape) tables a b low high limit pairs
+  pub rows_unread : (shape : RowShape) → shape ≡ shape_of (table_at tables t) → AreEnds t Primary low high → {A : Type 0} (result : Result A Broke) → IfErr result (IsUnread (OneShows (IsNoRowPair shape) (map entry pairs))) → IfErr result (IsUnread (where_told (ShowsRead tables) told))
+  rows_unread shape same ends (Ok x) h = tt
+  rows_unread shape same ends (Err error) h =
+      unread_shows (IsNoRowPair shape) tables told low high limit pairs
       (λ pair content damage here there shown. no_row_shows tables t number content pair damage there (part_begins t Primary low high limit pairs pair ends part here) (subst (λ (s : RowShape). IsNoRowPair s pair damage) same shown))
-      (subst (λ (o : Option Content). IfSome o (λ content. map entry pairs ≡ take limit (pairs_within content low high))) (sym from) is)
-      error h
+      is error h
 
   pub rows_coded : (shape : RowShape) → shape ≡ shape_of (table_at tables t) → (result : Result (List (List Value)) Broke) → IfOk result (λ rows. map (code_as shape) rows ≡ map (λ (pair : Found). pair.value) pairs) → IfOk result (λ rows. IfSome told (AreRowsWithin (table_at tables t) low high limit rows))
   rows_coded shape same (Err error) codes = tt
@@ -341,16 +358,15 @@ module _ (tables : List Table) (t : ℕ) (number : IsTableNumber tables t) (low 
       rows_read t (table_at tables t) told low high limit pairs rows (subst (λ (s : RowShape). All IsType s.types) same known) (subst (λ (s : RowShape). AllByRecursion (AllFit s.types) rows) same fit)
       (subst (λ (s : RowShape). map (code_as s) rows ≡ map (λ (pair : Found). pair.value) pairs) same codes) is
 
-  pub keys_explained : (access : Access) → IsAccess (table_at tables t) access → (types : List ColType) (dirs : List Dir) (skipped : ℕ) → types ≡ sequence_types (table_at tables t) access → dirs ≡ dirs_of (sequence_of (table_at tables t) access) → skipped ≡ length (key_front 0 access) → AreEnds t access low high → {A : Type 0} (a b : World) → a.told ≡ told → (result : Result A Broke) → IfErr result (IsUnread (OneShows (IsNoKeyPair types dirs skipped) (map entry pairs))) → IfErr result (Explains (where_told (ShowsRead tables)) a b)
-  keys_explained access is_access types dirs skipped same turned behind ends a b from (Ok x) h = tt
-  keys_explained access is_access types dirs skipped same turned behind ends a b from (Err error) h =
-      unread_explains (IsNoKeyPair types dirs skipped) tables a b low high limit pairs
+  pub keys_unread : (access : Access) → IsAccess (table_at tables t) access → (types : List ColType) (dirs : List Dir) (skipped : ℕ) → types ≡ sequence_types (table_at tables t) access → dirs ≡ dirs_of (sequence_of (table_at tables t) access) → skipped ≡ length (key_front 0 access) → AreEnds t access low high → {A : Type 0} (result : Result A Broke) → IfErr result (IsUnread (OneShows (IsNoKeyPair types dirs skipped) (map entry pairs))) → IfErr result (IsUnread (where_told (ShowsRead tables) told))
+  keys_unread access is_access types dirs skipped same turned behind ends (Ok x) h = tt
+  keys_unread access is_access types dirs skipped same turned behind ends (Err error) h =
+      unread_shows (IsNoKeyPair types dirs skipped) tables told low high limit pairs
       (λ pair content damage here there shown. no_key_shows tables t number content pair damage there access is_access (part_begins t access low high limit pairs pair ends part here)
       (subst (λ (n : ℕ). IsNoKeyPair (sequence_types (table_at tables t) access) (dirs_of (sequence_of (table_at tables t) access)) n pair damage) behind
       (subst (λ (ds : List Dir). IsNoKeyPair (sequence_types (table_at tables t) access) ds skipped pair damage) turned
       (subst (λ (ts : List ColType). IsNoKeyPair ts dirs skipped pair damage) same shown))))
-      (subst (λ (o : Option Content). IfSome o (λ content. map entry pairs ≡ take limit (pairs_within content low high))) (sym from) is)
-      error h
+      is error h
 
   pub keys_answered : (access : Access) (types : List ColType) (dirs : List Dir) (skipped : ℕ) → types ≡ sequence_types (table_at tables t) access → dirs ≡ dirs_of (sequence_of (table_at tables t) access) → skipped ≡ length (key_front 0 access) → (result : Result (List (List Value)) Broke) → IfOk result (λ found. map (code_of dirs) found ≡ map (λ (pair : Found). drop skipped pair.key) pairs) → IfOk result (AllByRecursion (AllFit types)) → IfOk result (λ found. IfSome told (AreFirstValues t (table_at tables t) access low high limit found))
   keys_answered access types dirs skipped same turned behind (Err error) codes fit = tt
@@ -387,16 +403,22 @@ module _ (tables : List Table) (t : ℕ) (number : IsTableNumber tables t) (low 
       untold [] = tt
       untold (values ∷ found) = (tt, untold found)
 
-  -- as many are read as there are pairs
-  pub few_read : {Y : Type 0} (f : List Value → Y) (g : Found → Y) (result : Result (List (List Value)) Broke) → IfOk result (λ found. map f found ≡ map g pairs) → IfOk result (λ found. length found ≤ limit)
-  few_read f g (Err error) h = tt
-  few_read f g (Ok found) h =
-      let few = part.few in
-      let same = ap (λ (l : List _). length l) h in
-      let a = length-map found f in
-      let b = length-map pairs g in
-      let c = length-map pairs entry in
-      omega (arith, few, same, a, b, c)
+-- as many are read as there are pairs
+pub long_read : {Y : Type 0} (f : List Value → Y) (g : Found → Y) (pairs : List Found) (result : Result (List (List Value)) Broke) → IfOk result (λ found. map f found ≡ map g pairs) → IfOk result (λ found. length found ≡ length pairs)
+long_read f g pairs (Err error) h = tt
+long_read f g pairs (Ok found) h =
+    let same = ap (λ (l : List _). length l) h in
+    let a = length-map found f in
+    let b = length-map pairs g in
+    omega (arith, same, a, b)
+
+-- at most as many as the range may have
+pub few_of : (low high : List ℕ) (limit : ℕ) (pairs : List Found) → IsPartOf low high limit (map entry pairs) → (result : Result (List (List Value)) Broke) → IfOk result (λ found. length found ≡ length pairs) → IfOk result (λ found. length found ≤ limit)
+few_of low high limit pairs part (Err error) h = tt
+few_of low high limit pairs part (Ok found) h =
+    let few = part.few in
+    let c = length-map pairs entry in
+    omega (arith, few, h, c)
 
 pub fit_as : (types types' : List ColType) → types ≡ types' → (result : Result (List (List Value)) Broke) → IfOk result (AllByRecursion (AllFit types)) → IfOk result (AllByRecursion (AllFit types'))
 fit_as types types' same result h = subst (λ (ts : List ColType). IfOk result (AllByRecursion (AllFit ts))) same h

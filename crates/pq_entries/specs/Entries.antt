@@ -1,5 +1,5 @@
 -- Ranges of one sequence's keys, and pairs that are the code of nothing.
-use Rattle.std.specs.Prelude.{◌≡◌, ◌≢◌, ℕ, List, [], ◌∷◌, ◌++◌, map, take, drop, Option, Some, IfSome, IsSome}
+use Rattle.std.specs.Prelude.{◌≡◌, ◌≢◌, ℕ, List, [], ◌∷◌, ◌++◌, map, take, drop, zip, Option, Some, IfSome, IsSome}
 use Rattle.std.specs.List.{AllByRecursion}
 use Rattle.std.specs.FinMap.{get}
 use Rattle.pq_base.specs.Members.{In}
@@ -16,7 +16,9 @@ use Rattle.pq_schema.specs.declared.table.Table.{Table}
 use Rattle.pq_schema.specs.Rows.{IsTableNumber, types_of}
 use Rattle.pq_schema.specs.Sequences.{IsAccess, index_sequence, index_numbered, sequence_of}
 use Rattle.pq_schema.specs.Tables.{table_at}
-use Rattle.pq_store.specs.Content.{Content, pairs_within}
+use Rattle.pq_store.specs.Content.{Content, IsPartOf, pairs_within}
+use Rattle.pq_store.specs.Content.{entry as entry_of}
+use Rattle.pq_store.specs.declared.store.Pair.{Pair as StoredPair}
 use Rattle.pq_store.specs.declared.damage.Broke.{Broke}
 use Rattle.pq_store.specs.declared.damage.Broke.TheVariants as broke
 use Rattle.pq_store.specs.declared.damage.Damage.{Damage}
@@ -41,6 +43,18 @@ Begins front bytes = (rest : List ℕ) × (bytes ≡ front ++ rest)
 pub record AreEnds (t : ℕ) (access : Access) (low high : List ℕ) : Type 0 where
   pub from : Begins (key_front t access) low
   pub upto : Begins (key_front t access) high
+
+-- pairs of a store are those of a range of the sequence, the first of them: its first ones where the content is told
+pub record AreOfRange (t : ℕ) (access : Access) (told : Option Content) (low high : List ℕ) (limit : ℕ)
+    (pairs : List StoredPair) : Type 0 where
+  pub ends : AreEnds t access low high
+  pub part : IsPartOf low high limit (map entry_of pairs)
+  pub are : IfSome told (λ content. map entry_of pairs ≡ take limit (pairs_within content low high))
+
+-- whatever range and content the pairs are of
+abbrev pub OfEachRange : ℕ → Access → List StoredPair → (Option Content → List ℕ → List ℕ → ℕ → Type 0) → Type 0
+OfEachRange t access pairs holds = (told : Option Content) (low high : List ℕ) (limit : ℕ)
+    → AreOfRange t access told low high limit pairs → holds told low high limit
 
 -- ---- pairs that are the code of nothing
 
@@ -70,6 +84,21 @@ pub record IsNoKeyPair (types : List ColType) (dirs : List Dir) (skipped : ℕ) 
 -- one of the pairs shows it
 abbrev pub OneShows : (Pair → Damage → Type 0) → List Pair → Damage → Type 0
 OneShows shows pairs damage = (pair : Pair) × In pair pairs × shows pair damage
+
+-- the key in the store of the row that the entry with these values names
+abbrev pub named_at : ℕ → Table → ℕ → List Value → Option (List ℕ)
+named_at t table index values = Some (row_key t (named_key table (Secondary index) values))
+
+-- a key that was asked for and its value are told: none stands there, or the code of no row of this shape
+pub record IsNoNamedRow (shape : RowShape) (asked code : Option (List ℕ)) (damage : Damage) : Type 0 where
+  pub at : Some damage.key ≡ asked
+  pub has : damage.value ≡ code
+  pub no_row : IfSome code (IsNoRowCode shape)
+
+-- one of the keys, and its value, shows it
+abbrev pub OneNamesNoRow : RowShape → List (Option (List ℕ)) → List (Option (List ℕ)) → Damage → Type 0
+OneNamesNoRow shape asked codes damage = (one : Option (List ℕ) × Option (List ℕ)) × In one (zip asked codes)
+    × IsNoNamedRow shape one.0 one.1 damage
 
 -- ---- what is read of any content
 

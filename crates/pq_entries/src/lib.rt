@@ -10,7 +10,7 @@ mod keys;
 mod ranges;
 mod sequences;
 
-pub use fetch::named_row;
+pub use fetch::{named_row, named_rows};
 pub use keys::{sequence_key, types_at};
-pub use ranges::{range_rows, range_values};
+pub use ranges::{range_rows, range_values, rows_in, values_in};
 pub use sequences::sequence_rows;

@@ -1,5 +1,5 @@
 //! Ranges of keys of one sequence.
-ghost use Rattle.std.specs.Prelude.{◌≡◌, ◌≤◌, All, length, IfOk, IfErr, IfSome};
+ghost use Rattle.std.specs.Prelude.{◌≡◌, ◌≤◌, All, map, length, IfOk, IfErr, IfSome};
 ghost use Rattle.std.specs.List.{AllByRecursion};
 ghost use Rattle.pq_base.specs.Values.{IsType, AllFit};
 ghost use Rattle.pq_schema.specs.Rows.{types_of};
@@ -8,18 +8,19 @@ ghost use Rattle.pq_schema.specs.Sequences.{IsAccess, sequence_of};
 ghost use Rattle.pq_schema.specs.Sound.{IsTable};
 ghost use Rattle.pq_schema.specs.Tables.{table_at};
 ghost use Rattle.pq_store.specs.Breaks.{IsAnswered};
+ghost use Rattle.pq_store.specs.Content.{entry};
 ghost use Rattle.pq_calls.specs.Calls.{Uses, Fails};
 ghost use Rattle.pq_calls.specs.Keys.{sequence_types};
 ghost use Rattle.pq_calls.specs.World.{Affords, where_told};
 ghost use Rattle.pq_nodes.specs.Operators.{ShowsRead};
-ghost use Rattle.pq_entries.specs.Entries.{IsSequence, AreEnds, AreRowsWithin, AreKeysWithin, AreFirstRows, AreFirstValues, IsKeyThere, key_front};
+ghost use Rattle.pq_entries.specs.Entries.{IsSequence, AreEnds, OfEachRange, AreRowsWithin, AreKeysWithin, AreFirstRows, AreFirstValues, IsKeyThere, IsUnread, TellsPair, OneShows, key_front};
 
 use crate::decode::{decoded_keys, decoded_rows};
 use crate::keys::types_at;
 use pq_base::{ColType, Dir, List, NoMem, Row};
 use pq_calls::{Calls, types_of};
 use pq_schema::{Access, Catalog, Table, dirs_of, sequence};
-use pq_store::{Broke, Store};
+use pq_store::{Broke, Pair, Store};
 use std::alloc::Global;
 use std::sync::ledger::Ledger;
 
@@ -34,6 +35,30 @@ pub(crate) fn table_of(catalog: &Catalog, number: u8, access: Access) -> &Table
 {
     catalog.known();
     catalog.table(number)
+}
+
+/// The rows of pairs that a range of a table's keys has.
+pub fn rows_in(
+    alloc: Global,
+    catalog: &Catalog,
+    number: u8,
+    pairs: &[Pair],
+) -> Result<List<Row>, Broke>
+    requires sequence { IsSequence catalog.now.tables number Access.Primary }
+    ensures cause { IfErr result (λ why. OfEachRange number Access.Primary pairs.now
+        (λ told low high limit. IsUnread (where_told (ShowsRead catalog.now.tables) told) why)) }
+    ensures tells { IfErr result (IsUnread (OneShows TellsPair (map entry pairs.now))) }
+    ensures long { IfOk result (λ rows. length rows ≡ length pairs.now) }
+    ensures fit { IfOk result (AllByRecursion (AllFit (types_of (table_at catalog.now.tables number)))) }
+    // Over any content that is told, no pair is passed over.
+    ensures codes { IfOk result (λ rows. OfEachRange number Access.Primary pairs.now (λ told low high limit.
+        IfSome told (AreRowsWithin (table_at catalog.now.tables number) low high limit rows))) }
+    ensures answer { IfOk result (λ rows. OfEachRange number Access.Primary pairs.now (λ told low high limit.
+        IfSome told (AreFirstRows number (table_at catalog.now.tables number) low high limit rows))) }
+{
+    let table = table_of(catalog, number, Access::Primary);
+    let types = types_of(alloc, table)?;
+    decoded_rows(alloc, types.items(), &table.fillers, pairs)
 }
 
 /// The rows of a table between two keys, by rising key, the first `limit` of them: one operation, and an
@@ -64,10 +89,8 @@ pub fn range_rows<S: Store<L>, L: Ledger>(
         (λ rows. IfSome (S.content calls.old.store.now)
         (AreFirstRows number (table_at catalog.now.tables number) low.now high.now limit rows)) }
 {
-    let table = table_of(catalog, number, Access::Primary);
-    let types = types_of(alloc, table)?;
     let pairs = calls.range(alloc, low, high, limit)?;
-    decoded_rows(alloc, types.items(), &table.fillers, pairs.items())
+    rows_in(alloc, catalog, number, pairs.items())
 }
 
 /// What the values of a sequence's keys are read by: their types and directions.
@@ -98,6 +121,40 @@ fn front_len(access: Access) -> usize
         Access::Primary => 2,
         Access::Secondary(_) => 3,
     }
+}
+
+/// The values of the keys of pairs that a range of a sequence's keys has.
+pub fn values_in(
+    alloc: Global,
+    catalog: &Catalog,
+    number: u8,
+    access: Access,
+    pairs: &[Pair],
+) -> Result<List<Row>, Broke>
+    requires sequence { IsSequence catalog.now.tables number access }
+    requires front { All (λ pair. length (key_front 0 access) ≤ length pair.key) pairs.now }
+    ensures cause { IfErr result (λ why. OfEachRange number access pairs.now
+        (λ told low high limit. IsUnread (where_told (ShowsRead catalog.now.tables) told) why)) }
+    ensures tells { IfErr result (IsUnread (OneShows TellsPair (map entry pairs.now))) }
+    ensures long { IfOk result (λ found. length found ≡ length pairs.now) }
+    ensures fit { IfOk result (AllByRecursion (AllFit (sequence_types (table_at catalog.now.tables number) access))) }
+    ensures there { IfOk result (λ found. OfEachRange number access pairs.now (λ told low high limit.
+        AllByRecursion (IsKeyThere number (table_at catalog.now.tables number) access told) found)) }
+    // Over any content that is told, no pair is passed over.
+    ensures keys { IfOk result (λ found. OfEachRange number access pairs.now (λ told low high limit.
+        IfSome told (AreKeysWithin number (table_at catalog.now.tables number) access low high limit found))) }
+    ensures answer { IfOk result (λ found. OfEachRange number access pairs.now (λ told low high limit.
+        IfSome told (AreFirstValues number (table_at catalog.now.tables number) access low high limit found))) }
+{
+    let shape = key_shape(alloc, table_of(catalog, number, access), access)?;
+    let skipped = front_len(access);
+    decoded_keys(
+        alloc,
+        shape.types.items(),
+        shape.dirs.items(),
+        skipped,
+        pairs,
+    )
 }
 
 /// The values of a sequence's keys between two keys, by rising key, those of the first `limit` of them: one
@@ -131,14 +188,6 @@ pub fn range_values<S: Store<L>, L: Ledger>(
         (λ found. IfSome (S.content calls.old.store.now)
         (AreFirstValues number (table_at catalog.now.tables number) access low.now high.now limit found)) }
 {
-    let shape = key_shape(alloc, table_of(catalog, number, access), access)?;
-    let skipped = front_len(access);
     let pairs = calls.range(alloc, low, high, limit)?;
-    decoded_keys(
-        alloc,
-        shape.types.items(),
-        shape.dirs.items(),
-        skipped,
-        pairs.items(),
-    )
+    values_in(alloc, catalog, number, access, pairs.items())
 }

@@ -19,7 +19,7 @@ ghost use Rattle.pq_plan.specs.Cost.{is_primary_access};
 ghost use Rattle.pq_nodes.specs.Operators.{ShowsRead};
 ghost use Rattle.pq_entries.specs.Entries.{IsSequence, AreEnds, AreNamedRows, AreSequenceRows, IsEntryThere, pair_of};
 
-use crate::fetch::named_row;
+use crate::fetch::named_rows;
 use crate::ranges::{range_rows, range_values};
 use pq_base::{List, Row};
 use pq_calls::Calls;
@@ -27,43 +27,6 @@ use pq_schema::{Access, Catalog};
 use pq_store::{Broke, Store};
 use std::alloc::Global;
 use std::sync::ledger::Ledger;
-
-/// The rows that entries of an index name, by the entries' values: one operation and one entry for each.
-fn named_rows<S: Store<L>, L: Ledger>(
-    alloc: Global,
-    catalog: &Catalog,
-    number: u8,
-    index: u8,
-    found: &[Row],
-    calls: &mut Calls<S, L>,
-) -> Result<List<Row>, Broke>
-    requires sequence { IsSequence catalog.now.tables number (Access.Secondary index) }
-    requires values { AllByRecursion (AllFit
-        (sequence_types (table_at catalog.now.tables number) (Access.Secondary index))) found.now }
-    requires there { AllByRecursion (IsEntryThere number (table_at catalog.now.tables number) index
-        (S.content calls.old.store.now)) found.now }
-    requires share { Affords calls.old.allowance.now (length found.now) (length found.now) }
-    ensures uses { Uses S.content S.faults calls.old calls.new (length found.now) (length found.now) }
-    ensures cause { IfErr result (Fails (where_told (ShowsRead catalog.now.tables)) S.content S.faults calls.old
-        calls.new) }
-    ensures answered { IfErr result (IsAnswered S.answers) }
-    ensures long { IfOk result (λ rows. length rows ≡ length found.now) }
-    ensures fit { IfOk result (AllByRecursion (AllFit (types_of (table_at catalog.now.tables number)))) }
-    ensures codes { IfOk result (λ named. IfSome (S.content calls.old.store.now)
-        (AreNamedRows number (table_at catalog.now.tables number) index found.now named)) }
-    ensures answer { IfOk result (λ named. (rows : Rows) (others : List Pair) (wanted : List (List Value))
-        → HoldsRows (S.content calls.old.store.now) catalog.now.tables rows others →
-        AllByRecursion (λ row. In row (rows_of number rows)) wanted
-        → found.now ≡ map (values_of (index_sequence (table_at catalog.now.tables number)
-        (index_numbered (table_at catalog.now.tables number) index))) wanted → named ≡ wanted) }
-{
-    let mut rows = List::new(alloc);
-    for values in found {
-        let row = named_row(alloc, catalog, number, index, values, calls)?;
-        rows.push(alloc, row)?;
-    }
-    Ok(rows)
-}
 
 /// The rows whose keys in a sequence lie between two keys, in its order, the first `limit` of them: one
 /// range, and in a sequence of an index one get for each row.
