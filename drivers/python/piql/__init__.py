@@ -18,8 +18,10 @@ from .errors import (
     IntegrityError,
     InterfaceError,
     InternalError,
+    NotBegun,
     NotSupportedError,
     OperationalError,
+    PipelineFull,
     ProgrammingError,
     StoreGone,
     Warning,
@@ -28,6 +30,7 @@ from .hosts.urls import is_url, open_link
 from .links import FileLink, Link, MemoryLink
 from .migrate import migrate
 from .page import Page, page
+from .pipeline import Pipeline, Result
 from .plain import plain_count, plain_path, plain_seconds
 from .reports import Row, Value, Work
 from .socketlink import SocketLink
@@ -115,11 +118,15 @@ __all__ = [
     "InterfaceError",
     "InternalError",
     "NUMBER",
+    "NotBegun",
     "NotSupportedError",
     "OperationalError",
     "Page",
+    "Pipeline",
+    "PipelineFull",
     "ProgrammingError",
     "ROWID",
+    "Result",
     "Row",
     "STRING",
     "StoreGone",

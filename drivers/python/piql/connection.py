@@ -13,16 +13,18 @@ from .errors import InterfaceError, InternalError, NotSupportedError, Operationa
 from .hosts.link import ReaderLink
 from .interrupts import own
 from .links import Link
+from .lots import Asked, Tell
 from .plain import plain_list, plain_path, plain_seconds, plain_text
 from .refusals import refusal_of
 from .reports import Report, Work, read_report
 from .scripts import place_at
 from .schema import Query, Schema, read_schema
-from .statements import Kind, Sent, Statement, read_statement, run_of
+from .statements import Kind, Sent, Statement, prepare_of, read_statement
 from .values import quoted, quoted_text
 
 if TYPE_CHECKING:
     from .cursor import Cursor
+    from .pipeline import Pipeline
 
 Parameters = Sequence[object]
 Watch = Callable[[Statement, Report], None]
@@ -45,6 +47,15 @@ def fillings_of(statement: Statement, parameters: Parameters) -> tuple[str, ...]
     return tuple(map(quoted, values))
 
 
+def asked_of(statement: Statement, parameters: Parameters, after: str | None) -> Sent:
+    """A statement with its values, behind a cursor of pages; a SELECT with those of its RUN."""
+    kind, values = statement.kind, fillings_of(statement, parameters)
+    behind = "" if after is None else f" AFTER {quoted_text(plain_text(after, 'the cursor of a page'))}"
+    if behind and not kind.has_pages:
+        raise ProgrammingError("only a SELECT or a RUN has pages")
+    return Sent(statement, "", statement.numbered() if kind.is_numbered and not kind.is_prepared else values, behind)
+
+
 class Connection:
     """PEP 249's connection. Each statement is whole or not at all, at once: there is nothing to commit."""
 
@@ -65,7 +76,7 @@ class Connection:
         self._prepare, self._error_on_missing = prepare, error_on_missing
         self._schema: Schema | None = None
         self._names: dict[str, str] = {}
-        self._sent = 0
+        self._sent = self._trips = 0
         self._until: float | None = None
         self._watches: list[Watch] = []
         own(self)
@@ -84,6 +95,11 @@ class Connection:
     def statements(self) -> int:
         """How many statements this connection has sent, those among them that prepare a SELECT and read SHOW."""
         return self._sent
+
+    @property
+    def round_trips(self) -> int:
+        """How often it has sent something and waited for the answer: once for each statement, and for each pipeline."""
+        return self._trips
 
     @property
     def revision(self) -> int:
@@ -146,6 +162,18 @@ class Connection:
             link = self._link or self.link()
             text = link.exchange(data, kind.reads, None if self._until is None else self.left(self._until))
             self._sent += 1
+            self._trips += 1
+        return self.told(sent, text)
+
+    def exchange_all(self, lot: Sequence[Asked], tell: Tell) -> None:
+        """Sends several statements together, and tells what became of each; the caller has the lock."""
+        self.link().exchange_all(lot, tell, None if self._until is None else self.left(self._until))
+        self._sent += len(lot)
+        self._trips += 1
+
+    def told(self, sent: Sent, text: str) -> Report:
+        """What has come as the report of a statement, which is told to those who watch; a refusal is raised."""
+        kind = sent.statement.kind
         report = self.read(text, kind)
         for watch in self._watches:
             watch(sent.statement, report)
@@ -191,30 +219,32 @@ class Connection:
         if timeout is not None:
             with self.within(plain_seconds(timeout, "timeout")):
                 return self.answer(statement, parameters, after)
-        kind, values = statement.kind, fillings_of(statement, parameters)
-        behind = "" if after is None else f" AFTER {quoted_text(plain_text(after, 'the cursor of a page'))}"
-        if kind.is_prepared:
-            return self.answer_select(statement, values, behind)
-        if behind and not kind.has_pages:
-            raise ProgrammingError("only a SELECT or a RUN has pages")
-        return self.report(Sent(statement, "", statement.numbered() if kind.is_numbered else values, behind))
+        sent = asked_of(statement, parameters, after)
+        return self.answer_select(sent) if statement.kind.is_prepared else self.report(sent)
 
-    def answer_select(self, statement: Statement, values: tuple[str, ...], behind: str) -> Report:
+    def answer_select(self, sent: Sent) -> Report:
         """The report of the RUN of a SELECT. Where the file was changed for another, the definitions are read anew."""
         with self._lock:
             try:
-                return self.run_select(statement, values, behind)
+                return self.run_select(sent)
             except ProgrammingError as error:
                 if error.number != "E401":
                     raise
             self.refresh()
-            return self.run_select(statement, values, behind)
+            return self.run_select(sent)
 
-    def run_select(self, statement: Statement, values: tuple[str, ...], behind: str) -> Report:
+    def run_select(self, sent: Sent) -> Report:
         """The report of the RUN of a SELECT, which is prepared where it isn't."""
         self.schema()
-        name = self._names.get(statement.name) or self.define(statement)
-        return self.report(Sent(run_of(statement, name), "", values, behind))
+        name = self._names.get(sent.statement.name) or self.define(sent.statement)
+        return self.report(sent.run_as(name))
+
+    def prepared_name(self, statement: Statement) -> str | None:
+        """The name under which a SELECT is prepared; None where it is still to be, by this connection."""
+        self.schema()
+        if statement.name not in self._names and not self._prepare:
+            return self.define(statement)
+        return self._names.get(statement.name)
 
     def define(self, statement: Statement) -> str:
         """Prepares a SELECT under the name of its tokens, unless another connection has done so meanwhile."""
@@ -223,9 +253,8 @@ class Connection:
             if statement.name not in self._names:
                 raise ProgrammingError(UNPREPARED.format(text=statement.text))
             return self._names[statement.name]
-        prepare = statement._replace(kind=Kind.PREPARE)
         try:
-            self.report(Sent(prepare, f"PREPARE {statement.name} AS ", statement.numbered()))
+            self.report(prepare_of(statement))
         except ProgrammingError as error:
             if error.number != "E201":
                 raise
@@ -242,9 +271,13 @@ class Connection:
                 self._names |= {name: name for name in queries}
             return self._schema
 
+    def forget(self) -> None:
+        """Has the definitions read anew before they are asked for next."""
+        self._schema = None
+
     def refresh(self) -> Schema:
         """The definitions as they are now, those of other connections among them."""
-        self._schema = None
+        self.forget()
         return self.schema()
 
     def find_query(self, name: str) -> tuple[Schema, Query]:
@@ -279,6 +312,13 @@ class Connection:
     ) -> "Cursor":
         """A new cursor that has executed the statement."""
         return self.cursor().execute(operation, parameters, after=after, timeout=timeout)
+
+    def pipeline(self, *, timeout: float | None = None, raises: bool = True) -> "Pipeline":
+        """Several statements that are sent together, at the end of its `with` block or by its `send`."""
+        from .pipeline import Pipeline
+
+        self.link()
+        return Pipeline(self, None if timeout is None else plain_seconds(timeout, "timeout"), raises)
 
     def commit(self) -> None:
         """Does nothing: each statement that was reported stands."""

@@ -41,6 +41,23 @@ def explained(report: Report) -> list[Row]:
     return [(query.way, query.bound.operations, query.bound.entries, index or None) for query in report.queries()]
 
 
+def run_text(given: object, values: Sequence[object]) -> str:
+    """The RUN of the prepared query of this name, with a place for each of the values."""
+    name = plain_text(given, "the name of a query")
+    if NAME.fullmatch(name) is None:
+        raise ProgrammingError("the name of a query is letters, digits and _, and begins with no digit")
+    return f"RUN {name} ({', '.join('?' * len(values))})"
+
+
+def rows_of(kind: Kind, report: Report) -> list[Row] | None:
+    """The rows that a statement is answered, or None for one without an answer."""
+    if kind.has_rows:
+        return report.rows
+    if kind is Kind.SHOW:
+        return [(line.number, line.text) for line in report.definitions()]
+    return explained(report) if kind is Kind.EXPLAIN else None
+
+
 class Cursor:
     """PEP 249's cursor, with the bound, what was used and the next page."""
 
@@ -98,15 +115,9 @@ class Cursor:
         statement = read_statement(operation)
         report = self._report = connection.answer(statement, parameters, after, timeout)
         self._statement = statement
-        kind = statement.kind
-        if kind.has_rows:
-            self._rows = report.rows
-        elif kind.writes:
+        self._rows = rows_of(statement.kind, report)
+        if statement.kind.writes:
             self._made = int(not report.is_refused())
-        elif kind is Kind.SHOW:
-            self._rows = [(line.number, line.text) for line in report.definitions()]
-        elif kind is Kind.EXPLAIN:
-            self._rows = explained(report)
         return self
 
     def executemany(self, operation: str, seq_of_parameters: Iterable["Parameters"]) -> "Cursor":
@@ -133,12 +144,8 @@ class Cursor:
 
     def callproc(self, procname: str, parameters: "Parameters" = ()) -> "Parameters":
         """Runs the prepared query of this name with its parameters."""
-        name = plain_text(procname, "the name of a query")
-        if NAME.fullmatch(name) is None:
-            raise ProgrammingError("the name of a query is letters, digits and _, and begins with no digit")
         values = plain_list(parameters)
-        places = ", ".join("?" * len(values))
-        self.execute(f"RUN {name} ({places})", values)
+        self.execute(run_text(procname, values), values)
         return parameters
 
     @property

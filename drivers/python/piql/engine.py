@@ -6,6 +6,7 @@ import select
 import shutil
 import subprocess
 import time
+from collections.abc import Callable, Sequence
 from pathlib import Path
 
 from .allocator import engine_environment
@@ -13,7 +14,7 @@ from .errors import InterfaceError, InternalError
 from .interrupts import is_of_call, own
 from .plain import plain_path
 from .scripts import SCRIPT_BYTES
-from .wholeness import UNMATCHED, Growing, check_report, check_statement
+from .wholeness import UNMATCHED, Growing, Reports, check_report, check_statement
 
 CHUNK = 1 << 16
 DIGITS = b"0123456789"
@@ -137,6 +138,70 @@ class Engine:
             self.kill()
             raise
 
+    def exchange_all(
+        self, statements: Sequence[bytes], tell: Callable[[bytes], None], limit: float | None = None
+    ) -> None:
+        """Sends several statements at once, and tells the report of each in their order.
+
+        Whatever stops this ends the process. Behind an EngineEnded and a Stalled all is told that was reported: the
+        engine writes a report before it begins the next statement, so the first one that isn't told was made or not,
+        and those behind it weren't begun. Behind anything else each that isn't told was made or not.
+        """
+        for statement in statements:
+            check_statement(statement)
+        self.deadline = None if limit is None else time.monotonic() + limit
+        reports = Reports(self.statements, statements, tell)
+        data = b"".join(statements)
+        try:
+            self.sent += len(data)
+            self.statements += len(statements)
+            self.answer_all(memoryview(data), reports)
+        except Stalled:
+            self.read_out(reports)
+            raise
+        except BaseException:
+            self.kill()
+            raise
+
+    def read_out(self, reports: Reports) -> None:
+        """Ends the process, and takes what it had written."""
+        try:
+            self.process.kill()
+            self.process.wait()
+            os.set_blocking(self.out_of, False)
+            while part := self.read_some():
+                reports.take(part)
+        finally:
+            self.close()
+
+    def read_some(self) -> bytes:
+        """What is there to read of a process that has ended."""
+        try:
+            return os.read(self.out_of, CHUNK)
+        except BlockingIOError as error:
+            if not is_of_call(error):
+                raise
+            return b""
+
+    def answer_all(self, left: memoryview, reports: Reports) -> None:
+        """Writes what is left of statements as far as there is room, and takes their reports as they come."""
+        self.check_unasked()
+        both = select.poll()
+        both.register(self.out_of, select.POLLIN)
+        both.register(self.into, select.POLLOUT)
+        self.until = self.end_of_step()
+        while not reports.is_whole():
+            if left:
+                done = self.write_some(left)
+                left = left[done:]
+                reports.sent += done
+            if left and self.out_of not in dict(self.wait(both, self.until)):
+                continue
+            before = reports.told
+            reports.take(self.read(reports.text))
+            if reports.told > before:
+                self.until = self.end_of_step()
+
     def opened(self) -> bytes:
         """The opening line."""
         text = self.read(b"")
@@ -148,13 +213,17 @@ class Engine:
 
     def answered(self, statement: bytes) -> bytes:
         """The report of one statement."""
-        # A process that has ended has closed its end, which is told as another event.
-        if (unasked := self.ready.poll(0)) and unasked[0][1] & select.POLLIN:
-            raise InternalError(UNMATCHED)
+        self.check_unasked()
         self.until = self.end_of_step()
         self.write(statement)
         text = self.read(b"")
         return text if is_report(text) else self.read_on(text)
+
+    def check_unasked(self) -> None:
+        """Refuses to send anything where something has come that nobody asked for."""
+        # A process that has ended has closed its end, which is told as another event.
+        if (unasked := self.ready.poll(0)) and unasked[0][1] & select.POLLIN:
+            raise InternalError(UNMATCHED)
 
     def end_of_step(self) -> float | None:
         """When a step that begins now has to be over."""
@@ -171,7 +240,7 @@ class Engine:
             self.wait(self.writable, until)
             done += self.write_some(text[done:])
 
-    def write_some(self, text: bytes) -> int:
+    def write_some(self, text: bytes | memoryview) -> int:
         """Writes what there is room for; how much that is. To a process that has ended all of it is written."""
         try:
             return os.write(self.into, text)
@@ -180,12 +249,13 @@ class Engine:
                 raise
             return 0 if isinstance(error, BlockingIOError) else len(text)
 
-    def wait(self, pipe: select.poll, until: float | None) -> None:
-        """Waits until there is something to read, or room to write."""
+    def wait(self, pipe: select.poll, until: float | None) -> list[tuple[int, int]]:
+        """Waits until there is something to read, or room to write; what there is."""
         left = None if until is None else max(0.0, until - time.monotonic()) * 1000
-        if not pipe.poll(left):
+        if not (found := pipe.poll(left)):
             is_late = self.deadline is not None and time.monotonic() >= self.deadline
             raise Stalled(OVER if is_late else STILL.format(seconds=self.seconds))
+        return found
 
     def read(self, before: bytes | bytearray) -> bytes:
         """What is written next, behind what was read before."""

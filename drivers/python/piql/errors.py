@@ -16,6 +16,8 @@ class Error(Exception):
     status: int | None = None
     # The key, in hexadecimal, of a pair that no run writes. No message has it, since a key has what a row has.
     damaged: str | None = None
+    # Which statement of a pipeline it was, from 1.
+    position: int | None = None
 
     @property
     def number(self) -> str | None:
@@ -73,6 +75,10 @@ class StoreGone(OperationalError):
     """The file was removed, or another was put in its place, while it was open. The connection can't be used again."""
 
 
+class NotBegun(OperationalError):
+    """Nothing was made of a statement of a pipeline: what was before it ended the run, or couldn't be sent."""
+
+
 class IntegrityError(DatabaseError):
     """The rows that are there speak against a write."""
 
@@ -83,6 +89,10 @@ class InternalError(DatabaseError):
 
 class ProgrammingError(DatabaseError):
     """The statement is wrong, or its values aren't as many as its places."""
+
+
+class PipelineFull(ProgrammingError):
+    """A pipeline has no room for a statement more. Nothing of it was sent."""
 
 
 class NotSupportedError(DatabaseError):

@@ -2,13 +2,15 @@
 
 import os
 import time
+from collections.abc import Sequence
 from typing import Protocol
 
 from .backup import copy_whole
 from .causes import LOCKED, cause_of, is_locked
 from .engine import Engine, EngineEnded, find_program
-from .errors import Error, OperationalError, StoreGone
+from .errors import DatabaseError, OperationalError, StoreGone
 from .interrupts import is_of_call
+from .lots import Asked, Tell
 from .runs import EngineLink, Run, check_owner, told_end
 
 STANDS_READ = (
@@ -39,6 +41,12 @@ class Link(Protocol):
 
     def exchange(self, statement: bytes, reads: bool, limit: float | None = None) -> str:
         """The report of the statement."""
+
+    def exchange_all(self, lot: Sequence[Asked], tell: Tell, limit: float | None = None) -> None:
+        """Sends several statements together, and tells what became of each, in their order.
+
+        Where it raises an Error itself, nothing was sent.
+        """
 
     def backup(self, path: str) -> None:
         """Copies the store between two statements."""
@@ -102,13 +110,12 @@ class FileLink(EngineLink):
             self.close()
             raise StoreGone(GONE.format(path=self.path))
 
-    def exchange(self, statement: bytes, reads: bool, limit: float | None = None) -> str:
-        """The report of the statement, if the file is still there then."""
-        report = super().exchange(statement, reads, limit)
+    def told(self, report: bytes) -> str:
+        """A report that has come, if the file is still there then."""
         self.check_there()
-        return report
+        return super().told(report)
 
-    def ended(self, end: EngineEnded, stands: str) -> Error:
+    def ended(self, end: EngineEnded, stands: str) -> DatabaseError:
         """The exception of a run that ended. Why a call of the store failed is looked for at the file."""
         cause = cause_of(self.path) if end.status == 5 else ""
         return told_end(end, stands, cause)

@@ -1,10 +1,12 @@
 """One run of the engine after the other, wherever the store is: what is sent, and how the end of a run is told."""
 
 import os
+from collections.abc import Callable, Sequence
 from typing import Protocol
 
 from .engine import EngineEnded, Stalled
-from .errors import Error, InterfaceError, OperationalError, ended
+from .errors import DatabaseError, InterfaceError, InternalError, OperationalError, StoreGone, ended
+from .lots import Asked, Tell, Told, again, not_begun
 
 
 def check_owner(owner: int) -> None:
@@ -13,7 +15,7 @@ def check_owner(owner: int) -> None:
         raise InterfaceError("this connection was made before a fork: each process needs one of its own")
 
 
-def told_end(end: EngineEnded, stands: str, cause: str = "") -> Error:
+def told_end(end: EngineEnded, stands: str, cause: str = "") -> DatabaseError:
     """The exception of a run that ended, with what stands then, and its cause where that is known."""
     return ended(end.status, f"{stands} {end.written}".strip(), end.damaged, cause)
 
@@ -26,6 +28,11 @@ class Run(Protocol):
 
     def exchange(self, statement: bytes, limit: float | None = None) -> bytes:
         """The report of one statement, which may take so many seconds."""
+
+    def exchange_all(
+        self, statements: Sequence[bytes], tell: Callable[[bytes], None], limit: float | None = None
+    ) -> None:
+        """Tells the report of each of several statements, which may take so many seconds together."""
 
     def has_ended(self) -> bool:
         """Whether the run is over, by itself or since an exchange was stopped."""
@@ -49,20 +56,52 @@ class EngineLink:
         """What stands where the run ended in mid-statement."""
         raise NotImplementedError
 
-    def ended(self, end: EngineEnded, stands: str) -> Error:
+    def ended(self, end: EngineEnded, stands: str) -> DatabaseError:
         """The exception of a run that ended."""
         return told_end(end, stands)
+
+    def failure(self, error: Exception, reads: bool) -> DatabaseError | None:
+        """The exception of a run that ended in a statement, or was; None where it is another one."""
+        if isinstance(error, EngineEnded):
+            return self.ended(error, self.stands(reads))
+        if isinstance(error, Stalled):
+            return OperationalError(f"{error}, so the run was ended. {self.stands(reads)}")
+        return None
+
+    def told(self, report: bytes) -> str:
+        """A report that has come, if it may be told."""
+        return report.decode()
 
     def exchange(self, statement: bytes, reads: bool, limit: float | None = None) -> str:
         """The report of the statement."""
         check_owner(self.owner)
         engine = self.running(statement)
         try:
-            return engine.exchange(statement, limit).decode()
-        except EngineEnded as end:
-            raise self.ended(end, self.stands(reads)) from end
-        except Stalled as stall:
-            raise OperationalError(f"{stall}, so the run was ended. {self.stands(reads)}") from stall
+            return self.told(engine.exchange(statement, limit))
+        except Exception as error:
+            if failure := self.failure(error, reads):
+                raise failure from error
+            raise
+        finally:
+            if engine.has_ended():
+                self.engine = None
+
+    def exchange_all(self, lot: Sequence[Asked], tell: Tell, limit: float | None = None) -> None:
+        """Tells what became of each of several statements. Where it raises an Error itself, nothing was sent."""
+        check_owner(self.owner)
+        engine = self.running(b"".join(it.statement for it in lot))
+        told = Told(lot, tell)
+        try:
+            engine.exchange_all([it.statement for it in lot], lambda report: told.one(self.told(report)), limit)
+        except (InternalError, StoreGone) as error:
+            told.rest(again(error))
+        except Exception as error:
+            failure = self.failure(error, lot[told.count].reads) if told.left() else None
+            if failure is None:
+                raise
+            failure.__cause__ = error
+            told.one(failure)
+            told.rest(not_begun)
         finally:
             if engine.has_ended():
                 self.engine = None

@@ -3,8 +3,17 @@
 import json
 import os
 import time
+from collections.abc import Sequence
 
-from .errors import DatabaseError, InternalError, OperationalError, ProgrammingError, with_status
+from .errors import (
+    DatabaseError,
+    InternalError,
+    NotBegun,
+    NotSupportedError,
+    OperationalError,
+    ProgrammingError,
+    with_status,
+)
 from .frames import (
     BACKUP,
     BROKEN,
@@ -14,13 +23,17 @@ from .frames import (
     HELLO,
     LIMITED,
     LIMITS,
+    MANY,
     REPORT,
     STATEMENT,
+    UNBEGUN,
     FrameError,
     Gone,
+    many_text,
     read_frame,
     write_frame,
 )
+from .lots import Asked, Tell, Told
 from .runs import check_owner
 from .timed import Broken, Late, TimedSocket
 from .wholeness import check_statement, number_of
@@ -36,6 +49,11 @@ MADE_OR_NOT = (
     " row to see which"
 )
 LOST = f"the server went away before its report came: {MADE_OR_NOT}"
+LOST_READ = "the server went away before its report came: this statement changes nothing"
+OLDER = (
+    "the server takes no frame of several statements, since it is older than this package, and it made none of these:"
+    " {said}. Start it anew from the version of this package, or send the statements one by one"
+)
 LATE = "the server gave no report for {seconds:g} seconds: {stands}"
 NOTHING = "this statement changes nothing. The next one connects anew"
 NO_ANSWER = (
@@ -59,6 +77,11 @@ def told_end(said: bytes) -> DatabaseError:
 def milliseconds(seconds: float | None) -> int:
     """A limit as a frame has it, where 0 says that there is none."""
     return 0 if seconds is None else max(1, round(min(seconds * 1000, 2.0**32 - 1)))
+
+
+def stands(asked: Asked) -> str:
+    """What stands where a statement's report doesn't come."""
+    return NOTHING if asked.reads else MADE_OR_NOT
 
 
 class SocketLink:
@@ -135,6 +158,67 @@ class SocketLink:
             self.close()
             raise InternalError(NO_ANSWER)
         return report.decode()
+
+    def exchange_all(self, lot: Sequence[Asked], tell: Tell, limit: float | None = None) -> None:
+        """Sends several statements in one frame, and tells what became of each.
+
+        Where the server goes away and only reads are left, these are sent once more.
+        """
+        for it in lot:
+            check_statement(it.statement)
+        told = Told(lot, tell)
+        for is_last in (False, True):
+            try:
+                return self.answer_all(told, limit)
+            except Late:
+                seconds = min(it for it in (self.seconds, limit) if it is not None)
+                return told.rest(lambda it: OperationalError(LATE.format(seconds=seconds, stands=stands(it))))
+            except (Broken, Gone):
+                if is_last or not all(it.reads for it in told.left()):
+                    return told.rest(lambda it: OperationalError(LOST_READ if it.reads else LOST))
+
+    def answer_all(self, told: Told, limit: float | None) -> None:
+        """Sends those that are left, and tells what the server answers. Whatever stops this closes the socket."""
+        seconds = min((it for it in (self.seconds, limit) if it is not None), default=None)
+        until = None if limit is None else time.monotonic() + limit + GRACE_SECONDS
+        text = many_text(milliseconds(limit), self.rows, [it.statement for it in told.left()])
+        try:
+            reached = self.send_all(text, seconds)
+            while told.left():
+                step = None if self.seconds is None else time.monotonic() + self.seconds + GRACE_SECONDS
+                reached.until = min((it for it in (until, step) if it is not None), default=None)
+                self.take(told, *read_frame(reached, ANSWER_BYTES))
+        except FrameError:
+            self.close()
+            told.rest(lambda _: InternalError(NO_ANSWER))
+        except BaseException:
+            self.close()
+            raise
+
+    def send_all(self, text: bytes, seconds: float | None) -> TimedSocket:
+        """Sends a frame of several statements. What a server says that doesn't take it whole can still be read."""
+        try:
+            return self.send(MANY, text, seconds)
+        except Broken as error:
+            if not error.sent or self.socket is None:
+                raise
+            return self.socket
+
+    def take(self, told: Told, kind: bytes, said: bytes) -> None:
+        """Takes a frame that answers one of several statements, or all that are left."""
+        if kind == REPORT and number_of(said) is not None:
+            return told.one(said.decode())
+        if kind == ENDED:
+            return told.one(told_end(said))
+        text = said.decode(errors="replace")
+        if kind == UNBEGUN:
+            return told.rest(lambda _: NotBegun(text))
+        self.close()
+        if kind != BROKEN:
+            return told.rest(lambda _: InternalError(NO_ANSWER))
+        if text.startswith("a frame"):
+            return told.rest(lambda _: NotSupportedError(OLDER.format(said=text)))
+        told.rest(lambda _: NotBegun(f"the server left this client: {text}"))
 
     def send(self, kind: bytes, text: bytes, seconds: float | None) -> TimedSocket:
         """Sends a frame. One of which the kernel took nothing is sent anew: its server was stopped before."""

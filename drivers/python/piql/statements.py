@@ -37,7 +37,7 @@ class Kind(Enum):
         # Its answer is rows, and those of a query come page by page.
         self.has_rows = word in ("SELECT", "RUN", "READ")
         self.has_pages = word in ("SELECT", "RUN")
-        self.is_prepared = word == "SELECT"
+        self.is_prepared, self.is_run = word == "SELECT", word == "RUN"
         # A `?` in it is a numbered parameter, and takes no value.
         self.is_numbered = word in ("SELECT", "PREPARE", "EXPLAIN")
 
@@ -81,6 +81,10 @@ class Sent(NamedTuple):
         if len(data) > STATEMENT_BYTES:
             raise misplaced("E103", self.statement.text)
         return data
+
+    def run_as(self, name: str) -> "Sent":
+        """The RUN of a SELECT that is prepared under this name, with the same values."""
+        return self._replace(statement=run_of(self.statement, name))
 
     def source_at(self, at: int) -> int:
         """The character of the writer's text that a byte of the statement stands for."""
@@ -207,3 +211,8 @@ def run_of(select: Statement, name: str) -> Statement:
     """The RUN of a SELECT that is prepared under this name. Its text is still the SELECT's, for who reads a refusal."""
     places = ", ".join(["%s"] * select.params)
     return select._replace(kind=Kind.RUN, template=f"RUN {name} ({places})")
+
+
+def prepare_of(select: Statement) -> Sent:
+    """What prepares a SELECT under the name of its tokens."""
+    return Sent(select._replace(kind=Kind.PREPARE), f"PREPARE {select.name} AS ", select.numbered())

@@ -3,7 +3,9 @@
 What isn't so would leave the reports behind the statements, and each later one would be told as another's.
 """
 
+import itertools
 import re
+from collections.abc import Callable, Sequence
 
 from .errors import InternalError, ProgrammingError
 from .scripts import is_one_piece
@@ -78,3 +80,46 @@ class Growing:
         if end is not None or STRANGE.match(self.text, self.at):
             raise InternalError(UNMATCHED)
         return False
+
+
+class Reports:
+    """The reports of several statements, which come one behind the other and in parts; each is told once it is whole.
+
+    `number` is that of the last statement before them. None comes before its statement was sent whole: `sent` is how
+    many bytes of them all were.
+    """
+
+    def __init__(self, number: int, statements: Sequence[bytes], tell: Callable[[bytes], None]) -> None:
+        self.number, self.tell = number, tell
+        self.ends = list(itertools.accumulate(map(len, statements)))
+        self.told = self.sent = self.at = 0
+        # What has come of the next one.
+        self.text = bytearray()
+
+    def is_whole(self) -> bool:
+        """Whether each has been told."""
+        return self.told == len(self.ends)
+
+    def take(self, part: bytes) -> None:
+        """Takes what has come, and tells the reports that are whole. What is none is refused, once it shows."""
+        self.text += part
+        while self.text:
+            lines = LINES.match(self.text, self.at)
+            self.at = lines.end() if lines else self.at
+            end = END.match(self.text, self.at)
+            if end is None:
+                if STRANGE.match(self.text, self.at):
+                    raise InternalError(UNMATCHED)
+                return
+            self.take_one(bytes(self.text[: end.end()]))
+
+    def take_one(self, report: bytes) -> None:
+        """Tells the next one. A report of no statement, or with bytes behind the last one, is refused."""
+        is_asked = not self.is_whole() and self.sent >= self.ends[self.told]
+        has_place = len(self.text) == len(report) or self.told + 1 < len(self.ends)
+        if not (is_asked and has_place):
+            raise InternalError(UNMATCHED)
+        check_report(report, self.number + 1)
+        del self.text[: len(report)]
+        self.at, self.number, self.told = 0, self.number + 1, self.told + 1
+        self.tell(report)

@@ -7,10 +7,13 @@ the answer of such a request, and the next one tells that its report is whole.
 import contextlib
 import os
 import time
+from collections.abc import Callable
 
 from ..engine import CHUNK, Engine, EngineEnded, Stalled
+from ..errors import InternalError
+from ..wholeness import UNMATCHED, Reports
 from .host import Host
-from .wire import BadRequest, Op, answer, length_of, read_request, read_room
+from .wire import BadRequest, Op, Request, answer, length_of, read_request, read_room
 
 
 class HostedEngine(Engine):
@@ -22,44 +25,72 @@ class HostedEngine(Engine):
     seconds: float
 
     def __init__(self, program: str, host: Host, seconds: float) -> None:
-        self.host, self.room = host, 0
+        # How many bytes of its script it has, and has room for next.
+        self.host, self.handed, self.room = host, 0, 0
         super().__init__(program, ["run"], seconds)
 
     def opened(self) -> bytes:
         """The opening line."""
-        return self.reported(b"")
+        return self.reported(memoryview(b""))
 
     def answered(self, statement: bytes) -> bytes:
         """The report of one statement."""
-        return self.reported(self.hand_out(statement))
+        return self.reported(self.hand_out(memoryview(statement)))
 
-    def hand_out(self, statement: bytes) -> bytes:
-        """Answers the READ that is waiting by what it has room for of a statement; the rest."""
-        self.write(answer(statement[: self.room]))
-        return statement[self.room :]
+    def reported(self, rest: memoryview) -> bytes:
+        """What is reported of a statement whose rest is still to be handed out."""
+        text = bytearray()
+        self.serve(rest, text, text.extend)
+        return bytes(text)
 
-    def reported(self, rest: bytes) -> bytes:
-        """Serves the engine until it has taken the rest of a statement and asks for the next; what it reported."""
-        reports = bytearray()
+    def answer_all(self, left: memoryview, reports: Reports) -> None:
+        """Hands out several statements, and takes their reports as they come."""
+        begin = self.handed
+
+        def take(part: bytes) -> None:
+            reports.sent = self.handed - begin
+            reports.take(part)
+
+        self.serve(self.hand_out(left), reports.text, take)
+        if not reports.is_whole():
+            raise InternalError(UNMATCHED)
+
+    def read_out(self, _: Reports) -> None:
+        """Ends the process. It waits behind each report until that is taken, so none is left in the pipe."""
+        self.kill()
+
+    def hand_out(self, statements: memoryview) -> memoryview:
+        """Answers the READ that is waiting by what it has room for; the rest."""
+        part = bytes(statements[: self.room])
+        self.write(answer(part))
+        self.handed += len(part)
+        return statements[len(part) :]
+
+    def serve(self, rest: memoryview, text: bytearray, take: Callable[[bytes], object]) -> None:
+        """Serves the engine until it has taken the rest and asks for more; `text` is what was taken of the report."""
         while True:
             try:
                 request = read_request(self.receive())
             except EOFError as end:
-                raise EngineEnded(super().close(), bytes(reports)) from end
+                raise EngineEnded(super().close(), bytes(text)) from end
             if request.op is Op.READ:
                 self.room = read_room(request.body)
                 if not rest:
-                    return bytes(reports)
+                    return
                 rest = self.hand_out(rest)
             elif request.op is Op.REPORT:
-                reports += request.body
+                take(request.body)
                 self.write(answer(b""))
             else:
-                begun = time.monotonic()
-                told = self.host.answer(request)
-                if time.monotonic() - begun > self.seconds:
-                    raise Stalled(f"a call of the store took more than {self.seconds:g} seconds")
-                self.write(told)
+                self.answer_call(request)
+
+    def answer_call(self, request: Request) -> None:
+        """Answers a call of the store."""
+        begun = time.monotonic()
+        told = self.host.answer(request)
+        if time.monotonic() - begun > self.seconds:
+            raise Stalled(f"a call of the store took more than {self.seconds:g} seconds")
+        self.write(told)
 
     def receive(self) -> bytes:
         """The next request, without its length. There is at most one that isn't answered, so nothing is behind it."""

@@ -5,7 +5,8 @@ import time
 from collections.abc import Sequence
 
 from ..engine import EngineEnded, find_program
-from ..errors import Error, InternalError, NotSupportedError, OperationalError
+from ..errors import DatabaseError, InternalError, NotSupportedError, OperationalError
+from ..lots import Asked, Outcome, Tell
 from ..runs import EngineLink, told_end
 from .backend import Backend, Fault, Held, Reading, Unreachable
 from .host import Host
@@ -26,8 +27,10 @@ STANDS_WRITE = (
 )
 # What a backend raises that stumbles over what a server answered, or over itself.
 STRANGE = (ArithmeticError, AttributeError, LookupError, TypeError, ValueError)
+UNSENT = "Nothing was sent."
 STUMBLED = "the store's backend failed by itself ({kind}). {stands}"
 HELD = "another engine has the store: {why}"
+ONLY_READS = "this connection only reads; the one that writes is made without reader=True"
 NO_COPY = "the copies of {name} are those of its database, as docs/SCALING.md tells"
 
 
@@ -87,15 +90,31 @@ class HostLink(EngineLink):
     def exchange(self, statement: bytes, reads: bool, limit: float | None = None) -> str:
         """The report of the statement."""
         try:
-            report = super().exchange(statement, reads, limit)
-        except BadRequest as error:
-            raise OperationalError(f"{error}, so the run was ended. {self.stands(reads)}") from error
+            return super().exchange(statement, reads, limit)
         except STRANGE as error:
             raise stumbled(error, self.stands(reads)) from error
-        self.revision = self.backends[0].revision
-        return report
 
-    def ended(self, end: EngineEnded, stands: str) -> Error:
+    def exchange_all(self, lot: Sequence[Asked], tell: Tell, limit: float | None = None) -> None:
+        """Tells what became of each of several statements."""
+        try:
+            super().exchange_all(lot, tell, limit)
+        except STRANGE as error:
+            raise stumbled(error, UNSENT) from error
+
+    def failure(self, error: Exception, reads: bool) -> DatabaseError | None:
+        """The exception of a run that ended in a statement, or was; of a backend that failed by itself too."""
+        if isinstance(error, BadRequest):
+            return OperationalError(f"{error}, so the run was ended. {self.stands(reads)}")
+        if isinstance(error, STRANGE):
+            return stumbled(error, self.stands(reads))
+        return super().failure(error, reads)
+
+    def told(self, report: bytes) -> str:
+        """A report that has come; the revision is that of the store behind it."""
+        self.revision = self.backends[0].revision
+        return super().told(report)
+
+    def ended(self, end: EngineEnded, stands: str) -> DatabaseError:
         """The exception of a run that ended. Why a call of its store failed comes first."""
         return told_end(end, stands, self.host.why)
 
@@ -183,7 +202,7 @@ class ReaderLink(HostLink):
     def exchange(self, statement: bytes, reads: bool, limit: float | None = None) -> str:
         """The report of a statement that changes nothing."""
         if not reads:
-            raise NotSupportedError("this connection only reads; the one that writes is made without reader=True")
+            raise NotSupportedError(ONLY_READS)
         until = time.monotonic() + self.timeout
         while True:
             try:
@@ -192,4 +211,21 @@ class ReaderLink(HostLink):
                 # What was pinned may be gone, as a snapshot that the server ended, or a revision that was compacted.
                 if error.status != STORE_FAULT or time.monotonic() > until:
                     raise
+            time.sleep(AGAIN)
+
+    def exchange_all(self, lot: Sequence[Asked], tell: Tell, limit: float | None = None) -> None:
+        """Tells what became of each of several statements. Those that change nothing are answered at one revision."""
+        reading = [it for it in lot if it.reads]
+        found = iter(self.read_all(reading, limit) if reading else [])
+        for it in lot:
+            tell(next(found) if it.reads else NotSupportedError(ONLY_READS))
+
+    def read_all(self, lot: Sequence[Asked], limit: float | None) -> list[Outcome]:
+        """What became of statements that change nothing; all are read anew where one can't be."""
+        until = time.monotonic() + self.timeout
+        while True:
+            found: list[Outcome] = []
+            super().exchange_all(lot, found.append, limit)
+            if time.monotonic() > until or all(getattr(it, "status", None) != STORE_FAULT for it in found):
+                return found
             time.sleep(AGAIN)
