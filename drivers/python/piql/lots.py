@@ -13,7 +13,7 @@ LOT_BYTES = 16_777_216
 SIZE = struct.Struct("!I")
 # The byte that says what the frame is, and the two numbers before the statements.
 FRAME_HEAD = 9
-ENDED_BEFORE = "the run ended in a statement before it, so it wasn't begun"
+ENDED_BEFORE = "a statement before it ended the run, or took too long: this one wasn't begun"
 
 
 class Asked(NamedTuple):

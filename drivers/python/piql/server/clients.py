@@ -7,14 +7,17 @@ import select
 import socket
 import struct
 import time
+from collections.abc import Sequence
 
-from ..frames import ENDED, HEAD, REQUEST_BYTES, FrameError
+from ..frames import ENDED, HEAD, MANY, REQUEST_BYTES, UNBEGUN, FrameError
+from ..lots import ENDED_BEFORE, LOT_BYTES
+from .lots import Lot
 from .requests import Request
 from .rights import Right
 
 Answer = tuple[bytes, bytes]
 PEER = struct.Struct("iII")
-# What is read at once, and what a client may send ahead of its answers.
+# What is read at once, and what a client may send ahead of its answers; a frame of several statements may be longer.
 CHUNK = HEAD.size + REQUEST_BYTES
 # For how many seconds a client may be in the middle of a frame, or take nothing of an answer.
 FRAME_SECONDS = 10.0
@@ -36,9 +39,11 @@ def user_of(client: socket.socket) -> int:
 class Ticket:
     """A request in its turn. Whoever tells the client what became of it says so here, and nobody tells it twice."""
 
-    def __init__(self, client: "Client", request: Request, asked: float) -> None:
+    def __init__(self, client: "Client", request: Request | Lot, asked: float) -> None:
         self.client, self.request, self.asked = client, request, asked
         self.is_told = self.is_killed = False
+        # Whether the next turn waits until the client has taken the answers of the last one.
+        self.is_parked = False
         # When it was begun.
         self.begun: float | None = None
 
@@ -46,13 +51,22 @@ class Ticket:
         """When its last step was: it was begun, or it was asked for."""
         return self.asked if self.begun is None else self.begun
 
+    def answers(self, answer: Answer) -> list[Answer]:
+        """The frames by which an answer is told; of several statements to those at hand, and to those behind them."""
+        lot = self.request
+        if not isinstance(lot, Lot) or answer[0] != ENDED:
+            return [answer]
+        if self.begun is None:
+            return [(UNBEGUN, json.loads(answer[1])["text"].encode())]
+        return [answer] * lot.taken + [(UNBEGUN, ENDED_BEFORE.encode())] * bool(lot.left())
+
     def wait(self, now: float) -> float:
         """For how many seconds it waited for its turn."""
         return (now if self.begun is None else self.begun) - self.asked
 
 
 class Client:
-    """A connected socket, which never blocks. It has at most one ticket: the next frame waits for its answer."""
+    """A connected socket, which never blocks. It has at most one ticket: the next frame waits for its answers."""
 
     def __init__(self, made: socket.socket, now: float, right: Right) -> None:
         made.setblocking(False)
@@ -64,7 +78,8 @@ class Client:
         self.since = now
         # It sends no more, or nothing that it sends is taken; it is left once its answers are out.
         self.is_ending = False
-        self.is_closed = False
+        # Nobody is at its other side, or it was left.
+        self.is_lost = self.is_closed = False
 
     def receive(self) -> None:
         """Takes what has come."""
@@ -85,8 +100,8 @@ class Client:
         if len(self.received) < HEAD.size:
             return None
         (length,) = HEAD.unpack_from(self.received)
-        if not 1 <= length <= REQUEST_BYTES:
-            raise FrameError(f"a frame of {length} bytes; it has 1 to {REQUEST_BYTES}")
+        if not 1 <= length <= (LOT_BYTES if self.has_many() else REQUEST_BYTES):
+            raise FrameError(f"a frame of {length} bytes; it has 1 to {REQUEST_BYTES}, or with M to {LOT_BYTES}")
         end = HEAD.size + length
         if len(self.received) < end:
             return None
@@ -94,13 +109,27 @@ class Client:
         del self.received[:end]
         return frame[:1], frame[1:]
 
+    def has_many(self) -> bool:
+        """Whether the next frame is one of several statements, or may be, as its kind hasn't come yet."""
+        return self.received[HEAD.size : HEAD.size + 1] in (MANY, b"")
+
+    def room(self) -> int:
+        """How much may come before its next frame is taken; little while it has a ticket."""
+        if self.ticket is not None or len(self.received) < HEAD.size or not self.has_many():
+            return CHUNK
+        return max(CHUNK, HEAD.size + min(HEAD.unpack_from(self.received)[0], LOT_BYTES))
+
     def push(self, kind: bytes, text: bytes) -> None:
         """Sends a frame, as far as the client takes it now. The rest is kept."""
-        frame = HEAD.pack(len(text) + 1) + kind + text
+        self.push_all([(kind, text)])
+
+    def push_all(self, frames: Sequence[Answer]) -> None:
+        """Sends several frames at once."""
+        data = b"".join(HEAD.pack(len(text) + 1) + kind + text for kind, text in frames)
         self.since = time.monotonic()
-        sent = 0 if self.unsent else self.sent(frame)
-        if sent < len(frame):
-            self.unsent += frame[sent:]
+        sent = 0 if self.unsent else self.sent(data)
+        if sent < len(data):
+            self.unsent += data[sent:]
 
     def flush(self) -> None:
         """Sends on."""
@@ -118,18 +147,22 @@ class Client:
         except BlockingIOError:
             return 0
         except OSError:
-            self.is_ending = True
+            self.is_ending = self.is_lost = True
             return len(data)
 
     def is_ready(self) -> bool:
         """Whether its next frame may be taken."""
         return self.ticket is None and not self.unsent
 
+    def is_idle(self) -> bool:
+        """Whether nothing is made for it: it has asked for nothing, or has to take what it was answered."""
+        return self.ticket is None or self.ticket.is_parked
+
     def wanted(self) -> int:
         """What its socket is polled for. One that sends far ahead of its answers isn't read meanwhile."""
         if self.unsent:
             return select.EPOLLOUT
-        return 0 if self.is_ending or len(self.received) >= CHUNK else select.EPOLLIN
+        return 0 if self.is_ending or len(self.received) >= self.room() else select.EPOLLIN
 
     def overdue(self, now: float, idle: float) -> float:
         """The seconds for which it was silent, or stood still within a frame or an answer, if these are too many."""
@@ -143,5 +176,5 @@ class Client:
 
     def close(self) -> None:
         """Leaves the client."""
-        self.is_closed = self.is_ending = True
+        self.is_closed = self.is_lost = self.is_ending = True
         self.socket.close()

@@ -40,8 +40,8 @@ class Limits:
 
     def __init__(self, loop: Loop, worker: Worker, wait: float | None, kill: float | None) -> None:
         self.loop, self.worker, self.wait, self.kill = loop, worker, wait, kill
-        # The statement at hand with its run, and since when these two are together.
-        self.seen: tuple[Ticket | None, Run | None] = None, None
+        # The statement at hand, when it was begun, its run, and since when these are together.
+        self.seen: tuple[Ticket | None, float | None, Run | None] = None, None, None
         self.since = 0.0
 
     def look(self, now: float, watch: Watch) -> None:
@@ -77,10 +77,10 @@ class Limits:
 
     def end_run(self, now: float, limit: float, watch: Watch) -> None:
         """Ends a run that stands still in its statement."""
-        seen = self.worker.at_hand, self.worker.store.link.engine
+        ticket, engine = self.worker.at_hand, self.worker.store.link.engine
+        seen = ticket, ticket and ticket.begun, engine
         if seen != self.seen:
             self.seen, self.since = seen, now
-        ticket, engine = seen
         if ticket is None or engine is None or ticket.request.is_copy or now - self.since <= limit:
             return
         with self.loop.guard:

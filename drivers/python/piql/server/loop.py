@@ -4,12 +4,14 @@ import collections
 import select
 import threading
 import time
+from collections.abc import Sequence
 from typing import Protocol
 
-from ..frames import BROKEN, STATUS, FrameError
+from ..frames import BROKEN, MANY, STATUS, FrameError
 from .clients import Answer, Client, Ticket, ended_frame
 from .coming import Coming
 from .log import Log
+from .lots import Lot
 from .polls import Polls
 from .requests import Request
 
@@ -53,9 +55,12 @@ class Loop:
     def begin(self, ticket: Ticket) -> bool:
         """Whether a request is still to be made; from here on it can't be told any more that it wasn't."""
         with self.guard:
-            if not ticket.is_told:
-                ticket.begun = time.monotonic()
-            return not ticket.is_told
+            if ticket.is_told:
+                return False
+            ticket.begun = time.monotonic()
+            if isinstance(ticket.request, Lot):
+                ticket.request.take(ticket.client.right.takes)
+            return True
 
     def tell(self, ticket: Ticket, answer: Answer, unless_begun: bool = False) -> None:
         """Tells a client what became of its request, unless it was told already."""
@@ -65,9 +70,34 @@ class Loop:
                 return
             ticket.is_told = True
             client.ticket = None
-            client.push(*answer)
-            is_quiet = not (client.unsent or client.received or client.is_ending)
-        if not is_quiet:
+            client.push_all(ticket.answers(answer))
+        self.stir(client)
+
+    def tell_turn(self, ticket: Ticket, lot: Lot, answers: Sequence[Answer], ended: Answer | None) -> None:
+        """Tells the answers of a turn of several statements, and what ended it; if nothing did, the rest has a turn.
+
+        Where the client takes its answers slowly, the next turn waits until it has.
+        """
+        client = ticket.client
+        with self.guard:
+            if ticket.is_told:
+                return
+            client.push_all(answers)
+            if ended is not None:
+                lot.answered, lot.taken = lot.answered + len(answers), 1
+                client.push_all(ticket.answers(ended))
+            is_over = ended is not None or not lot.end_turn() or client.is_lost
+            if is_over:
+                ticket.is_told, client.ticket = True, None
+            ticket.begun, ticket.is_parked = None, bool(client.unsent)
+        if is_over or ticket.is_parked:
+            self.stir(client)
+        else:
+            self.service.give(ticket)
+
+    def stir(self, client: Client) -> None:
+        """Has the loop's thread go on with a client, if there is something to do."""
+        if client.unsent or client.received or client.is_ending:
             self.stirred.append(client)
             self.polls.wake()
 
@@ -92,6 +122,12 @@ class Loop:
                 client.flush()
             else:
                 client.receive()
+            ticket = client.ticket
+            is_free = ticket is not None and ticket.is_parked and not client.unsent
+            if ticket is not None and is_free:
+                ticket.is_parked = False
+        if ticket is not None and is_free:
+            self.service.give(ticket)
         self.go_on(client)
 
     def go_on(self, client: Client) -> None:
@@ -123,8 +159,8 @@ class Loop:
             with self.guard:
                 client.push(STATUS, self.service.status())
             return
-        request = Request(kind, text)
-        if request.word in client.right.takes:
+        request = Lot(text) if kind == MANY else Request(kind, text)
+        if kind == MANY or request.word in client.right.takes:
             client.ticket = Ticket(client, request, time.monotonic())
             self.service.give(client.ticket)
         else:
@@ -166,7 +202,7 @@ class Loop:
         now = time.monotonic()
         self.next_look = now + TICK
         for client in list(self.clients.values()):
-            if client.ticket is None and (limit := client.overdue(now, self.idle)):
+            if client.is_idle() and (limit := client.overdue(now, self.idle)):
                 self.give_up(client, limit)
         self.poll_listeners()
         self.service.look(now)

@@ -5,10 +5,12 @@ The texts of errors go to the client whose statement it was, and not to the log:
 
 import contextlib
 import os
+from collections.abc import Sequence
 
 from ..errors import Error, StoreGone
 from ..hosts.link import HostLink
 from ..links import FileLink, Run
+from ..lots import Asked, Tell
 from ..statuses import MEANINGS
 from .figures import read_catalog
 from .log import Field
@@ -41,6 +43,17 @@ class Observed:
             why = "rollover"
         try:
             return self.link.exchange(text, reads)
+        finally:
+            if self.link.engine is not self.engine or self.has_lease:
+                self.look(why)
+
+    def exchange_all(self, lot: Sequence[Asked], tell: Tell) -> None:
+        """Tells what became of each of several statements."""
+        why = "begun anew"
+        if self.engine is not None and not self.engine.has_room(b"".join(it.statement for it in lot)):
+            why = "rollover"
+        try:
+            self.link.exchange_all(lot, tell)
         finally:
             if self.link.engine is not self.engine or self.has_lease:
                 self.look(why)

@@ -12,11 +12,13 @@ from ..errors import Error, StoreGone
 from ..frames import COPIED, ENDED, REPORT
 from ..hosts.passwords import without_secrets
 from ..hosts.urls import is_url
+from ..lots import Asked, Outcome
 from .clients import Answer, Ticket, ended_frame
 from .figures import ending_of
 from .indexes import REFUSED, wanted
 from .log import Field
 from .loop import Loop
+from .lots import PLAIN, Lot
 from .observed import Observed
 from .requests import DEFINING, Request
 from .settings import Settings
@@ -41,7 +43,7 @@ class Worker:
         self.thread = threading.Thread(target=self.run, name="worker", daemon=True)
 
     def end(self) -> None:
-        """Has the thread end behind what waits."""
+        """Has the thread end behind what waits, all turns of several statements among it."""
         self.waiting.put(None)
 
     def run(self) -> None:
@@ -62,45 +64,100 @@ class Worker:
     def make(self, ticket: Ticket) -> None:
         """Makes what was asked for, and tells what became of it."""
         self.at_hand = ticket
+        if isinstance(ticket.request, Lot):
+            return self.make_turn(ticket, ticket.request)
         answer = self.answer(ticket)
-        with self.loop.guard:
-            self.at_hand = None
-        if ticket.is_killed and answer[0] != ENDED:
-            # Its report came just before its run was ended, which is no run for the next statement.
-            self.store.drop_run()
+        self.let_go(ticket, answer)
         self.loop.tell(ticket, answer)
 
+    def let_go(self, ticket: Ticket, answer: Answer) -> None:
+        """Nothing is at hand any more."""
+        with self.loop.guard:
+            self.at_hand = None
+            is_killed, ticket.is_killed = ticket.is_killed, False
+        if is_killed and answer[0] != ENDED:
+            # Its report came just before its run was ended, which is no run for the next statement.
+            self.store.drop_run()
+
+    def make_turn(self, ticket: Ticket, lot: Lot) -> None:
+        """Makes those of several statements whose turn it is; what ends a run ends them all."""
+        right, first = ticket.client.right, lot.at_hand()
+        answers: list[Answer] = []
+        ended: Answer | None = None
+        try:
+            if first.word not in right.takes:
+                answers.append(ended_frame(right.refusal()))
+            elif first.word in PLAIN:
+                self.answer_all(ticket, lot, answers)
+            else:
+                answers.append(self.answered(ticket, first))
+        except Exception as error:
+            ended = self.failed(ticket, error)
+        self.let_go(ticket, ended or answers[-1])
+        self.loop.tell_turn(ticket, lot, answers, ended)
+
+    def answer_all(self, ticket: Ticket, lot: Lot, answers: list[Answer]) -> None:
+        """Answers the statements of a turn, which define nothing. What ends the run is raised."""
+        errors: list[Error] = []
+
+        def tell(outcome: Outcome) -> None:
+            if errors:
+                return
+            if isinstance(outcome, Error):
+                errors.append(outcome)
+                return
+            answers.append((REPORT, outcome.encode()))
+            self.counted(ticket, lot.at_hand(), outcome)
+            lot.reported += 1
+            ticket.begun = time.monotonic()
+
+        self.store.exchange_all([Asked(it.text, it.reads) for it in lot.turn()], tell)
+        if errors:
+            raise errors[0]
+
     def next_one(self) -> Ticket | None:
-        """The next request; while there is none, the lease of a cluster is kept."""
+        """The next request; while there is none, the lease of a cluster is kept. At the end all turns are made."""
         while True:
             try:
-                return self.waiting.get(timeout=BEAT)
+                found = self.waiting.get(timeout=BEAT)
             except queue.Empty:
                 self.store.keep()
+                continue
+            if found is not None or self.waiting.empty():
+                return found
+            self.waiting.put(None)
 
     def answer(self, ticket: Ticket) -> Answer:
         """What a request is answered."""
-        request = ticket.request
+        assert isinstance(ticket.request, Request)
         try:
-            if request.is_copy:
-                self.store.backup(request.path())
-                return COPIED, b""
-            if request.word == "PREPARE" and (why := self.index_refusal(request)):
-                return ended_frame(why)
-            report = self.store.exchange(request.text, request.reads)
-        except StoreGone as error:
+            return self.answered(ticket, ticket.request)
+        except Exception as error:
+            return self.failed(ticket, error)
+
+    def answered(self, ticket: Ticket, request: Request) -> Answer:
+        """What a request is answered, unless it ends the run."""
+        if request.is_copy:
+            self.store.backup(request.path())
+            return COPIED, b""
+        if request.word == "PREPARE" and (why := self.index_refusal(request)):
+            return ended_frame(why)
+        report = self.store.exchange(request.text, request.reads)
+        self.counted(ticket, request, report)
+        return REPORT, report.encode()
+
+    def failed(self, ticket: Ticket, error: Exception) -> Answer:
+        """What is told of a statement that has no report."""
+        if isinstance(error, StoreGone):
             self.gone(error)
             return ended_frame(str(error))
-        except (Error, OSError, ValueError) as error:
+        if isinstance(error, (Error, OSError, ValueError)):
             self.store.failed(error, **self.fields(ticket))
             text = without_secrets(str(error), self.name) if is_url(self.name) else str(error)
             return ended_frame(text, getattr(error, "status", None))
-        except Exception as error:
-            # The link has ended its run. What the error says is for nobody: it may have anything in it.
-            self.watch.log.error("fault", kind=type(error).__name__, **self.fields(ticket))
-            return ended_frame(FAULT)
-        self.counted(ticket, report)
-        return REPORT, report.encode()
+        # The link has ended its run. What the error says is for nobody: it may have anything in it.
+        self.watch.log.error("fault", kind=type(error).__name__, **self.fields(ticket))
+        return ended_frame(FAULT)
 
     def gone(self, error: StoreGone) -> None:
         """Ends the server, since the file was removed or replaced beneath it."""
@@ -128,9 +185,9 @@ class Worker:
         seconds = 0.0 if ticket.begun is None else now - ticket.begun
         return {"statement": ticket.request.word, "name": known, "seconds": seconds, "wait": ticket.wait(now)}
 
-    def counted(self, ticket: Ticket, report: str) -> None:
+    def counted(self, ticket: Ticket, request: Request, report: str) -> None:
         """Counts a statement that has its report; one that took long is told."""
-        figures, word = self.watch.figures, ticket.request.word
+        figures, word = self.watch.figures, request.word
         seconds = time.monotonic() - ticket.since()
         figures.statements[word] += 1
         figures.seconds += seconds
