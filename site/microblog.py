@@ -55,11 +55,8 @@ def go(path: str, *headers: tuple[str, str]) -> Answer:
 
 def with_fans(request: Request, rows: list[tuple]) -> list[Post]:  # type: ignore[type-arg]
     """Posts with their first fans."""
-    posts = []
-    for author, shown, stamp, line in rows:
-        fans = [fan for (fan,) in request.store.page("first_fans", author, stamp).rows]
-        posts.append(Post(author, shown, stamp, line, fans))
-    return posts
+    found = request.store.pages("first_fans", [(author, stamp) for author, _, stamp, _ in rows])
+    return [Post(*row, [fan for (fan,) in fans.rows]) for row, fans in zip(rows, found)]
 
 
 def feed_posts(request: Request, name: str, path: str) -> str:

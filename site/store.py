@@ -1,5 +1,6 @@
 """What the microblog asks of its store, and what each request used of it."""
 
+from collections.abc import Iterable, Sequence
 from typing import NamedTuple
 
 from piql import Connection, Work
@@ -34,6 +35,13 @@ class Store:
         assert cursor.bound is not None and cursor.used is not None
         self.asked.append(Asked(query, cursor.bound, cursor.used))
         return Page(cursor.fetchall(), cursor.next_page)
+
+    def pages(self, query: str, lists: Iterable[Sequence[object]]) -> list[Page]:
+        """The first page of a prepared query for each list of values; all are asked together."""
+        with self.connection.pipeline() as pipeline:
+            results = [pipeline.run(query, *values) for values in lists]
+        self.asked += [Asked(query, it.bound, it.used) for it in results]
+        return [Page(it.rows, it.next_page) for it in results]
 
     def row(self, query: str, *values: object) -> tuple | None:  # type: ignore[type-arg]
         """The row of a query that looks up one."""

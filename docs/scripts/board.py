@@ -1,4 +1,4 @@
-"""A board of links: python3 board.py FILE page [CURSOR] | vote LINK VOTER | serve"""
+"""A board of links: python3 board.py FILE page [CURSOR] | front | vote LINK VOTER | serve"""
 
 import html
 import sys
@@ -35,6 +35,14 @@ def page(board, cursor=None):
     return found.fetchall(), found.next_page
 
 
+def front(board):
+    """The newest links and the best ones, as rows, by one round trip."""
+    with board.pipeline() as pipeline:
+        newest = pipeline.run("newest")
+        best = pipeline.run("best")
+    return newest.rows, best.rows
+
+
 def application(board):
     """The board as a WSGI application."""
 
@@ -54,6 +62,9 @@ def main(file, command, *words):
         if command == "page":
             links, following = page(board, *words)
             print(*links, f"next page: {following}", sep="\n")
+        elif command == "front":
+            newest, best = front(board)
+            print("newest:", *newest, "best:", *best, sep="\n")
         elif command == "vote":
             print(vote(board, int(words[0]), words[1]))
         elif command == "serve":
