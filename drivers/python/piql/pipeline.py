@@ -33,8 +33,8 @@ NOT_TAKEN = "This statement wasn't taken, and nothing was sent: send() sends tho
 class Result:
     """What became of one statement of a pipeline: its answer or its exception, once the pipeline was sent."""
 
-    def __init__(self, sent: Sent) -> None:
-        self._sent = sent
+    def __init__(self, sent: Sent, data: bytes) -> None:
+        self._sent, self._data = sent, data
         self._report: Report | None = None
         self._error: Error | None = None
 
@@ -91,10 +91,11 @@ class Result:
 
 
 class Line(NamedTuple):
-    """A statement that is sent for one of a pipeline: itself, or what prepares it."""
+    """A statement that is sent for one of a pipeline, with its bytes: itself, or what prepares it."""
 
     result: Result
     sent: Sent
+    data: bytes
     prepares: bool = False
 
 
@@ -123,7 +124,9 @@ class Pipeline:
         """Collects a statement; what is wrong with its values is told at once."""
         statement = read_statement(operation)
         sent = asked_of(statement, parameters, after)
-        sizes = [len((sent.run_as(statement.name) if statement.kind.is_prepared else sent).data())]
+        # The name of a SELECT that is prepared under another one isn't longer.
+        data = (sent.run_as(statement.name) if statement.kind.is_prepared else sent).data()
+        sizes = [len(data)]
         if statement.kind.is_prepared and statement.name not in self._unprepared:
             sizes.append(len(prepare_of(statement).data()))
         room = sum(sizes) + SIZE.size * len(sizes)
@@ -132,7 +135,7 @@ class Pipeline:
         self._unprepared |= {statement.name} if statement.kind.is_prepared else set()
         self._bytes += room
         self._count += len(sizes)
-        self._results.append(Result(sent))
+        self._results.append(Result(sent, data))
         return self._results[-1]
 
     def run(self, name: str, *values: object, after: str | None = None) -> Result:
@@ -172,7 +175,7 @@ class Pipeline:
             lines = self._lines(results)
             try:
                 if lines:
-                    lot = [Asked(it.sent.data(), it.sent.statement.kind.reads) for it in lines]
+                    lot = [Asked(it.data, it.sent.statement.kind.reads) for it in lines]
                     self.connection.exchange_all(lot, outcomes.append)
             finally:
                 for line, outcome in zip(lines, outcomes):
@@ -184,7 +187,7 @@ class Pipeline:
         for result in results:
             statement = result._sent.statement
             if not statement.kind.is_prepared:
-                lines.append(Line(result, result._sent))
+                lines.append(Line(result, result._sent, result._data))
                 continue
             try:
                 name = self.connection.prepared_name(statement)
@@ -193,8 +196,10 @@ class Pipeline:
                 continue
             if name is None and statement.name not in unprepared:
                 unprepared.add(statement.name)
-                lines.append(Line(result, prepare_of(statement), True))
-            lines.append(Line(result, result._sent.run_as(name or statement.name)))
+                prepare = prepare_of(statement)
+                lines.append(Line(result, prepare, prepare.data(), True))
+            run = result._sent.run_as(name or statement.name)
+            lines.append(Line(result, run, run.data()))
         return lines
 
     def _read(self, line: Line, outcome: Outcome) -> None:
