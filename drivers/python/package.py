@@ -5,14 +5,15 @@ import hashlib
 import tomllib
 import zipfile
 from pathlib import Path
+from typing import Any
 
 HERE = Path(__file__).resolve().parent
 FILES = ("*.py", "py.typed", "*.md", "*.piql", "*.lock")
 
 
-def project() -> dict[str, str]:
+def project() -> dict[str, Any]:
     """What pyproject.toml says of the project."""
-    found: dict[str, str] = tomllib.loads((HERE / "pyproject.toml").read_text())["project"]
+    found: dict[str, Any] = tomllib.loads((HERE / "pyproject.toml").read_text())["project"]
     return found
 
 
@@ -27,7 +28,16 @@ def metadata() -> str:
         f"Requires-Python: {of['requires-python']}",
         f"License: {of['license']}",
     ]
+    for extra, wanted in of.get("optional-dependencies", {}).items():
+        lines += [f"Provides-Extra: {extra}", *(f'Requires-Dist: {it}; extra == "{extra}"' for it in wanted)]
     return "\n".join(lines) + "\n"
+
+
+def entry_points() -> str:
+    """What other packages find this one by."""
+    groups = project().get("entry-points", {})
+    texts = [f"[{group}]\n" + "".join(f"{name} = {it}\n" for name, it in of.items()) for group, of in groups.items()]
+    return "\n".join(texts)
 
 
 def contents(info: str) -> dict[str, bytes]:
@@ -37,6 +47,7 @@ def contents(info: str) -> dict[str, bytes]:
     for name in ("LICENSE", "NOTICE"):
         found[f"{info}/{name}"] = (HERE.parents[1] / name).read_bytes()
     found[f"{info}/METADATA"] = metadata().encode()
+    found[f"{info}/entry_points.txt"] = entry_points().encode()
     found[f"{info}/WHEEL"] = b"Wheel-Version: 1.0\nGenerator: package\nRoot-Is-Purelib: true\nTag: py3-none-any\n"
     return found
 
