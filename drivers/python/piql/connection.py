@@ -15,7 +15,7 @@ from .interrupts import own
 from .links import Link
 from .lots import Asked, Tell
 from .plain import plain_list, plain_path, plain_seconds, plain_text
-from .refusals import refusal_of
+from .refusals import refusal_of, with_causes
 from .reports import Report, Work, read_report
 from .scripts import place_at
 from .schema import Query, Schema, read_schema
@@ -199,7 +199,7 @@ class Connection:
         """The exception of a refusal; where the tokens spell nothing, with the place in the writer's text."""
         text = sent.statement.text
         if fields[0] != "E104":
-            return refused(refusal_of(fields, text)._replace(**self.detail(fields, text)._asdict()))
+            return refused(with_causes(refusal_of(fields, text)._replace(**self.detail(fields, text)._asdict())))
         at = sent.source_at(int(fields[1]))
         return refused(refusal_of(("E104", str(len(text[:at].encode()))), text, place_at(text, at)))
 

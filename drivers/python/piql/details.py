@@ -3,16 +3,19 @@
 from collections.abc import Callable
 from typing import NamedTuple
 
-from .schema import Column, Schema, Table, names_behind
+from .schema import Column, Schema, Table, columns_behind
 from .scripts import Token, tokens
+from .selects import Unread
+from .unbounded import unbounded
 
 
 class Detail(NamedTuple):
-    """A sentence for a message, and the table and the columns that the refusal speaks of."""
+    """A sentence for a message, the table and the columns that the refusal speaks of, and the causes that are known."""
 
     detail: str = ""
     table: str | None = None
     key: tuple[str, ...] = ()
+    causes: tuple[str, ...] = ()
 
 
 def listed(names: tuple[str, ...]) -> str:
@@ -23,17 +26,6 @@ def listed(names: tuple[str, ...]) -> str:
 def counted(number: int, noun: str) -> str:
     """A number of things."""
     return f"{number} {noun}{'' if number == 1 else 's'}"
-
-
-def columns_behind(table: Table, *words: str) -> list[tuple[tuple[str, ...], str]]:
-    """For each place of a table where these words stand, the columns behind them, and the token behind REFERENCES."""
-    found, clauses = tokens(table.text), []
-    for at in range(len(found) - len(words)):
-        if all(token.is_word(word) for token, word in zip(found[at:], words)):
-            begin = next(i for i in range(at, len(found)) if found[i].is_mark("("))
-            names, end = names_behind(found, begin + 1)
-            clauses.append((names, found[end + 1].text if found[end].is_word("REFERENCES") else ""))
-    return clauses
 
 
 def of_name(schema: Schema, _: list[Token], name: str) -> Detail:
@@ -105,6 +97,12 @@ def of_limit(schema: Schema, _: list[Token], table: str, number: str, most: str)
     return Detail(f"At most {most} rows of {table} have the same ({listed(names)}).", table, names)
 
 
+def of_unbounded(statement: str, schema: Schema, alias: str) -> Detail:
+    """Why a query has no bound."""
+    found = unbounded(statement, schema, alias)
+    return Detail(found.text, found.table, found.fixed, found.causes) if found else Detail()
+
+
 READERS: dict[str, Callable[..., Detail]] = {
     "E201": of_name,
     "E402": of_values,
@@ -118,16 +116,16 @@ READERS: dict[str, Callable[..., Detail]] = {
 
 def has_detail(code: str) -> bool:
     """Whether the definitions tell more of such a refusal."""
-    return code in READERS
+    return code in READERS or code == "E304"
 
 
 def detail_of(fields: tuple[str, ...], statement: str, schema: Schema) -> Detail:
     """What the definitions tell of a refusal. Where they are others meanwhile, it is nothing."""
     read = READERS.get(fields[0])
     found = tokens(statement)
-    if read is None or not found:
-        return Detail()
     try:
-        return read(schema, found, *fields[1:])
-    except (KeyError, IndexError, StopIteration, TypeError, ValueError):
+        if fields[0] == "E304":
+            return of_unbounded(statement, schema, *fields[1:])
+        return read(schema, found, *fields[1:]) if read and found else Detail()
+    except (KeyError, IndexError, StopIteration, TypeError, ValueError, Unread):
         return Detail()

@@ -37,7 +37,7 @@ class Refusal(NamedTuple):
     """A refusal of one statement. `place` is where its tokens spell nothing, or None.
 
     `detail` tells which name, key or number of values it is, where the definitions are known; `table` and `key` are
-    that table and its columns.
+    that table and its columns. `causes` are those of a query without a bound, as far as they are known for certain.
     """
 
     number: str
@@ -50,6 +50,7 @@ class Refusal(NamedTuple):
     detail: str = ""
     table: str | None = None
     key: tuple[str, ...] = ()
+    causes: tuple[str, ...] = ()
 
 
 def one_line(text: str) -> str:
@@ -93,11 +94,20 @@ def cases_with(rule: Rule, words: set[str]) -> str:
     return ""
 
 
-def unbounded(rule: Rule, statement: str) -> str:
-    """The ways out of the causes that a query without a bound may have."""
+def unbounded(rule: Rule, statement: str, known: tuple[str, ...] = ()) -> str:
+    """The ways out of the causes that a query without a bound has, or may have where none are known."""
     causes = [(case, way) for case, way in rule.cases if CODE.search(case)]
     likely = [(case, way) for case, way in causes if has_cause(case, statement)]
-    return "; ".join(f"{case}: {one_line(way)}" for case, way in likely or causes)
+    found = [(case, way) for case, way in causes if known and case.startswith(known)]
+    return "; ".join(f"{case}: {one_line(way)}" for case, way in found or likely or causes)
+
+
+def with_causes(refusal: Refusal) -> Refusal:
+    """A refusal whose way out is that of the causes that are known."""
+    rule = rules().get(refusal.number)
+    if not refusal.causes or rule is None:
+        return refusal
+    return refusal._replace(way_out=unbounded(rule, refusal.statement, refusal.causes))
 
 
 def way_out_of(rule: Rule, fields: tuple[str, ...], statement: str, place: Place | None) -> str:

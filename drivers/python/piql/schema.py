@@ -115,6 +115,24 @@ def names_behind(found: list[Token], at: int) -> tuple[tuple[str, ...], int]:
     return tuple(token.text for token in found[at:end] if token.kind == "word"), end + 1
 
 
+def columns_behind(table: Table, *words: str) -> list[tuple[tuple[str, ...], str]]:
+    """For each place of a table where these words stand, the columns behind them, and the token behind REFERENCES."""
+    found, clauses = tokens(table.text), []
+    for at in range(len(found) - len(words)):
+        if all(token.is_word(word) for token, word in zip(found[at:], words)):
+            begin = next(i for i in range(at, len(found)) if found[i].is_mark("("))
+            names, end = names_behind(found, begin + 1)
+            clauses.append((names, found[end + 1].text if found[end].is_word("REFERENCES") else ""))
+    return clauses
+
+
+def limits_of(table: Table) -> list[tuple[int, tuple[str, ...]]]:
+    """The limits of a table, each with how many rows may have the same values in its columns."""
+    found = tokens(table.text)
+    numbers = [int(found[i + 2].text) for i in range(len(found)) if found[i].is_word("CARDINALITY")]
+    return list(zip(numbers, (names for names, _ in columns_behind(table, "CARDINALITY", "LIMIT"))))
+
+
 def read_column(found: list[Token], at: int) -> tuple[Column, int]:
     """A column of CREATE TABLE or ALTER TABLE, and the place behind it."""
     name, type_name = found[at].text, found[at + 1].text

@@ -10,7 +10,7 @@ from sqlalchemy.engine import default
 
 import piql
 
-from ..details import columns_behind
+from ..schema import columns_behind
 from .compiler import Definitions, Names, Statements
 from .held import Held
 
