@@ -137,6 +137,26 @@ class LotTest(ServedCase):
         self.assertEqual(len(self.made()), 16)
         self.assertIn("event=timeout where=at-hand limit=0.500", server.end()[1])
 
+    def test_the_time_of_a_pipeline(self) -> None:
+        self.serve()
+        with piql.connect(f"unix:{self.at}") as connection:
+            pipeline = connection.pipeline(timeout=0.5, raises=False)
+            texts = ["INSERT a", "INSERT wait_1500", *["INSERT b"] * 20]
+            results = [pipeline.execute(text) for text in texts]
+            pipeline.send()
+            for result in results[:16]:
+                self.assertRegex(str(result.error), "made or not made")
+            self.assertEqual({type(it.error) for it in results[16:]}, {piql.NotBegun})
+            with connection.pipeline(timeout=60.0) as pipeline:
+                result = pipeline.run("rows_1")
+            self.assertEqual(result.row, (1, "text of a row"))
+        self.assertEqual(len(self.made()), 16)
+        with piql.connect(f"unix:{self.at}", step=0.3) as connection, self.assertRaises(piql.OperationalError) as caught:
+            with connection.pipeline() as pipeline:
+                for text in ("RUN rows_1 ()", "RUN hang ()", "INSERT c"):
+                    pipeline.execute(text)
+        self.assertRegex(str(caught.exception), "statement 1 of 3: the server gave no report for 0.3 seconds")
+
     def test_an_engine_that_stands_still(self) -> None:
         server = self.serve("--statement-kill", 1)
         client = greeted(self, self.at)
