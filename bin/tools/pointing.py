@@ -2,9 +2,9 @@
 
 from collections.abc import Callable, Sequence
 
+from piql.conditions import Tokens, after, begin_of, conditions_of
 from piql.scripts import Token
 
-Tokens = Sequence[Token]
 Fields = tuple[str, ...]
 # Behind these a list begins in which a column may stand once.
 LISTS = ("SET", "WHERE", "BY", "SELECT", "FROM")
@@ -29,11 +29,6 @@ MOST = 4
 ADDED = 5
 # The places of the table's name and of the list of columns in a CREATE COUNTER.
 COUNTED_TABLE, COUNTED_COLUMNS = 4, 5
-
-
-def after(found: Tokens, *words: str) -> int:
-    """The place behind the first of these keywords, or the end."""
-    return next((i + 1 for i, token in enumerate(found) if token.is_word(*words)), len(found))
 
 
 def nth_word(found: Tokens, word: str, number: int) -> Token | None:
@@ -107,11 +102,16 @@ def alias(found: Tokens, fields: Fields) -> Token | None:
 
 
 def predicate(found: Tokens, fields: Fields) -> Token | None:
-    """The n-th predicate's first token."""
-    begin = after(found, "WHERE")
-    starts = [begin, *(i + 1 for i in range(begin, len(found)) if found[i].is_word("AND"))]
-    number = int(fields[0])
-    return found[starts[number - 1]] if number <= len(starts) and starts[number - 1] < len(found) else None
+    """The first token of the n-th predicate, or of the n-th condition of a write."""
+    parts, number = conditions_of(found), int(fields[-1])
+    return parts[number - 1][0] if number <= len(parts) and parts[number - 1] else None
+
+
+def added(found: Tokens, fields: Fields) -> Token | None:
+    """The column of an ADD."""
+    triples = zip(found, found[1:], found[2:])
+    is_number = (token for token, word, then in triples if word.is_word("ADD") and then.kind == "number")
+    return next((token for token in is_number if is_name(token, fields[1])), None)
 
 
 def values(found: Tokens, word: str | None) -> list[Token]:
@@ -129,9 +129,10 @@ def parameter(found: Tokens, fields: Fields) -> Token | None:
 
 
 def assigned(found: Tokens, name: str) -> Token | None:
-    """The value that a column gets behind SET or WHERE."""
+    """The value that a column gets behind SET or WHERE, or the number of its ADD."""
     triples = zip(found, found[1:], found[2:])
-    return next((value for token, sign, value in triples if is_name(token, name) and sign.is_mark("=")), None)
+    signs = ((token, sign.is_mark("=") or sign.is_word("ADD"), value) for token, sign, value in triples)
+    return next((value for token, is_sign, value in signs if is_sign and is_name(token, name)), None)
 
 
 def misfit(found: Tokens, fields: Fields, columns: Sequence[str]) -> Token | None:
@@ -166,6 +167,8 @@ def count(found: Tokens, fields: Fields) -> Token | None:
         return found[ADDED]
     if word == "limit_columns":
         return too_many_in_list(found)
+    if word == "predicates" and found[0].is_word("UPDATE", "DELETE"):
+        return found[begin_of(found) - 1]
     if word in ("limits", "foreign"):
         return nth_word(found, "CARDINALITY" if word == "limits" else "FOREIGN", MOST + 1)
     return nth_word(found, COUNTED.get(word, ""), 1)
@@ -189,6 +192,7 @@ FINDERS: dict[str, Callable[[Tokens, Fields], Token | None]] = {
     "E403": lambda found, fields: found[-2],
     "E404": lambda found, fields: nth_word(found, "AFTER", 1),
     "E405": lambda found, fields: found[1],
+    "E406": name_of_table,
     "E502": name_of_table,
     "E503": name_of_table,
     "E504": lambda found, fields: nth_word(found, "WHERE", 1),
@@ -196,6 +200,8 @@ FINDERS: dict[str, Callable[[Tokens, Fields], Token | None]] = {
     "E507": name_of_table,
     "E508": name_of_table,
     "E510": written_table,
+    "E511": predicate,
+    "E514": added,
 }
 
 

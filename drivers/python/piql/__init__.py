@@ -12,6 +12,7 @@ from .bounds import BoundsRose, check_bounds, read_bounds, write_bounds
 from .connection import Connection
 from .cursor import ColumnDescription, Cursor
 from .errors import (
+    Changed,
     DatabaseError,
     DataError,
     Error,
@@ -105,6 +106,7 @@ __all__ = [
     "BINARY",
     "Binary",
     "BoundsRose",
+    "Changed",
     "ColumnDescription",
     "Connection",
     "Cursor",

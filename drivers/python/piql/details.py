@@ -3,6 +3,7 @@
 from collections.abc import Callable
 from typing import NamedTuple
 
+from .conditions import conditions_of, is_place, operand_of, shown
 from .schema import Column, Schema, Table, columns_behind
 from .scripts import Token, tokens
 from .selects import Unread
@@ -10,12 +11,17 @@ from .unbounded import unbounded
 
 
 class Detail(NamedTuple):
-    """A sentence for a message, the table and the columns that the refusal speaks of, and the causes that are known."""
+    """A sentence for a message, the table and the columns that the refusal speaks of, and the causes that are known.
+
+    `condition` is the condition or the predicate that it speaks of; `is_value` says that a value is at fault there.
+    """
 
     detail: str = ""
     table: str | None = None
     key: tuple[str, ...] = ()
     causes: tuple[str, ...] = ()
+    condition: str = ""
+    is_value: bool = False
 
 
 def listed(names: tuple[str, ...]) -> str:
@@ -103,14 +109,30 @@ def of_unbounded(statement: str, schema: Schema, alias: str) -> Detail:
     return Detail(found.text, found.table, found.fixed, found.causes) if found else Detail()
 
 
+def of_operand(_: Schema, found: list[Token], number: str) -> Detail:
+    """The predicate or the condition of this number, whose two sides don't go together."""
+    condition = conditions_of(found)[int(number) - 1]
+    text = shown(condition)
+    return Detail(f"It is {text}.", condition=text, is_value=is_place(operand_of(condition)))
+
+
+def of_condition(_: Schema, found: list[Token], table: str, number: str) -> Detail:
+    """The condition of this number, which doesn't hold of the row."""
+    text = shown(conditions_of(found)[int(number) - 1])
+    return Detail(f"Condition {number} doesn't hold of it: {text}.", table, condition=text)
+
+
 READERS: dict[str, Callable[..., Detail]] = {
     "E201": of_name,
+    "E302": of_operand,
     "E402": of_values,
     "E501": of_column,
     "E502": of_columns,
     "E505": of_reference,
     "E506": of_reference,
     "E507": of_limit,
+    "E511": of_condition,
+    "E514": of_column,
 }
 
 

@@ -71,6 +71,20 @@ class OperationalError(DatabaseError):
     """The run ended, can't be begun, or reached a limit of what is stored."""
 
 
+class Changed(OperationalError):
+    """The row is there, and another than was read: a condition of the write doesn't hold of it. Nothing was made."""
+
+    @property
+    def condition(self) -> int:
+        """The number of the first condition that doesn't hold, from 1."""
+        return int(self.fields.get("number", "0"))
+
+    @property
+    def condition_text(self) -> str:
+        """That condition, with ? in place of its value; nothing where it can't be told."""
+        return self.refusal.condition if self.refusal else ""
+
+
 class StoreGone(OperationalError):
     """The file was removed, or another was put in its place, while it was open. The connection can't be used again."""
 
@@ -115,6 +129,8 @@ CLASSES: dict[str, type[DatabaseError]] = {
     "E507": IntegrityError,
     "E508": DataError,
     "E510": IntegrityError,
+    "E511": Changed,
+    "E514": DataError,
 }
 
 
@@ -122,6 +138,8 @@ def class_of(refusal: Refusal) -> type[DatabaseError]:
     """The class of a refusal's exception. A wrong number of values is the statement's fault, another value its own."""
     if refusal.number == "E402" and refusal.fields.get("number") == "0":
         return ProgrammingError
+    if refusal.is_value:
+        return DataError
     return CLASSES.get(refusal.number, ProgrammingError)
 
 

@@ -22,6 +22,9 @@ TEXTS = [
 SCHEMA = read_schema([DefinitionLine(number, text) for number, text in enumerate(TEXTS, 1)])
 INSERT = "INSERT INTO issues VALUES ('secret', 987, 1, 2)"
 LISTED = "insert into Issues (Project, score) VALUES ('secret', 987)"
+KEYED = "if = 1 AND batch = 2"
+CHANGE = "UPDATE issues SET score ADD 987 WHERE project = 'secret' AND number = 987"
+UNMET = "Condition %d doesn't hold of it: "
 # The fields of a refusal, its statement, what is told, and of which table and columns.
 DETAILS = [
     (("E201", "issues"), "CREATE TABLE issues (a INT, PRIMARY KEY (a))", "A table has it.", None, ()),
@@ -58,6 +61,15 @@ DETAILS = [
         "issues",
         ("project", "score"),
     ),
+    (("E511", "issues", "2"), f"{CHANGE} IF mark = 987 AND score IS NULL", f"{UNMET % 2}score IS NULL.", "issues", ()),
+    (("E511", "issues", "1"), f"{CHANGE} if MARK<>'secret';", f"{UNMET % 1}MARK <> ?.", "issues", ()),
+    (("E511", "if", "1"), f"DELETE FROM if WHERE {KEYED} IF if > 987", f"{UNMET % 1}if > ?.", "if", ()),
+    (("E511", "issues", "3"), f"{CHANGE} IF mark = 987", "", None, ()),
+    (("E302", "2"), f"{CHANGE} IF mark = 987 AND score < ? AND mark = 1", "It is score < ?.", None, ()),
+    (("E302", "1"), "SELECT * FROM issues AS i WHERE i.mark = 'secret' ORDER BY i.mark", "It is i.mark = ?.", None, ()),
+    (("E302", "1"), "SELECT * FROM t WHERE t.a >= [1: b] LIMIT 1", "It is t.a >= ?.", None, ()),
+    (("E302", "2"), "SELECT * FROM t WHERE a = TRUE AND t.a = t.b", "It is t.a = t.b.", None, ()),
+    (("E514", "issues", "score"), CHANGE, "score is INT NULL.", "issues", ("score",)),
     (("E505", "issues", "2"), INSERT, "", None, ()),
     (("E505", "nothing", "1"), INSERT, "", None, ()),
     (("E503", "issues"), INSERT, "", None, ()),
@@ -75,10 +87,26 @@ MISREAD = [
     ("SELECT a FROM t WHERE b LIKE [1]", "LIKE", "for what a text begins with a range"),
     ("SELECT x.a FROM t AS x JOIN u AS y WHERE x.a <> y.b", "y", "compared by `=` alone"),
     ("SELECT x.a FROM t AS x JOIN u AS y WHERE x.a < b", "b", "compared by `=` alone"),
-    ("SELEC * FROM t", "SELEC", "at the prompt also with SELECT; LANGUAGE.md has"),
+    ("SELEC * FROM t", "SELEC", "READ, SELECT or SHOW; LANGUAGE.md has"),
     ("DROP TABLE t", "DROP", "piql rebuild"),
     ("DROP QUERY q", "DROP", "a prepared query stays"),
     ("ALTER TABLE t ADD CARDINALITY LIMIT 1 (a)", "CARDINALITY", "come with CREATE TABLE"),
+    ("UPDATE t SET v = 9 WHERE id = 1 IF w = NULL", "NULL", "`IS NULL` for the first"),
+    ("DELETE FROM t WHERE id = 1 IF w < NULL", "NULL", "`IS NULL` for the first"),
+    ("UPDATE t SET v = v + 1 WHERE id = 1", "v +", "`n ADD 1`"),
+    ("UPDATE t SET v ADD 'a' WHERE id = 1", "'a'", "a number of 64 bits behind ADD"),
+    ("UPDATE t SET v ADD ? WHERE id = 1", "?", "a number of 64 bits behind ADD"),
+    ("UPDATE t SET v ADD w WHERE id = 1", "w", "a number of 64 bits behind ADD"),
+    ("UPDATE t SET v = w WHERE id = 1", "w W", "with values alone"),
+    ("UPDATE t SET v = 9 WHERE id = 1 IF v = 8 AND w <= u", "u", "with values alone"),
+    ("UPDATE t SET v = 9 WHERE id = 1 IF v = 8 OR v = 7", "OR", "one write for each value"),
+    ("UPDATE t SET v = 9 IF v = 8 WHERE id = 1", "IF", "behind the whole key"),
+    ("DELETE FROM t WHERE id = 1 IF (v = 8)", "(", "behind the whole key"),
+    ("UPDATE t SET v = 9 WHERE id = 1 IF EXISTS;", ";", "E504 says"),
+    ("INSERT INTO t VALUES (1, 2) IF NOT EXISTS", "IF", "E503 says"),
+    ("SELECT 1", "1", "columns of a table"),
+    ("SELECT a FROM t HAVING a = 1", "HAVING", "a column that has the number"),
+    ("SELECT FROM t", "FROM", "the form is `SELECT x.a"),
 ]
 
 
@@ -89,7 +117,7 @@ class DetailTest(unittest.TestCase):
         for fields, statement, told, table, key in DETAILS:
             with self.subTest(fields=fields, statement=statement):
                 detail = detail_of(fields, statement, SCHEMA)
-                self.assertEqual(tuple(detail), (told, table, key, ()))
+                self.assertEqual(detail[:3], (told, table, key))
                 error = refused(refusal_of(fields, statement)._replace(**detail._asdict()))
                 self.assertEqual((error.table, error.key), (table, key))
                 self.assertIn(told, str(error))
