@@ -19,7 +19,7 @@ use Rattle.pq_schema.specs.declared.table.Column.{Column}
 use Rattle.pq_schema.specs.declared.table.Table.{Table}
 use Rattle.pq_content.specs.Tables.{types_of, type_at, types_at, key_types}
 use Rattle.pq_index_keep.specs.Checking.{misfit_refusal, are_among, all_columns, default_at, has_value, inserted_value, insert_row, insert_names, insert_places, insert_names_refusal, insert_values_refusal, insert_checked, delete_checked, is_insert_wrong, assign_name, names_in, values_in, keyed_refusal, set_names, cond_names, named_type, fits_setting, is_set_misfit, set_misfit, is_constant, is_cond_misfit, cond_misfit, set_of_def, cond_of_def, key_given}
-use Rattle.pq_index_keep.specs.Sound.{is_among, FitsSetting, IsCond, IsSet, IsSetting}
+use Rattle.pq_index_keep.specs.Sound.{is_among, FitsSetting, IsCond, IsSet}
 use Rattle.pq_schema.specs.ColumnNames.{is_unknown, place_of, places_of, no_column, unknown_refusal}
 use Rattle.pq_schema.specs.Definitions.{refused_if, or_ok}
 use Rattle.pq_schema.specs.Resolved.{IsConstant, param_type}
@@ -32,6 +32,7 @@ use Rattle.pq_index_keep.specs.declared.write.Write.TheVariants.{Insert, Delete}
 use Rattle.pq_base.specs.declared.refusal.Stopped.{Stopped}
 use Rattle.pq_base.specs.declared.refusal.Stopped.TheVariants.{Refused, NoMem}
 use Rattle.pq_base.proofs.TypeFits.{fits_exact}
+use Rattle.pq_def_read.specs.Known.{IsSetting, AreKnown, AreSettings, AreConditions}
 use Rattle.pq_def_read.specs.declared.write.Assign.{Assign}
 use Rattle.pq_def_read.specs.declared.write.CondDef.{CondDef}
 use Rattle.pq_def_read.specs.declared.write.SetDef.{SetDef}
@@ -200,7 +201,7 @@ conds_each table (cond ∷ conds) known fit values =
       conds_each table conds here.1 fit.1 values.1,
     )
 
-conds_ok : (table : Table) (conds : List CondDef) → unknown_refusal table.columns (cond_names conds) ≡ None → cond_misfit table conds ≡ None → All (λ (cond : CondDef). IsValue cond.value) conds → AllByRecursion (IsCond table) (map (cond_of_def table) conds)
+conds_ok : (table : Table) (conds : List CondDef) → unknown_refusal table.columns (cond_names conds) ≡ None → cond_misfit table conds ≡ None → AreConditions conds → AllByRecursion (IsCond table) (map (cond_of_def table) conds)
 conds_ok table conds known none values =
     conds_each table conds known (none_passes (is_cond_misfit table) conds (mapped_none (λ (place : ℕ). refusal.OperandKind (place + 1)) _ none)) (each_by (λ (cond : CondDef). IsValue cond.value) conds values)
 
@@ -214,7 +215,7 @@ pub record IsKeyed (table : Table) (sets : List SetDef) (key : List Assign) (con
   pub fits : AllFit (key_types table) (key_given table key)
   pub tested : AllByRecursion (IsCond table) (map (cond_of_def table) conds)
 
-pub keyed_ok : (table : Table) (sets : List SetDef) (key : List Assign) (conds : List CondDef) → keyed_refusal table sets key conds ≡ None → All (λ (set : SetDef). IsSetting set.to) sets → All (λ (a : Assign). IsValue a.value) key → All (λ (cond : CondDef). IsValue cond.value) conds
+pub keyed_ok : (table : Table) (sets : List SetDef) (key : List Assign) (conds : List CondDef) → keyed_refusal table sets key conds ≡ None → AreSettings sets → AreKnown key → AreConditions conds
     → IsKeyed table sets key conds
 keyed_ok table sets key conds none known_sets known_key known_conds =
     let names = or_none _ _ none in

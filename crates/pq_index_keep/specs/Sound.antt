@@ -4,7 +4,7 @@ use Rattle.std.specs.Int.{w64}
 use Rattle.std.specs.List.{AllByRecursion, list_any}
 use Rattle.pq_base.specs.Columns.{set_of}
 use Rattle.pq_base.specs.declared.value.Value.{Value}
-use Rattle.pq_base.specs.Values.{IsValue, FitsType, AllFit, kind_of_type}
+use Rattle.pq_base.specs.Values.{FitsType, AllFit, kind_of_type}
 use Rattle.pq_base.specs.declared.value.ColType.{ColType}
 use Rattle.pq_base.specs.declared.value.DataKind.TheVariants as kind
 use Rattle.pq_schema.specs.declared.table.Foreign.{Foreign}
@@ -41,11 +41,6 @@ pub record IsWritable (tables : List Table) (table : Table) : Type 0 where
 
 abbrev pub AreWritable : List Table → Type 0
 AreWritable tables = All (IsWritable tables) tables
-
--- a value in its kind's range, or a number of 64 bits
-abbrev pub IsSetting : Setting → Type 0
-IsSetting (setting.Is value) = IsValue value
-IsSetting (setting.Add number) = FitsSigned w64 number
 
 -- a value that fits a type, or a number of 64 bits that is added to numbers
 abbrev pub FitsSetting : ColType → Setting → Type 0

@@ -1,5 +1,5 @@
 -- Which foreign keys, limits and indexes a write touches, and the row that an UPDATE makes.
-use Rattle.std.specs.Prelude.{ℕ, Bool, true, List, [], ◌∷◌, map, slice_get, slice_index_or, slice_set, Option, Some, None, unwrap_or}
+use Rattle.std.specs.Prelude.{ℕ, Bool, true, List, [], ◌∷◌, map, slice_get, slice_index_or, slice_set, Option, Some, unwrap_or}
 use Rattle.std.specs.List.{list_any}
 use Rattle.pq_base.specs.Columns.{has_col, set_of}
 use Rattle.pq_base.specs.Comparing.{compares}

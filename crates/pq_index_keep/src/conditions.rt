@@ -1,7 +1,8 @@
 //! The conditions of a write, by the names of their columns, and whether their constants are of the columns' kinds.
-ghost use Rattle.std.specs.Prelude.{◌≡◌, ◌≤◌, All, position, length, map, IfOk};
+ghost use Rattle.std.specs.Prelude.{◌≡◌, ◌≤◌, position, length, map, IfOk};
 ghost use Rattle.pq_base.specs.Answers.{Passes};
 ghost use Rattle.pq_base.specs.Values.{IsValue};
+ghost use Rattle.pq_def_read.specs.Known.{AreConditions};
 ghost use Rattle.pq_index_keep.specs.Checking.{cond_names, is_constant, is_cond_misfit, cond_misfit, cond_of_def};
 
 use crate::column_values::named_type;
@@ -84,7 +85,7 @@ fn known_cond(cond: &CondDef)
 
 /// Tells a proof that constants are in their kinds' ranges.
 pub(crate) fn known_conds(conds: &[CondDef])
-    ensures { All (λ cond. IsValue cond.value) conds.now }
+    ensures { AreConditions conds.now }
 {
     for cond in conds {
         known_cond(cond);

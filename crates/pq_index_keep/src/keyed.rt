@@ -1,9 +1,10 @@
 //! The write of an UPDATE or DELETE, whose row is named by its key, or the first refusal that is found
 //! by reading.
-ghost use Rattle.std.specs.Prelude.{◌≡◌, ◌≤◌, [], All, length, map, IfOk};
+ghost use Rattle.std.specs.Prelude.{◌≡◌, ◌≤◌, [], length, map, IfOk};
 ghost use Rattle.std.specs.List.{list_any};
 ghost use Rattle.pq_base.specs.Answers.{Answers, Passes};
 ghost use Rattle.pq_base.specs.Values.{IsValue};
+ghost use Rattle.pq_def_read.specs.Known.{AreKnown};
 ghost use Rattle.pq_schema.specs.Tables.{table_at};
 ghost use Rattle.pq_content.specs.Tables.{IsTableNumber};
 ghost use Rattle.pq_index_keep.specs.Checking.{names_in, values_in, keyed_names_refusal, is_keyed_wrong, keyed_values_refusal, keyed_refusal, columns_refusal, key_given, update_checked, delete_checked, assigned_misfit};
@@ -161,7 +162,7 @@ fn known_assign(assign: &Assign)
 }
 
 fn known_assigns(assigns: &[Assign])
-    ensures { All (λ a. IsValue a.value) assigns.now }
+    ensures { AreKnown assigns.now }
 {
     for assign in assigns {
         known_assign(assign);

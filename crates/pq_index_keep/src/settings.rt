@@ -1,8 +1,8 @@
 //! What the columns of an UPDATE are set to, by their names, and whether it fits them.
-ghost use Rattle.std.specs.Prelude.{◌≡◌, ◌≤◌, All, length, map, IfOk};
+ghost use Rattle.std.specs.Prelude.{◌≡◌, ◌≤◌, length, map, IfOk};
 ghost use Rattle.pq_base.specs.Answers.{Passes};
 ghost use Rattle.pq_index_keep.specs.Checking.{set_names, fits_setting, is_set_misfit, set_misfit, set_of_def};
-ghost use Rattle.pq_index_keep.specs.Sound.{IsSetting};
+ghost use Rattle.pq_def_read.specs.Known.{IsSetting, AreSettings};
 
 use crate::column_values::named_type;
 use crate::write::SetCol;
@@ -99,7 +99,7 @@ fn known_set(set: &SetDef)
 
 /// Tells a proof that values and numbers are in their ranges.
 pub(crate) fn known_sets(sets: &[SetDef])
-    ensures { All (λ set. IsSetting set.to) sets.now }
+    ensures { AreSettings sets.now }
 {
     for set in sets {
         known_set(set);

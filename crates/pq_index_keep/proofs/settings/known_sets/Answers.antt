@@ -2,7 +2,7 @@ use Rattle.std.proofs.Common.{take, sym, subst}
 use Rattle.std.proofs.lemmas.List.{take_all}
 use Rattle.std.proofs.lemmas.List.Elements.{All-more, All-same}
 use Rattle.pq_def_read.specs.declared.write.SetDef.{SetDef}
-use Rattle.pq_index_keep.specs.Sound.{IsSetting}
+use Rattle.pq_def_read.specs.Known.{IsSetting}
 use Rattle.pq_index_keep.proofs.settings.known_sets.Goals as goal
 
 pub loop-set-preserved : goal.loop-set-preserved

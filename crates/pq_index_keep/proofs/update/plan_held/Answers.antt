@@ -1,5 +1,4 @@
-use Rattle.std.proofs.Common.{◌≡◌, ◌∙◌, sym, Some, Option}
-use Rattle.pq_base.specs.declared.refusal.Refusal.{Refusal}
+use Rattle.std.proofs.Common.{◌≡◌, ◌∙◌, sym}
 use Rattle.pq_schema.specs.Tables.{table_at}
 use Rattle.pq_index_keep.specs.Effects.{held_refusal}
 use Rattle.pq_index_keep.proofs.Refusing.{held_can}
