@@ -99,7 +99,7 @@ def compile_in(room: pathlib.Path) -> pathlib.Path:
 
 def build(edit: pathlib.Path | None) -> pathlib.Path:
     """The kept program of these sources, with a wrong body where one is named. It is made where it isn't there."""
-    with alone(KEPT), tempfile.TemporaryDirectory(dir=KEPT) as work:
+    with alone(KEPT, NAME), tempfile.TemporaryDirectory(dir=KEPT) as work:
         room = pathlib.Path(work)
         copy_sources(room)
         if edit:
