@@ -11,8 +11,3 @@ returns-in-Explain c asked asks =
 
 pub check_once-requires : goal.check_once-requires
 check_once-requires c = (subst (λ (r : Request). Asks c.args.planned r c.requires.0) c.in-Select.is c.requires.1).0
-
-pub returns-in-Select : goal.returns-in-Select
-returns-in-Select c asked asks =
-    let a = subst (λ (r : Request). Asks c.args.planned r asked) c.in-Select.is asks in
-    c.check_once.ensures asked a.2
