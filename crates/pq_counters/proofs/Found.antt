@@ -1,5 +1,5 @@
 -- The row that is read again.
-use Rattle.std.proofs.Common.{◌≡◌, ℕ, cond, ◌∷◌, ◌++◌, List, Option, Some, None, Result, Ok, Err, refl, sym, ap, ◌∙◌}
+use Rattle.std.proofs.Common.{◌≡◌, ℕ, cond, ◌∷◌, ◌++◌, List, Option, Some, None, Ok, Err, refl, sym, ap, ◌∙◌}
 use Rattle.std.specs.Prelude.{IfSome, is_none}
 use Rattle.std.proofs.lemmas.Option.{none-some, same_Some}
 use Rattle.pq_base.specs.Answers.{or_else}

@@ -1,7 +1,7 @@
 use Rattle.std.proofs.Common.{Some, None}
 use Rattle.std.proofs.lemmas.Result.{IfOk-weaker}
 use Rattle.pq_schema.proofs.TypeKinds.{kinds_from_fit}
-use Rattle.pq_counters.proofs.Found.{found_row, no_update, no_held_update, comes_in_place}
+use Rattle.pq_counters.proofs.Found.{found_row, no_update, no_held_update}
 use Rattle.pq_counters.proofs.plan.plan_update.Goals as goal
 
 pub returns-in_default-clause-answer : goal.returns-in_default-clause-answer
