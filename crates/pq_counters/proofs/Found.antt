@@ -1,7 +1,7 @@
 -- The row that is read again.
 use Rattle.std.proofs.Common.{◌≡◌, ℕ, cond, ◌∷◌, ◌++◌, List, Option, Some, None, Ok, Err, refl, sym, ap, ◌∙◌}
 use Rattle.std.specs.Prelude.{IfSome, is_none}
-use Rattle.std.proofs.lemmas.Option.{none-some, same_Some}
+use Rattle.std.proofs.lemmas.Option.{none-some}
 use Rattle.pq_base.specs.Answers.{or_else}
 use Rattle.pq_base.specs.declared.refusal.Refusal.{Refusal}
 use Rattle.pq_schema.specs.Definitions.{or_ok}
@@ -16,10 +16,9 @@ use Rattle.pq_content.specs.Pairs.{Pair}
 use Rattle.pq_content.specs.Tables.{Rows, AllOfKinds, IsTableNumber, key_types, shape_of, row_at, rows_without}
 use Rattle.pq_store.specs.Content.{Content}
 use Rattle.pq_calls.specs.Evidence.{IsRead}
-use Rattle.pq_index_keep.specs.Effects.{effect, updated_rows, deleted_rows, update_refusal, condition_refusal, sum_refusal, held_refusal}
+use Rattle.pq_index_keep.specs.Effects.{effect, updated_rows, deleted_rows, update_refusal, held_refusal}
 use Rattle.pq_index_keep.specs.Tested.{scope_of, with_sets}
-use Rattle.pq_index_keep.proofs.Inserting.{or_none}
-use Rattle.pq_counters.specs.Steps.{ComesInPlace, row_in_place}
+use Rattle.pq_counters.specs.Steps.{row_in_place}
 use Rattle.pq_index_keep.specs.declared.write.Cond.{Cond}
 use Rattle.pq_index_keep.specs.declared.write.SetCol.{SetCol}
 use Rattle.pq_index_keep.specs.declared.write.Write.TheVariants as write
@@ -60,13 +59,3 @@ no_held_update tables rows made t key sets conds old found none is = by (held_re
       where
         never : Err why ≡ Ok made → ⊥
         never h = cc
-
-pub comes_in_place : (table : Table) (sets : List SetCol) (conds : List Cond) (old new : List Value) → Some new ≡ row_in_place table sets conds old → ComesInPlace table sets old new
-comes_in_place table sets conds old new made = by (held_refusal table sets conds old) refl
-  where
-    by : (o : Option Refusal) → held_refusal table sets conds old ≡ o → ComesInPlace table sets old new
-    by None held = record {
-      sums = (or_none (condition_refusal table conds old) (sum_refusal table sets old) held).1;
-      is = same_Some new (with_sets sets old) (made ∙ ap (λ (o : Option Refusal). cond (is_none o) (Some (with_sets sets old)) None) held);
-    }
-    by (Some why) held = absurd (none-some new (sym (made ∙ ap (λ (o : Option Refusal). cond (is_none o) (Some (with_sets sets old)) None) held)))
