@@ -48,11 +48,7 @@ pub fn plan_query(
 }
 
 /// The query that is planned in place of one that was read, with its plan.
-fn plan_written(
-    alloc: Global,
-    catalog: &Catalog,
-    written: Query,
-) -> Result<PlannedQuery, Stopped>
+fn plan_written(alloc: Global, catalog: &Catalog, written: Query) -> Result<PlannedQuery, Stopped>
     requires { IsResolved catalog.now.tables written }
     ensures planned { IfOk result (IsPlanned catalog.now written.name (arranged_plan catalog.now.tables written)) }
     ensures params { IfOk result (λ plan. plan.query.params ≡ written.params) }
@@ -104,11 +100,7 @@ fn check_params(query: &Query) -> Result<(), Stopped>
 }
 
 /// Refuses a query that wants an index which isn't there.
-fn check_index(
-    alloc: Global,
-    catalog: &Catalog,
-    wanted: &Option<NewIndex>,
-) -> Result<(), Stopped>
+fn check_index(alloc: Global, catalog: &Catalog, wanted: &Option<NewIndex>) -> Result<(), Stopped>
     requires { IsLined catalog.now.tables wanted.now }
     ensures { Passes result (index_refusal catalog.now.tables wanted.now) }
 {

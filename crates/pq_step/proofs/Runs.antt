@@ -134,8 +134,8 @@ module _ (number : ℕ) (run : Running) (schema : Schema) where
   page_done old now before later page is bound used rises same =
       rows_done number run.query schema (Runs run) (λ m. page_of m number run) tells_page old now before later page
       (λ m s.
-          let over : IsPageOver m.schema.tables m.rows run page = subst (λ (x : Schema). IsPageOver x.tables m.rows run page) s.known (is m.rows (others_of m) (settled_rows old schema m s)) in
-          page_reported m number run page over (known_bound schema m run.query page.bound s.known bound))
+      let over : IsPageOver m.schema.tables m.rows run page = subst (λ (x : Schema). IsPageOver x.tables m.rows run page) s.known (is m.rows (others_of m) (settled_rows old schema m s)) in
+      page_reported m number run page over (known_bound schema m run.query page.bound s.known bound))
       bound used rises same
 
   -- a run that broke off
@@ -179,9 +179,9 @@ module _ (number : ℕ) (plan : PlannedDefinition) (query : Query) (schema : Sch
   answer_done old now before later page is bound used rises same =
       rows_done number query schema (Selects plan) (λ m. answer_of m number plan.query) tells_answer old now before later page
       (λ m s.
-          let over : IsAnswerOver m.schema.tables m.rows query page = subst (λ (x : Schema). IsAnswerOver x.tables m.rows query page) s.known (is m.rows (others_of m) (settled_rows old schema m s)) in
-          subst (λ (q : Query). record (answer_of m number q) { used = page.used } ≡ page_report number page) (sym query_is)
-          (answer_reported m number query page over (known_bound schema m query page.bound s.known bound)))
+      let over : IsAnswerOver m.schema.tables m.rows query page = subst (λ (x : Schema). IsAnswerOver x.tables m.rows query page) s.known (is m.rows (others_of m) (settled_rows old schema m s)) in
+      subst (λ (q : Query). record (answer_of m number q) { used = page.used } ≡ page_report number page) (sym query_is)
+      (answer_reported m number query page over (known_bound schema m query page.bound s.known bound)))
       bound used rises same
 
   pub answer_broke : (old now : Option Content) (before later : Counts) (error : Broke) → IsSoundOverRows old schema.tables error → IfDamaged (where_told (ShowsRead schema.tables) old) error
