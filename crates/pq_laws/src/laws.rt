@@ -1,7 +1,7 @@
 //! What the definitions promise by themselves: each law is the contract of a call that does nothing.
 ghost use Rattle.std.specs.Prelude.{◌≡◌, ◌+◌, ◌≤◌, ℕ, List, [], true, length, map, flat_map, Option, Some, None, Ok, Err, IsPermutation};
 ghost use Rattle.std.specs.FinMap.{empty};
-ghost use Rattle.pq_base.specs.declared.refusal.Refusal.TheVariants.{NoBound, Syntax};
+ghost use Rattle.pq_base.specs.declared.refusal.Refusal.TheVariants.{IndexWanted, NoBound, Params, Syntax};
 ghost use Rattle.pq_base.specs.declared.value.Value.{Value};
 ghost use Rattle.pq_schema.specs.declared.definition.AlterDef.{AlterDef};
 ghost use Rattle.pq_schema.specs.declared.definition.CounterDef.{CounterDef};
@@ -11,6 +11,10 @@ ghost use Rattle.pq_schema.specs.declared.table.NewIndex.{NewIndex};
 ghost use Rattle.pq_schema.specs.declared.table.Table.{Table};
 ghost use Rattle.pq_schema.specs.Definitions.{new_table};
 ghost use Rattle.pq_schema.specs.Names.{IsTableDef};
+ghost use Rattle.pq_schema.specs.Resolved.{IsResolved};
+ghost use Rattle.pq_schema.specs.Rows.{Rows};
+ghost use Rattle.pq_schema.specs.Tables.{table_at};
+ghost use Rattle.pq_schema.specs.declared.query.Stop.TheVariants.{All};
 ghost use Rattle.pq_schema.specs.Schema.{Schema, IsQueryDefinition, definition_at, empty_schema, find_query, query_at, with_table, with_query};
 ghost use Rattle.pq_schema.specs.Valid.{IsValid, IsDefined, IsAddition, IsCounted};
 ghost use Rattle.pq_schema.specs.Wanted.{no_bound};
@@ -26,12 +30,12 @@ ghost use Rattle.pq_print.specs.Canonical.{definition_text};
 ghost use Rattle.pq_store.specs.Content.{Content};
 ghost use Rattle.pq_content.specs.Tables.{IsTableNumber, rows_of};
 ghost use Rattle.pq_running.specs.Running.{params_refusal};
-ghost use Rattle.pq_plan.specs.Answer.{selected_values, whole};
+ghost use Rattle.pq_plan.specs.Answer.{answer, selected_values, whole};
 ghost use Rattle.pq_print.specs.declared.report.Report.{Report};
 ghost use Rattle.pq_statement.specs.Actions.{asked_text};
 ghost use Rattle.pq_catalog.specs.Model.{Model};
 ghost use Rattle.pq_opening.specs.Opening.{IsQuiet, text_defines};
-ghost use Rattle.pq_planning.specs.Planning.{HasNoCandidate, PlannedDefinition, arranged_from, arranged_plan, plan_from, plan_of};
+ghost use Rattle.pq_planning.specs.Planning.{HasNoCandidate, PlannedDefinition, arranged_from, arranged_plan, plan_from, plan_of, selected_plan};
 ghost use Rattle.pq_laws.specs.Pages.{ArePages, AreRuns, IsPaged, line_of, question_of};
 ghost use Rattle.pq_laws.specs.Spelling.{asked_whole, SpellsNone};
 ghost use Rattle.pq_catalog.specs.Stands.{HoldsModel, Opens};
@@ -74,6 +78,28 @@ pub fn arranging_law()
     ensures read { (schema : Schema) (name text : List ℕ) (tokens : List Token) (from : ℕ)
         (plan : PlannedDefinition) → plan_from schema name text tokens from ≡ Ok plan
         → arranged_from schema name text tokens from ≡ Ok plan }
+{}
+
+/// A SELECT takes a query as an EXPLAIN does, but for its parameters and for an index that is to be made.
+pub fn selecting_law()
+    // It is planned as it is explained: without parameters, over the indexes that are there.
+    ensures planned { (tables : List Table) (query : Query) (plan : PlannedDefinition)
+        → selected_plan tables query ≡ Ok plan
+        → (query.params ≡ []) × (arranged_plan tables query ≡ Ok plan) × (plan.chosen.wanted ≡ None) }
+
+    // Parameters are refused before all that planning refuses.
+    ensures params { (tables : List Table) (query : Query) → 1 ≤ length query.params
+        → selected_plan tables query ≡ Err Params }
+
+    // And an index that is to be made behind all of that, with the name of its table.
+    ensures wanted { (tables : List Table) (query : Query) (plan : PlannedDefinition) (new : NewIndex)
+        → query.params ≡ [] → arranged_plan tables query ≡ Ok plan → plan.chosen.wanted ≡ Some new
+        → selected_plan tables query ≡ Err (IndexWanted (table_at tables new.table).name) }
+
+    // Without LIMIT and PAGINATE its rows are those of the query as it is written, each as often.
+    ensures answers { (tables : List Table) (query : Query) (plan : PlannedDefinition)
+        → selected_plan tables query ≡ Ok plan → IsResolved tables query → query.stop ≡ All → (rows : Rows)
+        → IsPermutation (answer tables query rows [] None) (answer tables plan.query rows [] None) }
 {}
 
 /// The canonical text of a definition, read over the definitions before it, defines it again.

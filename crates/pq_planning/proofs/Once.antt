@@ -19,7 +19,7 @@ use Rattle.pq_schema.specs.declared.table.Table.{Table}
 use Rattle.pq_text.specs.declared.token.Token.{Token}
 use Rattle.pq_planning.specs.Lines.{IsLined}
 use Rattle.pq_planning.specs.Planned.{IsOnce, IsPlanned}
-use Rattle.pq_planning.specs.Planning.{PlannedDefinition, arranged_plan, as_it_is, explained_name, index_refusal, params_refusal, selected_from, selected_plan, with_no_index}
+use Rattle.pq_planning.specs.Planning.{PlannedDefinition, arranged_plan, as_it_is, explained_name, index_refusal, once_refusal, selected_from, selected_plan, with_no_index}
 use Rattle.pq_planning.specs.declared.planning.PlannedQuery.{PlannedQuery}
 use Rattle.pq_planning.proofs.Shown.{is_lined}
 
@@ -29,7 +29,7 @@ none_counted : (count : ℕ) (b : Bool) → (count == 0) ≡ b → refused_if (n
 none_counted count true is none = eqb-true count 0 is
 none_counted count false is none = absurd (none-some _ (sym none))
 
-pub no_params : (query : Query) → params_refusal query ≡ None → query.params ≡ []
+pub no_params : (query : Query) → once_refusal query ≡ None → query.params ≡ []
 no_params query none = nil_from_length query.params (none_counted (length query.params) (length query.params == 0) refl none)
 
 pub no_index : (tables : List Table) (wanted : Option NewIndex) → index_refusal tables wanted ≡ None → wanted ≡ None
@@ -43,11 +43,11 @@ module _ (schema : Schema) (written : Query) where
   behind_params found = (passed_unless found >>= λ none. Ok written) >>= arranged_plan schema.tables >>= with_no_index schema.tables
 
   -- it is refused for its parameters
-  pub params_stopped : (stopped : Stopped) → Passes {A = Unit {0}} (Err stopped) (params_refusal written) → Refuses {A = PlannedDefinition} stopped (selected_plan schema.tables written)
+  pub params_stopped : (stopped : Stopped) → Passes {A = Unit {0}} (Err stopped) (once_refusal written) → Refuses {A = PlannedDefinition} stopped (selected_plan schema.tables written)
   params_stopped (Refused why) is = ap behind_params is
   params_stopped NoMem is = tt
 
-  module _ (free : params_refusal written ≡ None) where
+  module _ (free : once_refusal written ≡ None) where
     planned_free : selected_plan schema.tables written ≡ (arranged_plan schema.tables written >>= with_no_index schema.tables)
     planned_free = ap behind_params free
 
@@ -86,7 +86,7 @@ module _ (schema : Schema) (written : Query) where
           (record { best = planned.computed_is.compiled.best; chosen = planned.computed_is.compiled.least })
 
 -- its parameters are those of what was read, and the index is that which its plan wants
-pub runs_once : (tables : List Table) (written : Query) (computed : PlannedQuery) → params_refusal written ≡ None → computed.query.params ≡ written.params → index_refusal tables computed.compiled.wanted ≡ None → IsOnce computed
+pub runs_once : (tables : List Table) (written : Query) (computed : PlannedQuery) → once_refusal written ≡ None → computed.query.params ≡ written.params → index_refusal tables computed.compiled.wanted ≡ None → IsOnce computed
 runs_once tables written computed free same none = record { params = same ∙ no_params written free; wanted = no_index tables computed.compiled.wanted none }
 
 -- ---- the query of a text

@@ -75,11 +75,11 @@ explained_from schema text tokens from = arranged_from schema explained_name tex
 -- ---- SELECT
 
 -- what is run once has no parameters
-abbrev pub params_refusal : Query → Option Refusal
-params_refusal query = refused_if (not (length query.params == 0)) refusal.Params
+abbrev pub once_refusal : Query → Option Refusal
+once_refusal query = refused_if (not (length query.params == 0)) refusal.Params
 
 abbrev pub with_no_params : Query → Result Query Refusal
-with_no_params query = passed_unless (params_refusal query) >>= λ none. Ok query
+with_no_params query = passed_unless (once_refusal query) >>= λ none. Ok query
 
 -- and no index is made for it
 abbrev pub index_refusal : List Table → Option NewIndex → Option Refusal

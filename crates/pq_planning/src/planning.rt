@@ -5,7 +5,7 @@ ghost use Rattle.pq_plan.specs.Cost.{cost};
 ghost use Rattle.pq_schema.specs.Resolved.{IsResolved};
 ghost use Rattle.pq_text.specs.Tokens.{tokens_of};
 ghost use Rattle.pq_planning.specs.Planned.{IsOnce, IsPlanned};
-ghost use Rattle.pq_planning.specs.Planning.{arranged_from, arranged_plan, explained_name, index_refusal, params_refusal, plan_from, selected_from, selected_plan};
+ghost use Rattle.pq_planning.specs.Planning.{arranged_from, arranged_plan, explained_name, index_refusal, once_refusal, plan_from, selected_from, selected_plan};
 ghost use Rattle.pq_planning.specs.Lines.{IsLined, planned_lines};
 
 use crate::lines::put_wanted_line;
@@ -90,7 +90,7 @@ pub fn explained_name(alloc: Global) -> Result<PText, NoMem>
 
 /// Refuses a query with parameters.
 fn check_params(query: &Query) -> Result<(), Stopped>
-    ensures { Passes result (params_refusal query.now) }
+    ensures { Passes result (once_refusal query.now) }
 {
     if query.params.items().len() == 0 {
         Ok(())
