@@ -1,4 +1,4 @@
-use Rattle.std.proofs.Common.{◌≡◌, Ok, Err, subst}
+use Rattle.std.proofs.Common.{◌≡◌, Ok, Err}
 use Rattle.std.proofs.lemmas.Result.{err_from_is_err_and, IfErr-weaker, IfOk-weaker}
 use Rattle.pq_base.specs.Answers.{Answers}
 use Rattle.pq_query_read.specs.Queries.{read_query_of}
