@@ -21,8 +21,8 @@ from tools.repository import Repository  # noqa: E402
 NAME = "clients_trial"
 SOURCES = pathlib.Path(__file__).resolve().parent / "program"
 USES = (
-    "pq_base pq_schema pq_text pq_def_read pq_store pq_mem_store pq_print pq_index_keep pq_opening pq_shell pq_clients "
-    "pq_test_faults"
+    "pq_base pq_schema pq_text pq_def_read pq_store pq_mem_store pq_print pq_index_keep pq_opening pq_step pq_shell "
+    "pq_clients pq_test_faults"
 )
 KEPT = TOP / "out" / "unproved"
 FIELD = re.compile(r"^(file|old|new): (.*)$", re.MULTILINE)
