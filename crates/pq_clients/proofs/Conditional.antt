@@ -1,5 +1,5 @@
 -- Worked runs of writes with conditions and ADD: what is told of each at its read, and what one that is put leaves.
-use Rattle.std.proofs.Common.{◌≡◌, ℕ, pos, negsuc, List, [], ◌∷◌, Option, Some, refl}
+use Rattle.std.proofs.Common.{◌≡◌, ℕ, pos, negsuc, List, [], ◌∷◌}
 use lib.Count.{ones}
 use Rattle.std.specs.FinMap.{insert, get-empty, get-insert, get-remove, entries-insert}
 use Rattle.std.specs.Cmp.Lexicographic.{nat_list_cmp_total}
@@ -19,13 +19,11 @@ use Rattle.pq_row_keys.specs.Groups.{group_key}
 use Rattle.pq_store.proofs.Uses.{entries-remove}
 use Rattle.pq_store.specs.Content.{Content, key_cmp}
 use Rattle.pq_clients.specs.declared.outcome.Outcome.TheVariants as outcome
-use Rattle.pq_clients.specs.declared.outcome.Told.{Told}
 use Rattle.pq_clients.specs.Held.{held_value, cell_of}
 use Rattle.pq_clients.specs.Flights.{pair_key, old_row, new_row, new_code, entry_keys, old_entries, new_entries, flight_checks, flight_tests, group_front, tested_front}
-use Rattle.pq_clients.specs.Clients.{View, new_view}
+use Rattle.pq_clients.specs.Clients.{new_view}
 use Rattle.pq_clients.specs.Steps.{counted}
 use Rattle.pq_clients.specs.Present.{present_rows}
-use Rattle.pq_clients.specs.Promises.{calls_of_write}
 use Rattle.pq_clients.specs.Runs.{Run, begun, run}
 use Rattle.pq_clients.proofs.Examples.{m, no_pairs, entries_none, pair, turns, tell, key_of_one}
 

@@ -1,4 +1,4 @@
--- What a write tests, in order, and that what came before a step was passed.
+-- What a write tests behind its take, in order, and that what came before a step was passed.
 use Rattle.std.specs.Prelude.{◌≡◌, ℕ, Bool, true, false, List, [], ◌∷◌, ◌++◌, map, Option, Some, None}
 use Rattle.std.specs.List.{AllByRecursion, slice_get}
 use Rattle.pq_schema.specs.declared.table.Table.{Table}
@@ -21,7 +21,7 @@ is_passed_by tables f c (OfLimit place) = has_room tables f place c
 abbrev pub limits_tested : List Table → Flight → List Test
 limits_tested tables f = map OfLimit (flight_tests tables f)
 
--- all that the write tests: parents or children, and then limits
+-- all that the write tests behind its take: parents or children, and then limits
 abbrev pub all_tests : List Table → Flight → List Test
 all_tests tables f = map OfCheck (flight_checks tables f) ++ limits_tested tables f
 
