@@ -70,13 +70,17 @@ def many_text(limit: int, rows: int, statements: Sequence[bytes]) -> bytes:
 
 
 def statements_in(text: bytes) -> list[bytes]:
-    """The statements of such a frame, behind its numbers. A text that has none, too many or half of one is refused."""
+    """The statements of such a frame, behind its numbers; whether they are such isn't looked at.
+
+    A text that has none, too many, half of one or one that is too long is refused.
+    """
     found, at = [], LIMITS.size
     while at < len(text) and len(found) <= LOT_STATEMENTS:
         begin = at + SIZE.size
         (length,) = SIZE.unpack(text[at:begin].rjust(SIZE.size, b"\xff"))
         at = begin + length
         found.append(text[begin:at])
-    if at != len(text) or not 0 < len(found) <= LOT_STATEMENTS or len(text) >= LOT_BYTES:
+    is_sound = at == len(text) < LOT_BYTES and max(map(len, found), default=0) <= STATEMENT_BYTES
+    if not is_sound or not 0 < len(found) <= LOT_STATEMENTS:
         raise FrameError(f"a frame of several statements has 1 to {LOT_STATEMENTS:,} whole ones")
     return found

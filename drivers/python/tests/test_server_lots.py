@@ -26,6 +26,8 @@ from piql.frames import (
     write_frame,
 )
 from piql.lots import LOT_BYTES, LOT_STATEMENTS, Asked
+from piql.server.lots import Lot
+from piql.server.requests import OTHER, READING
 from piql.socketlink import SocketLink
 from pipes import listener_of
 from served import ServedCase, asked, greeted
@@ -204,7 +206,22 @@ class LotTest(ServedCase):
         client = greeted(self, self.at)
         client.sendall((LOT_BYTES + 1).to_bytes(4) + MANY)
         self.assertIn("a frame", self.left(client))
-        self.assertEqual((self.made(), server.end()[0]), ([], 0))
+        self.assertEqual(self.made(), [])
+        # Those of the turns before it were made.
+        client = greeted(self, self.at)
+        found = ask(client, *INSERTS[:16], b"SHOW;SHOW;", *INSERTS[16:])
+        self.assertEqual(kinds(found), REPORT * 16 + BROKEN)
+        self.assertEqual((len(self.made()), server.end()[0]), (16, 0))
+
+    def test_a_turn_has_no_more_bytes_than_a_statement(self) -> None:
+        lot = Lot(many_text(0, 7, [b"RUN q ('%b');" % (b"x" * 20_000)] * 5 + [b"a;"] * 20))
+        turns = []
+        while lot.left():
+            lot.prepare()
+            lot.take(READING | {OTHER})
+            turns.append((lot.taken, {it.rows for it in lot.turn()}))
+            lot.end_turn()
+        self.assertEqual(turns, [(3, {7}), (2, {7})] + [(1, {7})] * 20)
 
     def test_what_comes_ahead_is_taken_later(self) -> None:
         self.serve()
@@ -238,7 +255,7 @@ class FrameTest(unittest.TestCase):
     """What a frame of several statements has."""
 
     def test_what_is_packed_is_found_again(self) -> None:
-        for statements in ([b"SHOW;"], [b"", b"a", b"\0" * 70_000], [b"x;"] * LOT_STATEMENTS):
+        for statements in ([b"SHOW;"], [b"", b"a", b"\0" * 65_536], [b"x;"] * LOT_STATEMENTS):
             self.assertEqual(statements_in(many_text(1, 2, statements)), statements)
 
     def test_a_cut_text_is_refused(self) -> None:

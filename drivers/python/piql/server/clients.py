@@ -44,6 +44,8 @@ class Ticket:
         self.is_told = self.is_killed = False
         # Whether the next turn waits until the client has taken the answers of the last one.
         self.is_parked = False
+        # Why the client is left that has sent it.
+        self.why = ""
         # When it was begun.
         self.begun: float | None = None
 

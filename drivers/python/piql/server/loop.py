@@ -95,9 +95,14 @@ class Loop:
         else:
             self.service.give(ticket)
 
+    def refuse(self, ticket: Ticket, why: str) -> None:
+        """Has the client of a request that is none be left."""
+        ticket.why = why
+        self.stir(ticket.client)
+
     def stir(self, client: Client) -> None:
         """Has the loop's thread go on with a client, if there is something to do."""
-        if client.unsent or client.received or client.is_ending:
+        if client.unsent or client.received or client.is_ending or client.ticket and client.ticket.why:
             self.stirred.append(client)
             self.polls.wake()
 
@@ -134,6 +139,9 @@ class Loop:
         """Takes the frames that are there, and polls for what is to come."""
         if client.is_closed:
             return
+        if (ticket := client.ticket) is not None and ticket.why:
+            client.ticket, ticket.is_told = None, True
+            self.leave_by(client, ticket.why)
         self.take_frames(client)
         if client.is_ending and client.is_ready():
             self.leave(client)
@@ -150,8 +158,12 @@ class Loop:
                 self.take_frame(client, *frame)
             self.stirred.append(client)
         except FrameError as error:
-            self.log.warning("client-left", client=client.number, why=str(error))
-            self.break_off(client, str(error))
+            self.leave_by(client, str(error))
+
+    def leave_by(self, client: Client, why: str) -> None:
+        """Leaves a client that has sent what is no frame."""
+        self.log.warning("client-left", client=client.number, why=why)
+        self.break_off(client, why)
 
     def take_frame(self, client: Client, kind: bytes, text: bytes) -> None:
         """Gives a request its turn, if its client may make it. How the server is, is told at once."""

@@ -1,7 +1,7 @@
 """The one thread that has the run of the engine: it makes the statements that wait, in the order in which they came.
 
 A client has at most one request here, so the order is a turn of each: a statement waits for at most one of every other
-client.
+client, or for those of one turn of a client that has sent several together.
 """
 
 import queue
@@ -9,7 +9,7 @@ import threading
 import time
 
 from ..errors import Error, StoreGone
-from ..frames import COPIED, ENDED, REPORT
+from ..frames import COPIED, ENDED, REPORT, FrameError
 from ..hosts.passwords import without_secrets
 from ..hosts.urls import is_url
 from ..lots import Asked, Outcome
@@ -51,7 +51,7 @@ class Worker:
         try:
             self.store.read_catalog()
             while not self.is_gone and (ticket := self.next_one()) is not None:
-                if self.loop.begin(ticket):
+                if self.is_whole(ticket) and self.loop.begin(ticket):
                     self.make(ticket)
         except StoreGone as error:
             self.gone(error)
@@ -60,6 +60,17 @@ class Worker:
         finally:
             self.store.close()
             self.loop.polls.wake()
+
+    def is_whole(self, ticket: Ticket) -> bool:
+        """Whether several statements are such, those of their next turn. If not, their client is left."""
+        if not isinstance(ticket.request, Lot):
+            return True
+        try:
+            ticket.request.prepare()
+        except FrameError as error:
+            self.loop.refuse(ticket, str(error))
+            return False
+        return True
 
     def make(self, ticket: Ticket) -> None:
         """Makes what was asked for, and tells what became of it."""
