@@ -118,7 +118,7 @@ def tell_answer(script: Script, report: Report, shapes: Shapes) -> None:
     line = script.data.count(b"\n", 0, script.pieces[end.number].start + len(text[: found[0].start].encode())) + 1
     print(f"{script.name}:{line}: {' '.join(text[found[0].start :].split())[:WIDTH]}")
     if report.rows:
-        print(textwrap.indent(table(names_of(report, shapes.selected_by(found[1].text.lower())), report.rows), "  "))
+        print(textwrap.indent(table(names_of(report, shapes.answered_by(found)), report.rows), "  "))
     pages = f", the next page is behind '{end.cursor}'" if end.cursor else ""
     rows = "1 row" if end.rows == 1 else f"{end.rows} rows"
     print(f"  {rows}{pages}; bound {end.bound}, used {end.used}\n")

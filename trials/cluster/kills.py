@@ -58,7 +58,7 @@ class Writing:
     def check(self, what: str) -> None:
         """Whether the store has the rows that were told, one more at most, and an entry for each."""
         url = self.url.partition("?")[0] + "?patience=30"
-        with piql.connect(url, program=self.trial.engine, timeout=LEASE_SECONDS) as connection:
+        with piql.connect(url, program=self.trial.engine, timeout=LEASE_SECONDS, prepare=True) as connection:
             rows, cursor = [], connection.execute(ROWS, (0,))
             rows += cursor.fetchall()
             while cursor.next_page:

@@ -17,6 +17,9 @@ ALTER = "ALTER TABLE t ADD COLUMN w TEXT(1001) DEFAULT 7;"
 COUNTER = "CREATE COUNTER c OF t (a, b, a, c, d, e);"
 READ = "READ read (7, 'x');"
 UPDATE = "UPDATE t SET b = 'x', b = 'y' WHERE a = 7;"
+CHANGE = "UPDATE t SET a ADD 5, b ADD -1 WHERE if = 7 AND c = 8 IF b >= 9 AND a IS NULL AND c = 'x';"
+REMOVE = "DELETE FROM t WHERE if = 7 IF if <> 7;"
+SELECT = "SELECT t.a, b FROM t WHERE a = [1] AND b = 'x' LIMIT 5;"
 # A statement, its refusal, and the place of the token, as what stands before it and the token.
 CASES = [
     (TABLE, "E201 t", "CREATE TABLE |t"),
@@ -63,6 +66,20 @@ CASES = [
     (COUNTER, "E206 counters", "CREATE |COUNTER"),
     (COUNTER, "E206 limit_columns", "c, |d"),
     (COUNTER, "E209 t", "OF |t"),
+    (CHANGE, "E202 t", "UPDATE |t"),
+    ("UPDATE t SET b = 1, b ADD 1 WHERE a = 7 IF b = 1;", "E204 b", "1, |b"),
+    (CHANGE, "E206 predicates", "c = 8 |IF"),
+    (CHANGE, "E302 3", "NULL AND |c"),
+    (CHANGE, "E501 t b", "b ADD |-1"),
+    (CHANGE, "E501 t c", "c = |8"),
+    (CHANGE, "E511 t 1", "IF |b"),
+    (CHANGE, "E511 t 2", "9 AND |a"),
+    (CHANGE, "E514 t b", "5, |b"),
+    (REMOVE, "E511 t 1", "IF |if"),
+    (SELECT, "E302 2", "[1] AND |b"),
+    (SELECT, "E303", "a = |["),
+    (SELECT, "E304 t", "FROM |t"),
+    (SELECT, "E406 t", "FROM |t"),
     (READ, "E402 0", "READ |read"),
     (READ, "E402 2", "7, |'x'"),
     (READ, "E405 read", "READ |read"),

@@ -21,6 +21,8 @@ PREPARE all AS SELECT * FROM t LIMIT 2; RUN q (); RUN all;
 alter table T add column W int default 5; PREPARE more AS SELECT * FROM t LIMIT 2; RUN more;
 INSERT INTO t VALUES (1, 'x', TRUE, 'y');
 CREATE COUNTER C OF t (b); read c ('x');
+SELECT t.A, b FROM t LIMIT 9; select * from T LIMIT 1;
+UPDATE t SET c = TRUE WHERE a = 7 IF b = 'x' AND c IS NULL;
 SELECT b FROM t
 """
 REPORT = """\
@@ -46,15 +48,20 @@ row 7, 'it''s so', true, 5
 11 ok bound 2 1 used 2 0
 row 3
 12 ok rows 1 bound 1 1 used 1 1
-13 refused E102 bound 0 0 used 0 0
+row 7, 'x'
+13 ok rows 1 bound 1 9 used 1 1
+row 7, 'x', true, 5
+14 ok rows 1 bound 1 1 used 1 1
+15 refused E511 t 2 bound 2 1 used 1 1
+16 refused E102 bound 0 0 used 0 0
 """
 TOLD = """\
 NAME:4: statement 2 is refused: E501 t c
      4 |   VALUES (7, 'x', 'y');
        |                   ^
   a value doesn't fit its column. It is of another kind, a text longer than the column, or NULL for
-    a column that isn't nullable, as each column of a key. Lengths are in bytes of UTF-8, not in
-    letters.
+    a column that isn't nullable, as each column of a key. Or the column of an ADD is no INT.
+    Lengths are in bytes of UTF-8, not in letters.
   way out: cut or refuse it in the site. A column can't be made nullable later.
 
   query q: bound 1 9 (stop 1)
@@ -83,8 +90,8 @@ NAME:8: statement 10 is refused: E501 t w
      8 | INSERT INTO t VALUES (1, 'x', TRUE, 'y');
        |                                     ^
   a value doesn't fit its column. It is of another kind, a text longer than the column, or NULL for
-    a column that isn't nullable, as each column of a key. Lengths are in bytes of UTF-8, not in
-    letters.
+    a column that isn't nullable, as each column of a key. Or the column of an ADD is no INT.
+    Lengths are in bytes of UTF-8, not in letters.
   way out: cut or refuse it in the site. A column can't be made nullable later.
 
 NAME:9: read c ('x');
@@ -93,14 +100,35 @@ NAME:9: read c ('x');
      3
   1 row; bound 1 1, used 1 1
 
-NAME:10: statement 13 is refused: E102
-    10 | SELECT b FROM t
+NAME:10: SELECT t.A, b FROM t LIMIT 9;
+  t.a | b
+  ----+--
+    7 | x
+  1 row; bound 1 9, used 1 1
+
+NAME:10: select * from T LIMIT 1;
+  a | b | c    | w
+  --+---+------+--
+  7 | x | true | 5
+  1 row; bound 1 1, used 1 1
+
+NAME:11: statement 15 is refused: E511 t 2
+    11 | UPDATE t SET c = TRUE WHERE a = 7 IF b = 'x' AND c IS NULL;
+       |                                                  ^
+  the row is another than was read. The row with this key is there, and condition 2 of the write,
+    counted from 1, doesn't hold of it. Nothing was made.
+  way out: read the row again, and write what is right now, on the condition that it is still so; or
+    tell the user that it was changed meanwhile. IS NULL is the condition for a value that isn't
+    there, as no comparison holds at NULL.
+
+NAME:12: statement 16 is refused: E102
+    12 | SELECT b FROM t
        |                ^
   the script ends within a statement. There is something after the last ;. Mostly the ; is missing,
     or a text isn't closed and goes on to the end.
   way out: end it.
 
-13 statements, 3 refused
+16 statements, 4 refused
 """
 HEAD = re.compile(
     r"^\S+:(\d+): statement \d+ is refused: (E\d\d\d)[^\n]*\n *\d+ \| ([^\n]*)\n {7}\| ( *)\^\n", re.MULTILINE

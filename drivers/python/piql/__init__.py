@@ -60,7 +60,7 @@ CLUSTER_STEP = 60.0
 def connect(
     path: str | os.PathLike[str],
     *,
-    prepare: bool = True,
+    prepare: bool = False,
     program: str | os.PathLike[str] | None = None,
     timeout: float = 5.0,
     reader: bool = False,
@@ -70,9 +70,9 @@ def connect(
 ) -> Connection:
     """Opens a store: a file, `unix:SOCKET` of a piql-serve, `etcd://..`, `postgresql://..` or `:memory:`.
 
-    With prepare=False a SELECT that the store doesn't have is refused. The program is that of the argument, of the
-    environment (PIQL_FILE, PIQL_HOST for a cluster, PIQL for a store in memory), or that which the repository or the
-    release has. `timeout` is for how many seconds a store that another process has, or a server that isn't there, is
+    A SELECT that the store has prepared is run, and any other is answered once and leaves nothing; with prepare=True
+    each is prepared for good. The program is that of the argument, of the environment (PIQL_FILE, PIQL_HOST for a
+    cluster, PIQL for a store in memory), or that which the repository or the release has. `timeout` is for how many seconds a store that another process has, or a server that isn't there, is
     tried again. `step` is for how many seconds whoever is at work on a statement may stand still: the engine over a
     file or in memory, or a server, until the report; over a cluster the engine and each call of the store. Then the
     wait is ended, and the error says what stands. None is 60 over a cluster, and no limit elsewhere. Over a cluster,

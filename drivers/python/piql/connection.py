@@ -18,8 +18,10 @@ from .plain import plain_list, plain_path, plain_seconds, plain_text
 from .refusals import refusal_of, with_causes
 from .reports import Report, Work, read_report
 from .scripts import place_at
-from .schema import Query, Schema, read_schema
+from .schema import Column, Query, Schema, read_schema
+from .selected import columns_of
 from .statements import Kind, Sent, Statement, prepare_of, read_statement
+from .unprepared import NO_PAGES, UNPREPARED, explain_of, is_no_statement, wanted_index, with_values
 from .values import quoted, quoted_text
 
 if TYPE_CHECKING:
@@ -29,7 +31,6 @@ if TYPE_CHECKING:
 Parameters = Sequence[object]
 Watch = Callable[[Statement, Report], None]
 SHOW = read_statement("SHOW")
-UNPREPARED = "this SELECT isn't prepared in the store, and the connection was made with prepare=False: {text}"
 NO_REPORT = (
     "what came back is no report of such a statement. One that only reads changed nothing, a write was made whole or"
     " not at all, and nothing of the answer is told"
@@ -70,10 +71,12 @@ class Connection:
     ProgrammingError = errors.ProgrammingError
     NotSupportedError = errors.NotSupportedError
 
-    def __init__(self, link: Link, prepare: bool = True, error_on_missing: bool = False) -> None:
+    def __init__(self, link: Link, prepare: bool = False, error_on_missing: bool = False) -> None:
         self._link: Link | None = link
         self._lock = threading.RLock()
         self._prepare, self._error_on_missing = prepare, error_on_missing
+        # Whether the engine's language has a SELECT as a statement, as far as it is known.
+        self._selects = True
         self._schema: Schema | None = None
         self._names: dict[str, str] = {}
         self._sent = self._trips = 0
@@ -199,7 +202,8 @@ class Connection:
         """The exception of a refusal; where the tokens spell nothing, with the place in the writer's text."""
         text = sent.statement.text
         if fields[0] != "E104":
-            return refused(with_causes(refusal_of(fields, text)._replace(**self.detail(fields, text)._asdict())))
+            detail = self.wanted(sent.statement) if fields[0] == "E406" else self.detail(fields, text)
+            return refused(with_causes(refusal_of(fields, text)._replace(**detail._asdict())))
         at = sent.source_at(int(fields[1]))
         return refused(refusal_of(("E104", str(len(text[:at].encode()))), text, place_at(text, at)))
 
@@ -212,10 +216,17 @@ class Connection:
         except errors.Error:
             return Detail()
 
+    def wanted(self, select: Statement) -> Detail:
+        """The index that a SELECT wants, as its EXPLAIN tells it."""
+        try:
+            return wanted_index(select, self.report(explain_of(select)), self.schema())
+        except (errors.Error, IndexError):
+            return Detail()
+
     def answer(
         self, statement: Statement, parameters: Parameters, after: str | None = None, timeout: float | None = None
     ) -> Report:
-        """The report of a statement with its values, behind a cursor of pages; a SELECT is prepared where it isn't."""
+        """The report of a statement with its values, behind a cursor of pages."""
         if timeout is not None:
             with self.within(plain_seconds(timeout, "timeout")):
                 return self.answer(statement, parameters, after)
@@ -223,7 +234,7 @@ class Connection:
         return self.answer_select(sent) if statement.kind.is_prepared else self.report(sent)
 
     def answer_select(self, sent: Sent) -> Report:
-        """The report of the RUN of a SELECT. Where the file was changed for another, the definitions are read anew."""
+        """The report of a SELECT. Where the file was changed for another, the definitions are read anew."""
         with self._lock:
             try:
                 return self.run_select(sent)
@@ -234,17 +245,57 @@ class Connection:
             return self.run_select(sent)
 
     def run_select(self, sent: Sent) -> Report:
-        """The report of the RUN of a SELECT, which is prepared where it isn't."""
+        """The report of the RUN of a SELECT that is prepared, or else of the SELECT itself."""
         self.schema()
-        name = self._names.get(sent.statement.name) or self.define(sent.statement)
-        return self.report(sent.run_as(name))
+        name = self._names.get(sent.statement.name)
+        if name is None and not self._prepare and (report := self.select(sent)):
+            return report
+        return self.report(sent.run_as(name or self.define(sent.statement)))
+
+    def select(self, sent: Sent) -> Report | None:
+        """The report of a SELECT that leaves nothing; None where it is prepared, or the engine has no such statement.
+
+        Its further pages want a PREPARE, which another connection may have made meanwhile.
+        """
+        statement = sent.statement
+        if statement.pages and self.refresh() and statement.name in self._names:
+            return None
+        unprepared = self.unprepared(sent)
+        if unprepared is None:
+            return None
+        try:
+            report = self.report(unprepared)
+        except ProgrammingError as error:
+            if not self.has_no_select(error, statement):
+                raise
+            return None
+        report.is_selected = True
+        return report
+
+    def unprepared(self, sent: Sent) -> Sent | None:
+        """A SELECT as it is sent where it isn't prepared; None where the engine is known to have no such statement."""
+        if not self._selects:
+            return None
+        if sent.behind:
+            raise NotSupportedError(NO_PAGES)
+        return with_values(sent.statement, sent.fillings)
+
+    def has_no_select(self, error: errors.DatabaseError, statement: Statement) -> bool:
+        """Whether an engine has refused a SELECT as no statement of its language, which is then known."""
+        if not is_no_statement(error, statement):
+            return False
+        self._selects = False
+        return True
 
     def prepared_name(self, statement: Statement) -> str | None:
-        """The name under which a SELECT is prepared; None where it is still to be, by this connection."""
+        """The name under which a SELECT is prepared; None where it isn't, or is still to be by this connection."""
         self.schema()
-        if statement.name not in self._names and not self._prepare:
-            return self.define(statement)
         return self._names.get(statement.name)
+
+    @property
+    def prepares(self) -> bool:
+        """Whether a SELECT that isn't prepared is so by this connection."""
+        return self._prepare
 
     def define(self, statement: Statement) -> str:
         """Prepares a SELECT under the name of its tokens, unless another connection has done so meanwhile."""
@@ -282,10 +333,18 @@ class Connection:
 
     def find_query(self, name: str) -> tuple[Schema, Query]:
         """The query that a name or the name of a SELECT's tokens stands for, with the schema."""
-        for schema in (self.schema(), self.refresh()):
+        for read in (self.schema, self.refresh):
+            schema = read()
             if query := schema.queries().get(self._names.get(name, name)):
                 return schema, query
         raise ProgrammingError(f"no query has the name {name}")
+
+    def columns_of(self, select: Statement) -> list[tuple[str, Column]]:
+        """The columns of the answer of a SELECT that isn't prepared."""
+        try:
+            return columns_of(select.text, self.schema())
+        except (KeyError, StopIteration):
+            return columns_of(select.text, self.refresh())
 
     def bounds(self) -> dict[str, Work]:
         """Each query of the store with its bound, by an EXPLAIN of its text."""

@@ -3,11 +3,12 @@
 from collections.abc import Iterable, Iterator, Sequence
 from typing import TYPE_CHECKING, NamedTuple
 
-from .errors import InterfaceError, ProgrammingError
+from .errors import InterfaceError, NotSupportedError, ProgrammingError
 from .plain import plain_list, plain_rows, plain_text
 from .reports import Report, Row, Work
 from .scripts import NAME, pieces
 from .statements import Kind, Statement, check_utf8, read_statement
+from .unprepared import NO_PAGES
 
 if TYPE_CHECKING:
     from .connection import Connection, Parameters
@@ -100,8 +101,19 @@ class Cursor:
 
     @property
     def next_page(self) -> str | None:
-        """The cursor behind a full page, to be handed to execute as `after`."""
+        """The cursor behind a full page, to be handed to execute as `after`.
+
+        The further pages of a SELECT want a PREPARE. Where it has none, this says so, and isn't the end of its rows.
+        """
+        if self.wants_prepare:
+            raise NotSupportedError(NO_PAGES)
         return None if self._report is None else self._report.end.cursor
+
+    @property
+    def wants_prepare(self) -> bool:
+        """Whether the last statement was a SELECT with PAGINATE that isn't prepared: its first page is all it has."""
+        is_selected = self._report is not None and self._report.is_selected
+        return is_selected and self._statement is not None and self._statement.pages
 
     def execute(
         self, operation: str, parameters: "Parameters" = (), *, after: str | None = None, timeout: float | None = None
@@ -158,11 +170,12 @@ class Cursor:
     def _describe(self, statement: Statement) -> Sequence[ColumnDescription] | None:
         if not statement.kind.has_pages:
             return {Kind.SHOW: SHOWN, Kind.EXPLAIN: EXPLAINED, Kind.READ: COUNTED}.get(statement.kind)
-        schema, query = self._open().find_query(statement.name)
-        return tuple(
-            ColumnDescription(name, it.type, it.size, it.size, null_ok=it.nullable)
-            for name, it in schema.columns_of(query)
-        )
+        if self._report is not None and self._report.is_selected:
+            columns = self._open().columns_of(statement)
+        else:
+            schema, query = self._open().find_query(statement.name)
+            columns = schema.columns_of(query)
+        return tuple(ColumnDescription(name, it.type, it.size, it.size, null_ok=it.nullable) for name, it in columns)
 
     @property
     def rownumber(self) -> int | None:

@@ -70,12 +70,16 @@ Line = OpeningLine | QueryLine | IndexLine | DefinitionLine | EndLine | DamageLi
 
 
 class Report:
-    """A report: its rows, or its other lines, and its end line. No report has rows and other lines."""
+    """A report: its rows, or its other lines, and its end line. No report has rows and other lines.
 
-    __slots__ = ("rows", "lines", "ending", "_end")
+    `is_selected` says that it answers a SELECT that isn't prepared.
+    """
+
+    __slots__ = ("rows", "lines", "ending", "is_selected", "_end")
 
     def __init__(self, rows: list[Row], lines: list[Line], ending: str) -> None:
         self.rows, self.lines, self.ending = rows, lines, ending
+        self.is_selected = False
         self._end: EndLine | None = None
 
     @property

@@ -21,27 +21,38 @@ from .hosts.urls import is_url
 from .prompt import prompt
 from .reports import Work
 from .schema import Added, Table
-from .scripts import Place, pieces
-from .statements import Sent, read_statement
+from .scripts import NAME, Place, pieces
+from .server.figures import DEFINITIONS
+from .statements import Kind, Sent, Statement, read_statement
 from .tables import table
 
 HELP = """\
 A statement ends with ; and may go over several lines. Ctrl-C leaves one that isn't whole.
-A SELECT is defined for good where it isn't yet, and may make an index; .queries and .indexes list them.
+A SELECT leaves nothing. One that wants an index, or further pages, is prepared first: .define NAME prepares the last
+SELECT for good under a name, and makes its index. RUN NAME then answers it, page by page.
 .tables     the tables         .queries    the prepared queries
 .counters   the counters       .indexes    each table's key and indexes
 .bounds     each query's bound
 .next       the next page of the last answer
+.define NAME   prepares the last SELECT
 .help       this               .quit       the end, as Ctrl-D"""
+NO_SELECT = "there is no SELECT yet; .define NAME prepares the last one"
+NO_NAME = ".define wants a name: letters, digits and _, the first no digit"
+FURTHER = "; .next has more"
+MAY_BE_FURTHER = "; a page of a SELECT that isn't prepared, .define NAME makes the further ones"
 
 
 def numbers(bound: Work | None, used: Work | None) -> str:
     """The bound and what was used, in words."""
     if bound is None or used is None:
         return ""
-    operations = f"{bound.operations} operation{'' if bound.operations == 1 else 's'}"
-    entries = f"{bound.entries} entr{'y' if bound.entries == 1 else 'ies'}"
-    return f"at most {operations}, {entries}; used {used.operations}, {used.entries}"
+    return f"at most {amount(bound)}; used {used.operations}, {used.entries}"
+
+
+def amount(work: Work) -> str:
+    """Operations and entries, in words."""
+    operations = f"{work.operations} operation{'' if work.operations == 1 else 's'}"
+    return f"{operations}, {work.entries} entr{'y' if work.entries == 1 else 'ies'}"
 
 
 def underlined(statement: str, place: Place) -> str:
@@ -65,6 +76,13 @@ def told(error: Error) -> str:
     return "\n".join(lines)
 
 
+def further(cursor: Cursor) -> str:
+    """What is said of further pages behind the number of rows."""
+    if cursor.wants_prepare:
+        return MAY_BE_FURTHER
+    return FURTHER if cursor.next_page else ""
+
+
 def answer(cursor: Cursor) -> str:
     """What a statement was answered: its rows, if it has any, and its numbers."""
     lines = []
@@ -75,28 +93,46 @@ def answer(cursor: Cursor) -> str:
             lines += [f"{number:3} {text}" for number, text in rows]
         elif rows:
             lines.append(table([it.name for it in cursor.description], rows))
-        lines += [f"{len(rows)} row{'' if len(rows) == 1 else 's'}" + ("; .next has more" if cursor.next_page else "")]
+        lines += [f"{len(rows)} row{'' if len(rows) == 1 else 's'}" + further(cursor)]
     else:
         lines.append("ok" if cursor.rowcount else "no row has this key")
     return "\n".join([*lines, numbers(cursor.bound, cursor.used)])
 
 
 class Shell:
-    """A prompt's state: its connection, and the statement whose next page may be asked for."""
+    """A prompt's state: its connection, the last SELECT, and the statement whose next page may be asked for."""
 
     def __init__(self, connection: Connection) -> None:
         self.connection = connection
+        self.selected: Statement | None = None
         self.paged: tuple[str, str] | None = None
 
     def execute(self, text: str, after: str | None = None) -> str:
         """What a statement is answered."""
         try:
+            statement = read_statement(text)
+            if statement.kind is Kind.SELECT:
+                self.selected = statement
             cursor = self.connection.execute(text, after=after)
         except Error as error:
             return told(error)
-        if read_statement(text).kind.has_pages:
-            self.paged = (text, cursor.next_page) if cursor.next_page else None
+        if statement.kind.has_pages:
+            following = None if cursor.wants_prepare else cursor.next_page
+            self.paged = (text, following) if following else None
         return answer(cursor)
+
+    def define(self, name: str) -> str:
+        """Prepares the last SELECT under a name; its bound, its index, and how many definitions are left."""
+        if NAME.fullmatch(name) is None:
+            return NO_NAME
+        if self.selected is None:
+            return NO_SELECT
+        prepare = self.selected._replace(kind=Kind.PREPARE)
+        report = self.connection.report(Sent(prepare, f"PREPARE {name} AS ", prepare.numbered()))
+        lines = [f"query {it.name}: at most {amount(it.bound)}" for it in report.queries()]
+        lines += [f"index {it.number} of {it.table}: {', '.join(it.columns)}" for it in report.indexes()]
+        left = DEFINITIONS - len(self.connection.refresh().definitions)
+        return "\n".join([*lines, f"{left} of {DEFINITIONS} definitions are left"])
 
     def next_page(self) -> str:
         """The next page of the last answer."""
@@ -108,6 +144,8 @@ class Shell:
         """What a word with a point is answered."""
         if word == ".next":
             return self.next_page()
+        if word.split()[0] == ".define":
+            return self.define(word.removeprefix(".define").strip().rstrip(";"))
         if word == ".tables":
             definitions = self.connection.refresh().definitions
             return "\n".join(it.text for it in definitions if isinstance(it, (Table, Added)))

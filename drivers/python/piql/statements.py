@@ -31,7 +31,7 @@ class Kind(Enum):
     OTHER = "OTHER"
 
     def __init__(self, word: str) -> None:
-        self.reads = word in ("RUN", "READ", "EXPLAIN", "SHOW")
+        self.reads = word in ("SELECT", "RUN", "READ", "EXPLAIN", "SHOW")
         self.defines = word in ("CREATE", "ALTER", "PREPARE")
         self.writes = word in ("INSERT", "UPDATE", "DELETE")
         # Its answer is rows, and those of a query come page by page.
@@ -45,7 +45,8 @@ class Kind(Enum):
 class Statement(NamedTuple):
     """A statement: its kind, the query that it runs or defines, its text cut at each `?`, and how many values it takes.
 
-    `template` is the parts with `%s` between them.
+    `template` is the parts with `%s` between them, `widths` how many letters stand there in the text. `pages` says that
+    it has PAGINATE.
     """
 
     text: str
@@ -54,6 +55,8 @@ class Statement(NamedTuple):
     parts: tuple[str, ...]
     params: int
     template: str
+    widths: tuple[int, ...]
+    pages: bool
 
     def numbered(self) -> tuple[str, ...]:
         """What stands for each `?` in the text of a query."""
@@ -90,12 +93,13 @@ class Sent(NamedTuple):
         """The character of the writer's text that a byte of the statement stands for."""
         sent = character_at(self.text().encode(), at) - len(self.before)
         source = 0
-        for part, filling in zip(self.statement.parts, (*self.fillings, self.behind + ";")):
+        fillings, widths = (*self.fillings, self.behind + ";"), (*self.statement.widths, 0)
+        for part, filling, width in zip(self.statement.parts, fillings, widths):
             if sent < len(part):
                 return max(source + sent, 0)
             if sent < len(part) + len(filling):
                 return source + len(part)
-            source, sent = source + len(part) + 1, sent - len(part) - len(filling)
+            source, sent = source + len(part) + width, sent - len(part) - len(filling)
         return len(self.statement.text)
 
 
@@ -198,12 +202,22 @@ def read_text(text: str) -> Statement:
     texts = numbered_tokens(found)
     if places and kind.is_numbered and any(token.is_mark("[") for token in found):
         raise ProgrammingError("a statement has either ? or numbered parameters, and not both")
-    starts = [0, *(token.end for token in places)]
-    ends = [*(token.start for token in places), found[-1].end]
-    parts = tuple(text[start:end] for start, end in zip(starts, ends))
     params = param_count(texts) if kind is Kind.SELECT else 0 if kind.is_numbered else len(places)
-    template = "%s".join(part.replace("%", "%%") for part in parts)
-    return Statement(text, kind, name_in(kind, found, texts), parts, params, template)
+    parts = cut_at([(token.start, token.end) for token in places], text, found[-1].end)
+    pages = any(token.is_word("PAGINATE") for token in found)
+    widths = (1,) * len(places)
+    return Statement(text, kind, name_in(kind, found, texts), parts, params, template_of(parts), widths, pages)
+
+
+def cut_at(places: list[tuple[int, int]], text: str, end: int) -> tuple[str, ...]:
+    """The parts of a text, up to its end, between places that begin and end at these letters."""
+    starts, ends = [0, *(after for _, after in places)], [*(before for before, _ in places), end]
+    return tuple(text[start:stop] for start, stop in zip(starts, ends))
+
+
+def template_of(parts: tuple[str, ...]) -> str:
+    """The parts with `%s` between them."""
+    return "%s".join(part.replace("%", "%%") for part in parts)
 
 
 @lru_cache(maxsize=1024)

@@ -57,7 +57,7 @@ def engine_of(connection: piql.Connection) -> Engine:
 
 @needs_file
 class StoreCase(unittest.TestCase):
-    """A case whose tests share one store, which `script` has defined."""
+    """A case whose tests share one store, which `script` has defined. Each SELECT is prepared there, as it was read."""
 
     script = ""
     connection: piql.Connection
@@ -68,7 +68,7 @@ class StoreCase(unittest.TestCase):
         folder = make_folder()
         cls.addClassCleanup(shutil.rmtree, folder, ignore_errors=True)
         cls.path = folder / "store.db"
-        cls.connection = piql.connect(cls.path)
+        cls.connection = piql.connect(cls.path, prepare=True)
         cls.addClassCleanup(cls.connection.close)
         cls.connection.cursor().executescript(cls.script)
 

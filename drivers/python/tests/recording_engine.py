@@ -57,7 +57,8 @@ def answer(piece: bytes, number: int) -> str:
     word = piece.split(None, 1)[0].upper()
     if word == b"READ":
         return f"row 0\n{number} ok rows 1 {NUMBERS}\n"
-    return f"{number} ok rows 0 {NUMBERS}\n" if word.startswith(b"RUN") else f"{number} ok {NUMBERS}\n"
+    has_rows = word.startswith(b"RUN") or word == b"SELECT"
+    return f"{number} ok rows 0 {NUMBERS}\n" if has_rows else f"{number} ok {NUMBERS}\n"
 
 
 def tell(text: str) -> None:

@@ -192,9 +192,7 @@ class RunTest(unittest.TestCase):
         with self.open(prepare=False) as connection:
             self.assertEqual(len(connection.schema().definitions), 2)
             connection.execute("SELECT b FROM t WHERE a = ?", (1,))
-            with self.assertRaises(piql.ProgrammingError) as caught:
-                connection.execute("SELECT a FROM t WHERE a = ?", (1,))
-            self.assertIn("prepare=False", str(caught.exception))
+            self.assertEqual(connection.statements, 2)
 
     def test_a_query_of_the_schema_is_reused(self) -> None:
         connection = self.open()

@@ -112,7 +112,7 @@ class LongestTest(unittest.TestCase):
         for text in TEXTS:
             for kind, make in stores(self):
                 with self.subTest(kind, text=text[:9]):
-                    with Connection(HostLink(kind, make(), PIQL_HOST)) as connection:
+                    with Connection(HostLink(kind, make(), PIQL_HOST), prepare=True) as connection:
                         self.check(connection, text)
                         self.check_moved(connection, text)
                     with Connection(HostLink(kind, make(), PIQL_HOST)) as connection:

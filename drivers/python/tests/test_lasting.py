@@ -31,7 +31,7 @@ class LastingTest(unittest.TestCase):
         self.path = new_folder(self) / "store.db"
 
     def open(self) -> piql.Connection:
-        connection = piql.connect(self.path)
+        connection = piql.connect(self.path, prepare=True)
         self.addCleanup(connection.close)
         return connection
 
@@ -55,7 +55,7 @@ class LastingTest(unittest.TestCase):
             with piql.connect(self.path) as connection:
                 connection.execute("INSERT INTO t VALUES (?)", (number,))
                 self.assertEqual(len(connection.execute(COUNT).fetchall()), number + 1)
-                self.assertEqual(len(connection.schema().definitions), 2)
+                self.assertEqual(len(connection.schema().definitions), 1)
 
     def test_ten_thousand_rows(self) -> None:
         connection = self.open()

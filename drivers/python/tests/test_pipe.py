@@ -149,7 +149,7 @@ class EntryTest(PipeCase):
         self.assertEqual(self.sent(), b"")
 
     def test_a_select_by_its_run(self) -> None:
-        connection = self.open()
+        connection = self.open(prepare=True)
         connection.execute(Text("SELECT x.a FROM t AS x WHERE x.b = ?"), (Text("b'"),))
         name = b"q_" + self.sent().partition(b"RUN q_")[2]
         self.assertRegex(name, rb"^q_[0-9a-f]{30} \('b'''\);$")

@@ -37,7 +37,7 @@ class ServeTest(unittest.TestCase):
         return server
 
     def open(self) -> piql.Connection:
-        connection = piql.connect(f"unix:{self.at}")
+        connection = piql.connect(f"unix:{self.at}", prepare=True)
         self.addCleanup(connection.close)
         return connection
 
@@ -74,7 +74,7 @@ class ServeTest(unittest.TestCase):
         self.assertEqual(len(made), WRITES)
         self.assertEqual(self.stored(self.open()), sorted(made))
         self.assertEqual(self.server.end()[0], 0)
-        with piql.connect(self.path) as connection:
+        with piql.connect(self.path, prepare=True) as connection:
             self.assertEqual(self.stored(connection), sorted(made))
 
     def test_a_client_that_goes_away(self) -> None:
@@ -207,7 +207,7 @@ class ServeTest(unittest.TestCase):
         stop.set()
         writer.join()
         self.assertEqual(sorted(it.name for it in copy.parent.glob("copy*")), ["copy.db"])
-        with piql.connect(copy) as other:
+        with piql.connect(copy, prepare=True) as other:
             rows = self.stored(other)
         self.assertEqual(rows, [(5, number) for number in range(len(rows))])
         self.assertTrue(before <= len(rows) <= after)

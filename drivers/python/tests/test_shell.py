@@ -88,6 +88,17 @@ class ShellTest(StoreCase):
         self.assertIn("there is no .x", self.said(".x"))
         self.assertRegex(self.said(".indexes"), r"t +\| key +\| a\n")
 
+    def test_define(self) -> None:
+        said = self.said(".define by_b", "SELECT x.a FROM t AS x", "WHERE x.b = 'x' LIMIT 2;", ".define by_b;", "RUN by_b;")
+        self.assertIn("there is no SELECT yet", said)
+        self.assertIn("query by_b: at most 3 operations, 4 entries\n", said)
+        left = 256 - len(self.connection.refresh().definitions)
+        self.assertIn(f"{left} of 256 definitions are left\n a\n--\n13\n1 row\n", said)
+        self.assertEqual(list(self.connection.schema().queries())[-1], "by_b")
+        for name in ("", " 1a", " a b", " a;b", " é"):
+            self.assertIn(".define wants a name", self.said(f".define{name}"))
+        self.assertIn("E201 by_b", self.said("SELECT a FROM t LIMIT 1;", ".define by_b"))
+
     def test_what_is_no_refusal(self) -> None:
         self.assertEqual(self.said("RUN page (?);"), "1 value wanted, 0 given\n")
         self.assertEqual(self.said("RUN page ('\udcff');"), "this line isn't UTF-8, and is left out\n")

@@ -7,7 +7,7 @@ from ..frames import BACKUP, LIMITED, LIMITS, STATEMENT, FrameError
 from ..scripts import STATEMENT_BYTES, first_token, is_one_piece
 
 WORD = re.compile(rb"[A-Za-z_][A-Za-z0-9_]*+")
-READING = frozenset({"RUN", "READ", "EXPLAIN", "SHOW"})
+READING = frozenset({"SELECT", "RUN", "READ", "EXPLAIN", "SHOW"})
 WRITING = frozenset({"INSERT", "UPDATE", "DELETE"})
 DEFINING = frozenset({"CREATE", "ALTER", "PREPARE"})
 COPY, OTHER = "COPY", "OTHER"
