@@ -152,7 +152,7 @@ class RunTest(unittest.TestCase):
 
     def test_an_answer_is_told(self) -> None:
         run = self.release.run("bin/tell", "examples/first.piql")
-        self.assertTrue(run.stdout.endswith(b"\n5 statements, 0 refused\n"), run)
+        self.assertTrue(run.stdout.endswith(b"\n6 statements, 0 refused\n"), run)
 
     def test_the_package_runs_it(self) -> None:
         program = "import piql; print(piql.connect(':memory:').execute('SHOW').fetchall())"
