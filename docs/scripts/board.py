@@ -1,4 +1,4 @@
-"""A board of links: python3 board.py FILE page [CURSOR] | front | vote LINK VOTER | serve"""
+"""A board of links: python3 board.py FILE page [CURSOR] | front | vote LINK VOTER | buy LINK PRICE | serve"""
 
 import html
 import sys
@@ -27,6 +27,15 @@ def vote(board, link, voter):
         board.execute("UPDATE links SET score = ? WHERE id = ?", (number, link))
         return number
     raise piql.OperationalError("too many votes at once")
+
+
+def buy(board, link, price):
+    """Sells a print of a link at the price that the buyer has seen; whether there was one."""
+    change = "UPDATE prints SET stock ADD -1, sold ADD 1 WHERE link = ? IF stock > 0 AND price = ?"
+    try:
+        return board.execute(change, (link, price)).rowcount == 1
+    except piql.Changed:  # none is left, or the price is another by now
+        return False
 
 
 def page(board, cursor=None):
@@ -67,6 +76,8 @@ def main(file, command, *words):
             print("newest:", *newest, "best:", *best, sep="\n")
         elif command == "vote":
             print(vote(board, int(words[0]), words[1]))
+        elif command == "buy":
+            print(buy(board, *map(int, words)))
         elif command == "serve":
             make_server("localhost", 8000, application(board)).serve_forever()
 
