@@ -202,7 +202,7 @@ class Connection:
         """The exception of a refusal; where the tokens spell nothing, with the place in the writer's text."""
         text = sent.statement.text
         if fields[0] != "E104":
-            detail = self.wanted(sent.statement) if fields[0] == "E406" else self.detail(fields, text)
+            detail = self.wanted(sent.statement, fields[1]) if fields[0] == "E406" else self.detail(fields, text)
             return refused(with_causes(refusal_of(fields, text)._replace(**detail._asdict())))
         at = sent.source_at(int(fields[1]))
         return refused(refusal_of(("E104", str(len(text[:at].encode()))), text, place_at(text, at)))
@@ -216,12 +216,12 @@ class Connection:
         except errors.Error:
             return Detail()
 
-    def wanted(self, select: Statement) -> Detail:
-        """The index that a SELECT wants, as its EXPLAIN tells it."""
+    def wanted(self, select: Statement, table: str) -> Detail:
+        """The index of a table that a SELECT wants, as its EXPLAIN tells it."""
         try:
             return wanted_index(select, self.report(explain_of(select)), self.schema())
         except (errors.Error, IndexError):
-            return Detail()
+            return Detail(table=table)
 
     def answer(
         self, statement: Statement, parameters: Parameters, after: str | None = None, timeout: float | None = None

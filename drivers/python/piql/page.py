@@ -8,7 +8,7 @@ from .bounds import BoundsRose
 from .connection import Connection
 from .errors import ProgrammingError
 from .reports import Report, Work
-from .statements import Statement
+from .statements import Kind, Statement
 
 
 class Page:
@@ -25,8 +25,9 @@ class Page:
         self.statements += 1
         self.bound = Work(*map(sum, zip(self.bound, end.bound)))
         self.used = Work(*map(sum, zip(self.used, end.used)))
-        # A query by its name, and any other statement by its first word.
-        self.operations[statement.name or statement.kind.value] += end.bound.operations
+        # A query by its name, and any other statement by its first word; a SELECT that isn't prepared has no name.
+        name = "" if statement.kind is Kind.SELECT else statement.name
+        self.operations[name or statement.kind.value] += end.bound.operations
 
     def dearest(self) -> str:
         """The operations of each query and kind of statement, those with most first."""

@@ -78,7 +78,7 @@ def with_values(select: Statement, values: Sequence[str]) -> Sent:
     for number, value in enumerate(values, 1):
         if value == "NULL":
             # Behind a comparison `null` is the name of a column.
-            raise refused(refusal_of(("E402", str(number)), select.text))
+            raise refused(refusal_of(("E402", str(number)), select.text)._replace(detail=f"It is value {number}."))
     found = with_places(select)
     if found is None:
         return Sent(select, "", select.numbered())

@@ -128,6 +128,7 @@ class SentTest(PipeCase):
             with self.subTest(text), self.assertRaises(piql.DatabaseError) as caught:
                 connection.execute(text, values)
             self.assertEqual(caught.exception.number, number)
+            self.assertTrue(number is None or " It is value " in str(caught.exception))
             self.assertEqual(self.sent(), b"")
 
     def test_pages_want_a_prepare(self) -> None:
@@ -143,6 +144,14 @@ class SentTest(PipeCase):
         self.assertEqual(self.sent(), b"SHOW;")
         cursor.execute("RUN q")
         self.assertEqual((cursor.next_page, cursor.wants_prepare), (None, False))
+
+    def test_a_page(self) -> None:
+        connection = self.open()
+        with self.assertRaises(piql.BoundsRose) as caught:
+            with piql.page(connection, most=1):
+                for _ in range(2):
+                    connection.execute("RUN q").execute("SELECT u.name FROM users AS u WHERE u.name = ?", ("ann",))
+        self.assertTrue(str(caught.exception).endswith(": q 2, SELECT 2"))
 
 
 class PlaceTest(PipeCase):
@@ -206,3 +215,4 @@ class IndexTest(PipeCase):
         self.assertEqual((caught.exception.number, caught.exception.fields), ("E406", {"table": "users"}))
         explain = b"EXPLAIN SELECT u.name FROM users AS u WHERE u.town = [1] LIMIT 9;"
         self.assertTrue(self.sent().endswith(explain))
+        self.assertEqual(caught.exception.table, "users")
