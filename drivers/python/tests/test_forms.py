@@ -23,7 +23,7 @@ INSERT INTO if VALUES (1, 1, NULL);
 SET = "UPDATE m SET v = 9 WHERE id = 1"
 TOWN = "SELECT u.name FROM users AS u WHERE u.city = ? LIMIT 10"
 BY_NAME = "SELECT u.city FROM users AS u WHERE u.name = ?"
-PAGE = "SELECT * FROM users ORDER BY name PAGINATE 1"
+PAGE = "SELECT u.name, u.city FROM users AS u ORDER BY u.name PAGINATE 1"
 Values = tuple[object, ...]
 # Statements one after the other, with their values; a write has a row count, a SELECT its rows.
 DONE: list[tuple[str, Values, object]] = [
