@@ -72,13 +72,14 @@ def connect(
 
     A SELECT that the store has prepared is run, and any other is answered once and leaves nothing; with prepare=True
     each is prepared for good. The program is that of the argument, of the environment (PIQL_FILE, PIQL_HOST for a
-    cluster, PIQL for a store in memory), or that which the repository or the release has. `timeout` is for how many seconds a store that another process has, or a server that isn't there, is
-    tried again. `step` is for how many seconds whoever is at work on a statement may stand still: the engine over a
-    file or in memory, or a server, until the report; over a cluster the engine and each call of the store. Then the
-    wait is ended, and the error says what stands. None is 60 over a cluster, and no limit elsewhere. Over a cluster,
-    any number of connections with reader=True read beside the one that writes. An UPDATE or a DELETE that finds no row
-    has the rowcount 0; with error_on_missing=True it raises an IntegrityError, E504. A piql-serve refuses a PREPARE
-    whose index would go over more rows than it allows, as all its clients wait for it; `index_rows` allows so many.
+    cluster, PIQL for a store in memory), or that which the repository or the release has. `timeout` is for how many
+    seconds a store that another process has, or a server that isn't there, is tried again. `step` is for how many
+    seconds whoever is at work on a statement may stand still: the engine over a file or in memory, or a server, until
+    the report; over a cluster the engine and each call of the store. Then the wait is ended, and the error says what
+    stands. None is 60 over a cluster, and no limit elsewhere. Over a cluster, any number of connections with
+    reader=True read beside the one that writes. An UPDATE or a DELETE that finds no row has the rowcount 0; with
+    error_on_missing=True it raises an IntegrityError, E504. A piql-serve refuses a PREPARE whose index would go over
+    more rows than it allows, as all its clients wait for it; `index_rows` allows so many.
     """
     target = plain_path(path, "the store")
     timeout = plain_seconds(timeout, "timeout")

@@ -178,6 +178,7 @@ class Connection:
         """What has come as the report of a statement, which is told to those who watch; a refusal is raised."""
         kind = sent.statement.kind
         report = self.read(text, kind)
+        report.is_selected = kind is Kind.SELECT
         for watch in self._watches:
             watch(sent.statement, report)
         if " refused " in report.ending and not self.is_answered(report):
@@ -201,6 +202,9 @@ class Connection:
     def refusal(self, sent: Sent, fields: tuple[str, ...]) -> errors.DatabaseError:
         """The exception of a refusal; where the tokens spell nothing, with the place in the writer's text."""
         text = sent.statement.text
+        if is_no_statement(fields, sent.statement):
+            self._selects = False
+            return ProgrammingError(UNPREPARED.format(text=text))
         if fields[0] != "E104":
             detail = self.wanted(sent.statement, fields[1]) if fields[0] == "E406" else self.detail(fields, text)
             return refused(with_causes(refusal_of(fields, text)._replace(**detail._asdict())))
@@ -246,56 +250,41 @@ class Connection:
 
     def run_select(self, sent: Sent) -> Report:
         """The report of the RUN of a SELECT that is prepared, or else of the SELECT itself."""
-        self.schema()
-        name = self._names.get(sent.statement.name)
-        if name is None and not self._prepare and (report := self.select(sent)):
-            return report
-        return self.report(sent.run_as(name or self.define(sent.statement)))
+        if selected := self.selected(sent):
+            try:
+                return self.report(selected)
+            except ProgrammingError:
+                # An engine whose language has no such statement has said so.
+                if self._selects:
+                    raise
+        return self.report(sent.run_as(self.names().get(sent.statement.name) or self.define(sent.statement)))
 
-    def select(self, sent: Sent) -> Report | None:
-        """The report of a SELECT that leaves nothing; None where it is prepared, or the engine has no such statement.
+    def selected(self, sent: Sent) -> Sent | None:
+        """A SELECT that leaves nothing, with its values in their places; None where it is prepared, or is to be.
 
         Its further pages want a PREPARE, which another connection may have made meanwhile.
         """
-        statement = sent.statement
-        if statement.pages and self.refresh() and statement.name in self._names:
+        select = sent.statement
+        if self._prepare or select.name in self.names() or select.pages and select.name in self.names(anew=True):
             return None
-        unprepared = self.unprepared(sent)
-        if unprepared is None:
-            return None
-        try:
-            report = self.report(unprepared)
-        except ProgrammingError as error:
-            if not self.has_no_select(error, statement):
-                raise
-            return None
-        report.is_selected = True
-        return report
-
-    def unprepared(self, sent: Sent) -> Sent | None:
-        """A SELECT as it is sent where it isn't prepared; None where the engine is known to have no such statement."""
         if not self._selects:
             return None
         if sent.behind:
             raise NotSupportedError(NO_PAGES)
-        return with_values(sent.statement, sent.fillings)
+        return with_values(select, sent.fillings)
 
-    def has_no_select(self, error: errors.DatabaseError, statement: Statement) -> bool:
-        """Whether an engine has refused a SELECT as no statement of its language, which is then known."""
-        if not is_no_statement(error, statement):
-            return False
-        self._selects = False
-        return True
+    def names(self, anew: bool = False) -> dict[str, str]:
+        """The names under which SELECTs are prepared, by those of their tokens; read anew on demand."""
+        if anew:
+            self.refresh()
+        self.schema()
+        return self._names
 
     def prepared_name(self, statement: Statement) -> str | None:
-        """The name under which a SELECT is prepared; None where it isn't, or is still to be by this connection."""
-        self.schema()
+        """The name under which a SELECT is prepared; None where it is still to be, by this connection."""
+        if statement.name not in self.names() and not self._prepare:
+            return self.define(statement)
         return self._names.get(statement.name)
-
-    @property
-    def prepares(self) -> bool:
-        """Whether a SELECT that isn't prepared is so by this connection."""
-        return self._prepare
 
     def define(self, statement: Statement) -> str:
         """Prepares a SELECT under the name of its tokens, unless another connection has done so meanwhile."""

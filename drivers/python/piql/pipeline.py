@@ -12,11 +12,20 @@ from typing import TYPE_CHECKING, NamedTuple
 
 from .connection import asked_of
 from .cursor import rows_of, run_text
-from .errors import Error, InterfaceError, NotBegun, NotSupportedError, OperationalError, PipelineFull, ProgrammingError
+from .errors import (
+    DatabaseError,
+    Error,
+    InterfaceError,
+    NotBegun,
+    NotSupportedError,
+    OperationalError,
+    PipelineFull,
+    ProgrammingError,
+)
 from .lots import FRAME_HEAD, LOT_BYTES, LOT_STATEMENTS, SIZE, Asked, Outcome
 from .reports import Report, Row, Work
-from .statements import Kind, Sent, prepare_of, read_statement
-from .unprepared import NO_PAGES, UNPREPARED, with_values
+from .statements import Sent, prepare_of, read_statement
+from .unprepared import NO_PAGES, with_values
 
 if TYPE_CHECKING:
     from .connection import Connection, Parameters
@@ -77,7 +86,7 @@ class Result:
 
     @property
     def next_page(self) -> str | None:
-        """The cursor after a full page. The further pages of a SELECT want a PREPARE; where it has none, this says so."""
+        """The cursor after a full page. The further pages of a SELECT want a PREPARE; without one this says so."""
         report = self._answer()
         if report.is_selected and self._sent.statement.pages:
             raise NotSupportedError(NO_PAGES)
@@ -128,8 +137,8 @@ class Pipeline:
         """Collects a statement; what is wrong with its values is told at once."""
         statement = read_statement(operation)
         sent = asked_of(statement, parameters, after)
-        data = b"" if statement.kind.is_prepared else sent.data()
-        sizes = self._select_sizes(sent) if statement.kind.is_prepared else [len(data)]
+        data = (sent.run_as(statement.name) if statement.kind.is_prepared else sent).data()
+        sizes = self._sizes(sent, len(data))
         room = sum(sizes) + SIZE.size * len(sizes)
         if self._count + len(sizes) > LOT_STATEMENTS or self._bytes + room > LOT_BYTES:
             raise PipelineFull(FULL.format(what=NOT_TAKEN))
@@ -139,14 +148,15 @@ class Pipeline:
         self._results.append(Result(sent, data))
         return self._results[-1]
 
-    def _select_sizes(self, sent: Sent) -> list[int]:
-        """The most bytes of what is sent for a SELECT: of its RUN or itself, and before it of what prepares it."""
+    def _sizes(self, sent: Sent, size: int) -> list[int]:
+        """How many bytes may be sent for a statement: for a SELECT its RUN and what prepares it once, or itself."""
         statement = sent.statement
-        # The name of one that is prepared under another name isn't longer.
-        size = len(sent.run_as(statement.name).data())
-        if self.connection.prepares:
-            return [size] if statement.name in self._unprepared else [size, len(prepare_of(statement).data())]
-        return [size] if sent.behind else [max(size, len(with_values(statement, sent.fillings).data()))]
+        if not statement.kind.is_prepared:
+            return [size]
+        if not self.connection._prepare:
+            return [max(size, len(with_values(statement, sent.fillings).data()))]
+        # The name of a SELECT that is prepared under another one isn't longer.
+        return [size] if statement.name in self._unprepared else [size, len(prepare_of(statement).data())]
 
     def run(self, name: str, *values: object, after: str | None = None) -> Result:
         """Collects the RUN of a prepared query by its name, with its values."""
@@ -192,30 +202,29 @@ class Pipeline:
                     self._read(line, outcome)
 
     def _lines(self, results: list[Result]) -> list[Line]:
-        """What is sent for the statements. A connection that prepares each SELECT does so before it, once."""
+        """What is sent for the statements: of a SELECT its RUN, behind what prepares it once, or itself."""
         lines, unprepared = [], set()
         for result in results:
             statement = result._sent.statement
             if not statement.kind.is_prepared:
                 lines.append(Line(result, result._sent, result._data))
                 continue
-            name = self.connection.prepared_name(statement)
-            if name is None and self.connection.prepares and statement.name not in unprepared:
+            try:
+                selected = self.connection.selected(result._sent)
+                name = None if selected else self.connection.prepared_name(statement)
+            except DatabaseError as error:
+                result._error = error
+                continue
+            if selected:
+                lines.append(Line(result, selected, selected.data()))
+                continue
+            if name is None and statement.name not in unprepared:
                 unprepared.add(statement.name)
                 prepare = prepare_of(statement)
                 lines.append(Line(result, prepare, prepare.data(), True))
-            try:
-                sent = self._select(result._sent, name)
-                lines.append(Line(result, sent, sent.data()))
-            except Error as error:
-                result._error = error
+            run = result._sent.run_as(name or statement.name)
+            lines.append(Line(result, run, run.data()))
         return lines
-
-    def _select(self, sent: Sent, name: str | None) -> Sent:
-        """The RUN of a SELECT that is prepared under a name, or is so before it; else the SELECT itself."""
-        if name is not None or self.connection.prepares:
-            return sent.run_as(name or sent.statement.name)
-        return self.connection.unprepared(sent) or sent.run_as(self.connection.define(sent.statement))
 
     def _read(self, line: Line, outcome: Outcome) -> None:
         """Fills a result by what became of its statement, or of what prepares it."""
@@ -229,21 +238,12 @@ class Pipeline:
                 # Another connection has prepared it meanwhile.
                 self.connection.forget()
             elif result._error is None:
-                result._error = self._told(line, error)
+                result._error = error
             if line.sent.statement.kind.is_run and error.number == "E401":
                 self.connection.forget()
         else:
             if not line.prepares and result._error is None:
-                report.is_selected = line.sent.statement.kind is Kind.SELECT
                 result._report = report
-
-    def _told(self, line: Line, error: Error) -> Error:
-        """The exception of a statement: of a SELECT that the engine's language doesn't have, that it isn't prepared."""
-        statement = line.sent.statement
-        is_select = statement.kind is Kind.SELECT and isinstance(error, ProgrammingError)
-        if is_select and self.connection.has_no_select(error, statement):
-            return ProgrammingError(UNPREPARED.format(text=line.result._sent.statement.text))
-        return error
 
     def __enter__(self) -> "Pipeline":
         return self

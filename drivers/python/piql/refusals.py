@@ -37,7 +37,7 @@ class Refusal(NamedTuple):
     """A refusal of one statement. `place` is where its tokens spell nothing, or None.
 
     `detail` tells which name, key or number of values it is, where the definitions are known; `table` and `key` are
-    that table and its columns. `causes` are those of a query without a bound, as far as they are known for certain;
+    that table and its columns. `causes` are those of a query without a bound, as far as they are known for certain.
     `condition` is the condition or the predicate, and `is_value` says that a value is at fault in it.
     """
 

@@ -2,10 +2,10 @@
 
 from typing import NamedTuple
 
+from .conditions import COMPARISONS
 from .schema import Schema, Table
 from .scripts import Token, tokens
 
-COMPARISONS = ("=", "<>", "<", "<=", ">", ">=")
 RANGES = ("<", "<=", ">", ">=")
 
 

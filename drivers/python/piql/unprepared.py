@@ -10,7 +10,7 @@ from typing import NamedTuple
 
 from .conditions import is_comparison
 from .details import Detail
-from .errors import DatabaseError, refused
+from .errors import refused
 from .refusals import refusal_of
 from .reports import Report
 from .schema import Schema
@@ -87,10 +87,11 @@ def with_values(select: Statement, values: Sequence[str]) -> Sent:
     return Sent(cut, "", tuple(f" {values[number - 1]} " for number in numbers))
 
 
-def is_no_statement(error: DatabaseError, select: Statement) -> bool:
+def is_no_statement(fields: tuple[str, ...], statement: Statement) -> bool:
     """Whether an engine has refused a SELECT at its first word: its language has no such statement."""
-    at = len(select.text[: tokens(select.text)[0].start].encode())
-    return error.number == "E104" and error.fields.get("at") == str(at)
+    if fields[0] != "E104" or statement.kind is not Kind.SELECT:
+        return False
+    return int(fields[1]) == len(statement.text[: tokens(statement.text)[0].start].encode())
 
 
 def explain_of(select: Statement) -> Sent:

@@ -4,6 +4,7 @@
     RUN, READ hang | wait_MS | rows_N      never answers; answers after so many milliseconds; answers so many rows
     RUN exit_STATUS | damage         ends with a status, or as a run that met a damage whose key has the word MARKED
     EXPLAIN                          wants an index where it has the word `wants`
+    SELECT                           answers one row
     RUN none                         refused with E401
     INSERT wait_MS                   made after so many milliseconds
     anything else                    made; its text is written to a line of FILE.made
@@ -64,6 +65,8 @@ def serve(made: int) -> None:
                 told(number, DEFINITIONS, "ok")
             elif words[0] == "EXPLAIN":
                 told(number, "query explain stop 1 bound 21 40\n" + "index t 2 (b)\n" * (b"wants" in statement), "ok")
+            elif words[0] == "SELECT":
+                told(number, "row 1, 'text of a row'\n", "ok rows 1")
             elif words[0] in ("RUN", "READ"):
                 run_query(number, words[1])
             else:

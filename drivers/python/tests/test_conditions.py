@@ -1,4 +1,4 @@
-"""Writes on a condition and numbers that are added to: what is sent, and what is told where a condition doesn't hold."""
+"""Writes on a condition and numbers that are added to: what is sent, and what is told where one doesn't hold."""
 
 import unittest
 
@@ -67,7 +67,8 @@ class ChangedTest(PipeCase):
         error = caught.exception
         self.assertIsInstance(error, piql.OperationalError)
         self.assertEqual((error.number, error.table, error.condition, error.condition_text), ("E511", "m", 2, "v >= ?"))
-        self.assertIn("another than was read. Condition 2 doesn't hold of it: v >= ?. Way out: read the row", str(error))
+        told = "another than was read. Condition 2 doesn't hold of it: v >= ?. Way out: read the row"
+        self.assertIn(told, str(error))
         self.assertNotIn("secret", str(error))
         self.assertNotIn("987", str(error))
         self.assertEqual(connection.execute(WRITE, (1, 7, "secret", 987)).rowcount, 1)

@@ -117,7 +117,7 @@ class DetailTest(unittest.TestCase):
         for fields, statement, told, table, key in DETAILS:
             with self.subTest(fields=fields, statement=statement):
                 detail = detail_of(fields, statement, SCHEMA)
-                self.assertEqual(detail[:3], (told, table, key))
+                self.assertEqual(detail[:4], (told, table, key, ()))
                 error = refused(refusal_of(fields, statement)._replace(**detail._asdict()))
                 self.assertEqual((error.table, error.key), (table, key))
                 self.assertIn(told, str(error))

@@ -163,7 +163,7 @@ class FormTest(PipeCase):
         self.assertEqual((len(taken), self.sent()), (256, b""))
 
     def test_a_select_is_prepared_once_before_its_first_run(self) -> None:
-        connection = self.open()
+        connection = self.open(prepare=True)
         text = "SELECT x.a FROM t AS x WHERE x.b = ?"
         with connection.pipeline() as pipeline:
             pipeline.execute("INSERT INTO t VALUES (1)")
@@ -171,13 +171,18 @@ class FormTest(PipeCase):
             pipeline.execute(text.upper().replace("X.A", "x.a"), (2,))
         told = self.sent().split(b";")
         self.assertEqual([it.split()[0] for it in told if it], [b"INSERT", b"PREPARE", b"RUN", b"RUN"])
-        connection.close()
-        reading = self.open(prepare=False)
-        with reading.pipeline(raises=False) as pipeline:
-            select, other = pipeline.execute(text, (1,)), pipeline.run("q")
-        self.assertIsInstance(select.error, piql.ProgrammingError)
-        self.assertEqual((select.error.position, other.rows), (1, []))
-        self.assertEqual(self.sent(), b"SHOW;RUN q ();")
+
+    def test_a_select_that_leaves_nothing(self) -> None:
+        connection = self.open()
+        with connection.pipeline() as pipeline:
+            select, other = pipeline.execute("SELECT x.a FROM t AS x WHERE x.b = [1]", ("it's",)), pipeline.run("q")
+            page = pipeline.execute("SELECT * FROM t PAGINATE 2")
+        self.assertEqual((select.rows, select.next_page, other.rows, page.rows), ([], None, [], []))
+        self.assertRaises(piql.NotSupportedError, getattr, page, "next_page")
+        sent = b"SELECT x.a FROM t AS x WHERE x.b =  'it''s' ;RUN q ();SELECT * FROM t PAGINATE 2;"
+        self.assertEqual(self.sent(), b"SHOW;" + sent)
+        for text, values in (("SELECT a FROM t WHERE b = ?", (None,)), ("SELECT a FROM t WHERE b = ?", ())):
+            self.assertRaises(piql.DatabaseError, pipeline.execute, text, values)
 
     def test_threads(self) -> None:
         connection, found = self.open(), {}

@@ -11,7 +11,7 @@ from piql.frames import BACKUP, BROKEN, ENDED, HELLO, REPORT, STATUS, read_frame
 from piql.server.rights import Place, Right, read_place
 from served import Served, ServedCase, asked, connected, greeted
 
-READS = ("RUN rows_1 ();", "READ rows_1 ();", "EXPLAIN SELECT x;", "SHOW;", "-- INSERT\n\t run rows_1 ();")
+READS = ("RUN rows_1 ();", "READ rows_1 ();", "EXPLAIN SELECT x;", "SHOW;", "-- INSERT\n\t run rows_1 ();", "Select a;")
 WRITES = ("INSERT INTO t VALUES (1);", "UPDATE t SET a = 1;", "DELETE FROM t WHERE a = 1;")
 DEFINES = ("CREATE TABLE t (a INT);", "CREATE COUNTER c ON t;", "ALTER TABLE t ADD COLUMN b INT;", "PREPARE q AS x;")
 # What is no statement of this version could be one of a later version.

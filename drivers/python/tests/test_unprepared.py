@@ -9,8 +9,8 @@ from piql.reports import DefinitionLine, read_report
 from piql.schema import read_schema
 from piql.scripts import is_one_piece, tokens
 from piql.selected import columns_of
-from piql.unprepared import prepared, wanted_index
 from piql.statements import read_statement
+from piql.unprepared import prepared, wanted_index
 
 # A SELECT with its values, and what is sent where it isn't prepared.
 SENT = [
