@@ -1,2 +1,3 @@
+pub mod Asked
 pub mod Coded
 pub mod Partners

@@ -1,7 +1,8 @@
 -- What a join by a key makes of one input and of several.
-use Rattle.std.specs.Prelude.{◌≡◌, ℕ, ◌-◌, cond, List, ◌++◌, map, take, Option, None, option_to_list, IfSome}
+use Rattle.std.specs.Prelude.{◌≡◌, ℕ, ◌-◌, cond, List, [], ◌∷◌, ◌++◌, map, take, Option, None, Some, option_to_list, IfSome}
 use Rattle.std.specs.FinMap.{get}
 use Rattle.std.specs.List.{flat_map}
+use Rattle.pq_base.specs.Shapes.{RowShape}
 use Rattle.pq_base.specs.Values.{has_null}
 use Rattle.pq_base.specs.declared.value.Value.{Value}
 use Rattle.pq_key_code.specs.KeyCode.{row_key}
@@ -10,7 +11,8 @@ use Rattle.pq_schema.specs.declared.table.Table.{Table}
 use Rattle.pq_schema.specs.Relations.{relation_at, table_of}
 use Rattle.pq_schema.specs.Rows.{Rows, shape_of}
 use Rattle.pq_store.specs.Content.{Content}
-use Rattle.pq_calls.specs.Evidence.{IsRead}
+use Rattle.pq_store.specs.declared.damage.Broke.{Broke}
+use Rattle.pq_calls.specs.Evidence.{IsRead, IsUnreadRow}
 use Rattle.pq_content.specs.Pairs.{Pair, HoldsRows}
 use Rattle.pq_content.specs.Tables.{stored_code}
 use Rattle.pq_operands.specs.Ties.{cells_tied}
@@ -25,6 +27,25 @@ abbrev pub tied_code : List Table → Query → List Value → ℕ → Content �
 tied_code tables query params rel content input =
     let key = cells_tied query params rel input (table_of tables query rel).key in
     cond (has_null key) None (get content (row_key (relation_at query rel).table key))
+
+-- the key that is tied behind the input, as the store has it; none where a tied value is NULL
+abbrev pub tied_at : List Table → Query → List Value → ℕ → List (List Value) → Option (List ℕ)
+tied_at tables query params rel input =
+    let key = cells_tied query params rel input (table_of tables query rel).key in
+    cond (has_null key) None (Some (row_key (relation_at query rel).table key))
+
+-- what is told as damage is the value at the key that was asked for, and the code of no row that fits
+abbrev pub IsUnreadFrom : RowShape → Option (List ℕ) → Option (List ℕ) → Broke → Type 0
+IsUnreadFrom shape None code why = ⊥
+IsUnreadFrom shape (Some key) None why = ⊥
+IsUnreadFrom shape (Some key) (Some code) why = IsUnreadRow shape key code why
+
+-- the row with this code, where there is one, comes behind the input, and the input behind those that were there
+pub record AddsRead (shape : RowShape) (input : List (List Value)) (code : Option (List ℕ))
+    (before after : List (List (List Value))) : Type 0 where
+  pub row : Option (List Value)
+  pub read : IsRead shape code row
+  pub is : after ≡ before ++ map (λ row. input ++ row ∷ []) (option_to_list row)
 
 -- what is found is the row with this code, and nothing only where there is no value
 abbrev pub IsTiedRow : Option Content → List Table → Query → List Value → ℕ → List (List Value)

@@ -1,51 +1,39 @@
 //! One paid get for each input.
-ghost use Rattle.std.specs.Prelude.{◌≤◌, ◌+◌, ◌-◌, ◌∷◌, [], length, None, IfOk, IfErr, OnOk, IfSome};
-ghost use Rattle.std.specs.List.{AllByRecursion};
+ghost use Rattle.std.specs.Prelude.{◌≡◌, ◌≤◌, ◌+◌, ◌⊎◌, [], length, map, None, IfOk, IfErr, OnOk, IfSome, IfNone};
 ghost use Rattle.pq_base.specs.Values.{AllFit};
-ghost use Rattle.pq_schema.specs.Relations.{table_of};
-ghost use Rattle.pq_schema.specs.Rows.{types_of};
+ghost use Rattle.pq_schema.specs.Rows.{types_of, shape_of};
 ghost use Rattle.pq_store.specs.Breaks.{IsAnswered};
 ghost use Rattle.pq_calls.specs.Calls.{Uses, Fails};
+ghost use Rattle.pq_calls.specs.Evidence.{IsRead};
 ghost use Rattle.pq_calls.specs.World.{Affords, where_told, world};
 ghost use Rattle.pq_plan.specs.Nodes.{lookup};
-ghost use Rattle.pq_nodes.specs.Combos.{FitsTables};
 ghost use Rattle.pq_nodes.specs.Inverse.{IsLookup};
 ghost use Rattle.pq_nodes.specs.Operators.{IsAsked, IsReadyNode, AreInputs, AffordsNode, ReadsNode, AreFound, AnswersNode, ShowsRead, StopsReading, IsSoundOverRows};
-ghost use Rattle.pq_fk_join.specs.Joined.{IsTiedRow, AreJoined, AddsJoined, IsPartner, AddsLookedUp};
+ghost use Rattle.pq_fk_join.specs.Joined.{tied_at, IsUnreadFrom, AddsRead, AreJoined, AddsJoined, AddsLookedUp};
 
-use pq_base::{List, Row, has_null};
-use pq_calls::Calls;
+use pq_base::{Bytes, ColType, List, NoMem, Row, has_null};
+use pq_calls::{Calls, answered_row, types_of};
+use pq_key_code::row_key;
 use pq_operands::tied_cells;
 use pq_plan::Combo;
 use pq_predicates::{table_number, table_of};
-use pq_schema::{Catalog, Query};
+use pq_schema::{Catalog, Query, Table};
 use pq_store::{Allowance, Broke, Meter, Store};
 use std::alloc::Global;
 use std::sync::ledger::Ledger;
 
-/// The row whose key equalities tie behind the input, where there is one; a tied NULL finds none.
-fn partner<S: Store<L>, L: Ledger>(
+/// The key in the store of the row whose key equalities tie behind the input; none where a tied value is NULL.
+fn partner_at(
     alloc: Global,
     catalog: &Catalog,
     query: &Query,
     params: &Row,
     rel: u8,
     input: &Combo,
-    calls: &mut Calls<S, L>,
-) -> Result<Option<Row>, Broke>
+) -> Result<Option<Bytes>, NoMem>
     requires asked { IsAsked catalog.now.tables query.now params.now }
     requires lookup { IsLookup catalog.now.tables query.now rel }
-    requires input { FitsTables catalog.now.tables query.now (rel - 1) input.now }
-    requires share { Affords calls.old.allowance.now 1 1 }
-    ensures uses { Uses S.content S.faults calls.old calls.new 1 1 }
-    ensures cause { IfErr result (Fails (where_told (ShowsRead catalog.now.tables))
-        S.content S.faults calls.old calls.new) }
-    ensures answered { IfErr result (IsAnswered S.answers) }
-    ensures fits { IfOk result (λ found. IfSome found (AllFit (types_of (table_of catalog.now.tables query.now rel)))) }
-    ensures code { IfOk result (IsTiedRow (S.content calls.old.store.now)
-        catalog.now.tables query.now params.now rel input.now) }
-    ensures answer { IfOk result (IsPartner (S.content calls.old.store.now)
-        catalog.now.tables query.now params.now rel input.now) }
+    ensures { IfOk result (λ at. at ≡ tied_at catalog.now.tables query.now params.now rel input.now) }
 {
     catalog.known();
     let table = table_of(catalog, query, rel);
@@ -53,40 +41,71 @@ fn partner<S: Store<L>, L: Ledger>(
     if has_null(key.items()) {
         return Ok(None);
     }
-    match calls.row(alloc, table_number(query, rel), table, &key)? {
-        Some(stored) => Ok(Some(stored.row)),
-        None => Ok(None),
-    }
+    Ok(Some(row_key(alloc, table_number(query, rel), &key)?))
 }
 
-/// Adds the input followed by its partner, where there is one.
-fn join_one<S: Store<L>, L: Ledger>(
+/// The same for each input.
+fn partners_at(
     alloc: Global,
     catalog: &Catalog,
     query: &Query,
     params: &Row,
     rel: u8,
-    input: Combo,
-    found: &mut List<Combo>,
-    calls: &mut Calls<S, L>,
-) -> Result<(), Broke>
+    inputs: &[Combo],
+) -> Result<List<Option<Bytes>>, NoMem>
     requires asked { IsAsked catalog.now.tables query.now params.now }
     requires lookup { IsLookup catalog.now.tables query.now rel }
-    requires input { FitsTables catalog.now.tables query.now (rel - 1) input }
-    requires share { Affords calls.old.allowance.now 1 1 }
-    ensures uses { Uses S.content S.faults calls.old calls.new 1 1 }
-    ensures cause { IfErr result (Fails (where_told (ShowsRead catalog.now.tables))
-        S.content S.faults calls.old calls.new) }
-    ensures answered { IfErr result (IsAnswered S.answers) }
-    ensures few { OnOk result (length found.new ≤ length found.old + 1) }
-    ensures fit { OnOk result (AllByRecursion (FitsTables catalog.now.tables query.now rel) found.old
-        → AllByRecursion (FitsTables catalog.now.tables query.now rel) found.new) }
-    ensures codes { OnOk result (AddsJoined (S.content calls.old.store.now)
-        catalog.now.tables query.now params.now rel (input ∷ []) found.old found.new) }
-    ensures answer { OnOk result (AddsLookedUp (S.content calls.old.store.now)
-        catalog.now.tables query.now params.now rel (input ∷ []) found.old found.new) }
+    ensures { IfOk result (λ asked. asked ≡ map (tied_at catalog.now.tables query.now params.now rel) inputs.now) }
 {
-    let Some(row) = partner(alloc, catalog, query, params, rel, &input, calls)? else {
+    let mut asked = List::new(alloc);
+    for input in inputs {
+        let at = partner_at(alloc, catalog, query, params, rel, input)?;
+        asked.push(alloc, at)?;
+    }
+    Ok(asked)
+}
+
+/// The row that stands at the key that was asked for, where there is one.
+fn partner(
+    alloc: Global,
+    table: &Table,
+    types: &[ColType],
+    asked: &Option<Bytes>,
+    code: &Option<Bytes>,
+) -> Result<Option<Row>, Broke>
+    requires types { types.now ≡ types_of table.now }
+    requires unasked { IfNone asked.now (code.now ≡ None) }
+    ensures fits { IfOk result (λ found. IfSome found (AllFit (types_of table.now))) }
+    ensures read { IfOk result (IsRead (shape_of table.now) code.now) }
+    ensures cause { IfErr result (IsUnreadFrom (shape_of table.now) asked.now code.now) }
+{
+    let Some(at) = asked else {
+        return Ok(None);
+    };
+    let Some(code) = code else {
+        return Ok(None);
+    };
+    let row = answered_row(alloc, at.items(), code.items(), types, &table.fillers)?;
+    Ok(Some(row))
+}
+
+/// Adds the input followed by the row that stands at its key, where there is one.
+fn join_one(
+    alloc: Global,
+    table: &Table,
+    types: &[ColType],
+    input: Combo,
+    asked: &Option<Bytes>,
+    code: &Option<Bytes>,
+    found: &mut List<Combo>,
+) -> Result<(), Broke>
+    requires types { types.now ≡ types_of table.now }
+    requires unasked { IfNone asked.now (code.now ≡ None) }
+    ensures few { OnOk result (length found.new ≤ length found.old + 1) }
+    ensures adds { OnOk result (AddsRead (shape_of table.now) input code.now found.old found.new) }
+    ensures cause { IfErr result (λ why. (why ≡ Broke.NoMem) ⊎ IsUnreadFrom (shape_of table.now) asked.now code.now why) }
+{
+    let Some(row) = partner(alloc, table, types, asked, code)? else {
         return Ok(());
     };
     let mut combo = input;
@@ -95,7 +114,7 @@ fn join_one<S: Store<L>, L: Ledger>(
     Ok(())
 }
 
-/// The inputs that have a partner, each followed by it.
+/// The inputs that have a partner, each followed by it: all are asked at once.
 fn join_each<S: Store<L>, L: Ledger>(
     alloc: Global,
     catalog: &Catalog,
@@ -119,9 +138,24 @@ fn join_each<S: Store<L>, L: Ledger>(
     ensures answer { IfOk result (AddsLookedUp (S.content calls.old.store.now)
         catalog.now.tables query.now params.now rel inputs []) }
 {
+    catalog.known();
+    let table = table_of(catalog, query, rel);
+    let types = types_of(alloc, table)?;
+    let asked = partners_at(alloc, catalog, query, params, rel, inputs.items())?;
+    let codes = calls.gets(alloc, asked.items())?;
     let mut found = List::new(alloc);
+    let mut place = 0;
     for input in inputs.into_vec() {
-        join_one(alloc, catalog, query, params, rel, input, &mut found, calls)?;
+        join_one(
+            alloc,
+            table,
+            types.items(),
+            input,
+            &asked.items()[place],
+            &codes.items()[place],
+            &mut found,
+        )?;
+        place += 1;
     }
     Ok(found)
 }

@@ -1,17 +1,17 @@
-use Rattle.std.proofs.Common.{◌≤◌, ◌-◌, [], length}
+use Rattle.std.proofs.Common.{◌≡◌, ◌≤◌, ◌-◌, ◌++◌, [], length}
 use Rattle.std.specs.List.{AllByRecursion}
 use Rattle.std.specs.Vec.Iter.{into_iter_items}
-use Rattle.pq_calls.specs.Calls.{Uses}
 use Rattle.pq_nodes.specs.Combos.{FitsTables}
 use Rattle.pq_fk_join.specs.Joined.{AddsJoined, AddsLookedUp}
 use Rattle.pq_fk_join.proofs.join.join_each.Given as goal
 
 abbrev pub invariant-loop-input : goal.invariant-loop-input
 invariant-loop-input g l = record {
-  uses : Uses g.S.Store.content g.S.Store.faults l.initial.calls l.calls (length l.yielded) (length l.yielded);
+  whole : l.yielded ++ into_iter_items l.input-iterator ≡ l.fn.inputs;
+  place : l.place ≡ length l.yielded;
   few : length l.found ≤ length l.yielded;
   left : AllByRecursion (FitsTables l.catalog.tables l.query (l.rel - 1)) (into_iter_items l.input-iterator);
   fit : AllByRecursion (FitsTables l.catalog.tables l.query l.rel) l.found;
-  codes : AddsJoined (g.S.Store.content l.initial.calls.store.now) l.catalog.tables l.query l.params l.rel l.yielded [] l.found;
-  answer : AddsLookedUp (g.S.Store.content l.initial.calls.store.now) l.catalog.tables l.query l.params l.rel l.yielded [] l.found;
+  codes : AddsJoined (g.S.Store.content l.fn.calls.store.now) l.catalog.tables l.query l.params l.rel l.yielded [] l.found;
+  answer : AddsLookedUp (g.S.Store.content l.fn.calls.store.now) l.catalog.tables l.query l.params l.rel l.yielded [] l.found;
 }

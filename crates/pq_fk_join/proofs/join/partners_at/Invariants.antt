@@ -1,0 +1,6 @@
+use Rattle.std.proofs.Common.{◌≡◌, map, take}
+use Rattle.pq_fk_join.specs.Joined.{tied_at}
+use Rattle.pq_fk_join.proofs.join.partners_at.Given as goal
+
+abbrev pub invariant-loop-input : goal.invariant-loop-input
+invariant-loop-input l = l.asked ≡ map (tied_at l.catalog.tables l.query l.params l.rel) (take l.input-index l.inputs)
