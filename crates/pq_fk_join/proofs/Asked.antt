@@ -1,5 +1,5 @@
 -- What the values that were asked for at once make of the inputs.
-use Rattle.std.proofs.Common.{◌≡◌, ◌⊎◌, inl, inr, ◌<◌, ◌≤◌, ◌+◌, ◌-◌, ℕ, zero, suc, Bool, true, false, cond, List, [], ◌∷◌, ◌++◌, length, map, take, get_or, Option, None, Some, refl, sym, ap, subst, ◌∙◌, arith}
+use Rattle.std.proofs.Common.{◌≡◌, ◌⊎◌, inl, inr, ◌<◌, ◌≤◌, ◌-◌, ℕ, zero, suc, Bool, true, false, cond, List, [], ◌∷◌, ◌++◌, length, map, take, get_or, Option, None, Some, refl, sym, ap, subst, ◌∙◌, arith}
 use Rattle.std.specs.Prelude.{IfSome, IfNone, option_to_list}
 use Rattle.std.specs.FinMap.{get}
 use Rattle.std.specs.List.{AllZip, AllByRecursion}
@@ -13,17 +13,16 @@ use Rattle.pq_key_code.specs.KeyCode.{row_key}
 use Rattle.pq_schema.specs.declared.query.Query.{Query}
 use Rattle.pq_schema.specs.declared.table.Table.{Table}
 use Rattle.pq_schema.specs.Relations.{relation_at, table_of}
-use Rattle.pq_schema.specs.Rows.{Rows, types_of, shape_of}
+use Rattle.pq_schema.specs.Rows.{types_of, shape_of}
 use Rattle.pq_schema.specs.Schema.{Schema}
 use Rattle.pq_schema.specs.Valid.{IsValid}
 use Rattle.pq_store.specs.Breaks.{IsAnswered}
 use Rattle.pq_store.specs.Content.{Content}
-use Rattle.pq_store.specs.Rounds.{value_asked, IsValueOf, IsValueAnswered}
+use Rattle.pq_store.specs.Rounds.{IsValueOf, IsValueAnswered}
 use Rattle.pq_store.specs.declared.damage.Broke.{Broke}
 use Rattle.pq_store.specs.declared.damage.Broke.TheVariants.{Failed, NoMem, Damaged}
-use Rattle.pq_calls.specs.Evidence.{IsRead, IsUnreadRow, IsNoRowAt}
+use Rattle.pq_calls.specs.Evidence.{IsRead, IsNoRowAt}
 use Rattle.pq_calls.specs.World.{World, Explains, where_told}
-use Rattle.pq_content.specs.Pairs.{Pair, HoldsRows}
 use Rattle.pq_entries.proofs.Zipped.{zipped_at}
 use Rattle.pq_nodes.specs.Combos.{FitsTables}
 use Rattle.pq_nodes.specs.Inverse.{IsLookup}
@@ -32,7 +31,7 @@ use Rattle.pq_operands.specs.Ties.{cells_tied}
 use Rattle.pq_plan.specs.Answer.{question, row_of}
 use Rattle.pq_plan.proofs.Fixed.{last, earlier_row}
 use Rattle.pq_plan.specs.Meaning.{key_of}
-use Rattle.pq_plan.specs.Running.{matching, looked_up}
+use Rattle.pq_plan.specs.Running.{matching}
 use Rattle.pq_fk_join.specs.Joined.{tied_at, IsUnreadFrom, AddsRead, IsTiedRow, IsPartner, AddsJoined, AddsLookedUp}
 use Rattle.pq_fk_join.proofs.Partners.{partner_explains, partner_code, none_code, partner_is, partner_none}
 use Rattle.pq_fk_join.proofs.Coded.{adds_one}

@@ -1,8 +1,7 @@
-use Rattle.std.proofs.Common.{rules, ◌≡◌, ◌-◌, ◌++◌, ◌∷◌, [], append_assoc, ℕ, List, Option, length, refl, sym, ap, subst, ◌∙◌, arith}
+use Rattle.std.proofs.Common.{rules, ◌≡◌, ◌-◌, ◌++◌, ◌∷◌, [], append_assoc, refl, ◌∙◌, arith}
 use Rattle.std.proofs.lemmas.List.{length_push}
 use Rattle.std.proofs.lemmas.Result.{err_from_is_err_and}
 use Rattle.std.specs.Vec.Iter.{into_iter_items}
-use Rattle.pq_base.specs.declared.value.Value.{Value}
 use Rattle.pq_schema.proofs.Soundness.{valid_query}
 use Rattle.pq_store.specs.Rounds.{IsValueOf, IsValueAnswered}
 use Rattle.pq_calls.specs.Calls.{seen_world}
