@@ -1,5 +1,5 @@
 -- By the codes of positions is by positions.
-use Rattle.std.proofs.Common.{◌≡◌, ℕ, List, [], ◌∷◌, length, map, filter, Some, Result, Ok, Err, refl, sym, ap, subst, ◌∙◌, arith}
+use Rattle.std.proofs.Common.{◌≡◌, ℕ, ◌<◌, List, [], ◌∷◌, length, map, filter, Some, Result, Ok, Err, refl, sym, ap, subst, ◌∙◌, arith}
 use Rattle.std.specs.Prelude.{IfOk}
 use Rattle.std.proofs.lemmas.List.{length-map}
 use Rattle.std.specs.List.{AllByRecursion}
@@ -30,7 +30,7 @@ use Rattle.pq_serving.proofs.Scans.{sort_alike, sort_by-map}
 use Rattle.pq_schema.proofs.TypeKinds.{kind_from_fit}
 use Rattle.pq_local_ops.specs.Codes.{code_at, is_above, coded_combo}
 use Rattle.pq_local_ops.specs.Lists.{AreOrdered, ArePast, ArePart, IsPositionOf}
-use Rattle.pq_local_ops.proofs.Parts.{part_sort}
+use Rattle.pq_local_ops.proofs.Parts.{part_sort, sort_few}
 use Rattle.pq_local_ops.specs.declared.sort.Coded.{Coded}
 
 pub of_kinds : (types : List ColType) (values : List Value) → AllFit types values → Fits types values
@@ -132,3 +132,8 @@ module _ (tables : List Table) (query : Query) (sound : IsQuery tables query) (r
 
   pub sorted_part : (combos ordered : List (List (List Value))) → ordered ≡ map (λ (item : Coded). item.combo) (sort_by key_cmp (λ (item : Coded). item.code) (map (coded_combo cols dirs) combos)) → ArePart combos ordered
   sorted_part combos ordered is = part_sort key_cmp (code_at cols dirs) combos ordered (sorted_codes combos ordered is)
+
+-- fewer than two are in order
+pub few_order : (tables : List Table) (query : Query) (combos : List (List (List Value))) → length combos < 2 → AreOrdered tables query combos combos
+few_order tables query combos few rows params =
+    sym (sort_few (by_position (question tables query rows params)) (position (question tables query rows params)) combos few)

@@ -1,5 +1,5 @@
 -- A filter and a sort give no more than there was, and each as it was.
-use Rattle.std.proofs.Common.{◌≡◌, ◌≤◌, Bool, List, [], ◌∷◌, length, filter, cond, true, false, sym, subst, arith}
+use Rattle.std.proofs.Common.{◌≡◌, ◌≤◌, ◌<◌, Bool, List, [], ◌∷◌, length, filter, cond, true, false, refl, sym, subst, arith}
 use Rattle.std.specs.declared.cmp.Ordering.{Ordering}
 use Rattle.std.specs.declared.cmp.Ordering.TheVariants.{Equal}
 use Rattle.pq_base.specs.declared.value.Value.{Value}
@@ -24,3 +24,12 @@ part_sort R key combos ordered is = subst (ArePart combos) (sym is) (record {
   few = let same = length-sort_by R key combos in omega arith;
   fit = λ tables query count fits. each-sort_by R key (FitsTables tables query count) combos fits;
 })
+
+-- fewer than two are in order
+pub sort_few : {K X : Type 0} (R : K → K → Ordering) (key : X → K) (xs : List X) → length xs < 2 → sort_by R key xs ≡ xs
+sort_few R key [] few = refl
+sort_few R key (x ∷ []) few = refl
+sort_few R key (x ∷ y ∷ rest) few = absurd (omega (arith, few))
+
+pub part_same : (combos : List (List (List Value))) → ArePart combos combos
+part_same combos = record { few = omega arith; fit = λ tables query count fits. fits }

@@ -32,9 +32,10 @@ pub fn places_of(alloc: Global, catalog: &Catalog, query: &Query) -> Result<Plac
     ensures sound { IfOk result (λ _. IsQuery catalog.now.tables query.now) }
 {
     catalog.known();
-    let mut cols = List::new(alloc);
-    let mut dirs = List::new(alloc);
-    for item in position_columns(alloc, catalog, query)?.items() {
+    let items = position_columns(alloc, catalog, query)?;
+    let mut cols = List::with_room(alloc, items.items().len())?;
+    let mut dirs = List::with_room(alloc, items.items().len())?;
+    for item in items.items() {
         cols.push(alloc, item.col)?;
         dirs.push(alloc, item.dir)?;
     }
@@ -89,7 +90,7 @@ pub fn position_of(
 pub fn project(alloc: Global, query: &Query, combos: &List<Combo>) -> Result<List<Row>, NoMem>
     ensures { IfOk result (λ rows. rows ≡ map (selected_values query.now) combos.now) }
 {
-    let mut rows = List::new(alloc);
+    let mut rows = List::with_room(alloc, combos.items().len())?;
     for combo in combos.items() {
         rows.push(alloc, values_at(alloc, combo, query.select.items())?)?;
     }

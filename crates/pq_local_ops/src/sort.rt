@@ -31,7 +31,7 @@ fn with_codes(
     requires { length cols.now ≡ length dirs.now }
     ensures { IfOk result (λ items. items.items ≡ map (coded_combo cols.now dirs.now) combos) }
 {
-    let mut items = Vec::new(alloc);
+    let mut items = Vec::with_capacity(alloc, combos.items().len())?;
     for combo in combos.into_vec() {
         let code = code_at(alloc, &combo, cols, dirs)?;
         items.push(Coded { code, combo })?;
@@ -51,14 +51,15 @@ fn sort_coded(items: &mut Vec<Coded>) -> Result<(), NoMem>
 fn combos_of(alloc: Global, items: Vec<Coded>) -> Result<List<Combo>, NoMem>
     ensures { IfOk result (λ combos. combos ≡ map (λ (item : Coded). item.combo) items.items) }
 {
-    let mut combos = List::new(alloc);
+    let mut combos = List::with_room(alloc, items.len())?;
     for item in items {
         combos.push(alloc, item.combo)?;
     }
     Ok(combos)
 }
 
-/// The combinations in the order of their positions; those of one position keep their order.
+/// The combinations in the order of their positions; those of one position keep their order. Fewer than two
+/// are in order as they are.
 pub fn sort_combos(
     alloc: Global,
     catalog: &Catalog,
@@ -70,6 +71,9 @@ pub fn sort_combos(
     ensures ordered { IfOk result (AreOrdered catalog.now.tables query.now combos) }
     ensures part { IfOk result (ArePart combos) }
 {
+    if combos.items().len() < 2 {
+        return Ok(combos);
+    }
     let places = places_of(alloc, catalog, query)?;
     let mut items = with_codes(alloc, places.cols.items(), places.dirs.items(), combos)?;
     sort_coded(&mut items)?;
