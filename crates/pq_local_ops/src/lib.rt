@@ -6,9 +6,11 @@
 #![tactic(auto)]
 
 mod keep;
+mod moved;
 mod position;
 mod sort;
 
 pub use keep::{first_k, keep_after, keep_matching};
+pub use moved::take_selected;
 pub use position::{Places, code_at, places_of, position_of, project};
 pub use sort::sort_combos;
