@@ -15,7 +15,7 @@ ghost use Rattle.pq_exec.specs.Execution.{AnswersQuery, IsLastPosition, IsPage, 
 use crate::request::Request;
 use crate::tree::run;
 use pq_base::{List, NoMem, Row, Used};
-use pq_local_ops::{position_of, project};
+use pq_local_ops::{position_of, take_selected};
 use pq_plan::{BoundedPlan, Combo};
 use pq_schema::{Catalog, Query};
 use pq_store::{Allowance, Broke, Meter, Store};
@@ -90,9 +90,10 @@ pub fn execute<S: Store<L>, L: Ledger>(
     };
     let mut allowance = Allowance::grant(plan.bound());
     let combos = run(alloc, &request, plan.tree(), store, &mut allowance, meter)?;
+    let last = last_position(alloc, catalog, query, &combos)?;
     Ok(Answer {
-        rows: project(alloc, query, &combos)?,
-        last: last_position(alloc, catalog, query, &combos)?,
+        rows: take_selected(alloc, query, combos)?,
+        last,
         used: allowance.used(),
     })
 }

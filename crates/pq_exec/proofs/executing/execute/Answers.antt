@@ -6,10 +6,10 @@ pub returns-clause-answer : goal.returns-clause-answer
 returns-clause-answer g c =
     let run = rw c.tree.ensures at c.in_ok-combos.ensures.answer in
     plan_answers c.args.catalog.now.tables c.args.query.now c.args.params.now (option_copied c.args.after) c.args.plan.now c.requires.asked c.requires.plan
-    (g.S.Store.content c.args.store.now) c.in_ok-combos.combos _ run c.in_ok-project.ensures c.in_ok-last_position.ensures.last
+    (g.S.Store.content c.args.store.now) c.in_ok-combos.combos _ run c.in_ok-take_selected.ensures c.in_ok-last.ensures.last
 
 pub returns-clause-page : goal.returns-clause-page
 returns-clause-page g c =
     let given = rw c.tree.ensures at c.in_ok-combos.ensures.given in
     plan_page c.args.catalog.now.tables c.args.query.now c.args.params.now (option_copied c.args.after) c.args.plan.now c.requires.asked c.requires.plan
-    c.in_ok-combos.combos _ given c.in_ok-project.ensures c.in_ok-last_position.ensures.last c.in_ok-last_position.ensures.fits
+    c.in_ok-combos.combos _ given c.in_ok-take_selected.ensures c.in_ok-last.ensures.last c.in_ok-last.ensures.fits
