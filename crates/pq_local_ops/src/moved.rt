@@ -80,11 +80,7 @@ fn take_values(alloc: Global, combo: Combo, cols: &[ColRef]) -> Result<Row, NoMe
 }
 
 /// The selected columns of each combination, as `project` has them. The combinations are used up.
-pub fn take_selected(
-    alloc: Global,
-    query: &Query,
-    combos: List<Combo>,
-) -> Result<List<Row>, NoMem>
+pub fn take_selected(alloc: Global, query: &Query, combos: List<Combo>) -> Result<List<Row>, NoMem>
     ensures { IfOk result (λ rows. rows ≡ map (selected_values query.now) combos) }
 {
     let mut rows = List::with_room(alloc, combos.items().len())?;
