@@ -1,7 +1,7 @@
 """A list page of an issue tracker: 20 issues with their labels and numbers of comments, by 46 statements.
 
-The project, the user, the milestones, the open and the closed issues' numbers and the newest issues come first; then, of
-each of the 20 issues, its labels and the number of its comments. sqlite3 has the same rows, and the numbers in a table.
+The project, the user, the milestones, the open and the closed issues' numbers and the newest issues come first; then,
+of each of the 20 issues, its labels and the number of its comments. sqlite3 has the same rows, and numbers in a table.
 """
 
 import sqlite3

@@ -98,7 +98,8 @@ def of_tests(order: Order, place: int) -> list[tuple[str, str]]:
         if it.left.column in fixed or it.operator == "=":
             continue
         if it.operator not in RANGES:
-            found.append((f"any number of rows may be passed over by {it}", NULLS if "NULL" in it.operator else UNEQUAL))
+            cause = NULLS if it.operator == "IS NULL" else UNEQUAL
+            found.append((f"any number of rows may be passed over by {it}", cause))
         elif own[:1] != [it.left.column]:
             first = f"{alias}.{own[0]} comes first there" if own else "it isn't there"
             found.append((f"{it} is a range of a column that isn't first in ORDER BY ({first})", RANGE))
@@ -163,7 +164,8 @@ def unbounded(statement: str, schema: Schema, alias: str) -> Unbounded | None:
     told = "; ".join(why for why, _ in reasons)
     causes = [cause for _, cause in reasons]
     if not select.stops:
-        text += f" Without LIMIT and PAGINATE it needs one{', and with them the query could not stop there' * bool(reasons)}"
+        text += " Without LIMIT and PAGINATE it needs one"
+        text += ", and with them the query could not stop there" if reasons else ""
         causes.insert(0, NO_STOP)
     elif reasons:
         text += " Nor can the query stop there"

@@ -54,7 +54,10 @@ SENT: list[tuple[object, str]] = [
         select(P.c.line, T).select_from(P.join(U, and_(N == P.c.owner, T == "x"))).where(P.c.number > 3),
         "SELECT p.line, u.town FROM posts AS p JOIN users AS u WHERE u.name = p.owner AND u.town = ? AND p.number > ?",
     ),
-    (select(N, P.c.line).where(P.c.owner == N), "SELECT u.name, p.line FROM users AS u, posts AS p WHERE p.owner = u.name"),
+    (
+        select(N, P.c.line).where(P.c.owner == N),
+        "SELECT u.name, p.line FROM users AS u, posts AS p WHERE p.owner = u.name",
+    ),
     (POSTS.insert().values(owner="a", number=1, line="b"), "INSERT INTO posts (owner, number, line) VALUES (?, ?, ?)"),
     (
         POSTS.update().where(POSTS.c.owner == "a", POSTS.c.number == 1).values(line="c"),

@@ -42,7 +42,6 @@ from piql.hosts.etcd_reading import EtcdReading
 from piql.hosts.postgres_client import places_of
 from piql.hosts.urls import etcd_parts, is_url, options_of
 from piql.hosts.wire import FAILURE, Request, answer, read_range, read_request, read_write
-from piql.lots import Asked
 
 STUB = Path(__file__).with_name("stub_engine.py")
 PIQL_HOST = built("piql_host")
@@ -385,27 +384,6 @@ class LinkTest(unittest.TestCase):
             link.exchange(b"PUT k w;", True)
         self.assertEqual(caught.exception.status, 5)
         self.assertEqual(store.values[b"k"], b"v")
-
-    def test_several_statements_are_read_at_one_revision(self) -> None:
-        store = MemoryStore()
-        reading = Pinned(store)
-        link = ReaderLink("the store", reading, self.stub, 0.2)
-        self.addCleanup(link.close)
-        lot = [Asked(b"COUNT;", True), Asked(b"PUT k v;", False), Asked(b"COUNT;", True)]
-        found: list[object] = []
-        link.exchange_all(lot, found.append)
-        self.assertEqual([type(it) for it in found], [str, NotSupportedError, str])
-        pins = len(reading.pins)
-        store.write(b"k", Guard.ANY, b"", b"v")
-        link.exchange_all(lot, found.append)
-        self.assertEqual(len(reading.pins), pins + 1)
-        self.assertEqual(["(1,)" in str(it) for it in found[3:]], [True, False, True])
-        # Where one can't be read, all are read anew at another revision.
-        reading.get = Mock(side_effect=[b"v", Fault("compacted"), b"w", b"w"])  # type: ignore[method-assign]
-        found.clear()
-        link.timeout = 60.0
-        link.exchange_all([Asked(b"GET k;", True)] * 2, found.append)
-        self.assertEqual([str(it).count("x01w") for it in found], [1, 1])
 
     def test_a_reader_whose_revision_is_gone_takes_another_while_there_is_time(self) -> None:
         reading = Pinned(MemoryStore())

@@ -1,21 +1,26 @@
 """A pipeline: several statements are sent together, each has its own answer or exception, and what stands is told."""
 
+import re
 import threading
 import unittest
 from pathlib import Path
+from unittest.mock import Mock
 
 from helpers import built, engine_of, needs_file, needs_memory, new_folder, piql
-from piql.hosts import HostLink, MemoryStore
+from piql.hosts import Fault, Guard, HostLink, MemoryStore, ReaderLink
 from piql.lots import LOT_BYTES, LOT_STATEMENTS, Asked
 from piql.pipeline import Result
 from pipes import RECORDING, PipeCase, program_of
 from served import Served, stub_program
+from test_hosts import Pinned
 from test_matching import LIES
-from test_waiting import SOON, STEP, Interrupt
+from test_waiting import SOON, Interrupt
 
 USERS = "CREATE TABLE users (name TEXT(20), town TEXT(30), PRIMARY KEY (name))"
 INSERT = "INSERT INTO users VALUES (?, ?)"
 OF_NAME = "SELECT u.town FROM users AS u WHERE u.name = ?"
+# After so many seconds a statement that hangs is given up; the others end before, also on a machine that does much else.
+LATE = 3.0
 # Statements of one pipeline in their order: with its values, and its rows, or its number of rows written, or the number
 # of its refusal.
 STATEMENTS: list[tuple[str, tuple[object, ...], object]] = [
@@ -288,17 +293,17 @@ class EndTest(unittest.TestCase):
                 pipeline.execute(text)
 
     def test_an_engine_that_stands_still(self) -> None:
-        self.stands(self.sent(self.open(step=STEP), "RUN hang ()"), "stood still for 0.3 seconds")
+        self.stands(self.sent(self.open(step=LATE), "RUN hang ()"), "stood still for 3 seconds")
         self.assertEqual(self.made(), ["INSERT a 1", "INSERT a 2"])
 
     def test_the_time_of_a_pipeline(self) -> None:
         connection = self.open()
-        self.stands(self.sent(connection, "INSERT b wait_60000", timeout=1.0), "time was over.*whole or not at all")
+        self.stands(self.sent(connection, "INSERT b wait_60000", timeout=LATE), "time was over.*whole or not at all")
         self.assertEqual(self.made(), ["INSERT a 1", "INSERT a 2"])
         # A step is that of each statement, and not of all.
-        with self.open(step=1.0).pipeline() as pipeline:
+        with self.open(step=LATE).pipeline() as pipeline:
             for _ in range(5):
-                pipeline.execute("RUN wait_400 ()")
+                pipeline.execute("RUN wait_800 ()")
         with self.assertRaisesRegex(piql.OperationalError, "nothing was made of it"):
             with connection.pipeline(timeout=0) as pipeline:
                 result = pipeline.run("rows_1")
@@ -326,29 +331,52 @@ class HostTest(unittest.TestCase):
     """Runs behind a host, whose script comes in pieces of eight bytes."""
 
     def setUp(self) -> None:
-        self.link = HostLink("a store", MemoryStore(), program_of(self, "stub_engine.py"), 5.0, STEP)
+        self.link = HostLink("a store", MemoryStore(), program_of(self, "stub_engine.py"), 5.0, SOON)
         self.addCleanup(self.link.close)
 
-    def outcomes(self, *statements: bytes) -> list[object]:
+    def outcomes(self, *statements: bytes, limit: float | None = None) -> list[object]:
         """What became of each."""
         found: list[object] = []
-        self.link.exchange_all([Asked(it, not it.startswith(b"PUT")) for it in statements], found.append)
+        self.link.exchange_all([Asked(it, not it.startswith(b"PUT")) for it in statements], found.append, limit)
         return found
 
     def test_reports(self) -> None:
         found = self.outcomes(b"PUT key value;", b"GET key;", b"COUNT;", b"ECHO a long one;")
-        self.assertEqual([str(it).rpartition("\n")[0].rpartition("\n")[2][:4] for it in found], ["1 ok", "2 ok", "3 ok", "4 ok"])
+        self.assertEqual(re.findall(r"\n(\d ok)", "".join(map(str, found))), ["1 ok", "2 ok", "3 ok", "4 ok"])
         self.assertIn("x01value", str(found[1]))
         self.assertEqual(self.link.revision, 1)
 
     def test_ends(self) -> None:
-        for middle, why in ((b"EXIT 7;", "status 7"), (b"HANG;", "stood still"), (b"GARBAGE;", "so the run was ended")):
+        for middle, why in ((b"EXIT 7;", "status 7"), (b"HANG;", "time was over"), (b"GARBAGE;", "so the run was ended")):
             with self.subTest(middle):
-                found = self.outcomes(b"COUNT;", middle, b"PUT a b;", b"GET a;")
-                self.assertIn("1 ok", str(found[0]))
+                self.outcomes(b"COUNT;")
+                found = self.outcomes(b"COUNT;", middle, b"PUT a b;", b"GET a;", limit=LATE)
+                self.assertIn("2 ok", str(found[0]))
                 self.assertRegex(str(found[1]), why)
                 self.assertEqual([type(it) for it in found[2:]], [piql.NotBegun] * 2)
         self.assertIn("(0,)", str(self.outcomes(b"COUNT;")[0]))
+
+
+    def test_several_statements_are_read_at_one_revision(self) -> None:
+        store = MemoryStore()
+        reading = Pinned(store)
+        link = ReaderLink("the store", reading, program_of(self, "stub_engine.py"), SOON, SOON)
+        self.addCleanup(link.close)
+        lot = [Asked(b"COUNT;", True), Asked(b"PUT k v;", False), Asked(b"COUNT;", True)]
+        found: list[object] = []
+        link.exchange_all(lot, found.append)
+        self.assertEqual([type(it) for it in found], [str, piql.NotSupportedError, str])
+        pins = len(reading.pins)
+        store.write(b"k", Guard.ANY, b"", b"v")
+        link.exchange_all(lot, found.append)
+        self.assertEqual(len(reading.pins), pins + 1)
+        self.assertEqual(["(1,)" in str(it) for it in found[3:]], [True, False, True])
+        # Where one can't be read, all are read anew at another revision.
+        reading.get = Mock(side_effect=[b"v", Fault("compacted"), b"w", b"w"])  # type: ignore[method-assign]
+        found.clear()
+        link.timeout = 60.0
+        link.exchange_all([Asked(b"GET k;", True)] * 2, found.append)
+        self.assertEqual([str(it).count("x01w") for it in found], [1, 1])
 
 
 class InterruptTest(PipeCase):

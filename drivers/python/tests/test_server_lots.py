@@ -1,4 +1,4 @@
-"""Several statements in one frame of piql-serve: their turns, their answers, and what is told where one ends the run."""
+"""Several statements in one frame of piql-serve: their turns, their answers, and what is told where a run ends."""
 
 import json
 import os
@@ -153,7 +153,9 @@ class LotTest(ServedCase):
                 result = pipeline.run("rows_1")
             self.assertEqual(result.row, (1, "text of a row"))
         self.assertEqual(len(self.made()), 16)
-        with piql.connect(f"unix:{self.at}", step=0.3) as connection, self.assertRaises(piql.OperationalError) as caught:
+        connection = piql.connect(f"unix:{self.at}", step=0.3)
+        self.addCleanup(connection.close)
+        with self.assertRaises(piql.OperationalError) as caught:
             with connection.pipeline() as pipeline:
                 for text in ("RUN rows_1 ()", "RUN hang ()", "INSERT c"):
                     pipeline.execute(text)
@@ -199,7 +201,8 @@ class LotTest(ServedCase):
                 client = greeted(self, self.at)
                 write_frame(client, MANY, text)
                 self.assertIn("a frame", self.left(client))
-        for statements in ([b"SHOW;SHOW;"], [b"SHOW;", b"SHOW"], [b"SHOW;"] * (LOT_STATEMENTS + 1), [b"a" * 65_536 + b";"]):
+        many, lengthy = [b"SHOW;"] * (LOT_STATEMENTS + 1), [b"a" * 65_536 + b";"]
+        for statements in ([b"SHOW;SHOW;"], [b"SHOW;", b"SHOW"], many, lengthy):
             client = greeted(self, self.at)
             write_frame(client, MANY, many_text(0, 0, [b"INSERT no;", *statements]))
             self.assertIn("a frame", self.left(client))
@@ -293,7 +296,8 @@ class AnswerTest(unittest.TestCase):
         return found
 
     def test_an_older_server(self) -> None:
-        for said in (b"a frame has one whole statement, or the name of a copy", b"a frame of 70000 bytes; it has 1 to 65545"):
+        kind, size = b"a frame has one whole statement, or the name of a copy", b"a frame of 70000 bytes; it has 1 to 9"
+        for said in (kind, size):
             for error in self.outcomes((BROKEN, said)):
                 self.assertIsInstance(error, piql.NotSupportedError)
                 self.assertIn("older than this package, and it made none of these", str(error))

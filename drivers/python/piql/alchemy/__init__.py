@@ -1,4 +1,4 @@
-"""A dialect for the core of SQLAlchemy 1.4 and 2: create_engine("piql:///site.db"). docs/SQLALCHEMY.md tells what it takes.
+"""A dialect for the core of SQLAlchemy 1.4 and 2: create_engine("piql:///site.db"). docs/SQLALCHEMY.md tells of it.
 
 An installed package is found by SQLAlchemy itself; from a checkout `import piql.alchemy` makes the name known.
 """

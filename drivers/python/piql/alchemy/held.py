@@ -1,8 +1,8 @@
 """What a transaction holds back: its one write, until it is committed.
 
 The engine has no transactions over several statements. So a transaction may read, and then write once: the write is
-sent by its commit, and a rollback drops it. A second write is refused, and so is a read behind the write, which wouldn't
-see it. With the isolation level AUTOCOMMIT each statement is sent at once.
+sent by its commit, and a rollback drops it. A second write is refused, and so is a read behind the write, which
+wouldn't see it. With the isolation level AUTOCOMMIT each statement is sent at once.
 """
 
 from typing import Any, NamedTuple

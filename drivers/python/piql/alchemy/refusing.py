@@ -10,7 +10,7 @@ class NotOffered(exc.CompileError):
     """A statement of SQLAlchemy's that isn't in the language. It is told before anything is sent."""
 
 
-KEYED = "but of one row by its whole key (columns = values, joined by AND): find the keys by a SELECT, and write each row"
+KEYED = "but of one row by its whole key (columns = values, joined by AND): find keys by a SELECT, and write each row"
 WAYS = {
     "or": "OR: run the query once for each value, and join the answers",
     "in": "IN: run the query once for each value; a pipeline sends them together",
@@ -28,7 +28,7 @@ WAYS = {
     "lock": "FOR UPDATE: one writer at a time, by piql-serve",
     "nulls": "NULLS FIRST and LAST: NULL comes first, and last under DESC",
     "returning": "RETURNING: the site has all values already",
-    "rows": "several rows in one INSERT: an INSERT for each, on a connection with the isolation level AUTOCOMMIT",
+    "rows": "several rows in one INSERT: an INSERT for each, on a connection of the isolation level AUTOCOMMIT",
     "update": f"UPDATE {KEYED}",
     "delete": f"DELETE {KEYED}",
     "prefix": "prefixes, suffixes and hints",
@@ -36,7 +36,7 @@ WAYS = {
     "schema": "schemas: each store has its own tables",
     "define": "definitions by metadata.create_all: python -m piql migrate STORE SCHEMA makes tables and queries",
 }
-LIKES = ("like_op", "not_like_op", "ilike_op", "not_ilike_op", "contains_op", "startswith_op", "endswith_op", "match_op")
+LIKES = "like_op not_like_op ilike_op not_ilike_op contains_op startswith_op endswith_op match_op".split()
 OPERATORS: dict[Any, str] = {
     operators.or_: "or",
     operators.in_op: "in",
