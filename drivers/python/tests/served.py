@@ -83,6 +83,11 @@ def engines_of(server: int) -> list[int]:
     return found
 
 
+def stubs_of(server: int) -> list[int]:
+    """The engines among them: a command that is still beginning has other children."""
+    return [it for it in engines_of(server) if str(STUB).encode() in Path("/proc", str(it), "cmdline").read_bytes()]
+
+
 def stub_program(folder: Path) -> Path:
     """What stands for piql_file, as a program."""
     path = folder / "stub_file"

@@ -21,7 +21,7 @@ from piql.server.log import Log
 from piql.server.rights import Place
 from piql.server.sockets import Listener
 from piql.server.watch import Watch
-from served import COMMAND, Served, ServedCase, asked, connected, engines_of, greeted
+from served import COMMAND, Served, ServedCase, asked, connected, greeted, stubs_of
 
 WRITE = "INSERT INTO t VALUES (1, 'x');"
 # More than a socket keeps.
@@ -196,7 +196,8 @@ class EndTest(ServedCase):
         self.addCleanup(process.communicate)
         self.addCleanup(process.kill)
         until = time.monotonic() + 30
-        while not (found := engines_of(process.pid)) and time.monotonic() < until:
+        # Before it serves, the command has children that are no engines.
+        while not (found := stubs_of(process.pid)) and time.monotonic() < until:
             time.sleep(0.02)
         process.terminate()
         self.assertEqual(process.wait(15), 0)
