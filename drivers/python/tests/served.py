@@ -85,7 +85,12 @@ def engines_of(server: int) -> list[int]:
 
 def stubs_of(server: int) -> list[int]:
     """The engines among them: a command that is still beginning has other children."""
-    return [it for it in engines_of(server) if str(STUB).encode() in Path("/proc", str(it), "cmdline").read_bytes()]
+    found = []
+    for number in engines_of(server):
+        with contextlib.suppress(OSError):
+            if str(STUB).encode() in Path("/proc", str(number), "cmdline").read_bytes():
+                found.append(number)
+    return found
 
 
 def stub_program(folder: Path) -> Path:
