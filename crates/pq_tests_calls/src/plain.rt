@@ -1,7 +1,6 @@
 //! What a query answers by its definition: the rows of some groups that pass a comparison, in order.
 use crate::rows::{Cells, S, rows_in};
 use pq_base::{Dir, NoMem, Op};
-
 use std::alloc::Global;
 
 /// A comparison of the values with a constant, and the direction in which the values are ordered.

@@ -2,8 +2,8 @@
 //!
 //! The opening takes two calls of the store and a CREATE TABLE one. Then the clients take one each in turn.
 use crate::client_pairs::{
-    DEFINED_G, DEFINED_K, DEFINED_M, DEFINED_T, HELD_1, HELD_1_7, HELD_2, ROW_1_7, ROW_1_9, ROW_2_2,
-    ROW_2_7, Texts,
+    DEFINED_G, DEFINED_K, DEFINED_M, DEFINED_T, HELD_1, HELD_1_7, HELD_2, ROW_1_7, ROW_1_9,
+    ROW_2_2, ROW_2_7, Texts,
 };
 use pq_shell::Status;
 
@@ -344,5 +344,12 @@ READ k (7);
 
 /// Runs over a new store.
 pub(crate) const RUNS: [Runs; 8] = [
-    ONE_KEY, SKIPPED, IN_TURN, ON_CONDITIONS, FULL, FULL_ALONE, REFUSED, COUNTED,
+    ONE_KEY,
+    SKIPPED,
+    IN_TURN,
+    ON_CONDITIONS,
+    FULL,
+    FULL_ALONE,
+    REFUSED,
+    COUNTED,
 ];
