@@ -34,6 +34,7 @@ import hostile  # noqa: E402
 import kills  # noqa: E402
 import owners  # noqa: E402
 import readers  # noqa: E402
+import rounds  # noqa: E402
 import stalls  # noqa: E402
 from common import Trial, load  # noqa: E402
 from databases import PLACES, Databases  # noqa: E402
@@ -55,6 +56,7 @@ TRIALS = {
     "stalls": stalls.stalls,
     "hostile": hostile.hostile,
     "figures": figures.figures,
+    "rounds": rounds.rounds,
     "kills": kills.kills,
 }
 

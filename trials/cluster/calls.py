@@ -10,7 +10,7 @@ from collections.abc import Callable
 from typing import Any
 
 from common import EXAMPLES, Trial, content, ran, stores
-from piql.hosts import Backend, Fault, Guard, MemoryStore
+from piql.hosts import Backend, Count, Fault, Get, Guard, MemoryStore, Range
 from piql.hosts.etcd import EtcdStore
 from piql.hosts.etcd_client import Body, EtcdClient, T, read_told
 from piql.hosts.postgres import PostgresStore
@@ -43,6 +43,9 @@ def compare(trial: Trial, kind: str, store: Backend, times: int, chance: random.
         within = sorted(pair for pair in pairs.items() if low <= pair[0] < high)[:most]
         same = store.range(low, high, most) == within, store.count(low, high, most) == len(within)
         trial.expect(all(same) and store.get(key) == pairs.get(key), f"{kind} read {number}: another answer")
+        asks = [Get(key), Range(low, high, most), Count(low, high, most), *map(Get, KEYS)]
+        told = [pairs.get(key), within, len(within), *map(pairs.get, KEYS)]
+        trial.expect(store.together(asks) == told, f"{kind} round {number}: another answer")
     trial.expect(content(store) == pairs, f"{kind}: another content at the end")
 
 
@@ -55,7 +58,7 @@ def calls(trial: Trial) -> None:
             store.begin()
             compare(trial, kind, store, times, random.Random(7))
             store.close()
-            trial.tell(f"{kind}: {4 * times} calls, {time.monotonic() - begun:.2f} s")
+            trial.tell(f"{kind}: {5 * times} calls, {time.monotonic() - begun:.2f} s")
 
 
 class Lossy:

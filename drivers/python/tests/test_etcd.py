@@ -11,7 +11,7 @@ from collections.abc import Callable
 
 from clusters import etcd_url, needs_etcd
 from lying import Answer, LyingServer, dribbling, silent, telling
-from piql.hosts import Backend, Fault, Guard
+from piql.hosts import Backend, Count, Fault, Get, Guard, Range
 from piql.hosts.etcd import EtcdStore
 from piql.hosts.etcd_client import EtcdClient, coded, putting, read_told
 from piql.hosts.etcd_reading import EtcdReading
@@ -64,7 +64,7 @@ LIES: dict[str, bytes] = {
 
 # To a read of its own these are answers: nothing was found.
 OF_NOTHING = {"a header alone", "made, and yet not", "no responses", "other responses"}
-ALL = {"get", "range", "count", "begin", "write", "commit", "pin"}
+ALL = {"get", "range", "count", "together", "begin", "write", "commit", "pin"}
 
 
 def calls(store: Backend) -> dict[str, Callable[[], object]]:
@@ -73,6 +73,7 @@ def calls(store: Backend) -> dict[str, Callable[[], object]]:
         "get": lambda: store.get(b"z"),
         "range": lambda: store.range(b"a", b"z", 5),
         "count": lambda: store.count(b"a", b"z", 5),
+        "together": lambda: store.together([Get(b"z"), Range(b"a", b"z", 5), Count(b"a", b"z", 5)]),
     }
     if isinstance(store, EtcdReading):
         return made | {"pin": store.pin}

@@ -19,7 +19,9 @@ from piql.errors import InterfaceError, InternalError, NotSupportedError, Operat
 from piql.hosts import (
     Backend,
     BadRequest,
+    Count,
     Fault,
+    Get,
     Guard,
     Held,
     Host,
@@ -28,6 +30,7 @@ from piql.hosts import (
     NodesLink,
     Op,
     Pair,
+    Range,
     ReaderLink,
     Reading,
     SqliteStore,
@@ -137,6 +140,8 @@ class BackendTest(unittest.TestCase):
             self.assertEqual(store.range(low, high, most), within)
             self.assertEqual(store.count(low, high, most), len(within))
             self.assertEqual(store.get(key), pairs.get(key))
+            asks = [Get(key), Range(low, high, most), Count(low, high, most), Get(high)]
+            self.assertEqual(store.together(asks), [pairs.get(key), within, len(within), pairs.get(high)])
 
     def test_memory(self) -> None:
         for seed in range(5):

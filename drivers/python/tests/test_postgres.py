@@ -9,12 +9,12 @@ from typing import Any
 
 from clusters import databases, needs_postgres, postgres_url
 from lying import LyingServer, dribbling, silent
-from piql.hosts import Fault, Guard, Held, notices
+from piql.hosts import Count, Fault, Get, Guard, Held, Range, notices
 from piql.hosts.postgres import PostgresStore
 from piql.hosts.postgres_client import PostgresClient, Values
-from piql.hosts.postgres_layout import LAYOUT, Layout, range_words
+from piql.hosts.postgres_layout import LAYOUT, Layout, range_words, together_words
 from piql.hosts.postgres_reading import PostgresReading
-from piql.hosts.postgres_texts import RANGE, REMOVE_ALL
+from piql.hosts.postgres_texts import RANGE, REMOVE_ALL, TOGETHER
 from piql.hosts.urls import open_store
 
 BEFORE = """
@@ -216,6 +216,16 @@ class CostTest(unittest.TestCase):
                     self.assertLessEqual(looked_at, [most + 1])
         # All of those that share them are looked at, for the server has to put them into order.
         self.assertEqual(self.looked_at(RANGE, range_words(SHARED, b"\3", 10)), [50])
+
+    def test_a_round_looks_at_no_more_than_its_questions_do(self) -> None:
+        keys = [Get(b"\2" + number.to_bytes(4, "big")) for number in range(0, 200, 2)]
+        for is_analyzed in (False, True):
+            if is_analyzed:
+                self.store.client.run("ANALYZE piql_pairs")
+            for asks, most in ((keys, 100), ([Range(b"\2\0", b"\3", 10), Count(b"\2\0", b"\3", 10)], 22)):
+                with self.subTest(most, is_analyzed=is_analyzed):
+                    [looked_at] = self.looked_at(TOGETHER, together_words(asks))
+                    self.assertLessEqual(looked_at, most + len(asks))
 
     def test_a_commit_finds_what_it_removes_by_the_index(self) -> None:
         text = REMOVE_ALL.replace("USING fence, ", "USING ").replace(" AND admitted", "")

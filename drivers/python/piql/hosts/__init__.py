@@ -7,7 +7,7 @@ To write a backend for another store, read backend.py: it has four calls. docs/H
 and its host, docs/SCALING.md what each store keeps and costs.
 """
 
-from .backend import Backend, Fault, Guard, Held, Pair, Reading, Unreachable
+from .backend import Ask, Backend, Count, Fault, Get, Guard, Held, Pair, Range, Reading, Told, Unreachable
 from .host import Host, run, serve
 from .hosted import HostedEngine, Stalled
 from .link import HostLink, NodesLink, ReaderLink
@@ -16,9 +16,12 @@ from .sqlite import SqliteStore
 from .wire import BadRequest, Op
 
 __all__ = [
+    "Ask",
     "Backend",
     "BadRequest",
+    "Count",
     "Fault",
+    "Get",
     "Guard",
     "Held",
     "Host",
@@ -28,10 +31,12 @@ __all__ = [
     "NodesLink",
     "Op",
     "Pair",
+    "Range",
     "ReaderLink",
     "Reading",
     "SqliteStore",
     "Stalled",
+    "Told",
     "Unreachable",
     "run",
     "serve",

@@ -21,6 +21,7 @@ backend keeps these is tried by trials/cluster; how much work a call is for the 
 import abc
 import enum
 from collections.abc import Sequence
+from typing import NamedTuple
 
 Pair = tuple[bytes, bytes]
 # A key with its new value, or None where it has none from then on.
@@ -36,6 +37,32 @@ class Guard(enum.IntEnum):
     ANY = 0
     ABSENT = 1
     IS = 2
+
+
+class Get(NamedTuple):
+    """The question for the value of a key."""
+
+    key: bytes
+
+
+class Range(NamedTuple):
+    """The question for the first pairs of a range."""
+
+    low: bytes
+    high: bytes
+    limit: int
+
+
+class Count(NamedTuple):
+    """The question for how many pairs a range has, up to a cap."""
+
+    low: bytes
+    high: bytes
+    cap: int
+
+
+Ask = Get | Range | Count
+Told = bytes | None | list[Pair] | int
 
 
 class Fault(Exception):
@@ -74,6 +101,16 @@ class Backend(abc.ABC):
 
         Guard.ANY always holds, ABSENT where the key has no value, IS where it has just the value `held`.
         """
+
+    def together(self, asks: Sequence[Ask]) -> list[Told]:
+        """The answers to several questions, in their order. A store that is far away answers them in one round."""
+        return [self.alone(ask) for ask in asks]
+
+    def alone(self, ask: Ask) -> Told:
+        """The answer to one question."""
+        if isinstance(ask, Get):
+            return self.get(ask.key)
+        return self.range(*ask) if isinstance(ask, Range) else self.count(*ask)
 
     def commit(self, intent: bytes, changes: Sequence[Change]) -> None:
         """Makes the changes of a statement, in their order. Where it raises Fault, all of them are made or none.

@@ -176,12 +176,15 @@ class EtcdStore(EtcdPairs, FencedStore):
 
     def look(self, key: bytes, **more: object) -> list[Stored]:
         """What a read under the fence tells. Members are asked until one answers, for a read may be made twice."""
+        return self.look_all([looking(key, **more)])[0]
+
+    def look_all(self, parts: list[Body]) -> list[list[Stored]]:
         self.check()
-        body = {"compare": [self.compare_fence()], "success": [looking(key, **more)]}
-        told = self.client.post(TXN, body, read_look, self.left())
+        body = {"compare": [self.compare_fence()], "success": parts}
+        told = self.client.post(TXN, body, reading(len(parts)), self.left())
         if not told.is_made:
             self.give_up(GONE)
-        return told.found[0]
+        return told.found
 
     # Writes
 

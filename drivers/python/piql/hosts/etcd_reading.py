@@ -45,5 +45,13 @@ class EtcdReading(EtcdPairs, Reading):
         body: Body = {"key": coded(key), "revision": str(self.revision), **more}
         return self.client.post("/v3/kv/range", body, read_found, self.patience)
 
+    def look_all(self, parts: list[Body]) -> list[list[Stored]]:
+        for part in parts:
+            part["request_range"]["revision"] = str(self.revision)
+        told = self.client.post("/v3/kv/txn", {"success": parts}, reading(len(parts)), self.patience)
+        if not told.is_made:
+            raise Fault("a member answered no read")
+        return told.found
+
     def close(self) -> None:
         self.client.close()

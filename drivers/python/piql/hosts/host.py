@@ -4,14 +4,27 @@ import contextlib
 import subprocess
 from collections import Counter
 from collections.abc import Callable, Sequence
-from typing import IO
+from typing import IO, Any
 
 from ..allocator import engine_environment
-from .backend import INTENT, UNSETTLED, Backend, Change, Fault, Guard
+from .backend import INTENT, UNSETTLED, Ask, Backend, Change, Count, Fault, Guard, Told
+from .rounds import (
+    HELLO,
+    KNOWS_ROUNDS,
+    entries_of,
+    first_held,
+    parts_body,
+    place_body,
+    read_gets,
+    read_ranges,
+    read_tests,
+    values_body,
+)
 from .wire import (
     ANSWER_MOST,
-    CALLS,
     FAILURE,
+    ROUNDS,
+    SINGLE,
     BadRequest,
     Op,
     Request,
@@ -38,7 +51,9 @@ class Host:
 
     def __init__(self, backends: Sequence[Backend], places: Sequence[bytes] = (b"",)) -> None:
         self.backends, self.places = backends, places
+        # Operations by the single calls that they are, those of a round too; and the requests for them.
         self.calls: Counter[Op] = Counter()
+        self.requests = 0
         self.entries = self.faults = 0
         # Why the last call that failed has no answer.
         self.why = ""
@@ -62,17 +77,42 @@ class Host:
         op, node, body = request
         if op is Op.PLACES:
             return places_body(self.places)
-        if op not in CALLS or node >= len(self.backends):
+        if op not in (*SINGLE, *ROUNDS) or node >= len(self.backends):
             raise BadRequest(f"request {op} of node {node}")
-        self.calls[op] += 1
+        if op is Op.COUNT and body == HELLO:
+            return KNOWS_ROUNDS
+        self.requests += 1
         backend = self.backends[node]
         if op is Op.WRITE:
+            self.calls[op] += 1
             return done_body(self.written(backend, read_write(body)))
         self.make_kept(backend)
-        return self.called(op, backend, body)
+        return self.asked(op, backend, body) if op in ROUNDS else self.called(op, backend, body)
+
+    def asked(self, op: Op, backend: Backend, body: bytes) -> bytes:
+        """What answers several questions to a backend."""
+        if op is Op.GETS:
+            return values_body(self.told(Op.GET, backend, read_gets(body), None))
+        if op is Op.RANGES:
+            return parts_body(self.told(Op.RANGE, backend, read_ranges(body), []))
+        tests = read_tests(body)
+        place, entries = first_held(tests, backend.together([test.ask for test in tests]))
+        self.entries += entries
+        self.calls.update(Op.COUNT if isinstance(test.ask, Count) else Op.GET for test in tests[: place + 1])
+        return place_body(place, entries)
+
+    def told(self, op: Op, backend: Backend, asks: Sequence[Ask | None], nothing: Told) -> list[Any]:
+        """The answers to questions, each of which is one operation, and `nothing` where none stands."""
+        sent = [ask for ask in asks if ask is not None]
+        self.calls[op] += len(sent)
+        found = backend.together(sent) if len(sent) > 1 else list(map(backend.alone, sent))
+        self.entries += sum(map(entries_of, found))
+        told = iter(found)
+        return [nothing if ask is None else next(told) for ask in asks]
 
     def called(self, op: Op, backend: Backend, body: bytes) -> bytes:
         """What answers a read of a backend, each of whose pairs is an entry."""
+        self.calls[op] += 1
         if op is Op.GET:
             value = backend.get(body)
             self.entries += value is not None

@@ -15,7 +15,7 @@ import time
 from collections.abc import Sequence
 from typing import Any
 
-from .backend import INTENT, UNSETTLED, Change, Fault, Guard, Held, Pair, Unreachable
+from .backend import INTENT, UNSETTLED, Ask, Change, Fault, Guard, Held, Pair, Told, Unreachable
 from .fenced import GONE, FencedStore
 from .notices import notice
 from .postgres_client import Lost, PostgresClient, Refused, Values
@@ -33,8 +33,10 @@ from .postgres_layout import (
     digest_of,
     key_words,
     range_words,
+    together_words,
+    told_together,
 )
-from .postgres_texts import COMMIT, COUNT, FREE, GET, LOOK, PUTS, RANGE, REMOVALS, RENEW, SETTLE, TAKE, TAKE_AWAY
+from .postgres_texts import COMMIT, COUNT, FREE, GET, LOOK, PUTS, RANGE, REMOVALS, RENEW, SETTLE, TAKE, TAKE_AWAY, TOGETHER
 
 PAUSE = 0.02
 # More than its own limit for a lock.
@@ -161,6 +163,9 @@ class PostgresStore(FencedStore):
 
     def count(self, low: bytes, high: bytes, cap: int) -> int:
         return int(self.read(COUNT, **range_words(low, high, cap))[0][0])
+
+    def together(self, asks: Sequence[Ask]) -> list[Told]:
+        return told_together(asks, self.read(TOGETHER, **together_words(asks))) if asks else []
 
     def write(self, key: bytes, guard: Guard, held: bytes, new: bytes | None) -> bool:
         texts = REMOVALS if new is None else PUTS

@@ -11,7 +11,10 @@ Stores of before had the key itself as the table's primary key. A writer brings 
 """
 
 import hashlib
-from typing import NamedTuple
+from collections.abc import Sequence
+from typing import Any, NamedTuple
+
+from .backend import Ask, Count, Get, Pair, Range, Told
 
 HEAD_BYTES = 2600
 HEAD = f"substr(k, 1, {HEAD_BYTES})"
@@ -48,6 +51,18 @@ AT_BEFORE = "k = %(key)s"
 WITHIN_BEFORE = "FROM piql_pairs WHERE k >= %(low)s AND k < %(high)s ORDER BY k LIMIT %(most)s"
 
 
+def asked_by(key: str, bounds: str) -> str:
+    """Several questions, each a range, that for a key too: for each its number, and a row at least."""
+    return f"""unnest(%(lows)s::bytea[], %(highs)s::bytea[], %(limits)s::bigint[], %(whole)s::boolean[])
+  WITH ORDINALITY AS asked(low, high, most, whole, n) LEFT JOIN LATERAL (
+    SELECT k, CASE WHEN whole THEN v END AS v FROM piql_pairs WHERE {bounds} k >= low AND k < high
+    ORDER BY {key} LIMIT most) AS few ON true"""
+
+
+ASKED = asked_by(f"{HEAD}, k", f"{HEAD} >= substr(low, 1, {HEAD_BYTES}) AND {HEAD} <= substr(high, 1, {HEAD_BYTES}) AND")
+ASKED_BEFORE = asked_by("k", "")
+
+
 class Layout(NamedTuple):
     """What LAYOUT tells: the server's version, and what of the tables is there."""
 
@@ -70,3 +85,30 @@ def key_words(key: bytes) -> dict[str, object]:
 def range_words(low: bytes, high: bytes, most: int) -> dict[str, object]:
     """The values of a statement about a range."""
     return {"low": low, "high": high, "first": low[:HEAD_BYTES], "last": high[:HEAD_BYTES], "most": most}
+
+
+def together_words(asks: Sequence[Ask]) -> dict[str, object]:
+    """The values of a statement that asks several questions."""
+    ranges = [Range(ask.key, ask.key + b"\0", 1) if isinstance(ask, Get) else ask for ask in asks]
+    return {
+        "lows": [low for low, _, _ in ranges],
+        "highs": [high for _, high, _ in ranges],
+        "limits": [most for _, _, most in ranges],
+        "whole": [not isinstance(ask, Count) for ask in asks],
+    }
+
+
+def told_together(asks: Sequence[Ask], rows: list[tuple[Any, ...]]) -> list[Told]:
+    """The answers to several questions, by the rows of their statement."""
+    parts: list[list[Pair]] = [[] for _ in asks]
+    for number, key, value in rows:
+        if key is not None:
+            parts[number - 1].append((bytes(key), b"" if value is None else bytes(value)))
+    return [told_by(ask, part) for ask, part in zip(asks, parts, strict=True)]
+
+
+def told_by(ask: Ask, part: list[Pair]) -> Told:
+    """The answer to a question, by the pairs of its range."""
+    if isinstance(ask, Get):
+        return part[0][1] if part else None
+    return len(part) if isinstance(ask, Count) else sorted(part)

@@ -7,11 +7,25 @@ kept; so a reader has two connections. The server ends a snapshot that idles for
 
 import random
 import time
+from collections.abc import Sequence
 from typing import Any, NamedTuple
 
-from .backend import INTENT, Fault, Pair, Reading
+from .backend import INTENT, Ask, Fault, Pair, Reading, Told
 from .postgres_client import SESSION, Lost, PostgresClient
-from .postgres_layout import AT, AT_BEFORE, HAS_ORDER, HEAD, WITHIN, WITHIN_BEFORE, key_words, range_words
+from .postgres_layout import (
+    ASKED,
+    ASKED_BEFORE,
+    AT,
+    AT_BEFORE,
+    HAS_ORDER,
+    HEAD,
+    WITHIN,
+    WITHIN_BEFORE,
+    key_words,
+    range_words,
+    together_words,
+    told_together,
+)
 
 BUSY_SECONDS = 0.25
 READ_SESSION = SESSION + "; SET idle_in_transaction_session_timeout = '60s'"
@@ -31,18 +45,20 @@ class Texts(NamedTuple):
     get: str
     range: str
     count: str
+    together: str
 
 
-def texts_of(key: str, at: str, within: str) -> Texts:
+def texts_of(key: str, at: str, within: str, asked: str) -> Texts:
     """The statements where keys are in the order of an expression."""
     last = f"SELECT k, v FROM piql_pairs WHERE {key} >= '\\x01' AND {key} < '\\x02' ORDER BY {key} DESC LIMIT 1"
     probe = f"""{BEGIN} SELECT revision, EXISTS (SELECT FROM piql_pairs WHERE {at}), last.k, last.v
       FROM piql_fence LEFT JOIN LATERAL ({last}) AS last ON true"""
     few = f"SELECT count(*) FROM (SELECT k {within}) AS few"
-    return Texts(probe, f"SELECT v FROM piql_pairs WHERE {at}", f"SELECT k, v {within}", few)
+    together = f"SELECT n, k, v FROM {asked}"
+    return Texts(probe, f"SELECT v FROM piql_pairs WHERE {at}", f"SELECT k, v {within}", few, together)
 
 
-TEXTS = {False: texts_of(HEAD, AT, WITHIN), True: texts_of("k", AT_BEFORE, WITHIN_BEFORE)}
+TEXTS = {False: texts_of(HEAD, AT, WITHIN, ASKED), True: texts_of("k", AT_BEFORE, WITHIN_BEFORE, ASKED_BEFORE)}
 
 
 class PostgresReading(Reading):
@@ -118,6 +134,9 @@ class PostgresReading(Reading):
 
     def count(self, low: bytes, high: bytes, cap: int) -> int:
         return int(self.read(self.texts.count, **range_words(low, high, cap))[0][0])
+
+    def together(self, asks: Sequence[Ask]) -> list[Told]:
+        return told_together(asks, self.read(self.texts.together, **together_words(asks))) if asks else []
 
     def close(self) -> None:
         self.client.close()

@@ -1,7 +1,7 @@
 """The statements of a writer in PostgreSQL: each compares the fence, and one that writes counts it up as well."""
 
 from .backend import Guard
-from .postgres_layout import AT, DIGEST, HEAD, WITHIN
+from .postgres_layout import ASKED, AT, DIGEST, HEAD, WITHIN
 
 LASTING = "until = clock_timestamp() + %(lease)s * interval '1 second'"
 OURS = "epoch = %(epoch)s AND revision = %(revision)s"
@@ -17,6 +17,7 @@ TAKE_AWAY = """UPDATE piql_fence SET until = '-infinity', epoch = epoch + 1
 GET = f"SELECT v FROM piql_fence LEFT JOIN piql_pairs ON {AT} WHERE {OURS}"
 RANGE = f"SELECT k, v FROM piql_fence LEFT JOIN LATERAL (SELECT k, v {WITHIN}) AS few ON true WHERE {OURS}"
 COUNT = f"SELECT (SELECT count(*) FROM (SELECT k {WITHIN}) AS few) FROM piql_fence WHERE {OURS}"
+TOGETHER = f"SELECT n, k, v FROM piql_fence CROSS JOIN {ASKED} WHERE {OURS}"
 HOLDS = {
     Guard.ANY: "true",
     Guard.ABSENT: f"NOT EXISTS (SELECT FROM piql_pairs WHERE {AT})",

@@ -24,9 +24,13 @@ class Op(enum.IntEnum):
     RANGE = 17
     COUNT = 18
     WRITE = 19
+    GETS = 20
+    RANGES = 21
+    FIRST_HELD = 22
 
 
-CALLS = (Op.GET, Op.RANGE, Op.COUNT, Op.WRITE)
+SINGLE = (Op.GET, Op.RANGE, Op.COUNT, Op.WRITE)
+ROUNDS = (Op.GETS, Op.RANGES, Op.FIRST_HELD)
 
 
 class BadRequest(Exception):
