@@ -113,10 +113,10 @@ class TogetherTest(unittest.TestCase):
     """Questions at random, together and one by one."""
 
     def check(self, store: Backend, chance: random.Random) -> None:
-        for turn in range(12):
+        for many in (129, 0, 1, 2, 300):
             for _ in range(8):
                 store.write(chance.choice(KEYS), Guard.ANY, b"", chance.choice([None, b"", b"x", b"\0y"]))
-            asks = [self.ask(chance) for _ in range(chance.choice([0, 1, 2, 128, 129, 300]) if turn else 300)]
+            asks = [self.ask(chance) for _ in range(many)]
             self.assertEqual(store.together(asks), [self.alone(store, ask) for ask in asks])
 
     def ask(self, chance: random.Random) -> Ask:
