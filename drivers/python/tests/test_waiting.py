@@ -231,7 +231,7 @@ class Interrupt:
             try:
                 self.is_armed = True
                 # From times in which nothing is done yet to some in which all is, also on a machine that does much else.
-                signal.setitimer(signal.ITIMER_REAL, self.seconds * 2 ** (self.runs % 13))
+                signal.setitimer(signal.ITIMER_REAL, self.seconds * 2 ** (self.runs % 16))
                 self.runs += 1
                 run()
                 return True
