@@ -81,6 +81,29 @@ pub fn encode_changes(alloc: Global, changes: &List<Change>) -> Result<Bytes, No
     Ok(code)
 }
 
+fn change_len(change: &Change) -> u32
+    requires { length (change_code change.now) < 2 ^ 32 }
+    ensures { result ≡ length (change_code change.now) }
+{
+    let value = match &change.new {
+        None => 0,
+        Some(value) => 4 + value.items().len() as u32,
+    };
+    5 + change.key.items().len() as u32 + value
+}
+
+/// The number of bytes of the code of these changes.
+pub fn changes_len(changes: &List<Change>) -> u32
+    requires { length (changes_code changes.now) < 2 ^ 32 }
+    ensures { result ≡ length (changes_code changes.now) }
+{
+    let mut len = 2;
+    for change in changes.items() {
+        len += change_len(change);
+    }
+    len
+}
+
 fn u32_of(bytes: &[u8]) -> Option<(u32, &[u8])>
     ensures { option_map (λ x. (x.0, x.1.now)) result ≡ bits_at w32 bytes.now }
 {

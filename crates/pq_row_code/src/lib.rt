@@ -12,7 +12,7 @@ mod decode;
 mod encode;
 mod stored_row;
 
-pub use changes::{Change, decode_changes, encode_changes};
+pub use changes::{Change, changes_len, decode_changes, encode_changes};
 pub use decode::decode_row;
 pub use encode::{encode_row, row_code_len};
 pub use stored_row::{decode_filled, encode_stored, known_fillers, stored_code_len, stored_len};
